@@ -1,0 +1,41 @@
+-- Cells and rows, and when they are equal.
+use Rattle.std.specs.Prelude.{◌≡◌, List, Bool, true, false, nat_eq, refl}
+use Rattle.std.specs.Bool.{Decides}
+use Rattle.std.specs.Cmp.{IsEquivalence, decided}
+use Rattle.std.specs.Cmp.Lexicographic.{pointwise}
+use Rattle.std.proofs.Common.{ap}
+use Rattle.std.proofs.lemmas.Bool.Decides.{Decides-eqb}
+use Rattle.std.proofs.lemmas.Slice.Eq.{slice_eq-Decides}
+use Rattle.roll_frame.specs.declared.row.Cell.{Cell}
+use Rattle.roll_frame.specs.declared.row.Cell.TheVariants.{Word, Gone}
+
+-- rows, one for each frame. Rows from frame 0 on are a path
+abbrev pub Rows : Type 0
+Rows = List (List Cell)
+
+abbrev pub cell_eq : Cell → Cell → Bool
+cell_eq (Word v) (Word w) = nat_eq v w
+cell_eq (Word v) Gone = false
+cell_eq Gone (Word w) = false
+cell_eq Gone Gone = true
+
+abbrev pub row_eq : List Cell → List Cell → Bool
+row_eq = pointwise cell_eq
+
+abbrev pub rows_eq : Rows → Rows → Bool
+rows_eq = pointwise row_eq
+
+pub cell_eq-Decides : (c d : Cell) → Decides (cell_eq c d) (c ≡ d)
+cell_eq-Decides (Word v) (Word w) = (λ h. ap Word ((Decides-eqb v w).0 h), λ e. (Decides-eqb v w).1 (cc))
+cell_eq-Decides (Word v) Gone = (λ h. cc, λ e. cc)
+cell_eq-Decides Gone (Word w) = (λ h. cc, λ e. cc)
+cell_eq-Decides Gone Gone = (λ h. refl, λ e. refl)
+
+pub row_eq-Decides : (r s : List Cell) → Decides (row_eq r s) (r ≡ s)
+row_eq-Decides r s = slice_eq-Decides cell_eq-Decides r s (row_eq r s) refl
+
+pub rows_eq-Decides : (p q : Rows) → Decides (rows_eq p q) (p ≡ q)
+rows_eq-Decides p q = slice_eq-Decides row_eq-Decides p q (rows_eq p q) refl
+
+pub row_eq-equiv : IsEquivalence row_eq
+row_eq-equiv = decided row_eq row_eq-Decides

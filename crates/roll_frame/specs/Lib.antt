@@ -1,0 +1,16 @@
+pub mod Cells
+pub mod Words
+pub mod Packed
+pub mod Codes
+pub mod Refusals
+pub mod Timeline
+pub mod Paths
+pub mod Games
+pub mod Settings
+pub mod Core
+pub mod Inputs
+pub mod Grafts
+pub mod Events
+pub mod Guess
+pub mod Order
+pub mod Claims

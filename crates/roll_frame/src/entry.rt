@@ -1,0 +1,27 @@
+//! The log's entries.
+use crate::path::Path;
+use crate::row::Row;
+use arrayvec::ArrayVec;
+
+/// An accepted event of a session, as its log keeps it. Players are numbered from 1.
+#[derive(Debug, Drop)]
+pub enum Entry {
+    /// A local word, of the frame the session is at.
+    Local { player: u8, word: u32 },
+    /// A remote word.
+    Remote { player: u8, frame: u32, word: u32 },
+    /// The player has left.
+    Disconnect { player: u8 },
+    /// A roll to the current frame.
+    Sync,
+    /// A roll to the next frame, which becomes the current one.
+    Advance,
+    /// A branch: the path of the state that it starts from, and the rows that were run.
+    Graft {
+        ticket: u64,
+        path: Path,
+        rows: ArrayVec<Row, 8>,
+    },
+    /// The game refused in a roll to a frame, after so many new states were kept.
+    Partial { to: u32, kept: u32 },
+}

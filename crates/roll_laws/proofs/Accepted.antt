@@ -1,0 +1,141 @@
+-- What an accepted event tells of its tests, and what it does to the players.
+use Rattle.std.proofs.Common.{◌≡◌, ℕ, zero, suc, ◌-◌, List, [], ◌∷◌, ◌++◌, refl, ap, sym, ◌∙◌, Bool, true, false, subst, inl, inr, map, set, Option, Some, None}
+use Rattle.std.specs.Prelude.{◌⊎◌, not, slice_get, slice_set, ◌==◌, nat_le, is_none, ◌&&◌, if◌then◌else◌}
+use Rattle.std.specs.Option.{option_map_or}
+use Rattle.std.proofs.lemmas.Bool.{false≢true, cases_Bool, and_parts}
+use Rattle.std.proofs.lemmas.List.{append-nil}
+use Rattle.roll_frame.specs.Core.{Core}
+use Rattle.roll_frame.specs.Events.{CoreEvent, tests_of, refusal, is_repeat, is_accepted, applied, after}
+use Rattle.roll_frame.specs.Games.{Game}
+use Rattle.roll_frame.specs.Inputs.{player_at, of_player, changed, with_words, with_given, with_gone, with_none_given}
+use Rattle.roll_frame.specs.Refusals.{first_refusal}
+use Rattle.roll_frame.specs.Timeline.{Player, timeline, row_at, cell_at}
+use Rattle.roll_frame.specs.declared.refusal.Refusal.{Refusal}
+use Rattle.roll_frame.specs.declared.settings.Settings.{Settings}
+use Rattle.roll_laws.proofs.Ahead.{Later, later_same, AllLater, all_later_same}
+
+abbrev pub AllFail : List (Bool × Refusal) → Type 0
+AllFail [] = Unit {0}
+AllFail (t ∷ ts) = (t.0 ≡ false) × AllFail ts
+
+pub all_fail : (ts : List (Bool × Refusal)) → first_refusal ts ≡ None → AllFail ts
+all_fail [] e = tt
+all_fail (t ∷ ts) e = go (cases_Bool t.0) (all_fail ts)
+  where
+    go : (t.0 ≡ true) ⊎ (t.0 ≡ false) → (first_refusal ts ≡ None → AllFail ts) → AllFail (t ∷ ts)
+    go (inl b) rest = let no : Some t.1 ≡ None = rw b at e in absurd (cc no)
+    go (inr b) rest = (b, rest (rw b at e))
+
+pub fail_first : (xs ys : List (Bool × Refusal)) → AllFail (xs ++ ys) → AllFail xs × AllFail ys
+fail_first [] ys h = (tt, h)
+fail_first (x ∷ xs) ys h = let r = fail_first xs ys h.1 in ((h.0, r.0), r.1)
+
+-- what holds where an event is accepted: each of its tests fails, and the log has room
+abbrev pub Accepted : Settings → Game → Core → CoreEvent → Type 0
+Accepted settings game core event = AllFail (tests_of settings game core event.value event.entry) × (nat_le settings.log core.logged ≡ false)
+
+-- an event changes nothing and is not logged, or it is accepted and changes what its entry says
+abbrev pub Outcome : Settings → Game → Core → CoreEvent → Type 0
+Outcome settings game core event =
+    ((after settings game core event ≡ core) × (is_accepted settings game core event ≡ false))
+    ⊎ (Accepted settings game core event × (after settings game core event ≡ applied core event.entry) × (is_accepted settings game core event ≡ true))
+
+-- an accepted event changes what its entry says
+pub after_accepted : (settings : Settings) (game : Game) (core : Core) (event : CoreEvent) → is_accepted settings game core event ≡ true → after settings game core event ≡ applied core event.entry
+after_accepted settings game core event a = ap (λ b. if b then applied core event.entry else core) a
+
+none_of : (o : Option Refusal) → is_none o ≡ true → o ≡ None
+none_of None e = refl
+none_of (Some why) e = absurd (false≢true e)
+
+pub after_log : (settings : Settings) (game : Game) (core : Core) (event : CoreEvent) → Outcome settings game core event
+after_log settings game core event = go (cases_Bool (is_accepted settings game core event))
+  where
+    go : (is_accepted settings game core event ≡ true) ⊎ (is_accepted settings game core event ≡ false) → Outcome settings game core event
+    go (inr e) = inl (ap (λ b. if b then applied core event.entry else core) e, e)
+    go (inl e) =
+        let b = and_parts (not (is_repeat core event.entry)) (is_none (refusal settings game core event)) e in
+        let f = fail_first (tests_of settings game core event.value event.entry) _ (all_fail _ (none_of (refusal settings game core event) b.1)) in
+        inr ((f.0, f.1.0), after_accepted settings game core event e, e)
+
+pub after_either : (settings : Settings) (game : Game) (core : Core) (event : CoreEvent) → (after settings game core event ≡ core) ⊎ (AllFail (tests_of settings game core event.value event.entry) × (after settings game core event ≡ applied core event.entry))
+after_either settings game core event = go (after_log settings game core event)
+  where
+    go : Outcome settings game core event → (after settings game core event ≡ core) ⊎ (AllFail (tests_of settings game core event.value event.entry) × (after settings game core event ≡ applied core event.entry))
+    go (inl h) = inl h.0
+    go (inr h) = inr (h.0.0, h.1)
+
+-- a fact of each player
+abbrev pub Each : (Player → Type 0) → List Player → Type 0
+Each P [] = Unit {0}
+Each P (p ∷ ps) = P p × Each P ps
+
+pub each_weaker : (P Q : Player → Type 0) (ps : List Player) → ((p : Player) → P p → Q p) → Each P ps → Each Q ps
+each_weaker P Q [] f h = tt
+each_weaker P Q (p ∷ ps) f h = (f p h.0, each_weaker P Q ps f h.1)
+
+pub each_at : (P : Player → Type 0) (ps : List Player) (i : ℕ) (x : Player) → slice_get ps i ≡ Some x → Each P ps → P x
+each_at P [] i x e h = let no : None ≡ Some x = e in absurd (cc no)
+each_at P (p ∷ ps) zero x e h = subst P (the p x e) h.0
+  where
+    the : (a b : Player) → Some a ≡ Some b → a ≡ b
+    the a b f = cc
+each_at P (p ∷ ps) (suc i) x e h = each_at P ps i x e h.1
+
+pub each_set : (P : Player → Type 0) (ps : List Player) (i : ℕ) (y : Player) → P y → Each P ps → Each P (set ps i y)
+each_set P [] i y k h = tt
+each_set P (p ∷ ps) zero y k h = (k, h.1)
+each_set P (p ∷ ps) (suc i) y k h = (h.0, each_set P ps i y k h.1)
+
+later_set : (ps : List Player) (i : ℕ) (x y : Player) → slice_get ps i ≡ Some x → Later x y → AllLater ps (set ps i y)
+later_set [] i x y e l = tt
+later_set (p ∷ ps) zero x y e l = (subst (λ (z : Player). Later z y) (the p x e) l, all_later_same ps)
+  where
+    the : (a b : Player) → Some a ≡ Some b → b ≡ a
+    the a b f = cc
+later_set (p ∷ ps) (suc i) x y e l = (later_same p, later_set ps i x y e l)
+
+pub at_place : (ps : List Player) (p : ℕ) (x : Player) → player_at ps p ≡ Some x → slice_get ps (p - 1) ≡ Some x
+at_place ps p x e = go (p == 0) refl
+  where
+    go : (b : Bool) → (p == 0) ≡ b → slice_get ps (p - 1) ≡ Some x
+    go true f = let no : None ≡ Some x = rw f at e in absurd (cc no)
+    go false f = rw f at e
+
+pub of_player_is : (test : Player → Bool) (ps : List Player) (p : ℕ) (x : Player) (b : Bool) → player_at ps p ≡ Some x → of_player test ps p ≡ b → test x ≡ b
+of_player_is test ps p x b e h = ap (λ o. option_map_or test o false) (sym e) ∙ h
+
+pub changed_later : (change : Player → Player) (ps : List Player) (p : ℕ) → ((x : Player) → player_at ps p ≡ Some x → Later x (change x)) → AllLater ps (changed change ps p)
+changed_later change ps p f = go (player_at ps p) refl
+  where
+    go : (o : Option Player) → player_at ps p ≡ o → AllLater ps (option_map_or (λ player. slice_set ps (p - 1) (change player)) o ps)
+    go None e = all_later_same ps
+    go (Some x) e = later_set ps (p - 1) x (change x) (at_place ps p x e) (f x e)
+
+pub changed_each : (P : Player → Type 0) (change : Player → Player) (ps : List Player) (p : ℕ) → ((x : Player) → player_at ps p ≡ Some x → P x → P (change x)) → Each P ps → Each P (changed change ps p)
+changed_each P change ps p f h = go (player_at ps p) refl
+  where
+    go : (o : Option Player) → player_at ps p ≡ o → Each P (option_map_or (λ player. slice_set ps (p - 1) (change player)) o ps)
+    go None e = h
+    go (Some x) e = each_set P ps (p - 1) (change x) (f x e (each_at P ps (p - 1) x (at_place ps p x e) h)) h
+
+pub later_with_words : (words : List ℕ) (x : Player) → x.gone ≡ false → Later x (with_words words x)
+later_with_words words x g = record { same_local = refl; same_mask = refl; more = words; words = refl; gone = λ h. absurd (false≢true (sym g ∙ h)) }
+
+pub later_with_given : (word : ℕ) (x : Player) → x.gone ≡ false → Later x (with_given word x)
+later_with_given word x g = record { same_local = refl; same_mask = refl; more = word ∷ []; words = refl; gone = λ h. absurd (false≢true (sym g ∙ h)) }
+
+pub later_with_gone : (x : Player) → Later x (with_gone x)
+later_with_gone x = record { same_local = refl; same_mask = refl; more = []; words = sym (append-nil x.words); gone = λ h. (refl, refl) }
+
+pub later_none_given : (ps : List Player) → AllLater ps (map with_none_given ps)
+later_none_given [] = tt
+later_none_given (p ∷ ps) = (record { same_local = refl; same_mask = refl; more = []; words = sym (append-nil p.words); gone = λ h. (h, refl) }, later_none_given ps)
+
+row_none_given : (ps : List Player) (t : ℕ) → row_at (map with_none_given ps) t ≡ row_at ps t
+row_none_given [] t = refl
+row_none_given (p ∷ ps) t = ap (λ cs. cell_at t p ∷ cs) (row_none_given ps t)
+
+pub timeline_none_given : (ps : List Player) (k : ℕ) → timeline (map with_none_given ps) k ≡ timeline ps k
+timeline_none_given ps zero = refl
+timeline_none_given ps (suc k) = cc (timeline_none_given ps k, row_none_given ps k)

@@ -1,0 +1,5 @@
+use Rattle.roll_laws.proofs.LawProofs.{cost_is_small}
+use Rattle.roll_laws.proofs.cost_is_small.Goals as goal
+
+pub returns : goal.returns
+returns c = cost_is_small

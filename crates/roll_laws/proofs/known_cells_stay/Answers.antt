@@ -1,0 +1,5 @@
+use Rattle.roll_laws.proofs.LawProofs.{known_cells_stay}
+use Rattle.roll_laws.proofs.known_cells_stay.Goals as goal
+
+pub returns : goal.returns
+returns c = known_cells_stay

@@ -1,0 +1,5 @@
+use Rattle.roll_laws.proofs.LawProofs.{prefixes_are_saved}
+use Rattle.roll_laws.proofs.prefixes_are_saved.Goals as goal
+
+pub returns : goal.returns
+returns c = prefixes_are_saved

@@ -1,0 +1,5 @@
+use Rattle.roll_laws.proofs.LawProofs.{start_is_kept}
+use Rattle.roll_laws.proofs.start_is_kept.Goals as goal
+
+pub returns : goal.returns
+returns c = start_is_kept
