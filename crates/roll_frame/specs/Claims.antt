@@ -2,11 +2,12 @@
 use Rattle.std.specs.Prelude.{◌≡◌, ◌≢◌, ℕ, suc, ◌+◌, ◌-◌, ◌<◌, ◌≤◌, List, [], ◌∷◌, length, drop, map, Bool, true, ◌&&◌, nat_eq, nat_lt, nat_le, Option, Some, None, option_map, if◌then◌else◌, slice_get, All, IsSomeAnd, count_by}
 use Rattle.std.specs.Option.{option_map_or}
 use Rattle.std.specs.List.{cons_option, list_any}
+use Rattle.roll_frame.specs.declared.limits.TheConstants.{FRAME_LIMIT, PLAYER_LIMIT, PATH_LIMIT}
 use Rattle.roll_frame.specs.declared.row.Cell.{Cell}
 use Rattle.roll_frame.specs.declared.path.Path.{Path}
 use Rattle.roll_frame.specs.Cells.{Rows, cell_eq}
 use Rattle.roll_frame.specs.Paths.{begins_with}
-use Rattle.roll_frame.specs.Order.{in_order}
+use Rattle.roll_frame.specs.Order.{frames_of, in_order}
 use Rattle.roll_frame.specs.Core.{Roll}
 
 -- the kept path at a place of the list, from 0, differs at a frame in a player's cell
@@ -25,33 +26,29 @@ pub record Claim : Type 0 where
   pub from : ℕ
   pub differs : List Differ
 
--- how many frames a path has, from frame 0
-abbrev pub length_of : Path → ℕ
-length_of path = path.base + length path.rows.items
-
 -- the frame that the roll went to
 abbrev pub target_of : Claim → ℕ
 target_of claim = claim.base + length claim.time
 
 -- deeper than the start, and not past the end
 abbrev pub IsDeeper : Claim → Path → Type 0
-IsDeeper claim path = (claim.from < length_of path) × (length_of path ≤ target_of claim)
+IsDeeper claim path = (claim.from < frames_of path) × (frames_of path ≤ target_of claim)
 
 abbrev pub AreRowsOf : ℕ → Rows → Type 0
 AreRowsOf players rows = All (λ row. length row ≡ players) rows
 
 pub record IsShaped (claim : Claim) : Type 0 where
-  pub base : claim.base ≤ 1048576
+  pub base : claim.base ≤ FRAME_LIMIT
   pub some : 1 ≤ claim.players
-  pub few : claim.players ≤ 8
-  pub short : length claim.time ≤ 24
+  pub few : claim.players ≤ PLAYER_LIMIT
+  pub short : length claim.time ≤ PATH_LIMIT
   pub time : AreRowsOf claim.players claim.time
   pub kept : All (λ path. (path.base ≡ claim.base) × AreRowsOf claim.players path.rows.items) claim.kept
 
 -- whether the roll can have started from this path: it is from frames long, and begins the time
 abbrev pub is_start : Claim → Path → Bool
 is_start claim path =
-    nat_eq (length_of path) claim.from && nat_le claim.from (target_of claim) && begins_with claim.time path.rows.items
+    nat_eq (frames_of path) claim.from && nat_le claim.from (target_of claim) && begins_with claim.time path.rows.items
 
 -- the cell at a place of a row, where both are there; player 1 is at place 0
 abbrev pub cell_of_row : Option (List Cell) → ℕ → Option Cell
@@ -65,7 +62,7 @@ cell_in rows frame place = cell_of_row (slice_get rows frame) place
 pub record IsTrueEntry (claim : Claim) (entry : Differ) (path : Path) : Type 0 where
   pub deeper : IsDeeper claim path
   pub from : claim.base ≤ entry.frame
-  pub below : entry.frame < length_of path
+  pub below : entry.frame < frames_of path
   pub first : 1 ≤ entry.player
   pub last : entry.player ≤ claim.players
   pub differs : cell_in path.rows.items (entry.frame - claim.base) (entry.player - 1) ≢ cell_in claim.time (entry.frame - claim.base) (entry.player - 1)

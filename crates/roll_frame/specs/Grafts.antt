@@ -2,6 +2,7 @@
 use Rattle.std.specs.Prelude.{ℕ, ◌+◌, ◌-◌, List, [], ◌∷◌, ◌++◌, length, take, max, filter, not, Bool, ◌&&◌, nat_lt, nat_le, nat_eq, ◌==◌}
 use Rattle.std.specs.List.{list_all}
 use Rattle.std.specs.Cmp.Lexicographic.{pointwise}
+use Rattle.roll_frame.specs.declared.limits.TheConstants.{PATH_LIMIT}
 use Rattle.roll_frame.specs.declared.refusal.Refusal.{Refusal}
 use Rattle.roll_frame.specs.declared.refusal.Refusal.TheVariants.{Stranger, TooFar, Late, Orphan, Dead, TreeFull}
 use Rattle.roll_frame.specs.declared.path.Path.{Path}
@@ -56,7 +57,7 @@ abbrev pub graft_tests : Game → ℕ → Core → Value → Branch → List (Bo
 graft_tests game most core value branch =
     (nat_lt (settled core) branch.path.base, Stranger)
     ∷ (not (are_rows_of (length core.players) (branch.path.rows.items ++ branch.rows)), Stranger)
-    ∷ (nat_lt (settled core + 24) (length (whole_of core branch)), TooFar)
+    ∷ (nat_lt (settled core + PATH_LIMIT) (length (whole_of core branch)), TooFar)
     ∷ (nat_le (length (whole_of core branch)) (settled core), Late)
     ∷ (not (is_possible core.players (anchor core branch)), Dead)
     ∷ (not (contains (kept core) (anchor core branch)), Orphan)

@@ -1,6 +1,7 @@
 -- A guess of what a player does next, and the rows that are to be run for it.
 use Rattle.std.specs.Prelude.{ℕ, ◌+◌, List, [], ◌∷◌, length, take, drop, not, Bool, true, nat_lt, Option, Some, None, if◌then◌else◌}
 use Rattle.std.specs.Int.{is_in_range}
+use Rattle.roll_frame.specs.declared.limits.TheConstants.{PATH_LIMIT, BRANCH_LIMIT}
 use Rattle.roll_frame.specs.declared.refusal.Refusal.{Refusal}
 use Rattle.roll_frame.specs.declared.refusal.Refusal.TheVariants.{InvalidPlayer, PlayerDisconnected, InvalidRequest}
 use Rattle.roll_frame.specs.Cells.{Rows}
@@ -20,8 +21,8 @@ abbrev pub guess_tests : ℕ → Core → ℕ → List ℕ → ℕ → List (Boo
 guess_tests limit core p words until =
     (not (of_player (λ player. true) core.players p), InvalidPlayer)
     ∷ (of_player (λ player. player.gone) core.players p, PlayerDisconnected)
-    ∷ (not (is_in_range 1 24 (length words)), InvalidRequest)
-    ∷ (not (is_in_range (settled core + 1) (settled core + 24) until), InvalidRequest)
+    ∷ (not (is_in_range 1 PATH_LIMIT (length words)), InvalidRequest)
+    ∷ (not (is_in_range (settled core + 1) (settled core + PATH_LIMIT) until), InvalidRequest)
     ∷ (nat_lt limit until, InvalidRequest)
     ∷ []
 
@@ -30,7 +31,7 @@ abbrev pub job_of : Core → Rows → Branch
 job_of core rows =
     record {
       path = record { base = settled core; rows = record { items = drop (settled core) (take (longest (kept core) rows) rows) } };
-      rows = take 8 (drop (longest (kept core) rows) rows);
+      rows = take BRANCH_LIMIT (drop (longest (kept core) rows) rows);
     }
 
 -- the job of a guess that is not refused; none where all of its rows are kept

@@ -3,6 +3,7 @@ use Rattle.std.specs.Prelude.{ℕ, ◌+◌, ◌-◌, List, [], ◌∷◌, ◌++�
 use Rattle.std.specs.Option.{option_map_or}
 use Rattle.roll_frame.specs.declared.refusal.Refusal.{Refusal}
 use Rattle.roll_frame.specs.declared.refusal.Refusal.TheVariants.{InvalidPlayer, InputTwice, PredictionThreshold, FrameLimit, PlayerDisconnected, Conflict, Gap, QueueFull}
+use Rattle.roll_frame.specs.declared.limits.TheConstants.{QUEUE_LIMIT}
 use Rattle.roll_frame.specs.Timeline.{Player, front}
 
 -- players are numbered from 1
@@ -40,7 +41,7 @@ remote_tests players base p f =
     ∷ (of_player (λ player. player.gone) players p, PlayerDisconnected)
     ∷ (of_player (λ player. nat_lt f (length player.words)) players p, Conflict)
     ∷ (of_player (λ player. nat_lt (length player.words) f) players p, Gap)
-    ∷ (of_player (λ player. nat_le 128 (length player.words - base)) players p, QueueFull)
+    ∷ (of_player (λ player. nat_le QUEUE_LIMIT (length player.words - base)) players p, QueueFull)
     ∷ []
 
 -- the tests of a disconnect: no remote player p; gone already

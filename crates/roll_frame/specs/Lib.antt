@@ -1,6 +1,8 @@
 pub mod Cells
 pub mod Words
 pub mod Packed
+pub mod Order
+pub mod Ties
 pub mod Codes
 pub mod Refusals
 pub mod Timeline
@@ -12,5 +14,5 @@ pub mod Inputs
 pub mod Grafts
 pub mod Events
 pub mod Guess
-pub mod Order
 pub mod Claims
+pub mod Advice

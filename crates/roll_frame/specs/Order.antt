@@ -1,23 +1,34 @@
--- The order of paths: shorter first, then by the earliest frame, then by the least player, the smaller word
--- before the greater, and not gone before gone.
-use Rattle.std.specs.Prelude.{List, [], ◌∷◌, length, if◌then◌else◌}
+-- The orders of cells, rows and paths.
+use Rattle.std.specs.Prelude.{ℕ, ◌+◌, List, [], ◌∷◌, length, if◌then◌else◌}
 use Rattle.std.specs.Cmp.{IsTotalOrder}
 use Rattle.std.specs.Cmp.Lexicographic.{slice_cmp}
 use Rattle.std.specs.Ordering.{nat_cmp, on, then_cmp, is_lt}
 use Rattle.std.specs.declared.cmp.Ordering.{Ordering}
 use Rattle.std.proofs.lemmas.Cmp.{on_total, then_total, lists_total, nat_cmp_total}
 use Rattle.roll_frame.specs.declared.row.Cell.{Cell}
+use Rattle.roll_frame.specs.declared.path.Path.{Path}
 use Rattle.roll_frame.specs.Words.{word_of, bit_of}
 use Rattle.roll_frame.specs.Cells.{Rows}
 
+-- the smaller word first, and at the same word not gone before gone
 abbrev pub cell_cmp : Cell → Cell → Ordering
 cell_cmp = then_cmp (on word_of nat_cmp) (on bit_of nat_cmp)
 
+-- the least player whose cells differ decides
 abbrev pub row_cmp : List Cell → List Cell → Ordering
 row_cmp = slice_cmp cell_cmp
 
+-- shorter first, and then the earliest row that differs decides
 abbrev pub rows_cmp : Rows → Rows → Ordering
-rows_cmp = then_cmp (on (λ (path : Rows). length path) nat_cmp) (slice_cmp row_cmp)
+rows_cmp = then_cmp (on (λ (rows : Rows). length rows) nat_cmp) (slice_cmp row_cmp)
+
+-- how many frames a path has, from frame 0
+abbrev pub frames_of : Path → ℕ
+frames_of p = p.base + length p.rows.items
+
+-- fewer frames first, then the smaller base, and then the earliest row that differs decides
+abbrev pub path_cmp : Path → Path → Ordering
+path_cmp = then_cmp (then_cmp (on frames_of nat_cmp) (on (λ (p : Path). p.base) nat_cmp)) (on (λ (p : Path). p.rows.items) (slice_cmp row_cmp))
 
 pub cell_cmp_total : IsTotalOrder cell_cmp
 cell_cmp_total = then_total (on_total word_of nat_cmp_total) (on_total bit_of nat_cmp_total)
@@ -26,13 +37,17 @@ pub row_cmp_total : IsTotalOrder row_cmp
 row_cmp_total = lists_total cell_cmp_total
 
 pub rows_cmp_total : IsTotalOrder rows_cmp
-rows_cmp_total = then_total (on_total (λ (path : Rows). length path) nat_cmp_total) (lists_total row_cmp_total)
+rows_cmp_total = then_total (on_total (λ (rows : Rows). length rows) nat_cmp_total) (lists_total row_cmp_total)
+
+pub path_cmp_total : IsTotalOrder path_cmp
+path_cmp_total = then_total (then_total (on_total frames_of nat_cmp_total) (on_total (λ (p : Path). p.base) nat_cmp_total)) (on_total (λ (p : Path). p.rows.items) (lists_total row_cmp_total))
 
 -- a path put before the first greater one
 abbrev pub placed : Rows → List Rows → List Rows
 placed path [] = path ∷ []
 placed path (other ∷ others) = if is_lt (rows_cmp path other) then path ∷ other ∷ others else other ∷ placed path others
 
+-- the paths in their order
 abbrev pub in_order : List Rows → List Rows
 in_order [] = []
 in_order (path ∷ paths) = placed path (in_order paths)

@@ -2,6 +2,7 @@
 use Rattle.std.specs.Prelude.{ℕ, ◌^◌, List, [], ◌∷◌, replicate, map, not, Bool, false, ◌&&◌, nat_lt, nat_le, ◌==◌, slice_index, Option}
 use Rattle.std.specs.Int.{is_in_range, bit_at}
 use Rattle.std.specs.List.{list_any, range_with_len}
+use Rattle.roll_frame.specs.declared.limits.TheConstants.{DELAY_LIMIT, FRAME_LIMIT, LOG_LIMIT}
 use Rattle.roll_frame.specs.declared.refusal.Refusal.{Refusal}
 use Rattle.roll_frame.specs.declared.refusal.Refusal.TheVariants.{PlayerOutOfRange, InvalidRequest}
 use Rattle.roll_frame.specs.declared.profile.Profile.{Profile}
@@ -49,11 +50,11 @@ start_tests settings =
     (not (is_in_range 1 (most_players settings.profile) settings.players), PlayerOutOfRange)
     ∷ (not (list_any (is_local settings) (places settings)), InvalidRequest)
     ∷ (nat_le (2 ^ settings.players) settings.local, InvalidRequest)
-    ∷ (list_any (λ place. nat_lt 8 (delay_at settings place)) (places settings), InvalidRequest)
+    ∷ (list_any (λ place. nat_lt DELAY_LIMIT (delay_at settings place)) (places settings), InvalidRequest)
     ∷ (list_any (λ place. not (is_local settings place) && nat_lt 0 (delay_at settings place)) (places settings), InvalidRequest)
     ∷ (not (is_in_range 1 (most_threshold settings.profile) settings.threshold), InvalidRequest)
-    ∷ (not (is_in_range 1 1048576 settings.limit), InvalidRequest)
-    ∷ (not (is_in_range 1 16777216 settings.log), InvalidRequest)
+    ∷ (not (is_in_range 1 FRAME_LIMIT settings.limit), InvalidRequest)
+    ∷ (not (is_in_range 1 LOG_LIMIT settings.log), InvalidRequest)
     ∷ []
 
 abbrev pub start_refusal : Settings → Option Refusal

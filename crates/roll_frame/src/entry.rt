@@ -1,4 +1,5 @@
 //! The log's entries.
+use crate::limits::BRANCH_LIMIT;
 use crate::path::Path;
 use crate::row::Row;
 use arrayvec::ArrayVec;
@@ -7,11 +8,20 @@ use arrayvec::ArrayVec;
 #[derive(Debug, Drop)]
 pub enum Entry {
     /// A local word, of the frame the session is at.
-    Local { player: u8, word: u32 },
+    Local {
+        player: u8,
+        word: u32,
+    },
     /// A remote word.
-    Remote { player: u8, frame: u32, word: u32 },
+    Remote {
+        player: u8,
+        frame: u32,
+        word: u32,
+    },
     /// The player has left.
-    Disconnect { player: u8 },
+    Disconnect {
+        player: u8,
+    },
     /// A roll to the current frame.
     Sync,
     /// A roll to the next frame, which becomes the current one.
@@ -20,8 +30,11 @@ pub enum Entry {
     Graft {
         ticket: u64,
         path: Path,
-        rows: ArrayVec<Row, 8>,
+        rows: ArrayVec<Row, BRANCH_LIMIT>,
     },
     /// The game refused in a roll to a frame, after so many new states were kept.
-    Partial { to: u32, kept: u32 },
+    Partial {
+        to: u32,
+        kept: u32,
+    },
 }

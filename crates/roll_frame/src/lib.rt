@@ -1,19 +1,25 @@
-//! Rows, paths and refusals of a rollback session, and the definitions that every contract cites.
+//! Rows, paths and refusals of rollback sessions, time-sync advice, and the definitions that every contract cites.
 #![tactic(auto)]
 
+mod advice;
 mod entry;
+mod event;
+mod limits;
 mod path;
 mod profile;
 mod refusal;
 mod row;
 mod settings;
 
+pub use advice::Advice;
 pub use entry::Entry;
+pub use event::Event;
+pub use limits::{
+    ADVANTAGE_LIMIT, ADVICE_WINDOW, BRANCH_LIMIT, DELAY_LIMIT, FRAME_LIMIT, LEAST_ADVICE,
+    LOG_LIMIT, MOST_ADVICE, PATH_LIMIT, PLAYER_LIMIT, QUEUE_LIMIT, TREE_LIMIT,
+};
 pub use path::Path;
 pub use profile::Profile;
 pub use refusal::Refusal;
 pub use row::{Cell, Row};
 pub use settings::Settings;
-
-/// The most players of a session.
-pub const PLAYER_LIMIT: u8 = 8;

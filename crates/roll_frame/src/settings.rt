@@ -4,6 +4,7 @@ ghost use Rattle.std.specs.Int.{is_in_range};
 ghost use Rattle.std.specs.List.{list_any};
 ghost use Rattle.roll_frame.specs.Settings.{start_refusal, places, is_local, delay_at};
 
+use crate::limits::{DELAY_LIMIT, FRAME_LIMIT, LOG_LIMIT};
 use crate::profile::Profile;
 use crate::refusal::Refusal;
 
@@ -33,13 +34,21 @@ impl Settings {
     pub fn refusal(&self) -> Option<Refusal>
         ensures { result ≡ start_refusal self.now }
     {
-        if !is_within(1, u32::from(self.profile.player_limit()), u32::from(self.players)) {
+        if !is_within(
+            1,
+            u32::from(self.profile.player_limit()),
+            u32::from(self.players),
+        ) {
             Some(Refusal::PlayerOutOfRange)
-        } else if !self.has_local() || self.has_outsider() || self.has_long_delay() || self.has_remote_delay() {
+        } else if !self.has_local()
+            || self.has_outsider()
+            || self.has_long_delay()
+            || self.has_remote_delay()
+        {
             Some(Refusal::InvalidRequest)
         } else if !is_within(1, u32::from(self.profile.threshold_limit()), self.threshold) {
             Some(Refusal::InvalidRequest)
-        } else if !is_within(1, 1_048_576, self.limit) || !is_within(1, 16_777_216, self.log) {
+        } else if !is_within(1, FRAME_LIMIT, self.limit) || !is_within(1, LOG_LIMIT, self.log) {
             Some(Refusal::InvalidRequest)
         } else {
             None
@@ -71,9 +80,9 @@ impl Settings {
 
     fn has_long_delay(&self) -> bool
         requires { self.now.players ≤ 8 }
-        ensures { result ≡ list_any (λ place. nat_lt 8 (delay_at self.now place)) (places self.now) }
+        ensures { result ≡ list_any (λ place. nat_lt DELAY_LIMIT (delay_at self.now place)) (places self.now) }
     {
-        (0..self.players).any(|place| 8 < self.delays[usize::from(place)])
+        (0..self.players).any(|place| DELAY_LIMIT < self.delays[usize::from(place)])
     }
 
     fn has_remote_delay(&self) -> bool

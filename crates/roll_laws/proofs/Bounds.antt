@@ -15,6 +15,7 @@ use Rattle.roll_frame.specs.Paths.{prefixes, contains}
 use Rattle.roll_frame.specs.Settings.{first_player, most_threshold, start_tests, start_refusal, places, first_players, delay_at}
 use Rattle.roll_frame.specs.Timeline.{Player, timeline}
 use Rattle.roll_frame.specs.declared.entry.Entry.{Entry}
+use Rattle.roll_frame.specs.declared.limits.TheConstants.{QUEUE_LIMIT, DELAY_LIMIT}
 use Rattle.roll_frame.specs.declared.profile.Profile.{Profile}
 use Rattle.roll_frame.specs.declared.settings.Settings.{Settings}
 use Rattle.roll_laws.specs.Laws.{Always, KeptAreShort, QueuesAreShort, FramesEnd, LogEnds, PlayersStay}
@@ -224,7 +225,7 @@ queues_are_short settings game events h place player e =
     go (each_at (HasFew (played settings game events)) (played settings game events).players place player e b.1.queues) (cases_Bool player.local) b.0.lag
   where
     go : HasFew (played settings game events) player → (player.local ≡ true) ⊎ (player.local ≡ false) → (played settings game events).frame ≤ settled (played settings game events) + settings.threshold
-        → (length player.words ≤ settled (played settings game events) + 128) × (player.local ≡ true → length player.words ≤ settled (played settings game events) + settings.threshold + 9)
+        → (length player.words ≤ settled (played settings game events) + QUEUE_LIMIT) × (player.local ≡ true → length player.words ≤ settled (played settings game events) + settings.threshold + DELAY_LIMIT + 1)
     go few (inl l) lag = let n : length player.words ≤ (played settings game events).frame + 9 = few.1 l in (omega (arith, small_threshold settings h), λ m. omega arith)
     go few (inr l) lag = (few.0 l, λ m. absurd (false≢true (sym l ∙ m)))
 

@@ -6,9 +6,9 @@ use Rattle.std.specs.Ordering.{is_lt}
 use Rattle.std.proofs.lemmas.Bool.{false≢true, cases_Bool, cases_lt, or_left, or_right, and_from, and_parts, leb-true, ltb-true, lt-ltb, le-leb, eq-eqb, ne_eqb}
 use Rattle.std.proofs.lemmas.List.Elements.{All-from_recursion}
 use Rattle.roll_frame.specs.Cells.{cell_eq, cell_eq-Decides, Rows}
-use Rattle.roll_frame.specs.Claims.{Differ, IsDeeper, IsTrueEntry, IsRight, AreRowsOf, is_for, cell_in, cell_of_row, place_of, least_place, is_passed, is_start, differ_of, differs_from, path_from, claim_of, length_of, target_of}
+use Rattle.roll_frame.specs.Claims.{Differ, IsDeeper, IsTrueEntry, IsRight, AreRowsOf, is_for, cell_in, cell_of_row, place_of, least_place, is_passed, is_start, differ_of, differs_from, path_from, claim_of, target_of}
 use Rattle.roll_frame.specs.Core.{Roll}
-use Rattle.roll_frame.specs.Order.{rows_cmp, placed, in_order}
+use Rattle.roll_frame.specs.Order.{frames_of, rows_cmp, placed, in_order}
 use Rattle.roll_frame.specs.Paths.{begins_with}
 use Rattle.roll_frame.specs.Settings.{places}
 use Rattle.roll_frame.specs.declared.path.Path.{Path}
@@ -345,9 +345,9 @@ module _ (n : ℕ) (roll : Roll) (fair : IsFair n roll) where
           kept = All-from_recursion (λ path. (path.base ≡ roll.settled) × AreRowsOf n path.rows.items) (map (path_from roll.settled) (in_order roll.kept)) (kept_shape (in_order roll.kept) (λ p i. in_ordered p roll.kept i));
         };
         start = any_in (is_start (claim_of n roll)) (path_from roll.settled) (in_order roll.kept) q (ordered_in q roll.kept fair.start)
-            (and_from (nat_eq (length_of (path_from roll.settled q)) roll.from && nat_le roll.from (target_of (claim_of n roll))) (begins_with (drop roll.settled roll.time) (drop roll.settled q))
-            (and_from (nat_eq (length_of (path_from roll.settled q)) roll.from) (nat_le roll.from (target_of (claim_of n roll)))
-            (eq-eqb (length_of (path_from roll.settled q)) roll.from (omega (arith, fair.low))) (le-leb roll.from (target_of (claim_of n roll)) (omega (arith, fair.to_is, fair.top, fair.low))))
+            (and_from (nat_eq (frames_of (path_from roll.settled q)) roll.from && nat_le roll.from (target_of (claim_of n roll))) (begins_with (drop roll.settled roll.time) (drop roll.settled q))
+            (and_from (nat_eq (frames_of (path_from roll.settled q)) roll.from) (nat_le roll.from (target_of (claim_of n roll)))
+            (eq-eqb (frames_of (path_from roll.settled q)) roll.from (omega (arith, fair.low))) (le-leb roll.from (target_of (claim_of n roll)) (omega (arith, fair.to_is, fair.top, fair.low))))
             (begins (drop roll.settled roll.time) (drop roll.settled q) (drop_take roll.settled roll.from roll.time fair.low ∙ ap (λ j. take j (drop roll.settled roll.time)) (sym own_long))));
         entries = claim_entries (IsTrueEntry (claim_of n roll)) (true_entry n roll fair);
         once = λ place path e deeper.

@@ -1,6 +1,7 @@
 -- Laws over any events of any session that starts.
 use Rattle.std.specs.Prelude.{min, filter, drop, ◌≡◌, ℕ, ◌+◌, ◌-◌, ◌<◌, ◌≤◌, List, [], ◌++◌, length, take, true, false, Option, Some, None, if◌then◌else◌, slice_get, slice_index, nat_lt, bit_and, option_and_then, All, IsSomeAnd, ◌⊎◌}
 use Rattle.std.specs.List.Sorted.{IsPermutation, IsSorted}
+use Rattle.roll_frame.specs.declared.limits.TheConstants.{FRAME_LIMIT, LOG_LIMIT, TREE_LIMIT, BRANCH_LIMIT, PATH_LIMIT, QUEUE_LIMIT, DELAY_LIMIT}
 use Rattle.roll_frame.specs.declared.row.Cell.{Cell}
 use Rattle.roll_frame.specs.declared.row.Cell.TheVariants.{Word}
 use Rattle.roll_frame.specs.declared.path.Path.{Path}
@@ -41,9 +42,9 @@ pub record IsSmall (settings : Settings) : Type 0 where
   pub some_threshold : 1 ≤ settings.threshold
   pub small_threshold : settings.threshold ≤ most_threshold settings.profile
   pub some_frames : 1 ≤ settings.limit
-  pub few_frames : settings.limit ≤ 1048576
+  pub few_frames : settings.limit ≤ FRAME_LIMIT
   pub some_entries : 1 ≤ settings.log
-  pub few_entries : settings.log ≤ 16777216
+  pub few_entries : settings.log ≤ LOG_LIMIT
   pub few_kept : open_to_branches settings.profile + settings.threshold + 2 ≤ most_kept settings.profile
 
 abbrev pub StartsAreSmall : Type 0
@@ -96,7 +97,7 @@ FewAreKept = Always (λ settings core. (length (kept core) ≤ open_to_branches 
 
 -- in the middle of a roll to this frame or the next, before anything is dropped, no more than that are held
 abbrev pub RollsFit : Type 0
-RollsFit = Always (λ settings core. (m : ℕ) → core.frame ≤ m → m ≤ core.frame + 1 → (length (kept core) + cost core m ≤ open_to_branches settings.profile + settings.threshold + 2) × (length (kept core) + cost core m ≤ 256))
+RollsFit = Always (λ settings core. (m : ℕ) → core.frame ≤ m → m ≤ core.frame + 1 → (length (kept core) + cost core m ≤ open_to_branches settings.profile + settings.threshold + 2) × (length (kept core) + cost core m ≤ TREE_LIMIT))
 
 -- the confirmed word of a player, counted from 0, in a frame
 abbrev pub word_at : List Player → ℕ → ℕ → Option ℕ
@@ -183,11 +184,11 @@ GuessedCells =
 pub record IsJobOf (core : Core) (guess : Rows) (job : Branch) : Type 0 where
   pub start_kept : contains (kept core) (start_of core job) ≡ true
   pub start_is : start_of core job ≡ take (longest (kept core) guess) guess
-  pub rows_are : job.rows ≡ take 8 (drop (longest (kept core) guess) guess)
+  pub rows_are : job.rows ≡ take BRANCH_LIMIT (drop (longest (kept core) guess) guess)
   pub some : 1 ≤ length job.rows
-  pub few : length job.rows ≤ 8
+  pub few : length job.rows ≤ BRANCH_LIMIT
   pub base : job.path.base ≡ settled core
-  pub short : length job.path.rows.items ≤ 23
+  pub short : length job.path.rows.items < PATH_LIMIT
 
 -- the job of a guess that is not refused
 abbrev pub JobsStartKept : Type 0
@@ -204,13 +205,13 @@ LogIsCounted = (settings : Settings) (game : Game) (events : List CoreEvent) →
 
 -- what is kept fits a path of 24 rows from the settled frame on
 abbrev pub KeptAreShort : Type 0
-KeptAreShort = Always (λ settings core. (path : Rows) → contains (kept core) path ≡ true → length path ≤ settled core + 24)
+KeptAreShort = Always (λ settings core. (path : Rows) → contains (kept core) path ≡ true → length path ≤ settled core + PATH_LIMIT)
 
 -- each player's confirmed words past the settled frame fit its queue; a local one's are at most the
 -- threshold, the longest delay and one
 abbrev pub QueuesAreShort : Type 0
 QueuesAreShort = Always (λ settings core. (place : ℕ) (player : Player) → slice_get core.players place ≡ Some player
-    → (length player.words ≤ settled core + 128) × (player.local ≡ true → length player.words ≤ settled core + settings.threshold + 9))
+    → (length player.words ≤ settled core + QUEUE_LIMIT) × (player.local ≡ true → length player.words ≤ settled core + settings.threshold + DELAY_LIMIT + 1))
 
 abbrev pub FramesEnd : Type 0
 FramesEnd = Always (λ settings core. core.frame ≤ settings.limit)

@@ -1,0 +1,23 @@
+-- Paths of the same base are ordered as their own rows are.
+use Rattle.std.proofs.Common.{◌≡◌, ℕ, ◌+◌, length, refl, arith}
+use Rattle.std.specs.Cmp.{tied_itself}
+use Rattle.std.specs.Cmp.Lexicographic.{slice_cmp}
+use Rattle.std.specs.Ordering.{nat_cmp, ordering_then}
+use Rattle.std.specs.declared.cmp.Ordering.{Ordering}
+use Rattle.std.specs.declared.cmp.Ordering.TheVariants.{Less, Equal, Greater}
+use Rattle.std.proofs.lemmas.Bool.Decides.{nat_tests}
+use Rattle.std.proofs.lemmas.Cmp.{nat_cmp_total}
+use Rattle.roll_frame.specs.declared.path.Path.{Path}
+use Rattle.roll_frame.specs.Order.{row_cmp, rows_cmp, path_cmp}
+
+nat_cmp-plus : (base m n : ℕ) → nat_cmp (base + m) (base + n) ≡ nat_cmp m n
+nat_cmp-plus base m n = grind (arith, nat_tests)
+
+then_Equal : (o p : Ordering) → ordering_then (ordering_then o Equal) p ≡ ordering_then o p
+then_Equal Less p = refl
+then_Equal Equal p = refl
+then_Equal Greater p = refl
+
+pub path_cmp-same_base : (p q : Path) → p.base ≡ q.base → path_cmp p q ≡ rows_cmp p.rows.items q.rows.items
+path_cmp-same_base p q e =
+    rw (e, nat_cmp-plus q.base (length p.rows.items) (length q.rows.items), tied_itself nat_cmp_total q.base) (then_Equal (nat_cmp (length p.rows.items) (length q.rows.items)) (slice_cmp row_cmp p.rows.items q.rows.items))
