@@ -4,7 +4,7 @@ ghost use Rattle.std.specs.Int.{is_in_range};
 ghost use Rattle.std.specs.List.{list_any};
 ghost use Rattle.roll_frame.specs.Settings.{start_refusal, places, is_local, delay_at};
 
-use crate::limits::{DELAY_LIMIT, FRAME_LIMIT, LOG_LIMIT};
+use crate::limits::{DELAY_LIMIT, FRAME_LIMIT, LOG_LIMIT, PLAYER_LIMIT};
 use crate::profile::Profile;
 use crate::refusal::Refusal;
 
@@ -18,9 +18,9 @@ pub struct Settings {
     /// Which of them are local: bit p - 1 for player p.
     pub local: u8,
     /// Each player's input delay in frames, 0 to 8; 0 for one who isn't local. Places past the players are not read.
-    pub delays: [u32; 8],
+    pub delays: [u32; PLAYER_LIMIT],
     /// Which bits of each player's last word are predicted as held. Places past the players are not read.
-    pub masks: [u32; 8],
+    pub masks: [u32; PLAYER_LIMIT],
     /// How many frames the session may run ahead of the confirmed ones.
     pub threshold: u32,
     /// The last frame, 1 to 1,048,576.
@@ -57,14 +57,14 @@ impl Settings {
 
     /// Whether the player at a place, player place + 1, is local.
     pub fn is_local(&self, place: u8) -> bool
-        requires { place < 8 }
+        requires { place < PLAYER_LIMIT }
         ensures { result ≡ is_local self.now place }
     {
         self.local >> place & 1 == 1
     }
 
     fn has_local(&self) -> bool
-        requires { self.now.players ≤ 8 }
+        requires { self.now.players ≤ PLAYER_LIMIT }
         ensures { result ≡ list_any (is_local self.now) (places self.now) }
     {
         (0..self.players).any(|place| self.is_local(place))
@@ -72,21 +72,21 @@ impl Settings {
 
     // Whether a player past the last one is marked as local.
     fn has_outsider(&self) -> bool
-        requires { self.now.players ≤ 8 }
+        requires { self.now.players ≤ PLAYER_LIMIT }
         ensures { result ≡ nat_le (2 ^ self.now.players) self.now.local }
     {
         u16::from(self.local) >= 1 << self.players
     }
 
     fn has_long_delay(&self) -> bool
-        requires { self.now.players ≤ 8 }
+        requires { self.now.players ≤ PLAYER_LIMIT }
         ensures { result ≡ list_any (λ place. nat_lt DELAY_LIMIT (delay_at self.now place)) (places self.now) }
     {
         (0..self.players).any(|place| DELAY_LIMIT < self.delays[usize::from(place)])
     }
 
     fn has_remote_delay(&self) -> bool
-        requires { self.now.players ≤ 8 }
+        requires { self.now.players ≤ PLAYER_LIMIT }
         ensures { result ≡ list_any (λ place. not (is_local self.now place) && nat_lt 0 (delay_at self.now place)) (places self.now) }
     {
         (0..self.players).any(|place| !self.is_local(place) && 0 < self.delays[usize::from(place)])
@@ -97,4 +97,123 @@ fn is_within(low: u32, high: u32, n: u32) -> bool
     ensures { result ≡ is_in_range low high n }
 {
     low <= n && n <= high
+}
+
+#[cfg(test)]
+mod tests {
+    use super::*;
+
+    // Two players, of whom the first is local, with no delay and nothing masked.
+    fn two() -> Settings {
+        Settings {
+            profile: Profile::Ggpo,
+            players: 2,
+            local: 1,
+            delays: [0; PLAYER_LIMIT],
+            masks: [u32::MAX; PLAYER_LIMIT],
+            threshold: 8,
+            limit: FRAME_LIMIT,
+            log: LOG_LIMIT,
+        }
+    }
+
+    #[test]
+    fn starts(rt: HostRuntime) {
+        let wide = Settings {
+            profile: Profile::Wide,
+            players: 8,
+            local: 0b1000_0001,
+            threshold: 15,
+            ..two()
+        };
+        assert_eq!(rt; two().refusal(), None);
+        assert_eq!(rt; wide.refusal(), None);
+        assert!(rt; wide.is_local(7));
+        assert!(rt; !wide.is_local(6));
+        assert_eq!(rt; Profile::Wide.branch_limit(), 224);
+    }
+
+    #[test]
+    fn refuses_settings_out_of_range(rt: HostRuntime) {
+        let late_delay = [0, 1, 0, 0, 0, 0, 0, 0];
+        let long_delay = [9, 0, 0, 0, 0, 0, 0, 0];
+        for (settings, want) in [
+            (
+                Settings {
+                    players: 5,
+                    ..two()
+                },
+                Refusal::PlayerOutOfRange,
+            ),
+            (
+                Settings {
+                    players: 200,
+                    local: 0,
+                    ..two()
+                },
+                Refusal::PlayerOutOfRange,
+            ),
+            (
+                Settings {
+                    players: 0,
+                    ..two()
+                },
+                Refusal::PlayerOutOfRange,
+            ),
+            (Settings { local: 0, ..two() }, Refusal::InvalidRequest),
+            (
+                Settings {
+                    local: 0b101,
+                    ..two()
+                },
+                Refusal::InvalidRequest,
+            ),
+            (
+                Settings {
+                    delays: late_delay,
+                    ..two()
+                },
+                Refusal::InvalidRequest,
+            ),
+            (
+                Settings {
+                    delays: long_delay,
+                    ..two()
+                },
+                Refusal::InvalidRequest,
+            ),
+            (
+                Settings {
+                    threshold: 9,
+                    ..two()
+                },
+                Refusal::InvalidRequest,
+            ),
+            (
+                Settings {
+                    threshold: 0,
+                    ..two()
+                },
+                Refusal::InvalidRequest,
+            ),
+            (
+                Settings {
+                    limit: FRAME_LIMIT + 1,
+                    ..two()
+                },
+                Refusal::InvalidRequest,
+            ),
+            (Settings { limit: 0, ..two() }, Refusal::InvalidRequest),
+            (
+                Settings {
+                    log: LOG_LIMIT + 1,
+                    ..two()
+                },
+                Refusal::InvalidRequest,
+            ),
+            (Settings { log: 0, ..two() }, Refusal::InvalidRequest),
+        ] {
+            assert_eq!(rt; settings.refusal(), Some(want), "{settings:?}");
+        }
+    }
 }

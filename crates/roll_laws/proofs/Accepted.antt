@@ -1,6 +1,6 @@
 -- What an accepted event tells of its tests, and what it does to the players.
 use Rattle.std.proofs.Common.{◌≡◌, ℕ, zero, suc, ◌-◌, List, [], ◌∷◌, ◌++◌, refl, ap, sym, ◌∙◌, Bool, true, false, subst, inl, inr, map, set, Option, Some, None}
-use Rattle.std.specs.Prelude.{◌⊎◌, not, slice_get, slice_set, ◌==◌, nat_le, is_none, ◌&&◌, if◌then◌else◌}
+use Rattle.std.specs.Prelude.{◌⊎◌, not, slice_get, slice_set, ◌==◌, nat_le, is_none, if◌then◌else◌}
 use Rattle.std.specs.Option.{option_map_or}
 use Rattle.std.proofs.lemmas.Bool.{false≢true, cases_Bool, and_parts}
 use Rattle.std.proofs.lemmas.List.{append-nil}

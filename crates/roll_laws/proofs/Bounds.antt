@@ -2,24 +2,21 @@
 use Rattle.std.proofs.Common.{◌≡◌, ℕ, suc, ◌+◌, ◌-◌, ◌<◌, ◌≤◌, List, [], ◌∷◌, ◌++◌, length, refl, ap, sym, ◌∙◌, Bool, true, false, arith, subst, inl, inr, map, min, length-take, length-append, None}
 use Rattle.std.specs.Prelude.{◌⊎◌, not, nat_le, nat_lt, ◌&&◌, ◌||◌, ◌==◌}
 use Rattle.std.specs.List.{list_any}
-use Rattle.std.proofs.lemmas.Bool.{false≢true, cases_Bool, not-false, not-true, and_parts, or_cases, or_parts, leb-true, leb-false, ltb-false, eqb-false, eqb-true}
+use Rattle.std.proofs.lemmas.Bool.{false≢true, cases_Bool, not-false, not-true, and_parts, or_cases, or_parts, leb-false, ltb-false, eqb-false, eqb-true}
 use Rattle.std.proofs.Math.ListN.{length-replicate}
-use Rattle.std.proofs.lemmas.List.{length-map}
 use Rattle.roll_frame.specs.Cells.{Rows}
 use Rattle.roll_frame.specs.Core.{Core, first_core, is_possible, settled, kept, depth, cost, rolled_paths}
-use Rattle.roll_frame.specs.Events.{CoreEvent, all_given, is_accepted, tests_of, applied, after, played_from, played, branch_of}
+use Rattle.roll_frame.specs.Events.{CoreEvent, all_given, tests_of, applied, after, played_from, played, branch_of}
 use Rattle.roll_frame.specs.Games.{Game, Value}
 use Rattle.roll_frame.specs.Grafts.{Branch, whole_of, anchor_length, new_paths}
 use Rattle.roll_frame.specs.Inputs.{with_words, with_given, with_gone, with_none_given}
 use Rattle.roll_frame.specs.Paths.{prefixes, contains}
-use Rattle.roll_frame.specs.Settings.{first_player, most_threshold, start_tests, start_refusal, places, first_players, delay_at}
+use Rattle.roll_frame.specs.Settings.{first_player, start_tests, start_refusal, places, first_players, delay_at}
 use Rattle.roll_frame.specs.Timeline.{Player, timeline}
 use Rattle.roll_frame.specs.declared.entry.Entry.{Entry}
 use Rattle.roll_frame.specs.declared.limits.TheConstants.{QUEUE_LIMIT, DELAY_LIMIT}
-use Rattle.roll_frame.specs.declared.profile.Profile.{Profile}
 use Rattle.roll_frame.specs.declared.settings.Settings.{Settings}
 use Rattle.roll_laws.specs.Laws.{Always, KeptAreShort, QueuesAreShort, FramesEnd, LogEnds, PlayersStay}
-use Rattle.roll_frame.specs.declared.profile.Profile.TheVariants.{Ggpo, Wide}
 use Rattle.roll_frame.specs.declared.entry.Entry.TheVariants.{Local, Remote, Disconnect, Sync, Advance, Graft, Partial}
 use Rattle.std.proofs.lemmas.List.FromFn.{length-map-range_with_len}
 use Rattle.roll_laws.proofs.Ahead.{AllLater}

@@ -1,5 +1,5 @@
 -- Worked examples, by computation.
-use Rattle.std.proofs.Common.{◌≡◌, ℕ, zero, suc, ◌+◌, List, [], ◌∷◌, ◌++◌, refl, Some, None}
+use Rattle.std.proofs.Common.{◌≡◌, ℕ, zero, suc, List, [], ◌∷◌, ◌++◌, refl, Some, None}
 use Rattle.roll_frame.specs.Cells.{Rows}
 use Rattle.roll_frame.specs.Core.{first_core}
 use Rattle.roll_frame.specs.Settings.{start_refusal}

@@ -10,7 +10,6 @@ use Rattle.roll_frame.specs.Claims.{Differ, IsDeeper, IsTrueEntry, IsRight, AreR
 use Rattle.roll_frame.specs.Core.{Roll}
 use Rattle.roll_frame.specs.Order.{frames_of, rows_cmp, placed, in_order}
 use Rattle.roll_frame.specs.Paths.{begins_with}
-use Rattle.roll_frame.specs.Settings.{places}
 use Rattle.roll_frame.specs.declared.path.Path.{Path}
 use Rattle.roll_frame.specs.declared.row.Cell.{Cell}
 use Rattle.roll_laws.specs.Laws.{IsLeastEntry}

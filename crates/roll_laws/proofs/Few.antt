@@ -24,9 +24,9 @@ use Rattle.roll_laws.proofs.Prefixes.{in_prefixes, in_filter, filter_in}
 use Rattle.roll_laws.proofs.Counting.{filter_le, filter_short, filter_none, filter_parts, Distinct, distinct_append, distinct_filter, distinct_prefixes, distinct_short}
 use Rattle.roll_laws.proofs.Starts.{starts_are_small, few_kept}
 use Rattle.roll_laws.proofs.Sound.{Sound, staying, step, first_sound}
-use Rattle.roll_laws.proofs.LawProofs.{time_stays, rolled_on_time}
+use Rattle.roll_laws.proofs.KeptPaths.{time_stays, rolled_on_time}
 
--- worthy of being kept, and not the timeline's up to the next frame
+-- live, and not the timeline up to the next frame
 abbrev pub is_far : Core → Rows → Bool
 is_far core q = is_live (settled core) core.players q && not (begins_with (timeline core.players (core.frame + 1)) q)
 

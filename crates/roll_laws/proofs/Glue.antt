@@ -3,7 +3,7 @@ use Rattle.std.proofs.Common.{◌≡◌, List, [], ◌∷◌, ◌++◌, refl, ap
 use Rattle.std.specs.Prelude.{if◌then◌else◌, None}
 use Rattle.std.proofs.lemmas.List.Sums.{fold_push}
 use Rattle.roll_frame.specs.Core.{Core, first_core}
-use Rattle.roll_frame.specs.Events.{CoreEvent, log_from, log_of, replay, is_accepted, applied, after, played_from, played}
+use Rattle.roll_frame.specs.Events.{CoreEvent, log_from, replay, is_accepted, applied, after, played_from, played}
 use Rattle.roll_frame.specs.Games.{Game}
 use Rattle.roll_frame.specs.Settings.{start_refusal}
 use Rattle.roll_frame.specs.declared.entry.Entry.{Entry}
@@ -46,6 +46,6 @@ log_more settings game log event is_log h =
       starts = is_log.starts;
       events = is_log.events ++ event ∷ [];
       left =
-        let e : is_accepted settings game (played settings game is_log.events) event ≡ true = subst (λ (core : Core). is_accepted settings game core event ≡ true) (log_played settings game log is_log) h in
-        ap (λ es. es ++ event.entry ∷ []) is_log.left ∙ sym (log_from-push settings game (first_core settings) is_log.events event e);
+          let e : is_accepted settings game (played settings game is_log.events) event ≡ true = subst (λ (core : Core). is_accepted settings game core event ≡ true) (log_played settings game log is_log) h in
+          ap (λ es. es ++ event.entry ∷ []) is_log.left ∙ sym (log_from-push settings game (first_core settings) is_log.events event e);
     }

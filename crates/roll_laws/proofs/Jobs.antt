@@ -1,28 +1,25 @@
 -- A job starts from a kept path that begins the guess.
-use Rattle.std.proofs.Common.{◌≡◌, ℕ, zero, suc, ◌+◌, ◌<◌, ◌≤◌, List, [], ◌∷◌, ◌++◌, length, take, refl, ap, sym, ◌∙◌, Bool, true, false, Option, Some, None, arith, inl, inr, subst, min, length, length-take}
+use Rattle.std.proofs.Common.{◌≡◌, ℕ, ◌+◌, ◌<◌, ◌≤◌, List, ◌++◌, length, take, refl, ap, sym, ◌∙◌, Bool, true, false, Some, None, arith, inl, inr, subst, min, length, length-take}
 use Rattle.std.specs.Prelude.{◌⊎◌, drop, nat_le, not, if◌then◌else◌}
 use Rattle.std.proofs.lemmas.Bool.{false≢true, cases_lt, and_parts, leb-true, not-false}
 use Rattle.std.proofs.lemmas.List.{take-append-drop, take_all, length-drop}
 use Rattle.roll_frame.specs.Cells.{Rows}
-use Rattle.roll_frame.specs.Core.{Core, settled, kept, is_live, is_possible}
+use Rattle.roll_frame.specs.Core.{Core, settled, kept}
 use Rattle.roll_frame.specs.Events.{played}
-use Rattle.roll_frame.specs.Games.{Game}
 use Rattle.roll_frame.specs.Grafts.{Branch, start_of}
-use Rattle.roll_frame.specs.Guess.{guess_tests, guessed_time, guessed_job, job_of}
+use Rattle.roll_frame.specs.Guess.{guess_tests, guessed_time, job_of}
 use Rattle.roll_frame.specs.Inputs.{changed, with_words}
-use Rattle.roll_frame.specs.Paths.{begins_with, longest, contains}
-use Rattle.roll_frame.specs.Refusals.{first_refusal}
-use Rattle.roll_frame.specs.Timeline.{Player, timeline, front}
+use Rattle.roll_frame.specs.Paths.{longest, contains}
+use Rattle.roll_frame.specs.Timeline.{timeline, front}
 use Rattle.roll_frame.specs.declared.settings.Settings.{Settings}
 use Rattle.roll_laws.specs.Laws.{JobsStartKept, IsJobOf}
 use Rattle.std.specs.Int.{is_in_range}
-use Rattle.roll_laws.proofs.Ahead.{Later, AllLater}
-use Rattle.roll_laws.proofs.Known.{fits, possible_from_fits, on_time_fits}
-use Rattle.roll_laws.proofs.Saved.{In, has_in, in_has, begins, longest_at_least, longest_is, length_timeline, take_timeline, timeline_on_time}
+use Rattle.roll_laws.proofs.Ahead.{AllLater}
+use Rattle.roll_laws.proofs.Saved.{In, has_in, in_has, begins, longest_at_least, longest_is, length_timeline, take_timeline}
 use Rattle.roll_laws.proofs.Fronts.{settled_is, timeline_stays}
 use Rattle.roll_laws.proofs.Accepted.{AllFail, all_fail, of_player_is, changed_later, later_with_words}
 use Rattle.roll_laws.proofs.Sound.{Sound, sound_played}
-use Rattle.roll_laws.proofs.LawProofs.{kept_settled, settled_kept}
+use Rattle.roll_laws.proofs.KeptPaths.{kept_settled, settled_kept}
 
 -- the job of rows that begin with the settled ones, go no further than a job may, and aren't kept
 job_is : (settings : Settings) (core : Core) (rows : Rows) → Sound settings core → take (settled core) rows ≡ timeline core.players (settled core) → length rows ≤ settled core + 24
@@ -45,8 +42,12 @@ job_is settings core rows s e near new =
     long = length_timeline core.players (settled core)
 
     low : settled core ≤ longest (kept core) rows
-    low = omega (arith, long, longest_at_least (kept core) rows (timeline core.players (settled core)) (has_in (kept core) (timeline core.players (settled core)) (settled_kept settings core s))
-        (begins rows (timeline core.players (settled core)) (sym e ∙ ap (λ n. take n rows) (sym long))))
+    low = omega (
+      arith,
+      long,
+      longest_at_least (kept core) rows (timeline core.players (settled core)) (has_in (kept core) (timeline core.players (settled core)) (settled_kept settings core s))
+          (begins rows (timeline core.players (settled core)) (sym e ∙ ap (λ n. take n rows) (sym long))),
+    )
 
     found : In (take (longest (kept core) rows) rows) (kept core) × (longest (kept core) rows ≤ length rows)
     found = go (longest_is (kept core) rows)

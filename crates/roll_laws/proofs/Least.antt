@@ -1,29 +1,29 @@
 -- Rolls are least, and pruning loses nothing.
-use Rattle.std.specs.Prelude.{filter, min, if◌then◌else◌}
-use Rattle.std.proofs.lemmas.Bool.{false≢true, cases_Bool, and_from, le-leb}
+use Rattle.std.specs.Prelude.{filter, min}
+use Rattle.std.proofs.lemmas.Bool.{false≢true, cases_Bool}
 use Rattle.std.proofs.lemmas.List.{append-nil}
 use Rattle.std.proofs.lemmas.List.Elements.{filter-append}
 use Rattle.roll_frame.specs.Cells.{Rows}
-use Rattle.roll_frame.specs.Core.{Core, kept, settled, is_live, is_possible, depth}
-use Rattle.roll_frame.specs.Events.{added_by, CoreEvent, is_accepted, tests_of, applied, after, played}
+use Rattle.roll_frame.specs.Core.{Core, kept, settled, is_live, depth}
+use Rattle.roll_frame.specs.Events.{added_by, CoreEvent, is_accepted, applied, after, played}
 use Rattle.roll_frame.specs.Games.{Game}
-use Rattle.roll_frame.specs.Paths.{begins_with, longest, contains}
+use Rattle.roll_frame.specs.Paths.{begins_with, longest}
 use Rattle.roll_frame.specs.Timeline.{front, timeline}
 use Rattle.roll_frame.specs.declared.entry.Entry.{Entry}
 use Rattle.roll_frame.specs.declared.settings.Settings.{Settings}
 use Rattle.roll_laws.specs.Laws.{KeptAfter, SettledAfter, RollsAreLeast, PruningLosesNothing}
-use Rattle.roll_laws.proofs.Known.{possible_from_fits, on_time_fits}
+use Rattle.roll_frame.specs.Settings.{start_refusal}
 use Rattle.roll_laws.proofs.Counting.{filter_takes, filter_skips}
-use Rattle.std.proofs.Common.{◌≡◌, ℕ, zero, suc, ◌+◌, ◌≤◌, List, [], ◌∷◌, ◌++◌, length, take, refl, ap, sym, ◌∙◌, Bool, true, false, arith, inl, inr, subst, length-append}
-use Rattle.std.specs.Prelude.{◌⊎◌, nat_le}
+use Rattle.std.proofs.Common.{None, ◌≡◌, ℕ, zero, suc, ◌+◌, ◌≤◌, List, [], ◌∷◌, ◌++◌, length, take, refl, ap, sym, ◌∙◌, Bool, true, false, arith, inl, inr, subst, length-append}
+use Rattle.std.specs.Prelude.{◌⊎◌}
 use Rattle.std.proofs.Math.Seq.{take-append_seam}
 use Rattle.roll_frame.specs.declared.entry.Entry.TheVariants.{Local, Remote, Disconnect, Sync, Advance, Graft, Partial}
-use Rattle.roll_laws.proofs.Saved.{In, in_left, in_right, in_either, has_in, in_has, IsLength, longest_is, longest_at_least, begins, length_timeline, take_timeline, timeline_on_time, time_begins}
+use Rattle.roll_laws.proofs.Saved.{In, in_left, in_right, in_either, has_in, IsLength, longest_is, longest_at_least, begins, length_timeline, take_timeline, timeline_on_time, time_begins}
 use Rattle.roll_laws.proofs.Fronts.{Onward, settled_onward, settled_is, depth_is, depth_at_least}
 use Rattle.roll_laws.proofs.Accepted.{after_accepted}
-use Rattle.roll_laws.proofs.Prefixes.{in_filter, filter_in}
+use Rattle.roll_laws.proofs.Prefixes.{in_filter}
 use Rattle.roll_laws.proofs.Sound.{Sound, sound_played, step_any, staying}
-use Rattle.roll_laws.proofs.LawProofs.{start_kept, settled_kept}
+use Rattle.roll_laws.proofs.KeptPaths.{start_kept, settled_kept}
 use Rattle.roll_laws.proofs.Few.{live_before}
 
 pub rolls_are_least : RollsAreLeast
@@ -104,27 +104,33 @@ settled_grows settings old new made s o f e =
     saved p (inl i) = in_left p old.ever made (in_filter (is_live (settled old) old.players) p old.ever i).0
     saved p (inr i) = in_right p old.ever made i
 
--- after an accepted event: later, sound, and with what it added
-grows : (settings : Settings) (game : Game) (core : Core) (event : CoreEvent) → Sound settings core → is_accepted settings game core event ≡ true
-    → Onward core (after settings game core event) × Sound settings (after settings game core event) × ((after settings game core event).ever ≡ core.ever ++ added_by core event.entry)
-grows settings game core event s a =
+-- what an accepted event leads to: a core that is later and sound, with what the event added
+record Grows (settings : Settings) (core new : Core) (added : List Rows) : Type 0 where
+  onward : Onward core new
+  sound : Sound settings new
+  ever : new.ever ≡ core.ever ++ added
+  up : settled core ≤ settled new
+
+grows : (settings : Settings) (game : Game) (events : List CoreEvent) (event : CoreEvent) → start_refusal settings ≡ None → is_accepted settings game (played settings game events) event ≡ true
+    → Grows settings (played settings game events) (after settings game (played settings game events) event) (added_by (played settings game events) event.entry)
+grows settings game events event h a =
+    let core : Core = played settings game events in
+    let new : Core = after settings game core event in
+    let s = sound_played settings game events h in
     let g = step_any settings game core event s in
-    (g.0, g.1, ap (λ (c : Core). c.ever) (after_accepted settings game core event a) ∙ ever_grows core event.entry)
+    record {
+      onward = g.0;
+      sound = g.1;
+      ever = ap (λ (c : Core). c.ever) (after_accepted settings game core event a) ∙ ever_grows core event.entry;
+      up = settled_onward core new g.0 s.root (staying new.players g.1.stays g.1.has_local);
+    }
 
 pub kept_after : KeptAfter
 kept_after settings game events event h a =
-    let core : Core = played settings game events in
-    let new : Core = after settings game core event in
-    let s = sound_played settings game events h in
-    let g = grows settings game core event s a in
-    let f : settled core ≤ settled new = settled_onward core new g.0 s.root (staying new.players g.1.stays g.1.has_local) in
-    kept_grows core new (added_by core event.entry) g.0 f g.2
+    let g = grows settings game events event h a in
+    kept_grows _ _ (added_by (played settings game events) event.entry) g.onward g.up g.ever
 
 pub settled_after : SettledAfter
 settled_after settings game events event h a =
-    let core : Core = played settings game events in
-    let new : Core = after settings game core event in
-    let s = sound_played settings game events h in
-    let g = grows settings game core event s a in
-    let f : settled core ≤ settled new = settled_onward core new g.0 s.root (staying new.players g.1.stays g.1.has_local) in
-    settled_grows settings core new (added_by core event.entry) g.1 g.0 f g.2
+    let g = grows settings game events event h a in
+    settled_grows settings _ _ (added_by (played settings game events) event.entry) g.sound g.onward g.up g.ever

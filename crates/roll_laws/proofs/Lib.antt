@@ -9,8 +9,8 @@ pub mod Fronts
 pub mod FullTrees
 pub mod Glue
 pub mod Jobs
+pub mod KeptPaths
 pub mod Known
-pub mod LawProofs
 pub mod Least
 pub mod Logs
 pub mod Ordered

@@ -1,5 +1,5 @@
 -- Paths in order are all of the paths, and ascend.
-use Rattle.std.proofs.Common.{◌≡◌, ℕ, zero, suc, ◌+◌, ◌<◌, ◌≤◌, List, [], ◌∷◌, ◌++◌, length, get_or, refl, ap, sym, ◌∙◌, Bool, true, false, arith, inl, inr, subst, add-one}
+use Rattle.std.proofs.Common.{◌≡◌, ℕ, zero, suc, ◌+◌, List, [], ◌∷◌, get_or, refl, ap, sym, true, false, arith, inl, inr, subst}
 use Rattle.std.specs.Prelude.{◌⊎◌}
 use Rattle.std.specs.Ordering.{is_lt, ordering_reverse}
 use Rattle.std.specs.declared.cmp.Ordering.{Ordering}
@@ -9,7 +9,7 @@ use Rattle.std.proofs.lemmas.Bool.{cases_Bool, false≢true}
 use Rattle.std.proofs.lemmas.List.Sorted.{IsPermutation-refl, IsPermutation-cons, IsPermutation-middle, IsPermutation-trans}
 use Rattle.roll_frame.specs.Cells.{Rows}
 use Rattle.roll_frame.specs.Order.{rows_cmp, rows_cmp_total, placed, in_order}
-use Rattle.roll_laws.specs.Laws.{IsOrderOf, OrderKeepsAll}
+use Rattle.roll_laws.specs.Laws.{OrderKeepsAll}
 
 first : (p x : Rows) (xs : List Rows) → is_lt (rows_cmp p x) ≡ true → placed p (x ∷ xs) ≡ p ∷ x ∷ xs
 first p x xs e = rw e refl

@@ -1,20 +1,17 @@
 -- What a session keeps after an accepted event, from what it kept before: what a pruned tree holds.
-use Rattle.std.proofs.Common.{◌≡◌, List, [], ◌∷◌, ◌++◌, refl, ap, sym, ◌∙◌, subst, Bool, true, false, inl, inr, min}
-use Rattle.std.specs.Prelude.{◌⊎◌, if◌then◌else◌, filter}
-use Rattle.std.proofs.lemmas.Bool.{false≢true}
+use Rattle.std.proofs.Common.{◌≡◌, List, ◌++◌, sym, subst, true, inl, inr}
+use Rattle.std.specs.Prelude.{◌⊎◌, filter}
 use Rattle.roll_frame.specs.Cells.{Rows}
 use Rattle.roll_frame.specs.Core.{Core, kept, settled, is_live}
-use Rattle.roll_frame.specs.Events.{CoreEvent, replay, is_accepted, applied, after, played, added_by}
+use Rattle.roll_frame.specs.Events.{CoreEvent, replay, is_accepted, applied, played, added_by}
 use Rattle.roll_frame.specs.Games.{Game}
-use Rattle.roll_frame.specs.Paths.{longest}
-use Rattle.roll_frame.specs.Timeline.{timeline, front}
 use Rattle.roll_frame.specs.declared.entry.Entry.{Entry}
 use Rattle.roll_frame.specs.declared.settings.Settings.{Settings}
 use Rattle.roll_laws.specs.Sessions.{IsLog}
 use Rattle.roll_laws.proofs.Accepted.{after_accepted}
 use Rattle.roll_laws.proofs.Saved.{In, in_left, in_right, in_either}
 use Rattle.roll_laws.proofs.Prefixes.{in_filter, filter_in}
-use Rattle.roll_laws.proofs.Least.{kept_after, settled_after}
+use Rattle.roll_laws.proofs.Least.{kept_after}
 use Rattle.roll_laws.proofs.Glue.{log_played}
 
 -- what is kept after an accepted event: what is then live of what was kept, and of what it added

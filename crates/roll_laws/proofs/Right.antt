@@ -5,8 +5,9 @@ use Rattle.std.proofs.lemmas.Bool.{cases_Bool, false_from_ne_true, eqb-true}
 use Rattle.std.proofs.lemmas.Option.{slice_get_cases, get_or_from_slice_get}
 use Rattle.std.proofs.lemmas.List.Elements.{recursion_from_All}
 use Rattle.std.specs.List.{AllByRecursion}
+use Rattle.std.proofs.Props.{props}
 use Rattle.roll_frame.specs.Cells.{Rows}
-use Rattle.roll_frame.specs.Claims.{Differ, Claim, IsTrueEntry, AreRowsOf, is_for, cell_in, cell_of_row}
+use Rattle.roll_frame.specs.Claims.{Differ, Claim, IsRight, IsTrueEntry, AreRowsOf, is_for, cell_of_row}
 use Rattle.roll_frame.specs.Paths.{begins_with}
 use Rattle.roll_frame.specs.declared.path.Path.{Path}
 use Rattle.roll_laws.specs.Laws.{DeeperDiffer}
@@ -58,3 +59,7 @@ deeper_differ claim right place path s deeper =
     let entry : IsTrueEntry claim f.0 path = subst (λ (o : Option Path). IsSomeAnd o (IsTrueEntry claim f.0)) is f.2 in
     let shape = at_place (λ q. (q.base ≡ claim.base) × AreRowsOf claim.players q.rows.items) claim.kept place path right.shape.kept s in
     false_from_ne_true (begins_with claim.time path.rows.items) (λ b. agrees_nowhere claim f.0 path entry shape.0 b)
+
+-- a claim is right in one way, so what is kept of it behind a truncation can be used
+pub IsRight-prop : (claim : Claim) → IsProp (IsRight claim)
+IsRight-prop claim = hlevel props

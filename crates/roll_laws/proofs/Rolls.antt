@@ -1,28 +1,25 @@
 -- Each roll of a session is fair, so its claim is right.
-use Rattle.std.proofs.Common.{◌≡◌, ℕ, suc, ◌+◌, ◌<◌, ◌≤◌, List, [], ◌∷◌, length, refl, ap, sym, ◌∙◌, true, false, arith, inl, inr, Some, None, subst}
-use Rattle.std.specs.Prelude.{◌⊎◌, nat_le}
-use Rattle.std.proofs.lemmas.Bool.{and_parts, not-false, leb-true, leb-false}
-use Rattle.std.proofs.lemmas.List.{length-map}
+use Rattle.std.proofs.Common.{◌≡◌, ℕ, suc, ◌+◌, ◌<◌, ◌≤◌, List, [], ◌∷◌, length, refl, ap, sym, ◌∙◌, false, arith, inl, inr, Some, None, subst}
+use Rattle.std.specs.Prelude.{nat_le}
+use Rattle.std.proofs.lemmas.Bool.{leb-false}
 use Rattle.roll_frame.specs.Cells.{Rows}
 use Rattle.roll_frame.specs.Core.{Roll, Core, first_core, settled, kept, depth}
-use Rattle.roll_frame.specs.Events.{CoreEvent, played, is_accepted, applied, after, played_from}
+use Rattle.roll_frame.specs.Events.{CoreEvent, played, applied, after, played_from}
 use Rattle.roll_frame.specs.Games.{Game}
-use Rattle.roll_frame.specs.Settings.{most_players, start_tests, start_refusal}
+use Rattle.roll_frame.specs.Settings.{start_refusal}
 use Rattle.roll_frame.specs.Timeline.{Player, timeline}
 use Rattle.roll_frame.specs.declared.entry.Entry.{Entry}
-use Rattle.roll_frame.specs.declared.profile.Profile.{Profile}
 use Rattle.roll_frame.specs.declared.row.Cell.{Cell}
 use Rattle.roll_frame.specs.declared.settings.Settings.{Settings}
 use Rattle.roll_laws.specs.Laws.{ClaimsAreRight, ClaimsNameLeast}
-use Rattle.roll_frame.specs.declared.profile.Profile.TheVariants.{Ggpo, Wide as WideProfile}
 use Rattle.roll_frame.specs.declared.entry.Entry.TheVariants.{Local, Remote, Disconnect, Sync, Advance, Graft, Partial}
 use Rattle.roll_laws.proofs.Known.{RowFits, Fits, fits, on_time_fits}
 use Rattle.roll_laws.proofs.Saved.{In, has_in, in_has, length_timeline, take_timeline, timeline_on_time}
 use Rattle.roll_laws.proofs.Fronts.{depth_is, depth_at_least, settled_is, settled_onward}
-use Rattle.roll_laws.proofs.Accepted.{all_fail, Outcome, after_log}
+use Rattle.roll_laws.proofs.Accepted.{Outcome, after_log}
 use Rattle.roll_laws.proofs.Starts.{starts_are_small, few_players, small_threshold}
 use Rattle.roll_laws.proofs.Sound.{Sound, step, staying, first_sound}
-use Rattle.roll_laws.proofs.LawProofs.{live, kept_settled, start_kept}
+use Rattle.roll_laws.proofs.KeptPaths.{live, kept_settled, start_kept}
 use Rattle.roll_laws.proofs.Logs.{deeper_diverge}
 use Rattle.roll_laws.proofs.Bounds.{Bounded, bounded_step, as_many, first_bounded, players_first}
 use Rattle.roll_laws.proofs.Fair.{Wide, IsFair, fair_is_right, fair_is_least}

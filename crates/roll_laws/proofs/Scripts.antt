@@ -1,5 +1,5 @@
 -- Scripts of a small game, and what is printed for them, by the definitions alone.
-use Rattle.std.proofs.Common.{◌≡◌, ℕ, zero, suc, ◌+◌, ◌*◌, ◌%◌, ◌-◌, List, [], ◌∷◌, ◌++◌, length, refl, Bool, true, false, Option, Some, None}
+use Rattle.std.proofs.Common.{ℕ, zero, suc, ◌+◌, ◌*◌, ◌%◌, ◌-◌, List, [], ◌∷◌, ◌++◌, length, Option, Some, None}
 use Rattle.std.specs.Prelude.{slice_get}
 use Rattle.std.specs.Option.{option_map_or}
 use Rattle.roll_frame.specs.Claims.{Claim, claim_of}
@@ -11,17 +11,13 @@ use Rattle.roll_frame.specs.Grafts.{Branch, start_of}
 use Rattle.roll_frame.specs.Guess.{guess_tests, guessed_job}
 use Rattle.roll_frame.specs.Paths.{run}
 use Rattle.roll_frame.specs.Refusals.{first_refusal}
-use Rattle.roll_frame.specs.Settings.{start_refusal}
 use Rattle.roll_frame.specs.declared.entry.Entry.{Entry}
-use Rattle.roll_frame.specs.declared.path.Path.{Path}
 use Rattle.roll_frame.specs.declared.refusal.Refusal.{Refusal}
 use Rattle.roll_frame.specs.declared.row.Cell.{Cell}
 use Rattle.roll_frame.specs.declared.settings.Settings.{Settings}
 use Rattle.roll_frame.specs.declared.row.Cell.TheVariants.{Word, Gone}
-use Rattle.roll_frame.specs.declared.profile.Profile.TheVariants.{Ggpo, Wide}
-use Rattle.roll_frame.specs.declared.refusal.Refusal.TheVariants.{InvalidRequest, PlayerOutOfRange}
+use Rattle.roll_frame.specs.declared.profile.Profile.TheVariants.{Ggpo}
 use Rattle.roll_frame.specs.declared.entry.Entry.TheVariants.{Local, Remote, Disconnect, Sync, Advance, Graft}
-use Rattle.std.specs.Option.{option_map}
 
 -- what player p adds to the number: p times the word, or 5 where it is gone
 abbrev pub part : ℕ → Cell → ℕ

@@ -1,5 +1,5 @@
 -- Laws over any events of any session that starts.
-use Rattle.std.specs.Prelude.{min, filter, drop, ◌≡◌, ℕ, ◌+◌, ◌-◌, ◌<◌, ◌≤◌, List, [], ◌++◌, length, take, true, false, Option, Some, None, if◌then◌else◌, slice_get, slice_index, nat_lt, bit_and, option_and_then, All, IsSomeAnd, ◌⊎◌}
+use Rattle.std.specs.Prelude.{min, filter, drop, ◌≡◌, ℕ, ◌+◌, ◌-◌, ◌<◌, ◌≤◌, List, ◌++◌, length, take, true, false, Option, Some, None, if◌then◌else◌, slice_get, slice_index, nat_lt, bit_and, option_and_then, All, IsSomeAnd, ◌⊎◌}
 use Rattle.std.specs.List.Sorted.{IsPermutation, IsSorted}
 use Rattle.roll_frame.specs.declared.limits.TheConstants.{FRAME_LIMIT, LOG_LIMIT, TREE_LIMIT, BRANCH_LIMIT, PATH_LIMIT, QUEUE_LIMIT, DELAY_LIMIT}
 use Rattle.roll_frame.specs.declared.row.Cell.{Cell}
@@ -20,7 +20,7 @@ use Rattle.roll_frame.specs.Grafts.{Branch, start_of}
 use Rattle.roll_frame.specs.Events.{CoreEvent, is_accepted, added_by, after, played, replay, log_of}
 use Rattle.roll_frame.specs.Guess.{guess_tests, guessed_time, guessed_job}
 use Rattle.roll_frame.specs.Order.{rows_cmp, in_order}
-use Rattle.roll_frame.specs.Claims.{Claim, Differ, IsDeeper, IsRight, cell_in, path_from, claim_of}
+use Rattle.roll_frame.specs.Claims.{Claim, Differ, IsDeeper, IsRight, cell_in, claim_of}
 
 -- a fact of the core after any events of any session that starts
 abbrev pub Always : (Settings → Core → Type 0) → Type 0

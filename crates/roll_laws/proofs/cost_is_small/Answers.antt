@@ -1,4 +1,4 @@
-use Rattle.roll_laws.proofs.LawProofs.{cost_is_small}
+use Rattle.roll_laws.proofs.KeptPaths.{cost_is_small}
 use Rattle.roll_laws.proofs.cost_is_small.Goals as goal
 
 pub returns : goal.returns

@@ -1,4 +1,4 @@
-use Rattle.roll_laws.proofs.LawProofs.{impossible_stays}
+use Rattle.roll_laws.proofs.KeptPaths.{impossible_stays}
 use Rattle.roll_laws.proofs.impossible_stays.Goals as goal
 
 pub returns : goal.returns

@@ -1,4 +1,4 @@
-use Rattle.roll_laws.proofs.LawProofs.{rolled_is_time_or_dead}
+use Rattle.roll_laws.proofs.KeptPaths.{rolled_is_time_or_dead}
 use Rattle.roll_laws.proofs.rolled_is_time_or_dead.Goals as goal
 
 pub returns : goal.returns

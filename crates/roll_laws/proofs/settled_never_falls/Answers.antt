@@ -1,4 +1,4 @@
-use Rattle.roll_laws.proofs.LawProofs.{settled_never_falls}
+use Rattle.roll_laws.proofs.KeptPaths.{settled_never_falls}
 use Rattle.roll_laws.proofs.settled_never_falls.Goals as goal
 
 pub returns : goal.returns

@@ -1,4 +1,4 @@
-use Rattle.roll_laws.proofs.LawProofs.{start_is_kept}
+use Rattle.roll_laws.proofs.KeptPaths.{start_is_kept}
 use Rattle.roll_laws.proofs.start_is_kept.Goals as goal
 
 pub returns : goal.returns

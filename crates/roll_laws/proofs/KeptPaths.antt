@@ -1,4 +1,4 @@
--- The laws, from what is sound and later.
+-- What is known, saved and kept, from what is sound and later.
 use Rattle.std.proofs.Common.{◌≡◌, ℕ, zero, suc, ◌+◌, ◌<◌, ◌≤◌, List, [], ◌∷◌, ◌++◌, length, refl, ap, sym, ◌∙◌, true, false, arith, take, subst, inl, inr, Some, None, length-take}
 use Rattle.std.specs.Prelude.{◌⊎◌, nat_le, if◌then◌else◌}
 use Rattle.std.proofs.lemmas.Bool.{false≢true, cases_Bool, cases_lt, false_from_ne_true, and_parts, and_from, leb-true, le-leb}
