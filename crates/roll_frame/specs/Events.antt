@@ -9,6 +9,8 @@ use Rattle.roll_frame.specs.declared.entry.Entry.{Entry}
 use Rattle.roll_frame.specs.declared.entry.Entry.TheVariants.{Local, Remote, Disconnect, Sync, Advance, Graft, Partial}
 use Rattle.roll_frame.specs.declared.refusal.Refusal.{Refusal}
 use Rattle.roll_frame.specs.declared.refusal.Refusal.TheVariants.{LocalInputMissing, NoMemory, InvalidRequest, LogFull}
+use Rattle.roll_frame.specs.declared.reply.Reply.{Reply}
+use Rattle.roll_frame.specs.declared.reply.Reply.TheVariants.{Refused, Done, Taken, Repeated, Disconnected, Synchronized, Reached, Grafted}
 use Rattle.roll_frame.specs.declared.settings.Settings.{Settings}
 use Rattle.roll_frame.specs.Refusals.{first_refusal}
 use Rattle.roll_frame.specs.Cells.{Rows}
@@ -24,16 +26,6 @@ use Rattle.roll_frame.specs.Grafts.{Branch, graft_tests, new_paths}
 pub record CoreEvent : Type 0 where
   pub entry : Entry
   pub value : Value
-
-pub data Reply : Type 0 where
-  Refused : (why : Refusal) → Reply
-  Done : Reply
-  Taken : Reply
-  Repeated : Reply
-  Disconnected : (player : ℕ) → Reply
-  Synchronized : (row : List Cell) → Reply
-  Reached : (frame from rerun : ℕ) → Reply
-  Grafted : (added : ℕ) → Reply
 
 -- the branch of a log's entry
 abbrev pub branch_of : Path → ArrayVec (List Cell) → Branch
@@ -132,3 +124,8 @@ abbrev pub reply : Settings → Game → Core → CoreEvent → Reply
 reply settings game core event =
     if is_repeat core event.entry then Repeated
     else option_map_or Refused (refusal settings game core event) (answer core event.entry)
+
+-- the replies to any events
+abbrev pub replies_from : Settings → Game → Core → List CoreEvent → List Reply
+replies_from settings game core [] = []
+replies_from settings game core (event ∷ events) = reply settings game core event ∷ replies_from settings game (after settings game core event) events

@@ -8,6 +8,7 @@ mod limits;
 mod path;
 mod profile;
 mod refusal;
+mod reply;
 mod row;
 mod settings;
 
@@ -21,5 +22,6 @@ pub use limits::{
 pub use path::Path;
 pub use profile::Profile;
 pub use refusal::Refusal;
+pub use reply::Reply;
 pub use row::{Cell, Row};
 pub use settings::Settings;

@@ -5,7 +5,9 @@ use Rattle.std.specs.Option.{option_map_or}
 use Rattle.roll_frame.specs.Claims.{Claim, claim_of}
 use Rattle.roll_frame.specs.Codes.{code_of}
 use Rattle.roll_frame.specs.Core.{Core, first_core, settled}
-use Rattle.roll_frame.specs.Events.{CoreEvent, Reply, Refused, Done, Taken, Repeated, Disconnected, Synchronized, Reached, Grafted, after, reply}
+use Rattle.roll_frame.specs.Events.{CoreEvent, after, reply}
+use Rattle.roll_frame.specs.declared.reply.Reply.{Reply}
+use Rattle.roll_frame.specs.declared.reply.Reply.TheVariants.{Refused, Done, Taken, Repeated, Disconnected, Synchronized, Reached, Grafted}
 use Rattle.roll_frame.specs.Games.{Value, Game}
 use Rattle.roll_frame.specs.Grafts.{Branch, start_of}
 use Rattle.roll_frame.specs.Guess.{guess_tests, guessed_job}
