@@ -1,0 +1,59 @@
+-- What a call's own clauses say of its event.
+use Rattle.std.proofs.Common.{◌≡◌, ℕ, ◌+◌, ◌<◌, length, take, get_or, map, List, [], ◌∷◌, ◌++◌, refl, ap, sym, ◌∙◌, Bool, true, false, Option, Some, None, cond}
+use Rattle.std.specs.Prelude.{◌≢◌, unwrap_or, if◌then◌else◌, Result, Ok, Err, IfOk}
+use Rattle.std.specs.Option.{option_map_or}
+use Rattle.std.proofs.lemmas.List.{take_more, map-append}
+use Rattle.std.proofs.lemmas.List.Sums.{fold_push}
+use Rattle.roll_frame.specs.Core.{Core}
+use Rattle.roll_frame.specs.Games.{Game}
+use Rattle.roll_session.specs.declared.event.Call.{Call}
+use Rattle.roll_frame.specs.declared.entry.Entry.{Entry}
+use Rattle.roll_frame.specs.declared.refusal.Refusal.{Refusal}
+use Rattle.roll_frame.specs.declared.refusal.Refusal.TheVariants.{NoMemory}
+use Rattle.roll_frame.specs.declared.reply.Reply.{Reply}
+use Rattle.roll_frame.specs.declared.reply.Reply.TheVariants.{Refused, Repeated}
+use Rattle.roll_frame.specs.Events.{CoreEvent, played_from, replies_from, after, reply, answer, refusal, replay, is_repeat}
+use Rattle.roll_frame.specs.declared.settings.Settings.{Settings}
+use Rattle.roll_session.specs.Seen.{Step, Seen, core_of, game_of, refusal_of, with_entry, plain}
+use Rattle.roll_session.proofs.Holding.{after_taken}
+
+-- a call that was accepted
+pub performed : (step : Step) (old new : Seen) (entry : Entry) → is_repeat (core_of old) entry ≡ false → refusal_of step old entry ≡ None → new.settings ≡ old.settings → new.log ≡ old.log ++ entry ∷ [] → core_of new ≡ after old.settings (game_of step old) (core_of old) (plain entry)
+performed step old new entry n r s l = ap (λ x. replay x new.log) s ∙ (ap (replay old.settings) l ∙ after_taken old.settings (game_of step old) old.log (plain entry) n r)
+
+-- a call that was accepted, or a word that was taken before
+pub performed_either : (step : Step) (old new : Seen) (entry : Entry) (b : Bool) → is_repeat (core_of old) entry ≡ b → (b ≡ false → refusal_of step old entry ≡ None) → new ≡ cond b old (with_entry old entry) → core_of new ≡ after old.settings (game_of step old) (core_of old) (plain entry)
+performed_either step old new entry true n r e = ap core_of e ∙ sym (rw n refl)
+performed_either step old new entry false n r e = performed step old new entry n (r refl) (ap (λ (v : Seen). v.settings) e) (ap (λ (v : Seen). v.log) e)
+
+-- a call that was refused, but not for want of memory
+pub refused_reply : (step : Step) (old : Seen) (entry : Entry) (why : Refusal) → is_repeat (core_of old) entry ≡ false → why ≡ unwrap_or (refusal_of step old entry) NoMemory → why ≢ NoMemory → Refused why ≡ reply old.settings (game_of step old) (core_of old) (plain entry)
+refused_reply step old entry why n e ne = go (refusal_of step old entry) e ∙ ap (λ b. if b then Repeated else option_map_or Refused (refusal_of step old entry) (answer (core_of old) entry)) (sym n)
+  where
+    go : (o : Option Refusal) → why ≡ unwrap_or o NoMemory → Refused why ≡ option_map_or Refused o (answer (core_of old) entry)
+    go None f = absurd (ne f)
+    go (Some w) f = ap Refused f
+
+pub refused_core : (step : Step) (old new : Seen) (entry : Entry) (why : Refusal) → is_repeat (core_of old) entry ≡ false → why ≡ unwrap_or (refusal_of step old entry) NoMemory → why ≢ NoMemory → new ≡ old → core_of new ≡ after old.settings (game_of step old) (core_of old) (plain entry)
+refused_core step old new entry why n e ne same = ap core_of same ∙ sym (go (refusal_of step old entry) refl e)
+  where
+    go : (o : Option Refusal) → refusal_of step old entry ≡ o → why ≡ unwrap_or o NoMemory → after old.settings (game_of step old) (core_of old) (plain entry) ≡ core_of old
+    go None f h = absurd (ne h)
+    go (Some w) f h = rw (n, f) refl
+
+-- what the reply to a refused call is, unless it was refused for want of memory
+pub refused_is : {E : Type 0} (r : Result Reply E) (why : Refusal) (x : Reply) → IfOk r (λ found. (found ≡ Refused why) × (why ≢ NoMemory)) → (why ≢ NoMemory → Refused why ≡ x) → IfOk r (λ found. found ≡ x)
+refused_is (Ok found) why x h f = h.0 ∙ f h.1
+refused_is (Err e) why x h f = tt
+
+-- one more event
+pub played_more : (settings : Settings) (game : Game) (core : Core) (f : Call → CoreEvent) (calls : List Call) (k : ℕ) (d : Call) → k < length calls → played_from settings game core (map f (take (k + 1) calls)) ≡ after settings game (played_from settings game core (map f (take k calls))) (f (get_or calls k d))
+played_more settings game core f calls k d h = rw (take_more calls k d h, map-append) (fold_push (after settings game) core (map f (take k calls)) (f (get_or calls k d)))
+
+replies_push : (settings : Settings) (game : Game) (core : Core) (events : List CoreEvent) (event : CoreEvent) → replies_from settings game core (events ++ event ∷ []) ≡ replies_from settings game core events ++ reply settings game (played_from settings game core events) event ∷ []
+replies_push settings game core [] event = refl
+replies_push settings game core (first ∷ events) event = ap (λ rs. reply settings game core first ∷ rs) (replies_push settings game (after settings game core first) events event)
+
+pub replies_more : (settings : Settings) (game : Game) (core : Core) (f : Call → CoreEvent) (calls : List Call) (k : ℕ) (d : Call) → k < length calls
+    → replies_from settings game core (map f (take (k + 1) calls)) ≡ replies_from settings game core (map f (take k calls)) ++ reply settings game (played_from settings game core (map f (take k calls))) (f (get_or calls k d)) ∷ []
+replies_more settings game core f calls k d h = rw (take_more calls k d h, map-append) (replies_push settings game core (map f (take k calls)) (f (get_or calls k d)))

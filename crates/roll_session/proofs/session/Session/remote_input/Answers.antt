@@ -1,0 +1,26 @@
+use Rattle.std.proofs.Common.{◌≡◌, ◌<◌, ◌∙◌, ◌++◌, ◌∷◌, [], ap, refl, sym, ℕ, false, None, length, ◌+◌, set}
+use Rattle.roll_frame.specs.Core.{Core}
+use Rattle.roll_frame.specs.Events.{replay, applied, refusal}
+use Rattle.roll_frame.specs.Games.{Game}
+use Rattle.roll_frame.specs.Inputs.{with_words, is_repeated}
+use Rattle.roll_frame.specs.declared.entry.Entry.TheVariants.{Remote}
+use Rattle.roll_session.specs.Saved.{opening_of}
+use Rattle.roll_session.specs.Seen.{plain}
+use Rattle.roll_session.proofs.Holding.{session_next, held_changed, accepted}
+use Rattle.roll_session.proofs.session.Session.remote_input.Goals as goal
+
+pub invariant_of-self-2 : goal.invariant_of-self-2
+invariant_of-self-2 g c =
+    let s = c.self.inside in
+    let inv = c.self.invariant in
+    let core : Core = replay s.settings s.log.items in
+    let game : Game = record { opening = opening_of g.G.RawGame.snapshot_value s.saved.items; step = g.G.Game.step } in
+    let pushed : c.push.new.self.items ≡ s.log.items ++ Remote c.args.player c.args.frame c.args.word ∷ [] = (rw c.unwrap.ensures at c.push.ensures.items) ∙ ap (λ xs. xs ++ Remote c.args.player c.args.frame c.args.word ∷ []) c.in_ok-reserve.ensures.items in
+    let fine : refusal s.settings game core (plain (Remote c.args.player c.args.frame c.args.word)) ≡ None = rw (← c.self.view_is) at (rw c.in-Some.is at c.in_ok-place.ensures.accepted) in
+    let new : is_repeated core.players c.args.player c.args.frame c.args.word ≡ false = rw (← c.self.view_is) at (sym (rw c.in-Some.is at c.in_ok-place.ensures.repeated)) in
+    let within : c.in-Some.place < length s.players.items = rw inv.held.players (rw (← c.self.view_is) at (rw c.in-Some.is at c.in_ok-place.ensures.place).1) in
+    rw pushed
+    (session_next g.G.RawGame.state_value g.G.RawGame.snapshot_value g.G.Game.step s.settings s.log.items (Remote c.args.player c.args.frame c.args.word) game.opening (set s.players.items c.in-Some.place c.hear.new.self) s.frame s.saved.items s.current s.plan inv.is_log refl
+    (accepted s.settings game core (plain (Remote c.args.player c.args.frame c.args.word)) new fine)
+    (held_changed g.G.RawGame.state_value g.G.RawGame.snapshot_value g.G.Game.step core (applied core (Remote c.args.player c.args.frame c.args.word)) s.players.items s.frame s.saved.items s.current s.plan (with_words (c.args.word ∷ [])) c.args.player c.in-Some.place c.index_mut.result.now c.hear.new.self inv.held
+    (rw c.in-Some.is at c.in_ok-place.ensures.place).0 within c.index_mut.ensures.value c.in_ok-hear.ensures.ok refl refl refl refl refl))

@@ -1,0 +1,4 @@
+pub mod Saved
+pub mod Seen
+pub mod Held
+pub mod Calls

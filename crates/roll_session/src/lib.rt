@@ -1,0 +1,11 @@
+//! A rollback session for one thread.
+#![tactic(auto)]
+
+mod event;
+mod player;
+mod run;
+mod saved;
+mod session;
+
+pub use event::{Call, Heard, Plan, Reached, StartFault};
+pub use session::Session;
