@@ -35,7 +35,7 @@ use Rattle.roll_session.specs.Saved.{paths, HaveValues, BeginsAtZero, opening_of
 use Rattle.roll_session.specs.Seen.{Step, Seen, core_of, game_of, refusal_of, with_entry, plain, IsLeast}
 use Rattle.roll_session.specs.Held.{Shows, IsHeld, IsSmall, IsSession}
 
-replay-nil : (settings : Settings) → replay settings [] ≡ first_core settings
+pub replay-nil : (settings : Settings) → replay settings [] ≡ first_core settings
 unfolding replay
 replay-nil settings = refl
 

@@ -1,21 +1,21 @@
 -- What a call's own clauses say of its event.
-use Rattle.std.proofs.Common.{◌≡◌, ℕ, ◌+◌, ◌<◌, length, take, get_or, map, List, [], ◌∷◌, ◌++◌, refl, ap, sym, ◌∙◌, Bool, true, false, Option, Some, None, cond}
+use Rattle.std.proofs.Common.{◌≡◌, subst, ℕ, ◌+◌, ◌<◌, length, take, get_or, map, List, [], ◌∷◌, ◌++◌, refl, ap, sym, ◌∙◌, Bool, true, false, Option, Some, None, cond}
 use Rattle.std.specs.Prelude.{◌≢◌, unwrap_or, if◌then◌else◌, Result, Ok, Err, IfOk}
 use Rattle.std.specs.Option.{option_map_or}
 use Rattle.std.proofs.lemmas.List.{take_more, map-append}
 use Rattle.std.proofs.lemmas.List.Sums.{fold_push}
-use Rattle.roll_frame.specs.Core.{Core}
-use Rattle.roll_frame.specs.Games.{Game}
+use Rattle.roll_frame.specs.Core.{Core, first_core}
+use Rattle.roll_frame.specs.Games.{Value, Game}
 use Rattle.roll_session.specs.declared.event.Call.{Call}
 use Rattle.roll_frame.specs.declared.entry.Entry.{Entry}
 use Rattle.roll_frame.specs.declared.refusal.Refusal.{Refusal}
 use Rattle.roll_frame.specs.declared.refusal.Refusal.TheVariants.{NoMemory}
 use Rattle.roll_frame.specs.declared.reply.Reply.{Reply}
 use Rattle.roll_frame.specs.declared.reply.Reply.TheVariants.{Refused, Repeated}
-use Rattle.roll_frame.specs.Events.{CoreEvent, played_from, replies_from, after, reply, answer, refusal, replay, is_repeat}
+use Rattle.roll_frame.specs.Events.{CoreEvent, played, played_from, replies_from, after, reply, answer, refusal, replay, is_repeat}
 use Rattle.roll_frame.specs.declared.settings.Settings.{Settings}
 use Rattle.roll_session.specs.Seen.{Step, Seen, core_of, game_of, refusal_of, with_entry, plain}
-use Rattle.roll_session.proofs.Holding.{after_taken}
+use Rattle.roll_session.proofs.Holding.{after_taken, replay-nil}
 
 -- a call that was accepted
 pub performed : (step : Step) (old new : Seen) (entry : Entry) → is_repeat (core_of old) entry ≡ false → refusal_of step old entry ≡ None → new.settings ≡ old.settings → new.log ≡ old.log ++ entry ∷ [] → core_of new ≡ after old.settings (game_of step old) (core_of old) (plain entry)
@@ -57,3 +57,16 @@ replies_push settings game core (first ∷ events) event = ap (λ rs. reply sett
 pub replies_more : (settings : Settings) (game : Game) (core : Core) (f : Call → CoreEvent) (calls : List Call) (k : ℕ) (d : Call) → k < length calls
     → replies_from settings game core (map f (take (k + 1) calls)) ≡ replies_from settings game core (map f (take k calls)) ++ reply settings game (played_from settings game core (map f (take k calls))) (f (get_or calls k d)) ∷ []
 replies_more settings game core f calls k d h = rw (take_more calls k d h, map-append) (replies_push settings game core (map f (take k calls)) (f (get_or calls k d)))
+
+-- what a session that has just started makes of any events
+pub fresh_replies : (step : Step) (s : Seen) (settings : Settings) (x : Value) (turns refused : ℕ) (events : List CoreEvent) → s ≡ record { settings = settings; opening = x; log = []; turns = turns; refused = refused }
+    → replies_from s.settings (game_of step s) (core_of s) events ≡ replies_from settings (record { opening = x; step = step }) (first_core settings) events
+fresh_replies step s settings x turns refused events e =
+    let game : Game = record { opening = x; step = step } in
+    subst (λ (v : Seen). replies_from v.settings (game_of step v) (core_of v) events ≡ replies_from settings game (first_core settings) events) (sym e) (ap (λ (core : Core). replies_from settings game core events) (replay-nil settings))
+
+pub fresh_played : (step : Step) (s : Seen) (settings : Settings) (x : Value) (turns refused : ℕ) (events : List CoreEvent) → s ≡ record { settings = settings; opening = x; log = []; turns = turns; refused = refused }
+    → played_from s.settings (game_of step s) (core_of s) events ≡ played settings (record { opening = x; step = step }) events
+fresh_played step s settings x turns refused events e =
+    let game : Game = record { opening = x; step = step } in
+    subst (λ (v : Seen). played_from v.settings (game_of step v) (core_of v) events ≡ played settings game events) (sym e) (ap (λ (core : Core). played_from settings game core events) (replay-nil settings))

@@ -8,4 +8,8 @@ mod saved;
 mod session;
 
 pub use event::{Call, Heard, Plan, Reached, StartFault};
-pub use session::Session;
+pub use run::{Played, play};
+pub use session::{Parts, Session};
+
+#[cfg(test)]
+mod tests;

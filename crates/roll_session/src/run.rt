@@ -1,12 +1,15 @@
 //! Whole runs: calls as values, and their replies.
-ghost use Rattle.std.specs.Prelude.{◌≡◌, ◌≢◌, ◌⊎◌, List, map, IfOk, OnOk, OnErr, IfErr};
-ghost use Rattle.roll_frame.specs.Events.{after, reply, replies_from, played_from};
+ghost use Rattle.std.specs.Prelude.{◌≡◌, ◌≢◌, ◌⊎◌, None, List, map, IfOk, OnOk, OnErr, IfErr, unwrap_or};
+ghost use Rattle.roll_frame.specs.Core.{first_core};
+ghost use Rattle.roll_frame.specs.Events.{after, reply, replies_from, played_from, played};
+ghost use Rattle.roll_frame.specs.Settings.{start_refusal};
 ghost use Rattle.roll_session.specs.Calls.{event_of, events_of, IsCutShort};
+ghost use Rattle.roll_session.specs.Held.{Shows};
 ghost use Rattle.roll_session.specs.Seen.{core_of, game_of};
 
-use crate::event::{Call, Heard, Reached};
+use crate::event::{Call, Heard, Reached, StartFault};
 use crate::session::Session;
-use roll_frame::{Refusal, Reply};
+use roll_frame::{Refusal, Reply, Settings};
 use roll_game::{Game, NoMemory};
 use std::alloc::Global;
 
@@ -64,6 +67,53 @@ impl<G: Game> Session<G> {
             replies.push(reply).unwrap();
         }
         Ok(replies)
+    }
+}
+
+/// What a whole run gave.
+#[derive(Drop)]
+pub struct Played<G: Game> {
+    /// The game, as it was advanced.
+    pub game: G,
+    /// The replies to the calls, in order.
+    pub replies: Vec<Reply>,
+    /// The state that is shown at the end.
+    pub shown: Option<G::State>,
+}
+
+/// Plays a whole session: whatever the calls, the replies are those of the rules, and the state shown at the end is the
+/// serial run over the confirmed inputs followed by the predictions of the last roll. A fault hands game and opening
+/// back; it comes only where the session doesn't start, or for want of memory.
+pub fn play<G: Game>(
+    alloc: Global,
+    game: G,
+    opening: G::Snapshot,
+    settings: Settings,
+    calls: &[Call],
+) -> Result<Played<G>, StartFault<G>>
+    ensures starts { OnOk result (start_refusal settings ≡ None) }
+    ensures replies { IfOk result (λ all. all.replies.items ≡ replies_from settings (record { opening = G.snapshot_value opening; step = G.step }) (first_core settings) (events_of calls.now)) }
+    ensures shown { IfOk result (λ all. Shows G.state_value G.step (G.snapshot_value opening) (played settings (record { opening = G.snapshot_value opening; step = G.step }) (events_of calls.now)).shown all.shown) }
+    ensures refused { IfErr result (λ fault. fault.why ≡ unwrap_or (start_refusal settings) Refusal.NoMemory) }
+    ensures opening_back { IfErr result (λ fault. G.snapshot_value fault.opening ≡ G.snapshot_value opening) }
+{
+    let mut session = match Session::start(alloc, game, opening, settings) {
+        Ok(session) => session,
+        Err(fault) => return Err(fault),
+    };
+    let answered = session.run(alloc, calls);
+    let parts = session.into_parts();
+    match answered {
+        Ok(replies) => Ok(Played {
+            game: parts.game,
+            replies,
+            shown: parts.shown,
+        }),
+        Err(_) => Err(StartFault {
+            why: Refusal::NoMemory,
+            game: parts.game,
+            opening: parts.opening,
+        }),
     }
 }
 

@@ -370,6 +370,22 @@ impl<G: Game> Session<G> {
         self.plan.as_ref()
     }
 
+    /// Takes the session apart.
+    pub fn into_parts(self) -> Parts<G>
+        ensures opening { G.snapshot_value result.opening ≡ self.opening }
+        ensures shown { Shows G.state_value G.step self.opening (core_of self).shown result.shown }
+        ensures turns { G.turn_count result.game ≡ self.turns }
+        ensures refused { G.refusal_count result.game ≡ self.refused }
+    {
+        let mut saved = self.saved;
+        let first = saved.swap_remove(0);
+        Parts {
+            game: self.game,
+            opening: first.snapshot,
+            shown: self.current,
+        }
+    }
+
     /// The game, as it was handed in or advanced since.
     pub fn game(&self) -> &G
         ensures turns { G.turn_count result.now ≡ self.now.turns }
@@ -377,6 +393,16 @@ impl<G: Game> Session<G> {
     {
         &self.game
     }
+}
+
+/// What a session is taken apart into.
+#[derive(Drop)]
+pub struct Parts<G: Game> {
+    pub game: G,
+    /// The snapshot that the session was opened with.
+    pub opening: G::Snapshot,
+    /// The state that was shown, if there was one.
+    pub shown: Option<G::State>,
 }
 
 /// The numbers of a roll.

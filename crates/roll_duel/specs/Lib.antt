@@ -1,0 +1,7 @@
+pub mod Space
+pub mod Ships
+pub mod Bullets
+pub mod Frame
+pub mod Bytes
+pub mod Ranges
+pub mod Duels
