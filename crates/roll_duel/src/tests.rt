@@ -1,6 +1,8 @@
 //! Values from outside: single steps, whole frames as bytes, and long plays of another program.
 use crate::bullet::Bullet;
+use crate::bytes::write_ships;
 use crate::duel::Duel;
+use crate::frame::{fly_bullets, land_bullets, run_ships};
 use crate::pad::Pad;
 use crate::ship::Ship;
 use crate::state::Snapshot;
@@ -47,8 +49,8 @@ fn writes_bytes(rt: HostRuntime) -> Result<(), Fail> {
     assert_eq!(rt; bytes.len(), 48);
     assert_eq!(rt; &bytes[..2], [2, 1].as_slice());
     assert_eq!(rt;
-        &bytes[2..17],
-        [0, 0, 80, 0, 0, 0, 60, 0, 0, 0, 0, 0, 0, 8, 0].as_slice()
+        &bytes[2..18],
+        [0, 0, 80, 0, 0, 0, 60, 0, 0, 0, 0, 0, 0, 8, 0, 0].as_slice()
     );
     assert_eq!(rt;
         &bytes[18..34],
@@ -163,6 +165,63 @@ fn hits_within_reach(rt: HostRuntime) {
         assert_eq!(rt; bullet.hits(2, &ship), want, "from {x}");
         assert!(rt; !bullet.hits(1, &ship), "from {x}");
     }
+}
+
+#[test]
+fn lands_bullets(rt: HostRuntime) -> Result<(), Fail> {
+    for (x, hits) in [(58_880, 1), (58_879, 0)] {
+        let bullet = Bullet {
+            owner: 1,
+            life: 1,
+            x,
+            y: 46_080,
+            vx: 512,
+            vy: 0,
+        };
+        let opening = [
+            Ship::placed(20_480, 15_360, 0),
+            Ship::placed(61_440, 46_080, 4),
+        ];
+        let mut ships = Vec::from_slice(rt.alloc(), &opening)?;
+        let mut bullets = Vec::from_slice(rt.alloc(), &[bullet])?;
+        run_ships(&mut ships, &mut bullets, &two(0, 0))?;
+        fly_bullets(&mut bullets);
+        land_bullets(&mut ships, &mut bullets);
+        let want = [opening[0], Ship { hits, ..opening[1] }];
+        assert_eq!(rt; ships.as_slice(), want.as_slice(), "from {x}");
+        assert_eq!(rt; bullets.len(), 0, "from {x}");
+    }
+    Ok(())
+}
+
+#[test]
+fn holds_32_bullets(rt: HostRuntime) -> Result<(), Fail> {
+    let bullet = Bullet {
+        owner: 1,
+        life: 60,
+        x: 0,
+        y: 46_080,
+        vx: 512,
+        vy: 0,
+    };
+    let mut ships = Vec::from_slice(rt.alloc(), &[Ship::placed(20_480, 15_360, 0)])?;
+    let mut bullets = Vec::from_slice(rt.alloc(), &[bullet; 32])?;
+    run_ships(&mut ships, &mut bullets, &two(8, 0))?;
+    assert_eq!(rt; bullets.len(), 32);
+    assert_eq!(rt; ships.first().map(|ship| ship.cool), Some(0));
+    Ok(())
+}
+
+#[test]
+fn writes_signed_numbers(rt: HostRuntime) -> Result<(), Fail> {
+    let mut ship = Ship::placed(10, 0, 0);
+    ship.vx = -32;
+    ship.advance();
+    let mut bytes = Vec::new(rt.alloc());
+    write_ships(&mut bytes, &[ship])?;
+    let want = [0, 1, 63, 234, 0, 0, 0, 0, 255, 224, 0, 0, 0, 0, 0, 0];
+    assert_eq!(rt; bytes.as_slice(), want.as_slice());
+    Ok(())
 }
 
 #[test]
