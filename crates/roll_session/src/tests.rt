@@ -326,6 +326,37 @@ fn goes_on_after_each_refused_call(rt: HostRuntime) -> Result<(), Refusal> {
     Ok(())
 }
 
+// What is shown beside the log: its length, the frame, the settled frame and the state.
+fn seen(session: &Session<Refusing<Tally>>) -> (usize, u32, usize, Option<u32>) {
+    (
+        session.log().len(),
+        session.frame(),
+        session.settled(),
+        session.current().copied(),
+    )
+}
+
+// With ample memory nothing is refused here; run with any one allocation refused, it ends the same.
+#[test]
+fn goes_on_after_a_refused_growth(rt: HostRuntime) -> Result<(), Refusal> {
+    let mut session = match open(rt.alloc(), two(), Kind::Load, 0) {
+        Ok(session) => session,
+        Err(why) => {
+            assert_eq!(rt; why, Refusal::NoMemory);
+            open(rt.alloc(), two(), Kind::Load, 0)?
+        }
+    };
+    for call in LATE {
+        let before = seen(&session);
+        if answer(&mut session, call) == Refused(107) {
+            assert_eq!(rt; seen(&session), before);
+            assert_ne!(rt; answer(&mut session, call), Refused(107));
+        }
+    }
+    assert_eq!(rt; seen(&session), (6, 2, 1, Some(77)));
+    Ok(())
+}
+
 #[test]
 fn tells_what_is_settled(rt: HostRuntime) -> Result<(), Fail> {
     let mut session = open(rt.alloc(), two(), Kind::Load, 0)?;
