@@ -177,7 +177,7 @@ fn delays_and_masks(rt: HostRuntime) -> Result<(), Refusal> {
 }
 
 #[test]
-fn refuses_in_order(rt: HostRuntime) -> Result<(), Refusal> {
+fn refuses_remote_inputs(rt: HostRuntime) -> Result<(), Refusal> {
     let calls = [
         remote(2, 5, 1),
         remote(2, 0, 1),
@@ -205,7 +205,11 @@ fn refuses_in_order(rt: HostRuntime) -> Result<(), Refusal> {
         two(),
         &calls,
         &[Gone(2), Frame(2, 0, 2, 2, 66), Refused(9), Refused(9)],
-    )?;
+    )
+}
+
+#[test]
+fn refuses_in_order(rt: HostRuntime) -> Result<(), Refusal> {
     let calls = [
         local(2, 1),
         A,
@@ -222,7 +226,11 @@ fn refuses_in_order(rt: HostRuntime) -> Result<(), Refusal> {
         Refused(2),
         Refused(2),
     ];
-    shows(&rt, two(), &calls, &lines)?;
+    shows(&rt, two(), &calls, &lines)
+}
+
+#[test]
+fn refuses_past_its_settings(rt: HostRuntime) -> Result<(), Refusal> {
     let one = Settings {
         players: 1,
         limit: 2,
