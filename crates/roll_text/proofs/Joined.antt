@@ -1,0 +1,31 @@
+-- Fields that lack a byte, joined by it and cut again.
+use Rattle.std.proofs.Common.{◌++◌, ◌≡◌, ℕ, ◌<◌, ◌^◌, ◌==◌, List, [], ◌∷◌, false, ap, ◌∙◌, rules, tests, arith}
+use Rattle.std.specs.List.{slice_split, join_with_byte, All, AllByRecursion}
+use Rattle.std.specs.Fmt.{decimal}
+use Rattle.std.proofs.lemmas.Fmt.{digits_decimal}
+use Rattle.std.proofs.lemmas.Str.Parse.{numerals_by_value, tells_digits, not_in_digits}
+use Rattle.std.proofs.lemmas.List.Splits.{slice_split_none, slice_split_at}
+use Rattle.std.proofs.lemmas.List.Elements.{All-from_get_or, All-nil, All-cons, All-append}
+use Rattle.roll_text.specs.Lines.{Lacks}
+
+not_equal : (a b : ℕ) → (a ≡ b → ⊥) → (a == b) ≡ false
+not_equal a b apart = search (rules, tests)
+
+-- digits are none of the bytes below them: spaces, commas, ends of lines
+pub decimal-lacks : (c n : ℕ) → c < 48 → n < 2 ^ 64 → Lacks c (decimal n)
+decimal-lacks c n low small =
+    let own = numerals_by_value _ tells_digits in
+    let apart = not_in_digits own (decimal n) c (digits_decimal own n small) (λ h. omega arith) in
+    All-from_get_or (λ x. (x == c) ≡ false) (decimal n) 0 (λ i l. not_equal _ _ (apart i l))
+
+-- fields that lack a byte lack it when they are joined by another one
+pub join-lacks : (c separator : ℕ) (fields : List (List ℕ)) → (separator == c) ≡ false → AllByRecursion (Lacks c) fields → Lacks c (join_with_byte separator fields)
+join-lacks c separator [] apart h = All-nil _
+join-lacks c separator (x ∷ []) apart h = h.0
+join-lacks c separator (x ∷ y ∷ ys) apart h =
+    All-append (λ b. (b == c) ≡ false) x (separator ∷ join_with_byte separator (y ∷ ys)) h.0 (All-cons (λ b. (b == c) ≡ false) separator _ apart (join-lacks c separator (y ∷ ys) apart h.1))
+
+-- fields that lack the separator are joined by it and cut again
+pub split-join : (c : ℕ) (x : List ℕ) (xs : List (List ℕ)) → AllByRecursion (Lacks c) (x ∷ xs) → slice_split (λ b. b == c) (join_with_byte c (x ∷ xs)) ≡ x ∷ xs
+split-join c x [] h = slice_split_none _ x h.0
+split-join c x (y ∷ ys) h = slice_split_at _ x c (join_with_byte c (y ∷ ys)) h.0 (search rules) ∙ ap (λ t. x ∷ t) (split-join c y ys h.1)

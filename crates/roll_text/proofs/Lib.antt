@@ -1,0 +1,4 @@
+pub mod Joined
+pub mod LineTexts
+pub mod Lists
+pub mod Unreadable

@@ -1,0 +1,10 @@
+//! What every text of the project shares: numbers, lists and lines, whole inputs and outputs.
+#![tactic(auto)]
+
+mod decimal;
+mod line;
+mod list;
+
+pub use decimal::{number, push_number, push_signed};
+pub use line::{fields, split_line};
+pub use list::{numbers, push_list};
