@@ -1,4 +1,5 @@
 pub mod Joined
+pub mod KnownTexts
 pub mod LineTexts
 pub mod Lists
 pub mod Unreadable
