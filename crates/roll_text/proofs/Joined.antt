@@ -1,12 +1,13 @@
 -- Fields that lack a byte, joined by it and cut again.
-use Rattle.std.proofs.Common.{◌++◌, ◌≡◌, ℕ, ◌<◌, ◌^◌, ◌==◌, List, [], ◌∷◌, false, ap, ◌∙◌, rules, tests, arith}
+use Rattle.std.proofs.Common.{◌++◌, ◌≡◌, ℕ, ◌<◌, ◌^◌, ◌==◌, List, [], ◌∷◌, false, Option, Some, None, sym, ap, ◌∙◌, rules, tests, arith, length}
 use Rattle.std.specs.List.{slice_split, join_with_byte, All, AllByRecursion}
 use Rattle.std.specs.Fmt.{decimal}
 use Rattle.std.proofs.lemmas.Fmt.{digits_decimal}
 use Rattle.std.proofs.lemmas.Str.Parse.{numerals_by_value, tells_digits, not_in_digits}
-use Rattle.std.proofs.lemmas.List.Splits.{slice_split_none, slice_split_at}
+use Rattle.std.proofs.lemmas.List.Splits.{slice_split_none, slice_split_at, join_with_byte-slice_split}
 use Rattle.std.proofs.lemmas.List.Elements.{All-from_get_or, All-nil, All-cons, All-append}
 use Rattle.roll_text.specs.Lines.{Lacks}
+use Rattle.roll_text.specs.Text.{Reads}
 
 not_equal : (a b : ℕ) → (a ≡ b → ⊥) → (a == b) ≡ false
 not_equal a b apart = search (rules, tests)
@@ -29,3 +30,16 @@ join-lacks c separator (x ∷ y ∷ ys) apart h =
 pub split-join : (c : ℕ) (x : List ℕ) (xs : List (List ℕ)) → AllByRecursion (Lacks c) (x ∷ xs) → slice_split (λ b. b == c) (join_with_byte c (x ∷ xs)) ≡ x ∷ xs
 split-join c x [] h = slice_split_none _ x h.0
 split-join c x (y ∷ ys) h = slice_split_at _ x c (join_with_byte c (y ∷ ys)) h.0 (search rules) ∙ ap (λ t. x ∷ t) (split-join c y ys h.1)
+
+pub split-fields : (c : ℕ) (fields : List (List ℕ)) → 0 < length fields → AllByRecursion (Lacks c) fields → slice_split (λ b. b == c) (join_with_byte c fields) ≡ fields
+split-fields c [] some h = absurd (omega arith)
+split-fields c (x ∷ xs) some h = split-join c x xs h
+
+-- a value that is read from the fields of a line is read from the line
+pub reads-joined : {X : Type 0} (c : ℕ) (Fits : X → Type 0) (fields_of : X → List (List ℕ))
+    → ((x : X) → Fits x → (0 < length (fields_of x)) × AllByRecursion (Lacks c) (fields_of x))
+    → (line : List ℕ) (value : Option X) → Reads Fits fields_of (slice_split (λ b. b == c) line) value
+    → Reads Fits (λ x. join_with_byte c (fields_of x)) line value
+reads-joined c Fits fields_of lacking line (Some x) h = (h.0, sym (join_with_byte-slice_split c line) ∙ ap (join_with_byte c) h.1)
+reads-joined c Fits fields_of lacking line None h = λ x fits e.
+    h x fits (ap (slice_split (λ b. b == c)) e ∙ split-fields c (fields_of x) (lacking x fits).0 (lacking x fits).1)

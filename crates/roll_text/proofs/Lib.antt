@@ -1,3 +1,4 @@
+mod Examples
 pub mod Joined
 pub mod KnownTexts
 pub mod LineTexts

@@ -1,8 +1,8 @@
 -- The lines of a text.
-use Rattle.std.proofs.Common.{◌≡◌, ℕ, ◌<◌, ◌==◌, ◌++◌, List, [], ◌∷◌, false, refl, sym, ap, ◌∙◌, subst, arith, append_assoc, length, map, flat_map}
+use Rattle.std.proofs.Common.{◌≡◌, ℕ, ◌<◌, ◌==◌, ◌++◌, ◌⊎◌, inl, inr, Bool, true, List, [], ◌∷◌, false, refl, sym, ap, ◌∙◌, subst, rules, arith, append_assoc, length, map, flat_map}
 use Rattle.std.specs.List.{onto_first, AllByRecursion}
 use Rattle.std.proofs.lemmas.List.{append-nil, append_cancel_right}
-use Rattle.std.proofs.lemmas.List.Elements.{recursion_from_All}
+use Rattle.std.proofs.lemmas.List.Elements.{recursion_from_All, All-nil, All-cons}
 use Rattle.roll_text.specs.Lines.{Lacks, ended, text_of, lines_of}
 
 -- no byte ends a line, by recursion
@@ -69,3 +69,15 @@ pub text_of-next : (text rest line after : List ℕ) (done : List (List ℕ)) �
 text_of-next text rest line after done e f = e ∙ ap (λ t. text_of done ++ t) f
     ∙ sym (append_assoc (text_of done) (ended line) after)
     ∙ ap (λ t. t ++ after) (ap (λ t. text_of done ++ t) (sym (append-nil (ended line))) ∙ sym (text_of-append done (line ∷ [])))
+
+cut_at : (test : Bool) (b : ℕ) (bs : List ℕ) → (b == 10) ≡ test
+    → Lacks 10 bs ⊎ ((line : List ℕ) × (after : List ℕ) × Lacks 10 line × (bs ≡ ended line ++ after))
+    → Lacks 10 (b ∷ bs) ⊎ ((line : List ℕ) × (after : List ℕ) × Lacks 10 line × (b ∷ bs ≡ ended line ++ after))
+cut_at true b bs is rest = inr ([], bs, All-nil _, (let ten : b ≡ 10 = search rules in ap (λ t. t ∷ bs) ten))
+cut_at false b bs is (inl h) = inl (All-cons (λ x. (x == 10) ≡ false) b bs is h)
+cut_at false b bs is (inr h) = inr (b ∷ h.0, h.1, All-cons (λ x. (x == 10) ≡ false) b h.0 is h.2, ap (λ t. b ∷ t) h.3)
+
+-- a text has a first line with its end, or none
+pub first_line : (text : List ℕ) → Lacks 10 text ⊎ ((line : List ℕ) × (after : List ℕ) × Lacks 10 line × (text ≡ ended line ++ after))
+first_line [] = inl (All-nil _)
+first_line (b ∷ bs) = cut_at (b == 10) b bs refl (first_line bs)

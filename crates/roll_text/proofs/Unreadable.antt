@@ -1,11 +1,11 @@
 -- The first unreadable line.
-use Rattle.std.proofs.Common.{◌≡◌, ℕ, ◌+◌, ◌-◌, ◌≤◌, ◌<◌, ◌++◌, List, [], ◌∷◌, refl, sym, ap, ◌∙◌, arith, append_assoc, length, min, map, take, drop}
+use Rattle.std.proofs.Common.{◌≡◌, ℕ, ◌+◌, ◌-◌, ◌≤◌, ◌<◌, ◌++◌, ◌⊎◌, inl, inr, List, [], ◌∷◌, refl, sym, ap, ◌∙◌, arith, append_assoc, length, min, map, take, drop}
 use Rattle.std.specs.List.{AllByRecursion}
 use Rattle.std.proofs.Math.Seq.{take-append_seam, take-append-add}
 use Rattle.std.proofs.lemmas.List.{append-nil, take-append-drop, take_all, length-take, length-map}
 use Rattle.roll_text.specs.Lines.{Lacks, ended, text_of, lines_of}
 use Rattle.roll_text.specs.Text.{IsUnreadableAt, Spells}
-use Rattle.roll_text.proofs.LineTexts.{lines_of-ended, lines_of-last, lines_of-text_of, lines_of-whole, no_end, ended-injective, map-ended-injective}
+use Rattle.roll_text.proofs.LineTexts.{lines_of-ended, lines_of-last, lines_of-text_of, lines_of-whole, first_line, no_end, ended-injective, map-ended-injective}
 
 front_of : (done after : List (List ℕ)) (n : ℕ) → length done ≡ n → take n (done ++ after) ≡ done
 front_of done after n e = rw (← e) (take-append_seam done after)
@@ -120,3 +120,31 @@ module _ {X : Type 0} (Fits : X → Type 0) (lines : X → List (List ℕ)) (lac
       (omega (arith, length-map done ended))
       (text_of (lines x)) (x, fits, refl) (map ended more) (spelled_on x done more fits on)
       (λ other readable e. none readable.0 readable.1 (map-ended-injective (lines readable.0) done (sym (lines_of-lines other readable) ∙ e)))
+
+  -- no line ends any more, and each value's lines go on
+  pub no_line : (done more : List (List ℕ)) (text rest : List ℕ) (line : ℕ) (x : X) → Fits x → lines x ≡ done ++ more
+      → AllByRecursion (Lacks 10) done → text ≡ text_of done ++ rest → line ≡ length done + 1
+      → Lacks 10 rest
+      → ((y : X) → Fits y → lines y ≡ done → ⊥)
+      → IsUnreadableAt line (Spells Fits lines) text
+  no_line done more text [] line x fits on each whole count lacks none = missing_line done more text [] line x fits on each whole count refl none
+  no_line done more text (b ∷ bs) line x fits on each whole count lacks none = unended_line done more text (b ∷ bs) line x fits on each whole count lacks (omega arith)
+
+  -- something follows where no value's lines go on
+  pub extra_line : (done more : List (List ℕ)) (text rest : List ℕ) (line : ℕ) (x : X) → Fits x → lines x ≡ done ++ more
+      → AllByRecursion (Lacks 10) done → text ≡ text_of done ++ rest → line ≡ length done + 1
+      → 0 < length rest
+      → ((y : X) (first : List ℕ) (others : List (List ℕ)) → Fits y → lines y ≡ done ++ (first ∷ others) → ⊥)
+      → IsUnreadableAt line (Spells Fits lines) text
+  extra_line done more text rest line x fits on each whole count some none = elim (first_line rest) [
+    | inl h ↦ unended_line done more text rest line x fits on each whole count h some
+    | inr h ↦ bad_line done more text rest h.0 h.1 line x fits on each whole count h.2 h.3 (λ y others. none y h.0 others)
+  ]
+
+-- where lines are spelled from values, one each, the next line is some value's
+pub next_spelled : {A : Type 0} (Fits : A → Type 0) (spelling : A → List ℕ) (values : List A) (done : List (List ℕ)) (first : List ℕ) (others : List (List ℕ))
+    → AllByRecursion Fits values → map spelling values ≡ done ++ (first ∷ others) → (a : A) × Fits a × (first ≡ spelling a)
+next_spelled Fits spelling [] [] first others h e = cc
+next_spelled Fits spelling [] (d ∷ done) first others h e = cc
+next_spelled Fits spelling (a ∷ values) [] first others h e = (a, h.0, cc)
+next_spelled Fits spelling (a ∷ values) (d ∷ done) first others h e = next_spelled Fits spelling values done first others h.1 (cc)

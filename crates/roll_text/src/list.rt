@@ -1,6 +1,7 @@
 //! Lists of numbers in one field.
 
-ghost use Rattle.std.specs.Prelude.{◌≡◌, ◌<◌, ◌++◌, IfOk, OnOk, length};
+ghost use Rattle.std.specs.Prelude.{◌≡◌, ◌<◌, ◌++◌, IfOk, OnErr, OnOk, length};
+ghost use Rattle.std.specs.Io.{StartsWith};
 ghost use Rattle.std.specs.Option.{option_map};
 ghost use Rattle.roll_text.specs.Numbers.{IsList, list_of};
 ghost use Rattle.roll_text.specs.Text.{Reads};
@@ -24,10 +25,11 @@ pub fn numbers(alloc: Global, text: &[u8]) -> Result<Option<Vec<u32>>, AllocErro
     Ok(Some(numbers))
 }
 
-/// Writes numbers at the end, with a comma between each two.
+/// Writes numbers at the end, with a comma between each two. At an error some of it may be written.
 pub fn push_list(out: &mut Vec<u8>, numbers: &[u32]) -> Result<(), AllocError>
     requires { 0 < length numbers.now }
-    ensures { OnOk result (out.new.items ≡ out.old.items ++ list_of numbers.now) }
+    ensures ok { OnOk result (out.new.items ≡ out.old.items ++ list_of numbers.now) }
+    ensures err { OnErr result (StartsWith out.new.items out.old.items) }
 {
     let (first, others) = numbers.split_first().unwrap();
     push_number(out, *first)?;
