@@ -3,4 +3,5 @@ pub mod Joined
 pub mod KnownTexts
 pub mod LineTexts
 pub mod Lists
+pub mod Spelled
 pub mod Unreadable

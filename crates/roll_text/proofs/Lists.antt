@@ -10,7 +10,8 @@ use Rattle.roll_text.specs.Lines.{Lacks}
 use Rattle.roll_text.specs.Numbers.{IsWord, IsList, list_of}
 use Rattle.roll_text.proofs.Joined.{split-join, decimal-lacks, join-lacks}
 
-decimals-lack : (c : ℕ) (ns : List ℕ) → c < 48 → AllByRecursion IsWord ns → AllByRecursion (Lacks c) (map decimal ns)
+-- so do numbers, each
+pub decimals-lack : (c : ℕ) (ns : List ℕ) → c < 48 → AllByRecursion IsWord ns → AllByRecursion (Lacks c) (map decimal ns)
 decimals-lack c [] low h = tt
 decimals-lack c (n ∷ ns) low h = (decimal-lacks c n low (omega arith), decimals-lack c ns low h.1)
 
