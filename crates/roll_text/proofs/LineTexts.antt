@@ -2,6 +2,7 @@
 use Rattle.std.proofs.Common.{◌≡◌, ℕ, ◌<◌, ◌==◌, ◌++◌, ◌⊎◌, inl, inr, Bool, true, List, [], ◌∷◌, false, refl, sym, ap, ◌∙◌, subst, rules, arith, append_assoc, length, map, flat_map}
 use Rattle.std.specs.List.{onto_first, AllByRecursion}
 use Rattle.std.proofs.lemmas.List.{append-nil, append_cancel_right}
+use Rattle.std.proofs.lemmas.Grind.{flat_map-append}
 use Rattle.std.proofs.lemmas.List.Elements.{recursion_from_All, All-nil, All-cons}
 use Rattle.roll_text.specs.Lines.{Lacks, ended, text_of, lines_of}
 
@@ -60,15 +61,11 @@ map-ended-injective (x ∷ xs) (y ∷ ys) e =
 pub text_of-injective : (xs ys : List (List ℕ)) → AllByRecursion (Lacks 10) xs → AllByRecursion (Lacks 10) ys → text_of xs ≡ text_of ys → xs ≡ ys
 text_of-injective xs ys h k e = map-ended-injective xs ys (sym (lines_of-whole xs h) ∙ ap lines_of e ∙ lines_of-whole ys k)
 
-pub text_of-append : (xs ys : List (List ℕ)) → text_of (xs ++ ys) ≡ text_of xs ++ text_of ys
-text_of-append [] ys = refl
-text_of-append (x ∷ xs) ys = ap (λ t. ended x ++ t) (text_of-append xs ys) ∙ sym (append_assoc (ended x) (text_of xs) (text_of ys))
-
 -- one more line is cut off
 pub text_of-next : (text rest line after : List ℕ) (done : List (List ℕ)) → text ≡ text_of done ++ rest → rest ≡ ended line ++ after → text ≡ text_of (done ++ (line ∷ [])) ++ after
 text_of-next text rest line after done e f = e ∙ ap (λ t. text_of done ++ t) f
     ∙ sym (append_assoc (text_of done) (ended line) after)
-    ∙ ap (λ t. t ++ after) (ap (λ t. text_of done ++ t) (sym (append-nil (ended line))) ∙ sym (text_of-append done (line ∷ [])))
+    ∙ ap (λ t. t ++ after) (ap (λ t. text_of done ++ t) (sym (append-nil (ended line))) ∙ sym (flat_map-append ended done (line ∷ [])))
 
 cut_at : (test : Bool) (b : ℕ) (bs : List ℕ) → (b == 10) ≡ test
     → Lacks 10 bs ⊎ ((line : List ℕ) × (after : List ℕ) × Lacks 10 line × (bs ≡ ended line ++ after))

@@ -2,15 +2,11 @@
 use Rattle.std.proofs.Common.{◌≡◌, ℕ, ◌+◌, ◌<◌, ◌++◌, inl, inr, List, [], ◌∷◌, refl, sym, ap, ◌∙◌, arith, length, get_or, map}
 use Rattle.std.specs.List.{AllByRecursion}
 use Rattle.std.proofs.Math.Seq.{get_or-append_seam}
-use Rattle.std.proofs.lemmas.List.{append-nil, length-append, length-map}
+use Rattle.std.proofs.lemmas.List.{append-nil, length-append, length-map, map-append}
 use Rattle.roll_text.specs.Lines.{Lacks, ended, text_of, lines_of}
 use Rattle.roll_text.specs.Text.{IsUnreadableAt, Spells}
 use Rattle.roll_text.proofs.LineTexts.{lines_of-ended, lines_of-last, lines_of-text_of, lines_of-whole, first_line, no_end, ended-injective, map-ended-injective}
 use Rattle.roll_text.proofs.Unreadable.{bad_at, missing_at}
-
-map-append : (xs ys : List (List ℕ)) → map ended (xs ++ ys) ≡ map ended xs ++ map ended ys
-map-append [] ys = refl
-map-append (x ∷ xs) ys = ap (λ t. ended x ∷ t) (map-append xs ys)
 
 front-lacks : (xs ys all : List (List ℕ)) → all ≡ xs ++ ys → AllByRecursion (Lacks 10) all → AllByRecursion (Lacks 10) xs
 front-lacks [] ys all e h = tt
@@ -47,7 +43,7 @@ module _ {X : Type 0} (Fits : X → Type 0) (lines : X → List (List ℕ)) (lac
 
   begins-lines : (done : List (List ℕ)) (text rest : List ℕ) (line : ℕ) (s : IsAfter Fits lines done text rest line)
       → lines_of (text_of (lines s.begins.0)) ≡ map ended done ++ map ended s.begins.1
-  begins-lines done text rest line s = lines_of-whole (lines s.begins.0) (lacking s.begins.0 s.begins.2) ∙ ap (map ended) s.begins.3 ∙ map-append done s.begins.1
+  begins-lines done text rest line s = lines_of-whole (lines s.begins.0) (lacking s.begins.0 s.begins.2) ∙ ap (map ended) s.begins.3 ∙ map-append ended done s.begins.1
 
   -- a line with no end
   pub unended_line : (done : List (List ℕ)) (text rest : List ℕ) (line : ℕ) → IsAfter Fits lines done text rest line

@@ -5,16 +5,16 @@ use Rattle.roll_text.specs.declared.streams.ReadFault.{ReadFault}
 use Rattle.roll_text.specs.declared.streams.ReadFault.TheVariants.{TooLong, NoMemory, Read}
 use Rattle.roll_text.specs.declared.streams.TheConstants.{TEXT_LIMIT}
 
--- how many bytes may be gone from the reader at a fault
+-- how many bytes were taken from the reader at a fault
 abbrev pub IsTaken : ReadFault → ℕ → Type 0
 IsTaken TooLong count = count ≡ TEXT_LIMIT + 1
 IsTaken NoMemory count = count ≤ TEXT_LIMIT + 1
 IsTaken Read count = count ≤ TEXT_LIMIT
 
--- what is left of the known bytes after a fault
+-- known bytes lose as many at a fault
 abbrev pub LosesAt : ReadFault → Option (List ℕ) → Option (List ℕ) → Type 0
 LosesAt fault old new = (bytes : List ℕ) × Consumes old new bytes × IsTaken fault (length bytes)
 
--- known bytes grow by a front of the text, and not by all of it
+-- known bytes grow by a front of the text that isn't all of it
 abbrev pub AppendsPart : Option (List ℕ) → Option (List ℕ) → List ℕ → Type 0
 AppendsPart old new text = (count : ℕ) × (count < length text) × Appends old new (take count text)
