@@ -1,5 +1,5 @@
 -- What the definitions give, by computation.
-use Rattle.std.proofs.Common.{◌≡◌, List, [], ◌∷◌, codes, refl}
+use Rattle.std.proofs.Common.{◌≡◌, [], ◌∷◌, codes, refl}
 use Rattle.roll_text.specs.Lines.{lines_of, text_of}
 
 lines-ended : lines_of (codes "S\n\nL 1 0\n") ≡ codes "S\n" ∷ codes "\n" ∷ codes "L 1 0\n" ∷ []

@@ -1,6 +1,6 @@
 -- Fields that lack a byte, joined by it and cut again.
-use Rattle.std.proofs.Common.{◌++◌, ◌≡◌, ℕ, ◌<◌, ◌^◌, ◌==◌, List, [], ◌∷◌, false, Option, Some, None, sym, ap, ◌∙◌, rules, tests, arith, length}
-use Rattle.std.specs.List.{slice_split, join_with_byte, All, AllByRecursion}
+use Rattle.std.proofs.Common.{◌≡◌, ℕ, ◌<◌, ◌^◌, ◌==◌, List, [], ◌∷◌, false, Option, Some, None, sym, ap, ◌∙◌, rules, tests, arith, length}
+use Rattle.std.specs.List.{slice_split, join_with_byte, AllByRecursion}
 use Rattle.std.specs.Fmt.{decimal}
 use Rattle.std.proofs.lemmas.Fmt.{digits_decimal}
 use Rattle.std.proofs.lemmas.Str.Parse.{numerals_by_value, tells_digits, not_in_digits}

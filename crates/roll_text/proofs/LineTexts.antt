@@ -1,5 +1,5 @@
 -- The lines of a text.
-use Rattle.std.proofs.Common.{◌≡◌, ℕ, ◌<◌, ◌==◌, ◌++◌, ◌⊎◌, inl, inr, Bool, true, List, [], ◌∷◌, false, refl, sym, ap, ◌∙◌, subst, rules, arith, append_assoc, length, map, flat_map}
+use Rattle.std.proofs.Common.{◌≡◌, ℕ, ◌<◌, ◌==◌, ◌++◌, ◌⊎◌, inl, inr, Bool, true, List, [], ◌∷◌, false, refl, sym, ap, ◌∙◌, subst, rules, arith, append_assoc, length, map}
 use Rattle.std.specs.List.{onto_first, AllByRecursion}
 use Rattle.std.proofs.lemmas.List.{append-nil, append_cancel_right}
 use Rattle.std.proofs.lemmas.Grind.{flat_map-append}

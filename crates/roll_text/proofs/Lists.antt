@@ -1,9 +1,9 @@
 -- Numbers with a comma between each two, cut again.
-use Rattle.std.proofs.Common.{flat_map, rules, tests, ◌++◌, ◌+◌, map, ◌≡◌, ℕ, ◌<◌, ◌^◌, ◌==◌, List, [], ◌∷◌, false, refl, sym, ap, ◌∙◌, arith, get_or, length}
+use Rattle.std.proofs.Common.{flat_map, rules, tests, ◌++◌, ◌+◌, map, ◌≡◌, ℕ, ◌<◌, ◌==◌, List, [], ◌∷◌, refl, sym, ap, ◌∙◌, arith, get_or, length}
 use Rattle.std.specs.List.{slice_split, join_with_byte, All, AllByRecursion, count_by}
 use Rattle.std.specs.Fmt.{decimal}
 use Rattle.std.proofs.lemmas.List.{get_or-map, length-map, append-nil}
-use Rattle.std.proofs.lemmas.List.Elements.{All-get_or, recursion_from_All, All-from_recursion}
+use Rattle.std.proofs.lemmas.List.Elements.{All-get_or, recursion_from_All}
 use Rattle.std.proofs.lemmas.List.Splits.{join_with_byte-slice_split, length-slice_split}
 use Rattle.std.proofs.lemmas.Fmt.{decimal_injective}
 use Rattle.roll_text.specs.Lines.{Lacks}

@@ -1,7 +1,7 @@
 -- The first unreadable line.
-use Rattle.std.proofs.Common.{◌≡◌, ℕ, ◌+◌, ◌-◌, ◌≤◌, ◌<◌, ◌++◌, ◌⊎◌, inl, inr, List, [], ◌∷◌, refl, sym, ap, ◌∙◌, arith, append_assoc, length, min, take, drop}
+use Rattle.std.proofs.Common.{◌≡◌, ℕ, ◌+◌, ◌-◌, ◌≤◌, ◌<◌, ◌++◌, List, [], ◌∷◌, refl, sym, ap, ◌∙◌, arith, append_assoc, length, min, take, drop}
 use Rattle.std.proofs.Math.Seq.{take-append_seam, take-append-add}
-use Rattle.std.proofs.lemmas.List.{append-nil, take-append-drop, take_all, length-take, take-take}
+use Rattle.std.proofs.lemmas.List.{take-append-drop, take_all, length-take, take-take}
 use Rattle.roll_text.specs.Lines.{lines_of}
 use Rattle.roll_text.specs.Text.{IsUnreadableAt}
 

@@ -1,7 +1,6 @@
-use Rattle.std.proofs.Common.{◌≡◌, ℕ, ◌<◌, ◌^◌, rules, arith, ◌∙◌, refl}
+use Rattle.std.proofs.Common.{◌≡◌, rules, arith, ◌∙◌}
 use Rattle.std.proofs.lemmas.Fmt.{parse-decimal, IsAscii-decimal}
 use Rattle.std.proofs.lemmas.Str.{IsUtf8-from_ascii}
-use Rattle.std.specs.Fmt.{decimal}
 use Rattle.roll_text.proofs.decimal.number.Goals as goal
 
 -- digits are text

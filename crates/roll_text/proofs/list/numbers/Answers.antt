@@ -1,5 +1,4 @@
-use Rattle.std.proofs.Common.{◌≡◌, ℕ, ◌==◌, ◌∙◌, sym, ap, rules, arith, map, length, get_or, take}
-use Rattle.std.specs.List.{slice_split}
+use Rattle.std.proofs.Common.{arith, map}
 use Rattle.std.proofs.lemmas.Grind.{common_steps}
 use Rattle.roll_text.proofs.Lists.{no_list, list_from}
 use Rattle.roll_text.proofs.list.numbers.Goals as goal

@@ -1,5 +1,4 @@
 use Rattle.std.proofs.Common.{◌≡◌, ◌++◌, take}
-use Rattle.std.specs.Fmt.{decimal}
 use Rattle.roll_text.proofs.Lists.{list_more}
 use Rattle.roll_text.proofs.list.push_list.Given as goal
 

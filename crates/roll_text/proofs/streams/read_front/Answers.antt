@@ -1,4 +1,4 @@
-use Rattle.std.proofs.Common.{◌≡◌, ◌+◌, ◌++◌, ◌≤◌, take, length, arith, refl}
+use Rattle.std.proofs.Common.{◌+◌, ◌++◌, ◌≤◌, take, length, arith, refl}
 use Rattle.std.proofs.lemmas.Grind.{common_steps}
 use Rattle.roll_text.specs.declared.streams.TheConstants.{TEXT_LIMIT}
 use Rattle.roll_text.proofs.KnownTexts.{consumes_more, refused}
