@@ -1,6 +1,6 @@
 -- What a call's own clauses say of its event.
-use Rattle.std.proofs.Common.{◌≡◌, subst, ℕ, ◌+◌, ◌<◌, length, take, get_or, map, List, [], ◌∷◌, ◌++◌, refl, ap, sym, ◌∙◌, Bool, true, false, Option, Some, None, cond}
-use Rattle.std.specs.Prelude.{◌≢◌, unwrap_or, if◌then◌else◌, Result, Ok, Err, IfOk}
+use Rattle.std.proofs.Common.{◌≡◌, subst, arith, ℕ, ◌+◌, ◌%◌, ◌^◌, ◌<◌, length, take, get_or, map, List, [], ◌∷◌, ◌++◌, refl, ap, sym, ◌∙◌, Bool, true, false, Option, Some, None, cond}
+use Rattle.std.specs.Prelude.{◌≢◌, unwrap_or, if◌then◌else◌, Result, Ok, Err, IfOk, OnErr}
 use Rattle.std.specs.Option.{option_map_or}
 use Rattle.std.proofs.lemmas.List.{take_more, map-append}
 use Rattle.std.proofs.lemmas.List.Sums.{fold_push}
@@ -15,6 +15,7 @@ use Rattle.roll_frame.specs.declared.reply.Reply.TheVariants.{Refused, Repeated}
 use Rattle.roll_frame.specs.Events.{CoreEvent, played, played_from, replies_from, after, reply, answer, refusal, replay, is_repeat}
 use Rattle.roll_frame.specs.declared.settings.Settings.{Settings}
 use Rattle.roll_session.specs.Seen.{Step, Seen, core_of, game_of, refusal_of, with_entry, plain}
+use Rattle.roll_session.specs.Calls.{event_of, events_of, turns_of, turns_from, IsMade}
 use Rattle.roll_session.proofs.Holding.{after_taken, replay-nil}
 
 -- a call that was accepted
@@ -70,3 +71,45 @@ pub fresh_played : (step : Step) (s : Seen) (settings : Settings) (x : Value) (t
 fresh_played step s settings x turns refused events e =
     let game : Game = record { opening = x; step = step } in
     subst (λ (v : Seen). played_from v.settings (game_of step v) (core_of v) events ≡ played settings game events) (sym e) (ap (λ (core : Core). played_from settings game core events) (replay-nil settings))
+
+-- what holds anyhow holds where a call failed
+pub on_err : {X E : Type 0} (P : Type 0) (r : Result X E) → P → OnErr r P
+on_err P (Ok x) p = tt
+on_err P (Err e) p = p
+
+turns_push : (settings : Settings) (game : Game) (core : Core) (events : List CoreEvent) (event : CoreEvent) → turns_from settings game core (events ++ event ∷ []) ≡ turns_from settings game core events + turns_of settings game (played_from settings game core events) event
+turns_push settings game core [] event = omega arith
+turns_push settings game core (first ∷ events) event = let more = turns_push settings game (after settings game core first) events event in omega (arith, more)
+
+turns_more : (settings : Settings) (game : Game) (core : Core) (f : Call → CoreEvent) (calls : List Call) (k : ℕ) (d : Call) → k < length calls
+    → turns_from settings game core (map f (take (k + 1) calls)) ≡ turns_from settings game core (map f (take k calls)) + turns_of settings game (played_from settings game core (map f (take k calls))) (f (get_or calls k d))
+turns_more settings game core f calls k d h = rw (take_more calls k d h, map-append) (turns_push settings game core (map f (take k calls)) (f (get_or calls k d)))
+
+-- no call was made
+pub made_none : (step : Step) (s : Seen) → IsMade step s s []
+made_none step s = record { settings = refl; opening = refl; core = refl; turns = omega arith; refused = refl }
+
+-- one more call was made
+pub made_more : (step : Step) (old mid new : Seen) (calls : List Call) (k : ℕ) (d : Call) → k < length calls → IsMade step old mid (take k calls)
+    → new.settings ≡ mid.settings → new.opening ≡ mid.opening
+    → core_of new ≡ after mid.settings (game_of step mid) (core_of mid) (event_of (get_or calls k d))
+    → new.turns % 2 ^ 64 ≡ (mid.turns + turns_of mid.settings (game_of step mid) (core_of mid) (event_of (get_or calls k d))) % 2 ^ 64
+    → new.refused ≡ mid.refused → IsMade step old new (take (k + 1) calls)
+made_more step old mid new calls k d h made settings opening core turns refused =
+    let more = turns_more old.settings (game_of step old) (core_of old) event_of calls k d h in
+    let one : new.turns % 2 ^ 64 ≡ (mid.turns + turns_of old.settings (game_of step old) (played_from old.settings (game_of step old) (core_of old) (events_of (take k calls))) (event_of (get_or calls k d))) % 2 ^ 64
+    = turns ∙ rw (made.core, made.settings, made.opening) refl in
+    record {
+      settings = settings ∙ made.settings;
+      opening = opening ∙ made.opening;
+      core = core ∙ rw (made.core, made.settings, made.opening) (sym (played_more old.settings (game_of step old) (core_of old) event_of calls k d h));
+      turns = omega (arith, more, one, made.turns);
+      refused = refused ∙ made.refused;
+    }
+
+-- what a session that has just started advances its game by
+pub fresh_turns : (step : Step) (s : Seen) (settings : Settings) (x : Value) (turns refused : ℕ) (events : List CoreEvent) → s ≡ record { settings = settings; opening = x; log = []; turns = turns; refused = refused }
+    → s.turns + turns_from s.settings (game_of step s) (core_of s) events ≡ turns + turns_from settings (record { opening = x; step = step }) (first_core settings) events
+fresh_turns step s settings x turns refused events e =
+    let game : Game = record { opening = x; step = step } in
+    subst (λ (v : Seen). v.turns + turns_from v.settings (game_of step v) (core_of v) events ≡ turns + turns_from settings game (first_core settings) events) (sym e) (ap (λ (core : Core). turns + turns_from settings game core events) (replay-nil settings))

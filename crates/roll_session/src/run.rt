@@ -1,9 +1,9 @@
 //! Whole runs: calls as values, and their replies.
-ghost use Rattle.std.specs.Prelude.{◌≡◌, ◌≢◌, ◌⊎◌, None, List, map, IfOk, OnOk, OnErr, IfErr, unwrap_or};
+ghost use Rattle.std.specs.Prelude.{◌≡◌, ◌≢◌, ◌⊎◌, ◌+◌, ◌%◌, ◌^◌, None, List, map, IfOk, OnOk, OnErr, IfErr, unwrap_or};
 ghost use Rattle.roll_frame.specs.Core.{first_core};
 ghost use Rattle.roll_frame.specs.Events.{after, reply, replies_from, played_from, played};
 ghost use Rattle.roll_frame.specs.Settings.{start_refusal};
-ghost use Rattle.roll_session.specs.Calls.{event_of, events_of, IsCutShort};
+ghost use Rattle.roll_session.specs.Calls.{event_of, events_of, turns_of, turns_from, IsCutShort, IsMade, IsEndedEarly};
 ghost use Rattle.roll_session.specs.Held.{Shows};
 ghost use Rattle.roll_session.specs.Seen.{core_of, game_of};
 
@@ -19,6 +19,8 @@ impl<G: Game> Session<G> {
         ensures settings { self.new.settings ≡ self.old.settings }
         ensures opening { self.new.opening ≡ self.old.opening }
         ensures core { OnOk result (core_of self.new ≡ after self.old.settings (game_of G.step self.old) (core_of self.old) (event_of call)) }
+        ensures turns { OnOk result (self.new.turns % 2 ^ 64 ≡ (self.old.turns + turns_of self.old.settings (game_of G.step self.old) (core_of self.old) (event_of call)) % 2 ^ 64) }
+        ensures refused { OnOk result (self.new.refused ≡ self.old.refused) }
         ensures reply { IfOk result (λ answer. answer ≡ reply self.old.settings (game_of G.step self.old) (core_of self.old) (event_of call)) }
         ensures left { OnErr result ((self.new ≡ self.old) ⊎ IsCutShort G.step self.old self.new call) }
     {
@@ -51,13 +53,12 @@ impl<G: Game> Session<G> {
         }
     }
 
-    /// Makes the calls in turn, and answers their replies, refused ones among them. It ends early only for want of memory,
-    /// and then `log` tells what was done.
+    /// Makes the calls in turn, and answers their replies, refused ones among them. It ends early only for want of memory:
+    /// the calls before that were made, and `log` tells which.
     pub fn run(&mut self, alloc: Global, calls: &[Call]) -> Result<Vec<Reply>, NoMemory>
-        ensures settings { self.new.settings ≡ self.old.settings }
-        ensures opening { self.new.opening ≡ self.old.opening }
-        ensures core { OnOk result (core_of self.new ≡ played_from self.old.settings (game_of G.step self.old) (core_of self.old) (events_of calls.now)) }
+        ensures made { OnOk result (IsMade G.step self.old self.new calls.now) }
         ensures replies { IfOk result (λ replies. replies.items ≡ replies_from self.old.settings (game_of G.step self.old) (core_of self.old) (events_of calls.now)) }
+        ensures left { OnErr result (IsEndedEarly G.step self.old self.new calls.now) }
     {
         let Ok(mut replies) = Vec::with_capacity(alloc, calls.len()) else {
             return Err(NoMemory);
@@ -94,6 +95,8 @@ pub fn play<G: Game>(
     ensures starts { OnOk result (start_refusal settings ≡ None) }
     ensures replies { IfOk result (λ all. all.replies.items ≡ replies_from settings (record { opening = G.snapshot_value opening; step = G.step }) (first_core settings) (events_of calls.now)) }
     ensures shown { IfOk result (λ all. Shows G.state_value G.step (G.snapshot_value opening) (played settings (record { opening = G.snapshot_value opening; step = G.step }) (events_of calls.now)).shown all.shown) }
+    ensures turns { IfOk result (λ all. G.turn_count all.game % 2 ^ 64 ≡ (G.turn_count game + turns_from settings (record { opening = G.snapshot_value opening; step = G.step }) (first_core settings) (events_of calls.now)) % 2 ^ 64) }
+    ensures refusals { IfOk result (λ all. G.refusal_count all.game ≡ G.refusal_count game) }
     ensures refused { IfErr result (λ fault. fault.why ≡ unwrap_or (start_refusal settings) Refusal.NoMemory) }
     ensures opening_back { IfErr result (λ fault. G.snapshot_value fault.opening ≡ G.snapshot_value opening) }
 {

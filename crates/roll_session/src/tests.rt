@@ -249,12 +249,27 @@ fn refuses_past_its_settings(rt: HostRuntime) -> Result<(), Refusal> {
         &[local(1, 0), A, S],
         &[Done, Frame(1, 0, 1, 0, 0), Refused(114)],
     )?;
-    let outside = Settings {
+    Ok(())
+}
+
+#[test]
+fn refuses_settings_out_of_range(rt: HostRuntime) -> Result<(), Refusal> {
+    let crowd = Settings {
+        players: 5,
+        ..two()
+    };
+    let hasty = Settings {
         threshold: 9,
         ..two()
     };
-    let refused = open(rt.alloc(), outside, Kind::Load, 0).err();
-    assert_eq!(rt; refused, Some(Refusal::InvalidRequest));
+    let delayed = Settings {
+        delays: [0, 1, 0, 0, 0, 0, 0, 0],
+        ..two()
+    };
+    for (settings, code) in [(crowd, 3), (hasty, 11), (delayed, 11)] {
+        let refused = open(rt.alloc(), settings, Kind::Load, 0).err();
+        assert_eq!(rt; refused.map(|why| why.code()), Some(code));
+    }
     Ok(())
 }
 
