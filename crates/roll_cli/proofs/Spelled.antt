@@ -1,0 +1,95 @@
+-- The lines of commands, cut into their fields and joined again.
+use Rattle.std.proofs.Common.{◌≡◌, ℕ, ◌+◌, ◌<◌, ◌≤◌, ◌^◌, ◌==◌, ◌++◌, List, [], ◌∷◌, Option, Some, None, Bool, true, false, not, ◌||◌, refl, sym, ap, ◌∙◌, rules, tests, arith, codes, get_or, length}
+use Rattle.std.specs.List.{slice_split, join_with_byte, All, AllByRecursion}
+use Rattle.std.specs.Fmt.{decimal}
+use Rattle.std.proofs.lemmas.List.Elements.{All-cons, All-nil}
+use Rattle.std.proofs.lemmas.List.Splits.{join_with_byte-slice_split}
+use Rattle.roll_frame.specs.declared.limits.TheConstants.{PATH_LIMIT}
+use Rattle.roll_text.specs.Lines.{Lacks}
+use Rattle.roll_text.specs.Numbers.{IsWord, IsList, list_of}
+use Rattle.roll_text.specs.Text.{Reads}
+use Rattle.roll_text.proofs.Joined.{decimal-lacks, join-lacks, split-join}
+use Rattle.roll_text.proofs.Lists.{list_of-lacks, list_of-injective}
+use Rattle.roll_cli.specs.declared.command.Command.{Command}
+use Rattle.roll_cli.specs.declared.command.Command.TheVariants.{Local, Remote, Disconnect, Sync, Advance, Guess, Extend, Claim}
+use Rattle.roll_cli.specs.Commands.{IsCommand, IsPlayed, fields_of, line_of, is_played}
+
+letter-lacks : (c l : ℕ) → (l == c) ≡ false → Lacks c (l ∷ [])
+letter-lacks c l apart = All-cons (λ b. (b == c) ≡ false) l [] apart (All-nil _)
+
+number-lacks : (c n : ℕ) → c < 44 → IsWord n → Lacks c (decimal n)
+number-lacks c n low h = decimal-lacks c n (omega arith) (omega arith)
+
+apart : (c l : ℕ) → c < 44 → 44 ≤ l → (l == c) ≡ false
+apart c l low high = search (rules, tests)
+
+letter : (c l : ℕ) → c < 44 → 44 ≤ l → Lacks c (l ∷ [])
+letter c l low high = letter-lacks c l (apart c l low high)
+
+-- no field of a command has a byte below a comma's: a space, or a line's end
+fields-lack : (c : ℕ) → c < 44 → (command : Command) → IsCommand command → AllByRecursion (Lacks c) (fields_of command)
+fields-lack c low (Local player word) h = (letter c 76 low (omega arith), (number-lacks c player low h.0, (number-lacks c word low h.1, tt)))
+fields-lack c low (Remote player frame word) h = (letter c 82 low (omega arith), (number-lacks c player low h.0, (number-lacks c frame low h.1, (number-lacks c word low h.2, tt))))
+fields-lack c low (Disconnect player) h = (letter c 68 low (omega arith), (number-lacks c player low h, tt))
+fields-lack c low Sync h = (letter c 83 low (omega arith), tt)
+fields-lack c low Advance h = (letter c 65 low (omega arith), tt)
+fields-lack c low (Guess player until words) h = (letter c 71 low (omega arith), (number-lacks c player low h.0, (number-lacks c until low h.1, (list_of-lacks c words.items low h.2, tt))))
+fields-lack c low (Extend job) h = (letter c 66 low (omega arith), (number-lacks c job low h, tt))
+fields-lack c low Claim h = (letter c 67 low (omega arith), tt)
+
+-- a command has at least its letter
+first-field : (command : Command) → (letter : List ℕ) × (more : List (List ℕ)) × (fields_of command ≡ letter ∷ more)
+first-field (Local player word) = (_, _, refl)
+first-field (Remote player frame word) = (_, _, refl)
+first-field (Disconnect player) = (_, _, refl)
+first-field Sync = (_, _, refl)
+first-field Advance = (_, _, refl)
+first-field (Guess player until words) = (_, _, refl)
+first-field (Extend job) = (_, _, refl)
+first-field Claim = (_, _, refl)
+
+pub split-fields : (c : ℕ) (fields : List (List ℕ)) (x : List ℕ) (xs : List (List ℕ)) → fields ≡ x ∷ xs → AllByRecursion (Lacks c) fields → slice_split (λ b. b == c) (join_with_byte c fields) ≡ fields
+split-fields c [] x xs e h = cc
+split-fields c (y ∷ ys) x xs e h = split-join c y ys h
+
+pub split-line : (command : Command) → IsCommand command → slice_split (λ b. b == 32) (line_of command) ≡ fields_of command
+split-line command h = let first = first-field command in split-fields 32 (fields_of command) first.0 first.1 first.2 (fields-lack 32 (omega arith) command h)
+
+pub line-lacks : (command : Command) → IsCommand command → Lacks 10 (line_of command)
+line-lacks command h = join-lacks 10 32 (fields_of command) refl (fields-lack 10 (omega arith) command h)
+
+pub reads-line : (line : List ℕ) (r : Option Command) → Reads IsCommand fields_of (slice_split (λ b. b == 32) line) r → Reads IsCommand line_of line r
+reads-line line (Some command) h = (h.0, sym (join_with_byte-slice_split 32 line) ∙ ap (join_with_byte 32) h.1)
+reads-line line None h = λ command fits e. h command fits (ap (slice_split (λ b. b == 32)) e ∙ split-line command fits)
+
+-- a guess has no more words than a path rows
+pub no_guess : (player until text words : List ℕ) → IsList words → text ≡ list_of words → PATH_LIMIT < length words
+    → (command : Command) → IsCommand command → codes "G" ∷ player ∷ until ∷ text ∷ [] ≡ fields_of command → ⊥
+no_guess player until text words h t many (Local p word) fits e = cc
+no_guess player until text words h t many (Remote p frame word) fits e = let letters : 71 ≡ 82 = ap (λ fields. get_or (get_or fields 0 []) 0 0) e in omega (arith, letters)
+no_guess player until text words h t many (Disconnect p) fits e = cc
+no_guess player until text words h t many Sync fits e = cc
+no_guess player until text words h t many Advance fits e = cc
+no_guess player until text words h t many (Guess p u ws) fits e =
+    let same : words ≡ ws.items = list_of-injective words ws.items h fits.2 (sym t ∙ ap (λ fields. get_or fields 3 []) e) in
+    let as_many : length words ≡ length ws.items = ap length same in
+    omega (arith, fits.3)
+no_guess player until text words h t many (Extend job) fits e = cc
+no_guess player until text words h t many Claim fits e = cc
+
+-- a line's first byte tells whether it can be played
+abbrev plays : ℕ → Bool
+plays letter = not (letter == 71 || (letter == 66 || letter == 67))
+
+plays-first : (command : Command) → is_played command ≡ plays (get_or (line_of command) 0 0)
+plays-first (Local player word) = refl
+plays-first (Remote player frame word) = refl
+plays-first (Disconnect player) = refl
+plays-first Sync = refl
+plays-first Advance = refl
+plays-first (Guess player until words) = refl
+plays-first (Extend job) = refl
+plays-first Claim = refl
+
+pub same-played : (a b : Command) → line_of a ≡ line_of b → is_played a ≡ is_played b
+same-played a b e = plays-first a ∙ ap (λ line. plays (get_or line 0 0)) e ∙ sym (plays-first b)

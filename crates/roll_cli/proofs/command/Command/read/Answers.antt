@@ -1,0 +1,21 @@
+use Rattle.std.proofs.Common.{◌≡◌, ℕ, ◌==◌, List, map, Option}
+use Rattle.std.specs.Prelude.{Result, Ok, Err, IfOk}
+use Rattle.std.specs.List.{slice_split}
+use Rattle.roll_text.specs.Text.{Reads}
+use Rattle.roll_cli.specs.declared.command.Command.{Command}
+use Rattle.roll_cli.specs.Commands.{IsCommand, fields_of, line_of}
+use Rattle.roll_cli.proofs.Spelled.{reads-line}
+use Rattle.roll_cli.proofs.command.Command.read.Goals as goal
+
+pub returns : goal.returns
+returns c = go c.from_fields.result c.from_fields.ensures
+  where
+    fields : List (List ℕ)
+    fields = map (λ field. field.now) c.deref.result.now
+
+    cut : fields ≡ slice_split (λ b. b == 32) c.args.line.now
+    cut = rw c.deref.ensures.value c.in_ok-fields.ensures
+
+    go : {E : Type 0} (r : Result (Option Command) E) → IfOk r (λ command. Reads IsCommand fields_of fields command) → IfOk r (λ command. Reads IsCommand line_of c.args.line.now command)
+    go (Ok command) h = reads-line c.args.line.now command (rw (← cut) h)
+    go (Err e) h = tt

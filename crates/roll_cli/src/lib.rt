@@ -1,0 +1,10 @@
+//! The engines behind the program: scripts that are played, and what is written of them.
+#![tactic(auto)]
+
+mod command;
+mod header;
+mod script;
+
+pub use command::Command;
+pub use header::{Header, Version};
+pub use script::{Script, ScriptFault};
