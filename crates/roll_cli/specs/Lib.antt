@@ -1,3 +1,4 @@
 pub mod Commands
 pub mod Headers
 pub mod Plays
+pub mod Shown

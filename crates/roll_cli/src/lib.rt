@@ -4,7 +4,9 @@
 mod command;
 mod header;
 mod script;
+mod shown;
 
 pub use command::Command;
 pub use header::{Header, Version};
 pub use script::{Script, ScriptFault};
+pub use shown::Shown;

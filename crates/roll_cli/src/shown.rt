@@ -1,0 +1,28 @@
+//! Games whose states can be printed.
+ghost use Rattle.std.specs.Prelude.{◌≡◌, ℕ, List, ◌++◌, OnOk};
+
+use roll_game::{Game, NoMemory, Tally};
+use roll_text::push_number;
+
+/// A game with a text for each state.
+pub trait Shown: Game {
+    /// The text of a state's value.
+    ghost text_of: { List ℕ → List ℕ };
+
+    /// Writes the text of a state at the end.
+    fn text(&self, state: &Self::State, out: &mut Vec<u8>) -> Result<(), NoMemory>
+        ensures { OnOk result (out.new.items ≡ out.old.items ++ text_of (Self.state_value state.now)) };
+}
+
+impl Shown for Tally {
+    ghost use Rattle.roll_cli.specs.Shown.{tally_text};
+
+    ghost text_of = { tally_text };
+
+    fn text(&self, state: &u32, out: &mut Vec<u8>) -> Result<(), NoMemory> {
+        match push_number(out, *state) {
+            Ok(()) => Ok(()),
+            Err(_) => Err(NoMemory),
+        }
+    }
+}
