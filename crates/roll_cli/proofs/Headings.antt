@@ -9,14 +9,13 @@ use Rattle.std.proofs.lemmas.List.{get_or-map, length-map}
 use Rattle.std.proofs.lemmas.List.Elements.{All-cons, All-head, All-nil}
 use Rattle.roll_text.specs.Lines.{Lacks}
 use Rattle.roll_text.specs.Numbers.{IsWord, IsList, list_of}
-use Rattle.roll_text.proofs.Joined.{decimal-lacks, join-lacks}
+use Rattle.roll_text.proofs.Joined.{decimal-lacks, join-lacks, split-fields}
 use Rattle.roll_text.proofs.Lists.{list_of-lacks, list_of-injective, list_of-cons, list_more}
 use Rattle.std.proofs.lemmas.Fmt.{decimal_injective, decimal_nonempty}
 use Rattle.roll_cli.specs.declared.header.Version.{Version}
 use Rattle.roll_cli.specs.declared.header.Version.TheVariants.{Plain, Masked, Wide}
 use Rattle.roll_cli.specs.Headers.{Setup, IsSetup, header_fields, header_of, mask_fields, mask_count, version_field, in_places}
 use Rattle.roll_frame.specs.declared.limits.TheConstants.{PLAYER_LIMIT}
-use Rattle.roll_cli.proofs.Spelled.{split-fields}
 
 -- whether no byte is below a comma's
 abbrev are_high : List ℕ → Bool
@@ -61,7 +60,7 @@ fields-lack c low setup h = (
 
 pub split-header : (setup : Setup) → IsSetup setup → slice_split (λ b. b == 32) (header_of setup) ≡ header_fields setup
 unfolding header_of
-split-header setup h = split-fields 32 (header_fields setup) _ _ refl (fields-lack 32 (omega arith) setup h)
+split-header setup h = split-fields 32 (header_fields setup) (omega arith) (fields-lack 32 (omega arith) setup h)
 
 pub header-lacks : (setup : Setup) → IsSetup setup → Lacks 10 (header_of setup)
 unfolding header_of

@@ -1,3 +1,5 @@
 pub mod Spelled
 pub mod Headings
 pub mod Unplayed
+pub mod Asked
+pub mod Written

@@ -3,12 +3,11 @@ use Rattle.std.proofs.Common.{◌≡◌, ℕ, ◌+◌, ◌<◌, ◌≤◌, ◌^�
 use Rattle.std.specs.List.{slice_split, join_with_byte, All, AllByRecursion}
 use Rattle.std.specs.Fmt.{decimal}
 use Rattle.std.proofs.lemmas.List.Elements.{All-cons, All-nil}
-use Rattle.std.proofs.lemmas.List.Splits.{join_with_byte-slice_split}
 use Rattle.roll_frame.specs.declared.limits.TheConstants.{PATH_LIMIT}
 use Rattle.roll_text.specs.Lines.{Lacks}
 use Rattle.roll_text.specs.Numbers.{IsWord, IsList, list_of}
 use Rattle.roll_text.specs.Text.{Reads}
-use Rattle.roll_text.proofs.Joined.{decimal-lacks, join-lacks, split-join}
+use Rattle.roll_text.proofs.Joined.{decimal-lacks, join-lacks, reads-joined}
 use Rattle.roll_text.proofs.Lists.{list_of-lacks, list_of-injective}
 use Rattle.roll_cli.specs.declared.command.Command.{Command}
 use Rattle.roll_cli.specs.declared.command.Command.TheVariants.{Local, Remote, Disconnect, Sync, Advance, Guess, Extend, Claim}
@@ -38,29 +37,21 @@ fields-lack c low (Extend job) h = (letter c 66 low (omega arith), (number-lacks
 fields-lack c low Claim h = (letter c 67 low (omega arith), tt)
 
 -- a command has at least its letter
-first-field : (command : Command) → (letter : List ℕ) × (more : List (List ℕ)) × (fields_of command ≡ letter ∷ more)
-first-field (Local player word) = (_, _, refl)
-first-field (Remote player frame word) = (_, _, refl)
-first-field (Disconnect player) = (_, _, refl)
-first-field Sync = (_, _, refl)
-first-field Advance = (_, _, refl)
-first-field (Guess player until words) = (_, _, refl)
-first-field (Extend job) = (_, _, refl)
-first-field Claim = (_, _, refl)
-
-pub split-fields : (c : ℕ) (fields : List (List ℕ)) (x : List ℕ) (xs : List (List ℕ)) → fields ≡ x ∷ xs → AllByRecursion (Lacks c) fields → slice_split (λ b. b == c) (join_with_byte c fields) ≡ fields
-split-fields c [] x xs e h = cc
-split-fields c (y ∷ ys) x xs e h = split-join c y ys h
-
-pub split-line : (command : Command) → IsCommand command → slice_split (λ b. b == 32) (line_of command) ≡ fields_of command
-split-line command h = let first = first-field command in split-fields 32 (fields_of command) first.0 first.1 first.2 (fields-lack 32 (omega arith) command h)
+some-field : (command : Command) → 0 < length (fields_of command)
+some-field (Local player word) = omega arith
+some-field (Remote player frame word) = omega arith
+some-field (Disconnect player) = omega arith
+some-field Sync = omega arith
+some-field Advance = omega arith
+some-field (Guess player until words) = omega arith
+some-field (Extend job) = omega arith
+some-field Claim = omega arith
 
 pub line-lacks : (command : Command) → IsCommand command → Lacks 10 (line_of command)
 line-lacks command h = join-lacks 10 32 (fields_of command) refl (fields-lack 10 (omega arith) command h)
 
 pub reads-line : (line : List ℕ) (r : Option Command) → Reads IsCommand fields_of (slice_split (λ b. b == 32) line) r → Reads IsCommand line_of line r
-reads-line line (Some command) h = (h.0, sym (join_with_byte-slice_split 32 line) ∙ ap (join_with_byte 32) h.1)
-reads-line line None h = λ command fits e. h command fits (ap (slice_split (λ b. b == 32)) e ∙ split-line command fits)
+reads-line line r h = reads-joined 32 IsCommand fields_of (λ command fits. (some-field command, fields-lack 32 (omega arith) command fits)) line r h
 
 -- a guess has no more words than a path rows
 pub no_guess : (player until text words : List ℕ) → IsList words → text ≡ list_of words → PATH_LIMIT < length words

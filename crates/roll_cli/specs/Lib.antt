@@ -2,3 +2,5 @@ pub mod Commands
 pub mod Headers
 pub mod Plays
 pub mod Shown
+pub mod Output
+pub mod Calls

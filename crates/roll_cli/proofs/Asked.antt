@@ -1,0 +1,128 @@
+-- The calls that commands ask for are their events.
+use Rattle.std.proofs.Common.{◌≡◌, length-set, ◌==◌, ℕ, ◌+◌, ◌-◌, ◌≤◌, ◌<◌, ◌⊎◌, inl, inr, List, [], ◌∷◌, length, Bool, true, false, refl, sym, ap, ◌∙◌, subst, arith, rules, tests, Option, Some, None}
+use Rattle.std.specs.Prelude.{nat_lt, slice_set, cond}
+use Rattle.std.specs.Option.{option_map_or}
+use Rattle.std.proofs.lemmas.List.{length-map}
+use Rattle.std.proofs.lemmas.Option.{slice_get_past}
+use Rattle.roll_frame.specs.declared.limits.TheConstants.{PLAYER_LIMIT}
+use Rattle.roll_frame.specs.Core.{Core}
+use Rattle.roll_frame.specs.Events.{after, applied, is_accepted, reply}
+use Rattle.roll_frame.specs.Games.{Game}
+use Rattle.roll_frame.specs.Inputs.{changed, player_at, with_given, with_gone, with_none_given, with_words}
+use Rattle.roll_frame.specs.Timeline.{Player}
+use Rattle.roll_frame.specs.declared.entry.Entry.{Entry}
+use Rattle.roll_frame.specs.declared.entry.Entry.TheVariants.{Local, Remote, Disconnect, Sync, Advance, Graft, Partial}
+use Rattle.roll_frame.specs.declared.refusal.Refusal.TheVariants.{InvalidPlayer}
+use Rattle.roll_frame.specs.declared.reply.Reply.TheVariants.{Refused}
+use Rattle.roll_frame.specs.declared.settings.Settings.{Settings}
+use Rattle.roll_session.specs.Seen.{plain}
+use Rattle.roll_session.specs.Calls.{event_of, entry_of}
+use Rattle.roll_session.specs.declared.event.Call.{Call}
+use Rattle.roll_cli.specs.declared.command.Command.{Command}
+use Rattle.roll_cli.specs.declared.command.Command.TheVariants.{Local as Gives, Remote as Tells, Disconnect as Leaves, Sync as Syncs, Advance as Advances, Guess, Extend, Claim}
+use Rattle.roll_cli.specs.Calls.{narrowed, call_of}
+use Rattle.roll_cli.specs.Output.{after_command, asked_by}
+
+-- a number past all players' becomes 0
+narrowed_cases : (p : ℕ) → (narrowed p ≡ p) ⊎ ((narrowed p ≡ 0) × (256 ≤ p))
+narrowed_cases p = go (nat_lt p 256) refl
+  where
+    go : (b : Bool) → nat_lt p 256 ≡ b → (narrowed p ≡ p) ⊎ ((narrowed p ≡ 0) × (256 ≤ p))
+    go true e = inl (rw e refl)
+    go false e = inr (rw e refl, search (rules, tests))
+
+nobody_at : (players : List Player) (p : ℕ) → length players ≤ PLAYER_LIMIT → 256 ≤ p → player_at players p ≡ None
+nobody_at players p few high = let some : (p == 0) ≡ false = search (rules, tests) in rw some (slice_get_past players (p - 1) (omega arith))
+
+-- two entries of which the core makes the same
+pub record AreAlike (settings : Settings) (game : Game) (core : Core) (a b : Entry) : Type 0 where
+  pub same_reply : reply settings game core (plain a) ≡ reply settings game core (plain b)
+  pub same_core : after settings game core (plain a) ≡ after settings game core (plain b)
+
+alike : (settings : Settings) (game : Game) (core : Core) (a b : Entry) → a ≡ b → AreAlike settings game core a b
+alike settings game core a b e = record { same_reply = ap (λ x. reply settings game core (plain x)) e; same_core = ap (λ x. after settings game core (plain x)) e }
+
+-- what nobody's input or leaving is answered
+record IsNobodys (settings : Settings) (game : Game) (core : Core) (entry : Entry) : Type 0 where
+  refused : reply settings game core (plain entry) ≡ Refused InvalidPlayer
+  unchanged : after settings game core (plain entry) ≡ core
+
+nobodys_local : (settings : Settings) (game : Game) (core : Core) (p word : ℕ) → player_at core.players p ≡ None → IsNobodys settings game core (Local p word)
+nobodys_local settings game core p word none = record { refused = rw none refl; unchanged = rw none refl }
+
+nobodys_remote : (settings : Settings) (game : Game) (core : Core) (p frame word : ℕ) → player_at core.players p ≡ None → IsNobodys settings game core (Remote p frame word)
+nobodys_remote settings game core p frame word none = record { refused = rw none refl; unchanged = rw none refl }
+
+nobodys_leaving : (settings : Settings) (game : Game) (core : Core) (p : ℕ) → player_at core.players p ≡ None → IsNobodys settings game core (Disconnect p)
+nobodys_leaving settings game core p none = record { refused = rw none refl; unchanged = rw none refl }
+
+both_nobodys : (settings : Settings) (game : Game) (core : Core) (a b : Entry) → IsNobodys settings game core a → IsNobodys settings game core b → AreAlike settings game core a b
+both_nobodys settings game core a b x y = record { same_reply = x.refused ∙ sym y.refused; same_core = x.unchanged ∙ sym y.unchanged }
+
+-- an entry of a player's number is that of the number as calls have it
+narrowed_alike : (settings : Settings) (game : Game) (core : Core) (entry : ℕ → Entry) → length core.players ≤ PLAYER_LIMIT
+    → ((p : ℕ) → player_at core.players p ≡ None → IsNobodys settings game core (entry p)) → (p : ℕ) → AreAlike settings game core (entry (narrowed p)) (entry p)
+narrowed_alike settings game core entry few nobodys p = elim (narrowed_cases p) [
+  | inl same ↦ alike settings game core (entry (narrowed p)) (entry p) (ap entry same)
+  | inr past ↦
+      both_nobodys settings game core (entry (narrowed p)) (entry p)
+      (nobodys (narrowed p) (subst (λ n. player_at core.players n ≡ None) (sym past.0) refl))
+      (nobodys p (nobody_at core.players p few past.1))
+]
+
+same_call : (a b : Call) → Some a ≡ Some b → a ≡ b
+same_call a b e = cc
+
+-- the event of a command's call is the command's
+pub asked : (settings : Settings) (game : Game) (core : Core) (command : Command) (call : Call) → length core.players ≤ PLAYER_LIMIT → call_of command ≡ Some call
+    → (entry : Entry) × (asked_by command ≡ Some entry) × AreAlike settings game core (entry_of call) entry
+asked settings game core (Gives p word) call few e =
+    (Local p word, refl, subst (λ c. AreAlike settings game core (entry_of c) (Local p word)) (same_call _ call e) (narrowed_alike settings game core (λ n. Local n word) few (λ n. nobodys_local settings game core n word) p))
+asked settings game core (Tells p frame word) call few e =
+    (Remote p frame word, refl, subst (λ c. AreAlike settings game core (entry_of c) (Remote p frame word)) (same_call _ call e) (narrowed_alike settings game core (λ n. Remote n frame word) few (λ n. nobodys_remote settings game core n frame word) p))
+asked settings game core (Leaves p) call few e =
+    (Disconnect p, refl, subst (λ c. AreAlike settings game core (entry_of c) (Disconnect p)) (same_call _ call e) (narrowed_alike settings game core (λ n. Disconnect n) few (λ n. nobodys_leaving settings game core n) p))
+asked settings game core Syncs call few e = (Sync, refl, alike settings game core (entry_of call) Sync (ap entry_of (sym (same_call _ call e))))
+asked settings game core Advances call few e = (Advance, refl, alike settings game core (entry_of call) Advance (ap entry_of (sym (same_call _ call e))))
+asked settings game core (Guess player until words) call few e = absurd (cc)
+asked settings game core (Extend job) call few e = absurd (cc)
+asked settings game core Claim call few e = absurd (cc)
+
+-- where there is no call, there is no event
+pub not_asked : (command : Command) → call_of command ≡ None → asked_by command ≡ None
+not_asked (Gives p word) e = absurd (cc)
+not_asked (Tells p frame word) e = absurd (cc)
+not_asked (Leaves p) e = absurd (cc)
+not_asked Syncs e = absurd (cc)
+not_asked Advances e = absurd (cc)
+not_asked (Guess player until words) e = refl
+not_asked (Extend job) e = refl
+not_asked Claim e = refl
+
+changed_length : (change : Player → Player) (players : List Player) (p : ℕ) → length (changed change players p) ≡ length players
+changed_length change players p = go (player_at players p)
+  where
+    go : (o : Option Player) → length (option_map_or (λ player. slice_set players (p - 1) (change player)) o players) ≡ length players
+    go None = refl
+    go (Some player) = length-set players (p - 1) (change player)
+
+applied_length : (core : Core) (entry : Entry) → length (applied core entry).players ≡ length core.players
+applied_length core (Local p word) = changed_length (with_given word) core.players p
+applied_length core (Remote p frame word) = changed_length (with_words (word ∷ [])) core.players p
+applied_length core (Disconnect p) = changed_length with_gone core.players p
+applied_length core Sync = refl
+applied_length core Advance = length-map core.players with_none_given
+applied_length core (Graft ticket path rows) = refl
+applied_length core (Partial to made) = refl
+
+-- a command leaves as many players
+pub as_many_players : (settings : Settings) (game : Game) (core : Core) (command : Command) → length (after_command settings game core command).players ≡ length core.players
+as_many_players settings game core command = go (asked_by command)
+  where
+    taken : (b : Bool) (entry : Entry) → length (cond b (applied core entry) core).players ≡ length core.players
+    taken true entry = applied_length core entry
+    taken false entry = refl
+
+    go : (o : Option Entry) → length (option_map_or (λ entry. after settings game core (plain entry)) o core).players ≡ length core.players
+    go None = refl
+    go (Some entry) = taken (is_accepted settings game core (plain entry)) entry

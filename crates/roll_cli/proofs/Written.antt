@@ -1,0 +1,92 @@
+-- What a roll's line is, by what a session shows.
+use Rattle.std.proofs.Common.{◌≡◌, ℕ, ◌+◌, ◌-◌, ◌++◌, List, [], ◌∷◌, Bool, arith, append_assoc, codes, refl, sym, ap, ◌∙◌, Option, Some, None}
+use Rattle.std.specs.Prelude.{if◌then◌else◌}
+use Rattle.std.specs.Fmt.{decimal}
+use Rattle.std.specs.Option.{option_map, option_map_or}
+use Rattle.roll_frame.specs.Cells.{Rows}
+use Rattle.roll_frame.specs.Core.{Core, Roll, settled}
+use Rattle.roll_frame.specs.Games.{Value, Game}
+use Rattle.roll_frame.specs.Paths.{run}
+use Rattle.roll_frame.specs.declared.row.Cell.{Cell}
+use Rattle.roll_session.specs.Held.{Shows}
+use Rattle.roll_session.specs.Seen.{plan_of}
+use Rattle.roll_session.specs.declared.event.Plan.{Plan}
+use Rattle.roll_frame.specs.declared.settings.Settings.{Settings}
+use Rattle.roll_cli.specs.declared.command.Command.{Command}
+use Rattle.roll_cli.specs.Output.{Texts, after_command, frame_line, refused_by, refusals_from, written_by, written_from}
+
+no_roll : (last : Option Roll) → None ≡ option_map plan_of last → last ≡ None
+no_roll None e = refl
+no_roll (Some roll) e = absurd (cc)
+
+a_roll : (last : Option Roll) (plan : Plan) → Some plan ≡ option_map plan_of last → (roll : Roll) × (last ≡ Some roll) × (plan ≡ plan_of roll)
+a_roll None plan e = absurd (cc)
+a_roll (Some roll) plan e = (roll, refl, cc)
+
+no_rows : {S : Type 0} (value : S → List ℕ) (step : List ℕ → List Cell → List ℕ) (x : List ℕ) (shown : Option Rows) → Shows value step x shown None → shown ≡ None
+no_rows value step x None h = refl
+no_rows value step x (Some rows) h = absurd h
+
+some_rows : {S : Type 0} (value : S → List ℕ) (step : List ℕ → List Cell → List ℕ) (x : List ℕ) (shown : Option Rows) (state : S) → Shows value step x shown (Some state)
+    → (rows : Rows) × (shown ≡ Some rows) × (value state ≡ run step x rows)
+some_rows value step x None state h = absurd h
+some_rows value step x (Some rows) state h = (rows, refl, h)
+
+-- a roll's line, by what stands in it
+abbrev line_with : Texts → Game → ℕ → ℕ → Option Roll → Option Rows → List ℕ
+line_with texts game frame base last shown =
+    option_map_or (λ roll. option_map_or (λ rows.
+    codes "frame " ++ (decimal frame ++ (codes " from " ++ (decimal roll.from ++ (codes " rerun " ++ (decimal (roll.to - roll.from) ++ (codes " settled " ++ (decimal base ++ (codes " state " ++ texts (run game.step game.opening rows))))))))))
+    shown []) last []
+
+line_is : (texts : Texts) (game : Game) (core : Core) → frame_line texts game core ≡ line_with texts game core.frame (settled core) core.last core.shown
+unfolding frame_line
+line_is texts game core = refl
+
+no_rows_line : (texts : Texts) (game : Game) (frame base : ℕ) (last : Option Roll) → line_with texts game frame base last None ≡ []
+no_rows_line texts game frame base None = refl
+no_rows_line texts game frame base (Some roll) = refl
+
+-- where there was no roll, or no state is shown, nothing is written
+pub nothing_rolled : (texts : Texts) (game : Game) (core : Core) → None ≡ option_map plan_of core.last → frame_line texts game core ≡ []
+nothing_rolled texts game core e = line_is texts game core ∙ ap (λ last. line_with texts game core.frame (settled core) last core.shown) (no_roll core.last e)
+
+pub nothing_shown : {S : Type 0} (value : S → List ℕ) (texts : Texts) (game : Game) (core : Core) → Shows value game.step game.opening core.shown None → frame_line texts game core ≡ []
+nothing_shown value texts game core h =
+    line_is texts game core
+    ∙ ap (λ shown. line_with texts game core.frame (settled core) core.last shown) (no_rows value game.step game.opening core.shown h)
+    ∙ no_rows_line texts game core.frame (settled core) core.last
+
+-- what is written of a roll
+pub rolled_line : {S : Type 0} (value : S → List ℕ) (texts : Texts) (game : Game) (core : Core) (plan : Plan) (state : S) (frame base : ℕ)
+    → Some plan ≡ option_map plan_of core.last → Shows value game.step game.opening core.shown (Some state) → frame ≡ core.frame → base ≡ settled core
+    → codes "frame " ++ (decimal frame ++ (codes " from " ++ (decimal plan.from ++ (codes " rerun " ++ (decimal plan.rerun ++ (codes " settled " ++ (decimal base ++ (codes " state " ++ texts (value state))))))))) ≡ frame_line texts game core
+rolled_line value texts game core plan state frame base e h f b =
+    let roll = a_roll core.last plan e in
+    let rows = some_rows value game.step game.opening core.shown state h in
+    ap (λ (p : Plan). codes "frame " ++ (decimal frame ++ (codes " from " ++ (decimal p.from ++ (codes " rerun " ++ (decimal p.rerun ++ (codes " settled " ++ (decimal base ++ (codes " state " ++ texts (value state)))))))))) roll.2
+    ∙ ap (λ x. codes "frame " ++ (decimal frame ++ (codes " from " ++ (decimal roll.0.from ++ (codes " rerun " ++ (decimal (roll.0.to - roll.0.from) ++ (codes " settled " ++ (decimal base ++ (codes " state " ++ texts x))))))))) rows.2
+    ∙ ap (λ n. line_with texts game n base (Some roll.0) (Some rows.0)) f
+    ∙ ap (λ n. line_with texts game core.frame n (Some roll.0) (Some rows.0)) b
+    ∙ sym (line_is texts game core
+    ∙ ap (λ last. line_with texts game core.frame (settled core) last core.shown) roll.1
+    ∙ ap (λ shown. line_with texts game core.frame (settled core) (Some roll.0) shown) rows.1)
+
+-- six pieces, one after another
+pub six_pieces : (o a b c d e f o1 o2 o3 o4 o5 o6 : List ℕ) → o1 ≡ o ++ a → o2 ≡ o1 ++ b → o3 ≡ o2 ++ c → o4 ≡ o3 ++ d → o5 ≡ o4 ++ e → o6 ≡ o5 ++ f → o6 ≡ o ++ (a ++ (b ++ (c ++ (d ++ (e ++ f)))))
+six_pieces o a b c d e f o1 o2 o3 o4 o5 o6 h1 h2 h3 h4 h5 h6 = rw (h6, h5, h4, h3, h2, h1) (simp append_assoc refl)
+
+-- one more command's reply was written
+pub one_written : (texts : Texts) (settings : Settings) (game : Game) (core new : Core) (command : Command) (rest left : List Command) (out more total : List ℕ)
+    → left ≡ command ∷ rest → more ≡ out ++ written_by texts settings game core command → new ≡ after_command settings game core command
+    → out ++ written_from texts settings game core left ≡ total → more ++ written_from texts settings game new rest ≡ total
+one_written texts settings game core new command rest left out more total l m n t =
+    rw (m, n) (append_assoc out (written_by texts settings game core command) (written_from texts settings game (after_command settings game core command) rest))
+    ∙ ap (λ commands. out ++ written_from texts settings game core commands) (sym l) ∙ t
+
+pub one_counted : (settings : Settings) (game : Game) (core new : Core) (command : Command) (rest left : List Command) (refused more total : ℕ) (is : Bool)
+    → left ≡ command ∷ rest → is ≡ refused_by settings game core command → more ≡ refused + (if is then 1 else 0) → new ≡ after_command settings game core command
+    → refused + refusals_from settings game core left ≡ total → more + refusals_from settings game new rest ≡ total
+one_counted settings game core new command rest left refused more total is l r m n t =
+    let whole : refusals_from settings game core left ≡ (if is then 1 else 0) + refusals_from settings game new rest = ap (refusals_from settings game core) l ∙ rw (r, n) refl in
+    omega (arith, m, whole, t)
