@@ -3,3 +3,4 @@ pub mod Headings
 pub mod Unplayed
 pub mod Asked
 pub mod Written
+pub mod Played

@@ -4,3 +4,4 @@ pub mod Plays
 pub mod Shown
 pub mod Output
 pub mod Calls
+pub mod Faults

@@ -2,14 +2,14 @@
 #![tactic(auto)]
 
 mod command;
+mod engine;
 mod header;
 mod output;
-mod play;
 mod script;
 mod shown;
 
 pub use command::Command;
+pub use engine::{PlayFault, play};
 pub use header::{Header, Version};
-pub use play::PlayFault;
 pub use script::{Script, ScriptFault};
 pub use shown::Shown;

@@ -8,7 +8,7 @@ ghost use Rattle.roll_cli.specs.Calls.{call_of, narrowed};
 ghost use Rattle.roll_cli.specs.Output.{after_command, frame_line, is_refused as refuses, refusals_from, refused_by, refused_line, reply_line, written_by, written_from};
 
 use crate::command::Command;
-use crate::play::PlayFault;
+use crate::engine::PlayFault;
 use crate::shown::Shown;
 use roll_frame::{PLAYER_LIMIT, Refusal, Reply};
 use roll_session::{Call, Session};

@@ -67,6 +67,7 @@ fn read_front<R: Read>(alloc: Global, reader: &mut R) -> Result<Vec<u8>, ReadFau
 /// All that a reader has. Of an input that is too long, one byte over the limit is taken.
 pub fn read_all<R: Read>(alloc: Global, reader: &mut R) -> Result<Vec<u8>, ReadFault>
     ensures all { IfOk result (λ text. IfSome (R.remaining reader.old) (λ known. text.items ≡ known)) }
+    ensures taken { IfOk result (λ text. Consumes (R.remaining reader.old) (R.remaining reader.new) text.items) }
     ensures end { OnOk result (IsAtEnd (R.remaining reader.new)) }
     ensures short { IfOk result (λ text. length text.items ≤ TEXT_LIMIT) }
     ensures long { result ≡ Err TooLong → IfSome (R.remaining reader.old) (λ known. TEXT_LIMIT < length known) }

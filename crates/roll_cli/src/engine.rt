@@ -1,0 +1,179 @@
+//! Scripts that are played, from a reader to a writer.
+ghost use Rattle.std.specs.Prelude.{◌≡◌, ◌≢◌, ◌⊎◌, ◌≤◌, ◌<◌, ◌+◌, ◌^◌, ◌++◌, ℕ, List, Err, IfErr, IfOk, IfSome, OnOk, length};
+ghost use Rattle.std.specs.Io.KnownBytes.{Appends};
+ghost use Rattle.roll_text.specs.Lines.{ended, text_of as text_of_lines};
+ghost use Rattle.roll_text.specs.declared.streams.TheConstants.{TEXT_LIMIT};
+ghost use Rattle.roll_cli.specs.Faults.{IsBadAt, TakesAtMost};
+ghost use Rattle.roll_cli.specs.Output.{IsOutput, output, refusals, refused_line};
+ghost use Rattle.roll_cli.specs.Plays.{IsPlay, IsScript, play_lines, play_of};
+ghost use Rattle.roll_cli.specs.declared.engine.PlayFault.TheVariants.{NoMemory, Unreadable, Write as CannotWrite};
+
+use crate::output::{push_refused, push_replies};
+use crate::script::{Script, ScriptFault};
+use crate::shown::Shown;
+use roll_frame::Refusal;
+use roll_game::NoMemory as GameFault;
+use roll_session::Session;
+use roll_text::{ReadFault, WriteFault, read_all, write_all};
+use std::alloc::{AllocError, Global};
+use std::io::{Read, Write};
+use thiserror::Error;
+
+/// Why a script was not played to its end.
+#[derive(Clone, Copy, Debug, PartialEq, Eq, Error)]
+pub enum PlayFault {
+    /// The first line that can't be read, counted from 1; 0 where the text is too long.
+    #[error("unreadable: line {0}")]
+    Unreadable(u64),
+    #[error("out of memory")]
+    NoMemory,
+    #[error("cannot read")]
+    Read,
+    #[error("cannot write")]
+    Write,
+}
+
+impl From<AllocError> for PlayFault {
+    ghost from_gives = { λ _ fault. fault ≡ NoMemory };
+
+    fn from(_error: AllocError) -> PlayFault {
+        PlayFault::NoMemory
+    }
+}
+
+impl From<GameFault> for PlayFault {
+    ghost from_gives = { λ _ fault. fault ≡ NoMemory };
+
+    fn from(_error: GameFault) -> PlayFault {
+        PlayFault::NoMemory
+    }
+}
+
+impl From<ReadFault> for PlayFault {
+    ghost use Rattle.std.specs.Prelude.{◌≡◌};
+    ghost use Rattle.roll_cli.specs.Faults.{fault_of_read};
+
+    ghost from_gives = { λ error fault. fault ≡ fault_of_read error };
+
+    fn from(error: ReadFault) -> PlayFault {
+        match error {
+            ReadFault::TooLong => PlayFault::Unreadable(0),
+            ReadFault::NoMemory => PlayFault::NoMemory,
+            ReadFault::Read => PlayFault::Read,
+        }
+    }
+}
+
+impl From<ScriptFault> for PlayFault {
+    ghost use Rattle.std.specs.Prelude.{◌≡◌};
+    ghost use Rattle.roll_cli.specs.Faults.{fault_of_script};
+
+    ghost from_gives = { λ error fault. fault ≡ fault_of_script error };
+
+    fn from(error: ScriptFault) -> PlayFault {
+        match error {
+            ScriptFault::Unreadable(line) => PlayFault::Unreadable(line),
+            ScriptFault::NoMemory => PlayFault::NoMemory,
+        }
+    }
+}
+
+impl From<WriteFault> for PlayFault {
+    ghost from_gives = { λ _ fault. fault ≡ CannotWrite };
+
+    fn from(_error: WriteFault) -> PlayFault {
+        PlayFault::Write
+    }
+}
+
+/// Plays a script: reads all of it, writes the reply to each command, and answers how many replies are refusals. The
+/// game starts at `opening`; `helper`, a second game of its kind, is not used until scripts can have branches.
+///
+/// At most 1,048,577 bytes are read. Nothing is written unless the whole script can be read, and then all in large
+/// pieces at the end. Where the session doesn't start, its refusal is all that is written, and counts as one.
+pub fn play<G: Shown + Drop, R: Read, W: Write>(
+    alloc: Global,
+    reader: &mut R,
+    writer: &mut W,
+    game: G,
+    opening: G::Snapshot,
+    _helper: G,
+) -> Result<u32, PlayFault>
+    ensures written { IfOk result (λ refused. IfSome (R.remaining reader.old) (λ text.
+        (written : List ℕ) × IsOutput G.text_of (record { opening = G.snapshot_value opening; step = G.step }) text written refused × Appends (W.contents writer.old) (W.contents writer.new) written)) }
+    ensures unreadable { (line : ℕ) → result ≡ Err (Unreadable line) → IfSome (R.remaining reader.old) (IsBadAt line) }
+    ensures readable { result ≡ Err CannotWrite → IfSome (R.remaining reader.old) IsScript }
+    ensures untouched { IfErr result (λ fault. (fault ≡ CannotWrite) ⊎ (writer.new ≡ writer.old)) }
+    ensures taken { TakesAtMost (TEXT_LIMIT + 1) (R.remaining reader.old) (R.remaining reader.new) }
+{
+    let script = read_script(alloc, reader)?;
+    write_played(alloc, writer, &script, game, opening)
+}
+
+/// The script that a reader holds.
+fn read_script<R: Read>(alloc: Global, reader: &mut R) -> Result<Script, PlayFault>
+    ensures fits { IfOk result (λ script. IsPlay (play_of script)) }
+    ensures few { IfOk result (λ script. length script.commands.items < 2 ^ 32) }
+    ensures spelled { IfOk result (λ script. IfSome (R.remaining reader.old) (λ text. text ≡ text_of_lines (play_lines (play_of script)))) }
+    ensures unreadable { (line : ℕ) → result ≡ Err (Unreadable line) → IfSome (R.remaining reader.old) (IsBadAt line) }
+    ensures fault { IfErr result (λ fault. fault ≢ CannotWrite) }
+    ensures taken { TakesAtMost (TEXT_LIMIT + 1) (R.remaining reader.old) (R.remaining reader.new) }
+{
+    let text = read_all(alloc, reader)?;
+    let script = Script::read(alloc, &text)?;
+    Ok(script)
+}
+
+/// Plays a script, and writes all that it writes at once.
+fn write_played<G: Shown + Drop, W: Write>(
+    alloc: Global,
+    writer: &mut W,
+    script: &Script,
+    game: G,
+    opening: G::Snapshot,
+) -> Result<u32, PlayFault>
+    requires fits { IsPlay (play_of script.now) }
+    requires few { length script.now.commands.items < 2 ^ 32 }
+    ensures written { OnOk result (Appends (W.contents writer.old) (W.contents writer.new) (output G.text_of (record { opening = G.snapshot_value opening; step = G.step }) (play_of script.now))) }
+    ensures refused { IfOk result (λ refused. refused ≡ refusals (record { opening = G.snapshot_value opening; step = G.step }) (play_of script.now)) }
+    ensures fault { IfErr result (λ fault. (fault ≡ CannotWrite) ⊎ ((fault ≡ NoMemory) × (writer.new ≡ writer.old))) }
+{
+    let mut out = Vec::new(alloc);
+    let refused = push_output(alloc, &mut out, script, game, opening)?;
+    write_all(writer, &out)?;
+    Ok(refused)
+}
+
+/// Writes all that a script writes at the end, and answers how many replies are refusals.
+fn push_output<G: Shown + Drop>(
+    alloc: Global,
+    out: &mut Vec<u8>,
+    script: &Script,
+    game: G,
+    opening: G::Snapshot,
+) -> Result<u32, PlayFault>
+    requires fits { IsPlay (play_of script.now) }
+    requires few { length script.now.commands.items < 2 ^ 32 }
+    ensures written { OnOk result (out.new.items ≡ out.old.items ++ output G.text_of (record { opening = G.snapshot_value opening; step = G.step }) (play_of script.now)) }
+    ensures refused { IfOk result (λ refused. refused ≡ refusals (record { opening = G.snapshot_value opening; step = G.step }) (play_of script.now)) }
+    ensures fault { IfErr result (λ fault. fault ≡ NoMemory) }
+{
+    match Session::start(alloc, game, opening, script.header.settings()) {
+        Ok(mut session) => push_replies(out, &mut session, &script.commands),
+        Err(fault) => push_not_started(out, fault.why),
+    }
+}
+
+/// Writes why a session didn't start, unless memory was refused: the only reply, and a refusal.
+fn push_not_started(out: &mut Vec<u8>, why: Refusal) -> Result<u32, PlayFault>
+    ensures written { OnOk result (out.new.items ≡ out.old.items ++ ended (refused_line why)) }
+    ensures refused { IfOk result (λ refused. (refused ≡ 1) × (why ≢ Refusal.NoMemory)) }
+    ensures fault { IfErr result (λ fault. fault ≡ NoMemory) }
+{
+    if why == Refusal::NoMemory {
+        return Err(PlayFault::NoMemory);
+    }
+    push_refused(out, why)?;
+    out.extend_from_slice(b"\n")?;
+    Ok(1)
+}
