@@ -1,7 +1,7 @@
 //! States and snapshots.
 ghost use Rattle.std.specs.Prelude.{◌≡◌, ◌+◌, ◌≤◌, ◌↔◌, ◌++◌, length, All, IfOk, OnOk, IsTrue};
 ghost use Rattle.roll_duel.specs.Frame.{Field, frame_of, opening_of, after_ships};
-ghost use Rattle.roll_duel.specs.Bytes.{bytes_of, step};
+ghost use Rattle.roll_duel.specs.Bytes.{bytes_of, field_of, step};
 ghost use Rattle.roll_duel.specs.Ranges.{IsField};
 
 use crate::bullet::Bullet;
@@ -48,14 +48,17 @@ impl State {
 
     /// The ships, ship 1 first.
     pub fn ships(&self) -> &[Ship]
-        ensures { result.now ≡ self.now.ships }
+        ensures value { result.now ≡ self.now.ships }
+        ensures bytes { result.now ≡ (field_of (bytes_of self.now)).ships }
     {
         self.ships.as_slice()
     }
 
     /// The bullets, in order of their firing.
     pub fn bullets(&self) -> &[Bullet]
-        ensures { result.now ≡ self.now.bullets }
+        ensures value { result.now ≡ self.now.bullets }
+        ensures bytes { result.now ≡ (field_of (bytes_of self.now)).bullets }
+        ensures few { length result.now ≤ 32 }
     {
         self.bullets.as_slice()
     }
