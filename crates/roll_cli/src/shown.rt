@@ -72,3 +72,49 @@ fn push_ship(out: &mut Vec<u8>, ship: &Ship) -> Result<(), AllocError>
         ],
     )
 }
+
+#[cfg(test)]
+mod tests {
+    use super::*;
+    use roll_frame::{Cell, Row};
+    use std::alloc::Global;
+    use std::test::Fail;
+
+    /// The text after a frame with these words of two players.
+    fn text_after<G: Shown>(
+        alloc: Global,
+        game: &mut G,
+        from: &G::Snapshot,
+        first: u32,
+        second: u32,
+    ) -> Result<Vec<u8>, NoMemory> {
+        let mut state = game.load(from)?;
+        game.advance(
+            &mut state,
+            &Row::from_cells(&[Cell::Word(first), Cell::Word(second)]),
+        )?;
+        let mut out = Vec::new(alloc);
+        game.text(&state, &mut out)?;
+        Ok(out)
+    }
+
+    #[test]
+    fn writes_tallies(rt: HostRuntime) -> Result<(), Fail> {
+        let mut game = Tally::default();
+        let text = text_after(rt.alloc(), &mut game, &Tally::opening(), 5, 6)?;
+        assert_eq!(rt; text.as_slice(), b"17".as_slice());
+        Ok(())
+    }
+
+    #[test]
+    fn writes_duels(rt: HostRuntime) -> Result<(), Fail> {
+        let mut game = Duel::new(rt.alloc(), 2)?;
+        let opening = game.opening()?;
+        let text = text_after(rt.alloc(), &mut game, &opening, 1, 0)?;
+        assert_eq!(rt;
+            text.as_slice(),
+            b"20496,15360,16,0,0,0,0 61440,46080,0,0,4,0,0 b0".as_slice()
+        );
+        Ok(())
+    }
+}
