@@ -1,7 +1,10 @@
 -- What playing a script writes.
 use Rattle.std.specs.Prelude.{◌≡◌, ℕ, ◌+◌, ◌-◌, List, [], ◌∷◌, ◌++◌, codes, Bool, true, false, Option, Some, None, if◌then◌else◌}
 use Rattle.std.specs.Fmt.{decimal}
+use Rattle.std.specs.Int.{is_in_range}
 use Rattle.std.specs.Option.{option_map_or}
+use Rattle.roll_duel.specs.Bytes.{bytes_of, step}
+use Rattle.roll_duel.specs.Frame.{opening_of}
 use Rattle.roll_frame.specs.Codes.{code_of}
 use Rattle.roll_frame.specs.Core.{Core, first_core, settled}
 use Rattle.roll_frame.specs.Events.{after, reply}
@@ -11,6 +14,7 @@ use Rattle.roll_frame.specs.Settings.{start_refusal}
 use Rattle.roll_frame.specs.declared.entry.Entry.{Entry}
 use Rattle.roll_frame.specs.declared.entry.Entry.TheVariants.{Local, Remote, Disconnect, Sync, Advance}
 use Rattle.roll_frame.specs.declared.refusal.Refusal.{Refusal}
+use Rattle.roll_frame.specs.declared.refusal.Refusal.TheVariants.{PlayerOutOfRange}
 use Rattle.roll_frame.specs.declared.reply.Reply.{Reply}
 use Rattle.roll_frame.specs.declared.reply.Reply.TheVariants.{Refused, Done, Taken, Repeated, Disconnected, Synchronized, Reached, Grafted}
 use Rattle.roll_frame.specs.declared.settings.Settings.{Settings}
@@ -20,6 +24,7 @@ use Rattle.roll_cli.specs.declared.command.Command.{Command}
 use Rattle.roll_cli.specs.declared.command.Command.TheVariants.{Local as Gives, Remote as Tells, Disconnect as Leaves, Sync as Syncs, Advance as Advances, Guess, Extend, Claim}
 use Rattle.roll_cli.specs.Headers.{settings_of}
 use Rattle.roll_cli.specs.Plays.{Play, IsPlay, play_lines}
+use Rattle.roll_cli.specs.Shown.{duel_text}
 
 -- how a game's states are printed, by their values
 abbrev pub Texts : Type 0
@@ -94,10 +99,22 @@ refusals game play =
     option_map_or (λ why. 1) (start_refusal (settings_of play.setup))
     (refusals_from (settings_of play.setup) game (first_core (settings_of play.setup)) play.commands)
 
--- the text is a script's, and this is what it writes with so many refusals
-pub record IsOutput (texts : Texts) (game : Game) (text written : List ℕ) (refused : ℕ) : Type 0 where
+-- the ship duel has as many ships as the script players
+abbrev pub duel_game : ℕ → Game
+duel_game ships = record { opening = bytes_of (opening_of ships); step = step }
+
+-- where there can't be so many ships, that is all that is written
+abbrev pub duel_output : Play → List ℕ
+duel_output play =
+    if is_in_range 2 4 play.setup.players then output duel_text (duel_game play.setup.players) play else ended (refused_line PlayerOutOfRange)
+
+abbrev pub duel_refusals : Play → ℕ
+duel_refusals play = if is_in_range 2 4 play.setup.players then refusals (duel_game play.setup.players) play else 1
+
+-- the text is a script's, which writes this, with so many refusals
+pub record IsOutput (output_of : Play → List ℕ) (refusals_of : Play → ℕ) (text written : List ℕ) (refused : ℕ) : Type 0 where
   pub play : Play
   pub fits : IsPlay play
   pub spelled : text ≡ text_of (play_lines play)
-  pub output_is : written ≡ output texts game play
-  pub refused_is : refused ≡ refusals game play
+  pub output_is : written ≡ output_of play
+  pub refused_is : refused ≡ refusals_of play

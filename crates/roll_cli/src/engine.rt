@@ -4,13 +4,14 @@ ghost use Rattle.std.specs.Io.KnownBytes.{Appends};
 ghost use Rattle.roll_text.specs.Lines.{ended, text_of as text_of_lines};
 ghost use Rattle.roll_text.specs.declared.streams.TheConstants.{TEXT_LIMIT};
 ghost use Rattle.roll_cli.specs.Faults.{IsBadAt, TakesAtMost};
-ghost use Rattle.roll_cli.specs.Output.{IsOutput, output, refusals, refused_line};
+ghost use Rattle.roll_cli.specs.Output.{IsOutput, duel_output, duel_refusals, output, refusals, refused_line};
 ghost use Rattle.roll_cli.specs.Plays.{IsPlay, IsScript, play_lines, play_of};
 ghost use Rattle.roll_cli.specs.declared.engine.PlayFault.TheVariants.{NoMemory, Unreadable, Write as CannotWrite};
 
 use crate::output::{push_refused, push_replies};
 use crate::script::{Script, ScriptFault};
 use crate::shown::Shown;
+use roll_duel::Duel;
 use roll_frame::Refusal;
 use roll_game::NoMemory as GameFault;
 use roll_session::Session;
@@ -100,7 +101,7 @@ pub fn play<G: Shown + Drop, R: Read, W: Write>(
     _helper: G,
 ) -> Result<u32, PlayFault>
     ensures written { IfOk result (λ refused. IfSome (R.remaining reader.old) (λ text.
-        (written : List ℕ) × IsOutput G.text_of (record { opening = G.snapshot_value opening; step = G.step }) text written refused × Appends (W.contents writer.old) (W.contents writer.new) written)) }
+        (written : List ℕ) × IsOutput (output G.text_of (record { opening = G.snapshot_value opening; step = G.step })) (refusals (record { opening = G.snapshot_value opening; step = G.step })) text written refused × Appends (W.contents writer.old) (W.contents writer.new) written)) }
     ensures unreadable { (line : ℕ) → result ≡ Err (Unreadable line) → IfSome (R.remaining reader.old) (IsBadAt line) }
     ensures readable { result ≡ Err CannotWrite → IfSome (R.remaining reader.old) IsScript }
     ensures untouched { IfErr result (λ fault. (fault ≡ CannotWrite) ⊎ (writer.new ≡ writer.old)) }
@@ -108,6 +109,24 @@ pub fn play<G: Shown + Drop, R: Read, W: Write>(
 {
     let script = read_script(alloc, reader)?;
     write_played(alloc, writer, &script, game, opening)
+}
+
+/// Plays a script of the ship duel, as `play` does, with a ship for each player. A script with one player or more than
+/// four is answered `refused 3` alone.
+pub fn play_duel<R: Read, W: Write>(
+    alloc: Global,
+    reader: &mut R,
+    writer: &mut W,
+) -> Result<u32, PlayFault>
+    ensures written { IfOk result (λ refused. IfSome (R.remaining reader.old) (λ text.
+        (written : List ℕ) × IsOutput duel_output duel_refusals text written refused × Appends (W.contents writer.old) (W.contents writer.new) written)) }
+    ensures unreadable { (line : ℕ) → result ≡ Err (Unreadable line) → IfSome (R.remaining reader.old) (IsBadAt line) }
+    ensures readable { result ≡ Err CannotWrite → IfSome (R.remaining reader.old) IsScript }
+    ensures untouched { IfErr result (λ fault. (fault ≡ CannotWrite) ⊎ (writer.new ≡ writer.old)) }
+    ensures taken { TakesAtMost (TEXT_LIMIT + 1) (R.remaining reader.old) (R.remaining reader.new) }
+{
+    let script = read_script(alloc, reader)?;
+    write_duel(alloc, writer, &script)
 }
 
 /// The script that a reader holds.
@@ -140,6 +159,41 @@ fn write_played<G: Shown + Drop, W: Write>(
 {
     let mut out = Vec::new(alloc);
     let refused = push_output(alloc, &mut out, script, game, opening)?;
+    write_all(writer, &out)?;
+    Ok(refused)
+}
+
+/// Plays a script of the ship duel, and writes all that it writes at once.
+fn write_duel<W: Write>(
+    alloc: Global,
+    writer: &mut W,
+    script: &Script,
+) -> Result<u32, PlayFault>
+    requires fits { IsPlay (play_of script.now) }
+    requires few { length script.now.commands.items < 2 ^ 32 }
+    ensures written { OnOk result (Appends (W.contents writer.old) (W.contents writer.new) (duel_output (play_of script.now))) }
+    ensures refused { IfOk result (λ refused. refused ≡ duel_refusals (play_of script.now)) }
+    ensures fault { IfErr result (λ fault. (fault ≡ CannotWrite) ⊎ ((fault ≡ NoMemory) × (writer.new ≡ writer.old))) }
+{
+    let Ok(duel) = Duel::new(alloc, script.header.players as u8) else {
+        return write_not_started(alloc, writer, Refusal::PlayerOutOfRange);
+    };
+    let opening = duel.opening()?;
+    write_played(alloc, writer, script, duel, opening)
+}
+
+/// Writes why there is no game to play.
+fn write_not_started<W: Write>(
+    alloc: Global,
+    writer: &mut W,
+    why: Refusal,
+) -> Result<u32, PlayFault>
+    ensures written { OnOk result (Appends (W.contents writer.old) (W.contents writer.new) (ended (refused_line why))) }
+    ensures refused { IfOk result (λ refused. refused ≡ 1) }
+    ensures fault { IfErr result (λ fault. (fault ≡ CannotWrite) ⊎ ((fault ≡ NoMemory) × (writer.new ≡ writer.old))) }
+{
+    let mut out = Vec::new(alloc);
+    let refused = push_not_started(&mut out, why)?;
     write_all(writer, &out)?;
     Ok(refused)
 }

@@ -7,9 +7,11 @@ mod header;
 mod output;
 mod script;
 mod shown;
+#[cfg(test)]
+mod tests;
 
 pub use command::Command;
-pub use engine::{PlayFault, play};
+pub use engine::{PlayFault, play, play_duel};
 pub use header::{Header, Version};
 pub use script::{Script, ScriptFault};
 pub use shown::Shown;
