@@ -1,0 +1,93 @@
+//! What the words of the command line ask for.
+use crate::help;
+use clap::{Arg, ArgMatches, Command, Error};
+use std::alloc::{AllocError, Global};
+
+/// A script to play, and the game that it is played with.
+#[derive(Clone, Copy, Debug, PartialEq, Eq)]
+pub struct Request<'a> {
+    pub input: Input<'a>,
+    pub game: Game,
+}
+
+/// Where a script is.
+#[derive(Clone, Copy, Debug, PartialEq, Eq)]
+pub enum Input<'a> {
+    Standard,
+    /// The file of this path.
+    File(&'a str),
+}
+
+#[derive(Clone, Copy, Debug, PartialEq, Eq)]
+pub enum Game {
+    Tally,
+    Duel,
+}
+
+/// Reads the words, of which the first is the program's name. The error is a fault of usage, or help that was asked
+/// for.
+pub fn read<'a>(alloc: Global, words: &'a [String]) -> Result<Request<'a>, Error> {
+    let matches = program_command(alloc)?.try_get_matches_from(words)?;
+    match matches.subcommand() {
+        Some((_, found)) => Ok(request_of(found)),
+        None => Ok(Request {
+            input: Input::Standard,
+            game: Game::Tally,
+        }),
+    }
+}
+
+fn request_of<'a>(found: &ArgMatches<'a>) -> Request<'a> {
+    Request {
+        input: input_of(found),
+        game: game_of(found),
+    }
+}
+
+fn input_of<'a>(found: &ArgMatches<'a>) -> Input<'a> {
+    match found.get_str(FILE) {
+        None | Some("-") => Input::Standard,
+        Some(path) => Input::File(path),
+    }
+}
+
+fn game_of(found: &ArgMatches<'_>) -> Game {
+    match found.get_str(GAME) {
+        Some("duel") => Game::Duel,
+        _ => Game::Tally,
+    }
+}
+
+const FILE: &str = "FILE";
+
+const GAME: &str = "game";
+
+fn program_command<'a>(alloc: Global) -> Result<Command<'a>, AllocError> {
+    Command::new(alloc, "rollduel")
+        .about(help::PROGRAM)
+        .after_help(help::SCRIPT)
+        .subcommand(play_command(alloc)?)
+}
+
+fn play_command<'a>(alloc: Global) -> Result<Command<'a>, AllocError> {
+    Command::new(alloc, "play")
+        .about(help::PLAY)
+        .after_help(help::SCRIPT)
+        .arg(file_arg(alloc))?
+        .arg(game_arg(alloc))
+}
+
+fn file_arg<'a>(alloc: Global) -> Arg<'a> {
+    Arg::new(alloc, FILE)
+        .required(true)
+        .help("The script; - is standard input")
+}
+
+fn game_arg<'a>(alloc: Global) -> Arg<'a> {
+    Arg::new(alloc, GAME)
+        .long(GAME)
+        .value_name("GAME")
+        .value_parser(["tally", "duel"].as_slice())
+        .default_value("tally")
+        .help("tally adds words up; duel has a ship for each of 2 to 4 players")
+}
