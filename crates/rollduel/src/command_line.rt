@@ -1,4 +1,8 @@
 //! What the words of the command line ask for.
+ghost use Rattle.std.specs.Prelude.{codes};
+ghost use Rattle.clap.specs.Words.{first_value, found_of};
+ghost use Rattle.rollduel.specs.Requests.{IsGame, IsInput};
+
 use crate::help;
 use clap::{Arg, ArgMatches, Command, Error};
 use std::alloc::{AllocError, Global};
@@ -37,21 +41,28 @@ pub fn read<'a>(alloc: Global, words: &'a [String]) -> Result<Request<'a>, Error
     }
 }
 
-fn request_of<'a>(found: &ArgMatches<'a>) -> Request<'a> {
+fn request_of<'a>(found: &ArgMatches<'a>) -> Request<'a>
+    ensures input { IsInput (first_value (found_of found.now) (codes "FILE")) result.input }
+    ensures game { IsGame (first_value (found_of found.now) (codes "game")) result.game }
+{
     Request {
         input: input_of(found),
         game: game_of(found),
     }
 }
 
-fn input_of<'a>(found: &ArgMatches<'a>) -> Input<'a> {
+fn input_of<'a>(found: &ArgMatches<'a>) -> Input<'a>
+    ensures { IsInput (first_value (found_of found.now) (codes "FILE")) result }
+{
     match found.get_str(FILE) {
         None | Some("-") => Input::Standard,
         Some(path) => Input::File(path),
     }
 }
 
-fn game_of(found: &ArgMatches<'_>) -> Game {
+fn game_of(found: &ArgMatches<'_>) -> Game
+    ensures { IsGame (first_value (found_of found.now) (codes "game")) result }
+{
     match found.get_str(GAME) {
         Some("duel") => Game::Duel,
         _ => Game::Tally,

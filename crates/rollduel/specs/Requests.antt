@@ -1,0 +1,15 @@
+-- What the arguments of `play` ask for, each given as its value, if it has one.
+use Rattle.std.specs.Prelude.{◌≡◌, ◌≢◌, ◌⊎◌, ◌↔◌, ℕ, List, Option, None, Some, codes}
+use Rattle.rollduel.specs.declared.command_line.Game.{Game}
+use Rattle.rollduel.specs.declared.command_line.Game.TheVariants.{Duel}
+use Rattle.rollduel.specs.declared.command_line.Input.{Input}
+use Rattle.rollduel.specs.declared.command_line.Input.TheVariants.{Standard, File}
+
+-- FILE
+abbrev pub IsInput : Option (List ℕ) → Input → Type 0
+IsInput value Standard = (value ≡ None) ⊎ (value ≡ Some (codes "-"))
+IsInput value (File path) = (value ≡ Some path.now) × (path.now ≢ codes "-")
+
+-- --game
+abbrev pub IsGame : Option (List ℕ) → Game → Type 0
+IsGame value game = (game ≡ Duel) ↔ (value ≡ Some (codes "duel"))
