@@ -164,11 +164,7 @@ fn write_played<G: Shown + Drop, W: Write>(
 }
 
 /// Plays a script of the ship duel, and writes all that it writes at once.
-fn write_duel<W: Write>(
-    alloc: Global,
-    writer: &mut W,
-    script: &Script,
-) -> Result<u32, PlayFault>
+fn write_duel<W: Write>(alloc: Global, writer: &mut W, script: &Script) -> Result<u32, PlayFault>
     requires fits { IsPlay (play_of script.now) }
     requires few { length script.now.commands.items < 2 ^ 32 }
     ensures written { OnOk result (Appends (W.contents writer.old) (W.contents writer.new) (duel_output (play_of script.now))) }
