@@ -1,0 +1,5 @@
+//! The input queues of a session.
+#![tactic(auto)]
+
+mod history;
+mod queue;
