@@ -1,2 +1,4 @@
 mod Walks
 mod Words
+mod Fronts
+mod Cells

@@ -7,9 +7,9 @@ use Rattle.roll_frame.specs.declared.profile.Profile.TheVariants.{Wide}
 use Rattle.roll_frame.specs.declared.refusal.Refusal.{Refusal}
 use Rattle.roll_frame.specs.declared.row.Cell.{Cell}
 use Rattle.roll_frame.specs.declared.settings.Settings.{Settings}
-use Rattle.roll_frame.specs.Inputs.{local_tests, remote_tests, disconnect_tests, changed, player_at}
+use Rattle.roll_frame.specs.Inputs.{local_tests, remote_tests, disconnect_tests, changed, player_at, with_none_given}
 use Rattle.roll_frame.specs.Refusals.{first_refusal}
-use Rattle.roll_frame.specs.Settings.{first_players, most_threshold}
+use Rattle.roll_frame.specs.Settings.{first_player, first_players, most_threshold}
 use Rattle.roll_frame.specs.Timeline.{Player, cell_at}
 use Rattle.roll_inputs.specs.Queues.{Known}
 
@@ -55,6 +55,17 @@ pub record KeepsCells (old new : List Player) (p : ℕ) : Type 0 where
 
 abbrev pub players_of : List Known → List Player
 players_of queues = map (λ q. q.player) queues
+
+-- a queue at the start
+abbrev pub first_known : Settings → ℕ → Known
+first_known settings place = record { player = first_player settings place; from = 0 }
+
+-- a queue whose player has given no word in the new frame, and one that lets go of the words below a frame
+abbrev pub started : Known → Known
+started q = record q { player = with_none_given q.player }
+
+abbrev pub settled_to : ℕ → Known → Known
+settled_to to q = record q { from = to }
 
 -- player p's queue, if there is such a player
 abbrev pub queue_at : List Known → ℕ → Option Known

@@ -1,5 +1,9 @@
-//! The input queues of a session.
+//! The inputs of a session: confirmed words in rings that are made once, and the timeline that follows from them.
 #![tactic(auto)]
 
+mod board;
 mod history;
 mod queue;
+mod queues;
+
+pub use board::{Board, Heard};
