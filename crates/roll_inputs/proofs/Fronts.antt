@@ -16,7 +16,7 @@ lesser_of least q = Some (option_map_or (λ n. min n (length q.player.words)) le
 abbrev pub remaining : List Known → List Known
 remaining queues = filter (λ q. not q.player.gone) queues
 
-abbrev counts : List Known → List ℕ
+abbrev pub counts : List Known → List ℕ
 counts queues = map (λ q. length q.player.words) queues
 
 least_of-min : (n m : ℕ) (ns : List ℕ) → least_of (min n m ∷ ns) ≡ least_of (n ∷ m ∷ ns)
@@ -34,7 +34,7 @@ least_folded : (queues : List Known) → unwrap_or (fold lesser_of None queues) 
 least_folded [] = refl
 least_folded (q ∷ queues) = ap (λ o. unwrap_or o 0) (fold-lesser (length q.player.words) queues)
 
-counts-remaining : (queues : List Known) → counts (remaining queues) ≡ map (λ (player : Player). length player.words) (filter (λ (player : Player). not player.gone) (players_of queues))
+pub counts-remaining : (queues : List Known) → counts (remaining queues) ≡ map (λ (player : Player). length player.words) (filter (λ (player : Player). not player.gone) (players_of queues))
 counts-remaining [] = refl
 counts-remaining (q ∷ queues) = at_head q.player.gone (counts-remaining queues)
   where

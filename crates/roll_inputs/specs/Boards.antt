@@ -72,12 +72,13 @@ abbrev pub queue_at : List Known → ℕ → Option Known
 queue_at queues p = if p == 0 then None else slice_get queues (p - 1)
 
 -- a queue beside these frames: its ring begins at the settled frame, which is confirmed unless the player is
--- gone, and has room for its words. Those of a local player are of its delay, of the frames before this one,
--- and of this one if it was given
+-- gone, and has room for its words. A local player is never gone, and its words are of the delay, of the frames
+-- before this one, and of this one if it was given
 pub record IsInStep (settled frame limit : ℕ) (q : Known) : Type 0 where
   pub from : q.from ≡ settled
   pub ahead : q.player.gone ≡ false → settled ≤ length q.player.words
   pub few : length q.player.words ≤ settled + QUEUE_LIMIT
+  pub stays : q.player.local ≡ true → q.player.gone ≡ false
   pub own : q.player.local ≡ true → length q.player.words ≤ frame + DELAY_LIMIT + (if q.player.given then 1 else 0)
   pub early : q.player.given ≡ true → frame < limit
 

@@ -1,6 +1,7 @@
 -- What a queue knows of its player, and what its fields keep.
-use Rattle.std.specs.Prelude.{◌≡◌, ℕ, List, map, drop, length}
-use Rattle.roll_frame.specs.Timeline.{Player, last_word}
+use Rattle.std.specs.Prelude.{◌≡◌, ◌<◌, ℕ, [], drop, length, slice_get, slice_index_or, Some}
+use Rattle.roll_frame.specs.Cells.{Rows}
+use Rattle.roll_frame.specs.Timeline.{Player, last_word, cell_at}
 use Rattle.roll_frame.specs.declared.limits.TheConstants.{QUEUE_LIMIT}
 use Rattle.roll_inputs.specs.declared.queue.Queue.TheInside.{Inside}
 
@@ -8,6 +9,11 @@ use Rattle.roll_inputs.specs.declared.queue.Queue.TheInside.{Inside}
 pub record Known : Type 0 where
   pub player : Player
   pub from : ℕ
+
+-- these are the rows below that frame, with the player's cells at this place
+pub record HasPast (q : Known) (past : Rows) (place : ℕ) : Type 0 where
+  pub rows : length past ≡ q.from
+  pub cells : (t : ℕ) → t < q.from → slice_get (slice_index_or past t []) place ≡ Some (cell_at t q.player)
 
 abbrev pub known : Inside → Known
 known q = record { player = record { words = q.history.words; mask = q.mask; local = q.local; gone = q.gone; given = q.given }; from = q.from }

@@ -8,7 +8,7 @@ ghost use Rattle.roll_inputs.specs.Boards.{first_inputs, with_player, local_refu
 
 use crate::queue::Queue;
 use crate::queues::{first_queues, front, is_missing, queue_of, row_at, settle_all, start_frames};
-use roll_frame::{Cell, QUEUE_LIMIT, Refusal, Row, Settings};
+use roll_frame::{QUEUE_LIMIT, Refusal, Row, Settings};
 use std::alloc::Global;
 use std::marker::Model;
 
@@ -130,12 +130,7 @@ impl Board {
         }
         let count = queue.count();
         if frame < count {
-            let known = if frame < self.settled {
-                past[frame as usize].get(usize::from(player) - 1)
-            } else {
-                Some(queue.cell(frame))
-            };
-            return if known == Some(Cell::Word(word)) {
+            return if queue.has(past, usize::from(player) - 1, frame, word) {
                 Ok(Heard::Repeated)
             } else {
                 Err(Refusal::Conflict)

@@ -1,12 +1,12 @@
 //! One player's input queue.
-ghost use Rattle.std.specs.Prelude.{◌≡◌, ◌+◌, ◌<◌, ◌≤◌, ◌^◌, IfOk, length, [], ◌∷◌};
+ghost use Rattle.std.specs.Prelude.{◌≡◌, ◌+◌, ◌<◌, ◌≤◌, ◌^◌, IfOk, length, [], ◌∷◌, ◌==◌, slice_index};
 ghost use Rattle.roll_frame.specs.Inputs.{with_words, with_given, with_gone, with_none_given};
 ghost use Rattle.roll_frame.specs.Settings.{first_player, delay_at};
 ghost use Rattle.roll_frame.specs.Timeline.{cell_at};
 
 use crate::history::History;
 use circular_buffer::HeapCircularBuffer;
-use roll_frame::{Cell, DELAY_LIMIT, PLAYER_LIMIT, QUEUE_LIMIT, Settings};
+use roll_frame::{Cell, DELAY_LIMIT, PLAYER_LIMIT, QUEUE_LIMIT, Row, Settings};
 use std::alloc::{AllocError, Global};
 use std::marker::Model;
 
@@ -35,6 +35,8 @@ impl Model for Queue {
 }
 
 impl Queue {
+    ghost use Rattle.roll_inputs.specs.Queues.{HasPast};
+
     /// A player at the start, with a zero for each frame of delay.
     pub(crate) fn new(alloc: Global, settings: &Settings, place: u8) -> Result<Queue, AllocError>
         requires place { place < PLAYER_LIMIT }
@@ -98,6 +100,20 @@ impl Queue {
             Cell::Gone
         } else {
             Cell::Word(self.last & self.mask)
+        }
+    }
+
+    /// Whether the word of a confirmed frame is this one. `past` has the rows below the ring's first frame, with the
+    /// player's cells at a place.
+    pub(crate) fn has(&self, past: &[Row], place: usize, frame: u32, word: u32) -> bool
+        requires past { HasPast self.now past.now place }
+        requires confirmed { frame < length self.now.player.words }
+        ensures { result ≡ (slice_index self.now.player.words frame == word) }
+    {
+        if frame < self.from {
+            past[frame as usize].get(place) == Some(Cell::Word(word))
+        } else {
+            self.cell(frame) == Cell::Word(word)
         }
     }
 
