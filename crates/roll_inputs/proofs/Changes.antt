@@ -1,12 +1,11 @@
 -- A change of one player's queue: when it is accepted, and what it leaves.
-use Rattle.std.proofs.Common.{◌≡◌, ◌≢◌, ℕ, ◌+◌, ◌-◌, ◌^◌, ◌<◌, ◌≤◌, List, [], ◌∷◌, ◌++◌, length, get_or, set, Bool, true, false, not, Option, Some, None, cond, refl, ap, sym, ◌∙◌, subst, arith, length-append}
-use Rattle.std.specs.Prelude.{slice_get}
-use Rattle.std.proofs.lemmas.Bool.{false≢true, not-true, not-false, leb-false, ltb-false, eqb-false}
+use Rattle.std.proofs.Common.{◌≡◌, ◌≢◌, ℕ, ◌+◌, ◌-◌, ◌^◌, ◌<◌, ◌≤◌, List, [], ◌∷◌, ◌++◌, length, get_or, set, true, false, not, Some, None, ap, sym, ◌∙◌, subst, arith, length-append}
+use Rattle.std.proofs.lemmas.Bool.{false≢true, not-true, not-false, leb-false, eqb-false}
 use Rattle.std.proofs.lemmas.List.{map-set, length-map}
 use Rattle.roll_frame.specs.declared.limits.TheConstants.{QUEUE_LIMIT, DELAY_LIMIT}
 use Rattle.roll_frame.specs.Inputs.{player_at, changed, with_words, with_given, with_gone, local_tests, remote_tests, disconnect_tests}
 use Rattle.roll_frame.specs.Refusals.{first_refusal}
-use Rattle.roll_frame.specs.Timeline.{Player, front}
+use Rattle.roll_frame.specs.Timeline.{Player}
 use Rattle.roll_inputs.specs.Boards.{Inputs, IsBoard, IsInStep, KeepsCells, players_of}
 use Rattle.roll_inputs.specs.Queues.{Known}
 use Rattle.roll_inputs.proofs.Players.{found, of_player_at, is_at, changed_at, queue_is, change_keeps, KeepsWords}

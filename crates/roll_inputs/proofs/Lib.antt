@@ -6,3 +6,5 @@ mod Tests
 mod Players
 mod Steps
 mod Changes
+mod Replies
+mod Starts

@@ -1,15 +1,15 @@
 -- One player of the list, and what a change of that player leaves.
-use Rattle.std.proofs.Common.{◌≡◌, ◌≢◌, ◌⊎◌, ◌↔◌, ℕ, zero, suc, ◌+◌, ◌-◌, ◌<◌, ◌≤◌, List, [], ◌∷◌, ◌++◌, length, get_or, set, map, Bool, true, false, not, Option, Some, None, eqb, ltb, cond, refl, ap, sym, ◌∙◌, subst, inl, inr, arith, length-append}
-use Rattle.std.specs.Prelude.{slice_get, slice_set, slice_index, ◌==◌, if◌then◌else◌}
+use Rattle.std.proofs.Common.{◌≡◌, ◌≢◌, ◌⊎◌, ℕ, ◌-◌, ◌<◌, ◌≤◌, List, [], ◌∷◌, ◌++◌, length, get_or, set, Bool, true, false, Option, Some, None, eqb, cond, refl, ap, sym, ◌∙◌, subst, inl, inr, arith, length-append}
+use Rattle.std.specs.Prelude.{slice_get, slice_set}
 use Rattle.std.specs.Option.{option_map, option_map_or}
-use Rattle.std.proofs.lemmas.Bool.{cases_Bool, cases_eq, cases_lt, eqb-true, eq-eqb, ne_eqb, lt-ltb, le-ltb, false≢true}
-use Rattle.std.proofs.lemmas.List.{map-set, get_or_append_left}
-use Rattle.std.proofs.lemmas.Option.{same_Some, slice_get_within, slice_get-map, slice_get-get_or, get_or_from_slice_get, none-some}
+use Rattle.std.proofs.lemmas.Bool.{cases_Bool, cases_lt, eq-eqb, ne_eqb, lt-ltb, false≢true}
+use Rattle.std.proofs.lemmas.List.{get_or_append_left}
+use Rattle.std.proofs.lemmas.Option.{same_Some, slice_get_within, slice_get-map, slice_get-get_or, none-some}
 use Rattle.circular_buffer.proofs.Places.{slice_get-set_same, slice_get-set_other}
 use Rattle.roll_frame.specs.Inputs.{player_at, of_player, changed, with_words, with_given, with_gone}
 use Rattle.roll_frame.specs.Timeline.{Player, cell_at}
 use Rattle.roll_frame.specs.declared.row.Cell.TheVariants.{Word}
-use Rattle.roll_inputs.specs.Boards.{KeepsCells, cell_of, count_of, players_of, queue_at}
+use Rattle.roll_inputs.specs.Boards.{KeepsCells, players_of, queue_at}
 use Rattle.roll_inputs.specs.Queues.{Known}
 
 -- what a test finds is a player
@@ -70,8 +70,8 @@ pub change_keeps : (change : Player → Player) (players : List Player) (p : ℕ
 change_keeps change players p x keeps e = record {
   others = λ q t differs. ap (option_map (cell_at t)) (at_other change players p q x e differs);
   confirmed = λ t early.
-    let within : t < length x.words = subst (λ (n : ℕ). t < n) (ap (λ o. option_map_or (λ player. length player.words) o 0) e) early in
-    rw (at_changed change players p x e, e) (ap Some (keeps t x within));
+      let within : t < length x.words = subst (λ (n : ℕ). t < n) (ap (λ o. option_map_or (λ player. length player.words) o 0) e) early in
+      rw (at_changed change players p x e, e) (ap Some (keeps t x within));
 }
 
 pub same_keeps : (players : List Player) (p : ℕ) → KeepsCells players players p

@@ -1,16 +1,15 @@
 -- What the fields of a board keep, as its queues change.
-use Rattle.std.proofs.Common.{◌≡◌, ◌⊎◌, ℕ, zero, suc, ◌+◌, ◌-◌, ◌<◌, ◌≤◌, List, [], ◌∷◌, ◌++◌, length, get_or, set, map, filter, min, Bool, true, false, not, Option, Some, None, cond, refl, ap, sym, ◌∙◌, subst, inl, inr, arith}
+use Rattle.std.proofs.Common.{◌≡◌, ◌⊎◌, ℕ, zero, suc, ◌+◌, ◌<◌, ◌≤◌, List, [], ◌∷◌, ◌++◌, length, get_or, set, map, take, drop, min, Bool, true, false, not, cond, refl, ap, sym, ◌∙◌, subst, inl, inr, arith}
 use Rattle.std.specs.Prelude.{◌||◌, ◌&&◌, All, slice_index_or}
 use Rattle.std.specs.List.{list_any}
-use Rattle.std.proofs.Math.Seq.{map-set_same}
-use Rattle.std.proofs.lemmas.Bool.{cases_Bool, false≢true, not-true, and_cases, both_ways, not-false}
+use Rattle.std.proofs.Math.Seq.{map-set_same, take-append_seam}
+use Rattle.std.proofs.lemmas.Bool.{cases_Bool, false≢true}
 use Rattle.std.proofs.lemmas.Simd.{map-map}
 use Rattle.std.proofs.lemmas.List.{length-map, length-set}
 use Rattle.std.proofs.lemmas.List.Elements.{All-map, All-set}
-use Rattle.std.proofs.lemmas.List.Folds.{Any-from_list_any, list_any_at}
 use Rattle.roll_frame.specs.declared.limits.TheConstants.{DELAY_LIMIT}
 use Rattle.roll_frame.specs.Inputs.{with_none_given}
-use Rattle.roll_frame.specs.Timeline.{Player, least_of, front}
+use Rattle.roll_frame.specs.Timeline.{least_of, front}
 use Rattle.roll_inputs.proofs.Fronts.{remaining, counts, counts-remaining}
 use Rattle.roll_inputs.specs.Boards.{IsBoard, IsInStep, players_of, started, settled_to}
 use Rattle.roll_inputs.specs.Queues.{Known}

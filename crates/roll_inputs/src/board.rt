@@ -6,20 +6,12 @@ ghost use Rattle.roll_frame.specs.Settings.{start_refusal};
 ghost use Rattle.roll_frame.specs.Timeline.{timeline, front as front_of, row_at as row_of};
 ghost use Rattle.roll_inputs.specs.Boards.{first_inputs, with_player, local_refusal, remote_refusal, disconnect_refusal, count_of, KeepsCells};
 
+use crate::heard::Heard;
 use crate::queue::Queue;
 use crate::queues::{first_queues, front, is_missing, queue_of, row_at, settle_all, start_frames};
-use roll_frame::{QUEUE_LIMIT, Refusal, Row, Settings};
+use roll_frame::{Refusal, Row, Settings};
 use std::alloc::Global;
 use std::marker::Model;
-
-/// What became of a remote word.
-#[derive(Clone, Copy, Debug, PartialEq, Eq)]
-pub enum Heard {
-    /// It counts now.
-    Taken,
-    /// The same word counted already, and nothing changed.
-    Repeated,
-}
 
 /// The inputs of all players, and the timeline that follows from them.
 ///
@@ -122,27 +114,7 @@ impl Board {
         let Some(queue) = queue_of(&self.queues, player) else {
             return Err(Refusal::InvalidPlayer);
         };
-        if queue.is_local() {
-            return Err(Refusal::InvalidPlayer);
-        }
-        if queue.is_gone() {
-            return Err(Refusal::PlayerDisconnected);
-        }
-        let count = queue.count();
-        if frame < count {
-            return if queue.has(past, usize::from(player) - 1, frame, word) {
-                Ok(Heard::Repeated)
-            } else {
-                Err(Refusal::Conflict)
-            };
-        }
-        if frame > count {
-            Err(Refusal::Gap)
-        } else if count - self.settled >= QUEUE_LIMIT as u32 {
-            Err(Refusal::QueueFull)
-        } else {
-            Ok(Heard::Taken)
-        }
+        queue.reply(past, usize::from(player) - 1, frame, word)
     }
 
     /// Takes the next word of a remote player, or sees that it was taken before. `past` is the settled rows.

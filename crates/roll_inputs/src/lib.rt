@@ -2,8 +2,10 @@
 #![tactic(auto)]
 
 mod board;
+mod heard;
 mod history;
 mod queue;
 mod queues;
 
-pub use board::{Board, Heard};
+pub use board::Board;
+pub use heard::Heard;

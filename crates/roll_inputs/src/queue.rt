@@ -1,12 +1,14 @@
 //! One player's input queue.
-ghost use Rattle.std.specs.Prelude.{◌≡◌, ◌+◌, ◌<◌, ◌≤◌, ◌^◌, IfOk, length, [], ◌∷◌, ◌==◌, slice_index};
-ghost use Rattle.roll_frame.specs.Inputs.{with_words, with_given, with_gone, with_none_given};
+ghost use Rattle.std.specs.Prelude.{◌≡◌, ◌+◌, ◌<◌, ◌≤◌, ◌^◌, IfOk, length, [], ◌∷◌, ◌==◌, slice_index, if◌then◌else◌, Some, None, false, IfErr, OnErr};
+ghost use Rattle.roll_frame.specs.Inputs.{is_repeated, remote_tests, with_words, with_given, with_gone, with_none_given};
+ghost use Rattle.roll_frame.specs.Refusals.{first_refusal};
 ghost use Rattle.roll_frame.specs.Settings.{first_player, delay_at};
 ghost use Rattle.roll_frame.specs.Timeline.{cell_at};
 
+use crate::heard::Heard;
 use crate::history::History;
 use circular_buffer::HeapCircularBuffer;
-use roll_frame::{Cell, DELAY_LIMIT, PLAYER_LIMIT, QUEUE_LIMIT, Row, Settings};
+use roll_frame::{Cell, DELAY_LIMIT, PLAYER_LIMIT, QUEUE_LIMIT, Refusal, Row, Settings};
 use std::alloc::{AllocError, Global};
 use std::marker::Model;
 
@@ -114,6 +116,40 @@ impl Queue {
             past[frame as usize].get(place) == Some(Cell::Word(word))
         } else {
             self.cell(frame) == Cell::Word(word)
+        }
+    }
+
+    /// What a remote word is answered, by the tests of this player alone. `past` as in `has`.
+    pub(crate) fn reply(
+        &self,
+        past: &[Row],
+        place: usize,
+        frame: u32,
+        word: u32,
+    ) -> Result<Heard, Refusal>
+        requires past { HasPast self.now past.now place }
+        requires ahead { self.now.player.gone ≡ false → self.now.from ≤ length self.now.player.words }
+        ensures heard { IfOk result (λ heard. heard ≡ (if is_repeated (self.now.player ∷ []) 1 frame word then Heard.Repeated else Heard.Taken)) }
+        ensures accepted { IfOk result (λ heard. heard ≡ Heard.Taken → first_refusal (remote_tests (self.now.player ∷ []) self.now.from 1 frame) ≡ None) }
+        ensures refused { IfErr result (λ why. first_refusal (remote_tests (self.now.player ∷ []) self.now.from 1 frame) ≡ Some why) }
+        ensures new { OnErr result (is_repeated (self.now.player ∷ []) 1 frame word ≡ false) }
+    {
+        if self.local {
+            Err(Refusal::InvalidPlayer)
+        } else if self.gone {
+            Err(Refusal::PlayerDisconnected)
+        } else if frame < self.count {
+            if self.has(past, place, frame, word) {
+                Ok(Heard::Repeated)
+            } else {
+                Err(Refusal::Conflict)
+            }
+        } else if frame > self.count {
+            Err(Refusal::Gap)
+        } else if (self.count - self.from) as usize >= QUEUE_LIMIT {
+            Err(Refusal::QueueFull)
+        } else {
+            Ok(Heard::Taken)
         }
     }
 

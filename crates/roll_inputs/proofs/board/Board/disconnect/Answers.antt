@@ -1,4 +1,4 @@
-use Rattle.std.proofs.Common.{◌≡◌, ◌∙◌, ◌-◌, List, ap, sym, refl, subst, set}
+use Rattle.std.proofs.Common.{◌∙◌, ap, sym, refl}
 use Rattle.roll_frame.specs.Inputs.{with_gone}
 use Rattle.roll_frame.specs.Timeline.{Player}
 use Rattle.roll_inputs.specs.Boards.{Inputs, players_of}

@@ -1,5 +1,4 @@
-use Rattle.std.proofs.Common.{◌≡◌, ◌≢◌, ◌∙◌, ◌-◌, ◌+◌, ◌<◌, ◌≤◌, List, false, length, ap, sym, refl, subst, set, arith}
-use Rattle.roll_frame.specs.declared.limits.TheConstants.{QUEUE_LIMIT}
+use Rattle.std.proofs.Common.{◌≢◌, ◌∙◌, ◌+◌, ◌≤◌, length, ap, sym, refl, subst, arith}
 use Rattle.roll_frame.specs.Inputs.{with_given}
 use Rattle.roll_frame.specs.Timeline.{Player}
 use Rattle.roll_inputs.specs.Boards.{Inputs, IsInStep, players_of}

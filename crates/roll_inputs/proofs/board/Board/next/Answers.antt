@@ -1,9 +1,9 @@
-use Rattle.std.proofs.Common.{◌≡◌, ◌∙◌, ◌++◌, List, ap, sym, not, map, take, drop, length, subst, ◌≤◌, ◌+◌}
+use Rattle.std.proofs.Common.{◌≡◌, ◌∙◌, ◌++◌, ap, sym, not, map, take, drop, length, subst, ◌≤◌, ◌+◌}
 use Rattle.std.specs.Prelude.{◌&&◌}
 use Rattle.std.specs.List.{list_any}
 use Rattle.std.proofs.lemmas.Bool.{not-true}
 use Rattle.roll_frame.specs.Timeline.{Player}
-use Rattle.roll_inputs.specs.Boards.{Inputs, IsBoard, started}
+use Rattle.roll_inputs.specs.Boards.{Inputs, started}
 use Rattle.roll_inputs.specs.Queues.{Known}
 use Rattle.roll_inputs.proofs.Steps.{start_keeps, start_players, list_any-map, all_written}
 use Rattle.roll_inputs.proofs.Changes.{seen}

@@ -1,4 +1,4 @@
-use Rattle.std.proofs.Common.{◌≡◌, ◌∙◌, ◌++◌, ◌≤◌, ap, sym, map, min, take, drop, length, subst}
+use Rattle.std.proofs.Common.{◌≡◌, ◌++◌, ◌≤◌, ap, sym, map, min, take, drop, length, subst}
 use Rattle.roll_frame.specs.Timeline.{front}
 use Rattle.roll_inputs.specs.Boards.{Inputs, settled_to}
 use Rattle.roll_inputs.proofs.Steps.{settle_keeps, settle_players, all_written}

@@ -16,7 +16,7 @@ use types.Part.{agg}
 use types.Run.{enter, returns, no_more}
 use types.ByLocal.{alloc_all, pass_all, free_all, look_at, sets}
 use denote.Exit.{yes}
-use denote.RattleType.{RattleType, owns}
+use denote.RattleType.{owns}
 use denote.Builtin.{RefOf, u32}
 use denote.Signature.{plain, types_at}
 use denote.Steps.{nothing}

@@ -1,6 +1,5 @@
-use Rattle.std.proofs.Common.{◌≡◌, ◌+◌, ◌<◌, ◌≤◌, ◌∙◌, ℕ, List, length, ap, arith, sym, subst, length-append}
+use Rattle.std.proofs.Common.{◌≡◌, ◌∙◌, ℕ, List, length, ap, arith, sym, length-append}
 use Rattle.roll_frame.specs.declared.limits.TheConstants.{QUEUE_LIMIT}
-use Rattle.roll_frame.specs.Timeline.{last_word}
 use Rattle.circular_buffer.specs.Buffer.{Buffer}
 use Rattle.roll_inputs.specs.Queues.{Known}
 use Rattle.roll_inputs.proofs.Words.{keep_last-push, last_word-push}
