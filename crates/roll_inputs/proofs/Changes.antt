@@ -10,7 +10,7 @@ use Rattle.roll_inputs.specs.Boards.{Inputs, IsBoard, IsInStep, KeepsCells, play
 use Rattle.roll_inputs.specs.Queues.{Known}
 use Rattle.roll_inputs.proofs.Players.{found, of_player_at, is_at, changed_at, queue_is, change_keeps, KeepsWords}
 use Rattle.roll_inputs.proofs.Steps.{set_keeps}
-use Rattle.roll_inputs.proofs.Tests.{all_fail}
+use Rattle.roll_inputs.proofs.Refused.{all_fail}
 
 -- what holds where a local word, a remote word and a disconnect are accepted
 pub record MayGive (players : List Player) (frame threshold limit p : ℕ) : Type 0 where

@@ -2,7 +2,7 @@ mod Walks
 mod Words
 mod Fronts
 mod Cells
-mod Tests
+mod Refused
 mod Players
 mod Steps
 mod Changes

@@ -15,7 +15,7 @@ use Rattle.roll_frame.specs.declared.settings.Settings.{Settings}
 use Rattle.roll_inputs.specs.Boards.{IsBoard, IsInStep, first_known}
 use Rattle.roll_inputs.specs.Queues.{Known}
 use Rattle.roll_inputs.proofs.Steps.{list_any-map}
-use Rattle.roll_inputs.proofs.Tests.{all_fail}
+use Rattle.roll_inputs.proofs.Refused.{all_fail}
 
 -- the limits of a range whose test passes
 in_range : (low high n : ℕ) → not (is_in_range low high n) ≡ false → (low ≤ n) × (n ≤ high)

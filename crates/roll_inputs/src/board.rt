@@ -182,6 +182,20 @@ impl Board {
         start_frames(&mut self.queues);
     }
 
+    /// The current frame.
+    pub fn frame(&self) -> u32
+        ensures { result ≡ self.now.frame }
+    {
+        self.frame
+    }
+
+    /// The settled frame: the rows below it are settled.
+    pub fn settled(&self) -> u32
+        ensures { result ≡ self.now.settled }
+    {
+        self.settled
+    }
+
     /// Whether each local player has given its word of this frame.
     pub fn ready(&self) -> bool
         ensures { result ≡ all_given self.now.players }
