@@ -1,11 +1,14 @@
 -- A change of one player's queue: when it is accepted, and what it leaves.
-use Rattle.std.proofs.Common.{◌≡◌, ◌≢◌, ℕ, ◌+◌, ◌-◌, ◌^◌, ◌<◌, ◌≤◌, List, [], ◌∷◌, ◌++◌, length, get_or, set, true, false, not, Some, None, ap, sym, ◌∙◌, subst, arith, length-append}
+use Rattle.std.proofs.Common.{◌≡◌, ◌≢◌, ℕ, ◌+◌, ◌-◌, ◌^◌, ◌<◌, ◌≤◌, zero, suc, List, [], ◌∷◌, ◌++◌, length, get_or, set, map, refl, true, false, not, Some, None, ap, sym, ◌∙◌, subst, arith, length-append}
 use Rattle.std.proofs.lemmas.Bool.{false≢true, not-true, not-false, leb-false, eqb-false}
+use Rattle.std.proofs.Math.Seq.{map-set_same}
 use Rattle.std.proofs.lemmas.List.{map-set, length-map}
+use Rattle.std.proofs.lemmas.Option.{get_or_from_slice_get}
+use Rattle.std.proofs.lemmas.Simd.{map-map}
 use Rattle.roll_frame.specs.declared.limits.TheConstants.{QUEUE_LIMIT, DELAY_LIMIT}
-use Rattle.roll_frame.specs.Inputs.{player_at, changed, with_words, with_given, with_gone, local_tests, remote_tests, disconnect_tests}
+use Rattle.roll_frame.specs.Inputs.{player_at, changed, with_words, with_given, with_gone, with_none_given, local_tests, remote_tests, disconnect_tests}
 use Rattle.roll_frame.specs.Refusals.{first_refusal}
-use Rattle.roll_frame.specs.Timeline.{Player}
+use Rattle.roll_frame.specs.Timeline.{Player, cell_at, row_at, timeline}
 use Rattle.roll_inputs.specs.Boards.{Inputs, IsBoard, IsInStep, KeepsCells, players_of}
 use Rattle.roll_inputs.specs.Queues.{Known}
 use Rattle.roll_inputs.proofs.Players.{found, of_player_at, is_at, changed_at, queue_is, change_keeps, KeepsWords}
@@ -31,6 +34,7 @@ pub record MayLeave (players : List Player) (p : ℕ) : Type 0 where
   pub player : Player
   pub at : player_at players p ≡ Some player
   pub remote : player.local ≡ false
+  pub there : player.gone ≡ false
 
 pub may_give : (players : List Player) (frame threshold limit p : ℕ) → first_refusal (local_tests players frame threshold limit p) ≡ None → MayGive players frame threshold limit p
 may_give players frame threshold limit p e =
@@ -60,7 +64,24 @@ pub may_leave : (players : List Player) (p : ℕ) → first_refusal (disconnect_
 may_leave players p e =
     let tests = all_fail (disconnect_tests players p) e in
     let x = found (λ player. not player.local) players p (not-false _ tests.0) in
-    record { player = x.0; at = x.1; remote = not-true x.0.local x.2 }
+    record {
+      player = x.0;
+      at = x.1;
+      remote = not-true x.0.local x.2;
+      there = sym (of_player_at (λ player. player.gone) players p x.0 x.1) ∙ tests.1.0;
+    }
+
+-- rows that are the same one by one are the same together
+pub same_rows : (players others : List Player) (m : ℕ) → ((t : ℕ) → t < m → row_at others t ≡ row_at players t) → timeline others m ≡ timeline players m
+same_rows players others zero same = refl
+same_rows players others (suc m) same = λ i. same_rows players others m (λ t h. same t (omega arith)) i ++ same m (omega arith) i ∷ []
+
+-- the rows below a frame that the player has confirmed stay
+pub change_rows : (change : Player → Player) (players : List Player) (p m : ℕ) (x : Player) → KeepsWords change → player_at players p ≡ Some x → m ≤ length x.words → timeline (changed change players p) m ≡ timeline players m
+change_rows change players p m x keeps e confirmed =
+    let at = is_at players p x e in
+    same_rows players (changed change players p) m (λ t before.
+    rw (changed_at change players p x e) (map-set_same (cell_at t) players (p - 1) (change x) x (keeps t x (omega arith) ∙ ap (cell_at t) (sym (get_or_from_slice_get players (p - 1) x x at.there)))))
 
 -- the queue of player p, who is x, became another
 pub record IsChange (change : Player → Player) (queues : List Known) (p i : ℕ) (x : Player) (old new : Known) : Type 0 where
@@ -86,6 +107,11 @@ module _ (change : Player → Player) (queues : List Known) (p i : ℕ) (x : Pla
   pub change-cells : KeepsWords change → KeepsCells (players_of queues) (players_of (set queues (i - 1) new)) p
   change-cells keeps = subst (λ (ps : List Player). KeepsCells (players_of queues) ps p) (sym change-players) (change_keeps change (players_of queues) p x keeps h.at)
 
+  pub change-rows : (m : ℕ) → KeepsWords change → m ≤ length old.player.words → timeline (players_of (set queues (i - 1) new)) m ≡ timeline (players_of queues) m
+  change-rows m keeps confirmed =
+      ap (λ (ps : List Player). timeline ps m) change-players
+      ∙ change_rows change (players_of queues) p m x keeps h.at (subst (λ (y : Player). m ≤ length y.words) change-old confirmed)
+
   pub change-step : (settled frame threshold limit : ℕ) → IsBoard queues frame settled threshold limit → IsInStep settled frame limit old
   change-step settled frame threshold limit b = subst (IsInStep settled frame limit) (sym h.old_is) (b.in_step (i - 1) old change-within)
 
@@ -96,6 +122,10 @@ module _ (change : Player → Player) (queues : List Known) (p i : ℕ) (x : Pla
 -- what callers see of a board with these queues
 abbrev pub seen : ℕ → ℕ → ℕ → ℕ → List Player → Inputs
 seen frame settled threshold limit players = record { players = players; frame = frame; settled = settled; threshold = threshold; limit = limit }
+
+-- a new frame leaves the timeline
+pub start_rows : (players : List Player) (m : ℕ) → timeline (map with_none_given players) m ≡ timeline players m
+start_rows players m = same_rows players (map with_none_given players) m (λ t before. map-map (cell_at t) with_none_given players)
 
 -- a local player has words of the delay and of the frames, of which few are past the settled one
 pub own_few : (settled frame threshold limit : ℕ) (queues : List Known) (q : Known) → IsBoard queues frame settled threshold limit → IsInStep settled frame limit q → q.player.local ≡ true → q.player.given ≡ false → length q.player.words ≤ settled + 24

@@ -89,6 +89,7 @@ impl Board {
         ensures refused { IfErr result (λ why. local_refusal self.old player ≡ Some why) }
         ensures unchanged { OnErr result (self.new ≡ self.old) }
         ensures cells { KeepsCells self.old.players self.new.players player }
+        ensures rows { timeline self.new.players self.old.settled ≡ timeline self.old.players self.old.settled }
     {
         if let Some(why) = self.local_refusal(player) {
             return Err(why);
@@ -133,6 +134,7 @@ impl Board {
         ensures new { OnErr result (is_repeated self.old.players player frame word ≡ false) }
         ensures unchanged { OnErr result (self.new ≡ self.old) }
         ensures cells { KeepsCells self.old.players self.new.players player }
+        ensures rows { timeline self.new.players self.old.settled ≡ timeline self.old.players self.old.settled }
     {
         let heard = self.remote_reply(past, player, frame, word)?;
         if heard == Heard::Taken {
@@ -164,6 +166,7 @@ impl Board {
         ensures refused { IfErr result (λ why. disconnect_refusal self.old player ≡ Some why) }
         ensures unchanged { OnErr result (self.new ≡ self.old) }
         ensures cells { KeepsCells self.old.players self.new.players player }
+        ensures rows { timeline self.new.players self.old.settled ≡ timeline self.old.players self.old.settled }
     {
         if let Some(why) = self.disconnect_refusal(player) {
             return Err(why);
@@ -176,7 +179,8 @@ impl Board {
     pub fn next(&mut self)
         requires given { IsTrue (all_given self.old.players) }
         requires near { self.old.frame ≤ self.old.settled + self.old.threshold }
-        ensures { self.new ≡ record self.old { frame = self.old.frame + 1; players = map with_none_given self.old.players } }
+        ensures begun { self.new ≡ record self.old { frame = self.old.frame + 1; players = map with_none_given self.old.players } }
+        ensures rows { timeline self.new.players self.old.settled ≡ timeline self.old.players self.old.settled }
     {
         self.frame += 1;
         start_frames(&mut self.queues);

@@ -2,7 +2,7 @@ use Rattle.std.proofs.Common.{◌∙◌, ap, sym, refl}
 use Rattle.roll_frame.specs.Inputs.{with_gone}
 use Rattle.roll_frame.specs.Timeline.{Player}
 use Rattle.roll_inputs.specs.Boards.{Inputs, players_of}
-use Rattle.roll_inputs.proofs.Changes.{MayLeave, may_leave, IsChange, change-old, change-step, change-board, change-players, change-cells, leave_step, seen}
+use Rattle.roll_inputs.proofs.Changes.{MayLeave, may_leave, IsChange, change-old, change-step, change-board, change-players, change-cells, change-rows, leave_step, seen}
 use Rattle.roll_inputs.proofs.Players.{leaves_keeps}
 use Rattle.roll_inputs.proofs.board.Board.disconnect.Goals as goal
 
@@ -24,3 +24,10 @@ returns-clause-gone c = let i = c.self.inside in rw (← c.self.view_is) (ap (se
 
 pub returns-clause-cells : goal.returns-clause-cells
 returns-clause-cells c = rw (← c.self.view_is) (change-cells _ _ _ _ _ _ _ (leaves c) leaves_keeps)
+
+pub returns-clause-rows : goal.returns-clause-rows
+returns-clause-rows c =
+    let i = c.self.inside in
+    let step = change-step _ _ _ _ _ _ _ (leaves c) i.settled i.frame i.threshold i.limit c.self.invariant in
+    let there = ap (λ (x : Player). x.gone) (change-old _ _ _ _ _ _ _ (leaves c)) ∙ (may c).there in
+    rw (← c.self.view_is) (change-rows _ _ _ _ _ _ _ (leaves c) i.settled leaves_keeps (step.ahead there))

@@ -2,7 +2,7 @@ use Rattle.std.proofs.Common.{◌≢◌, ◌∙◌, ◌+◌, ◌≤◌, length, 
 use Rattle.roll_frame.specs.Inputs.{with_given}
 use Rattle.roll_frame.specs.Timeline.{Player}
 use Rattle.roll_inputs.specs.Boards.{Inputs, IsInStep, players_of}
-use Rattle.roll_inputs.proofs.Changes.{MayGive, may_give, IsChange, change-old, change-step, change-board, change-players, change-cells, own_few, CanTake, can_take, give_step, seen}
+use Rattle.roll_inputs.proofs.Changes.{MayGive, may_give, IsChange, change-old, change-step, change-board, change-players, change-cells, change-rows, own_few, CanTake, can_take, give_step, seen}
 use Rattle.roll_inputs.proofs.Players.{gives_keeps}
 use Rattle.roll_inputs.proofs.board.Board.local.Goals as goal
 
@@ -58,3 +58,10 @@ returns-clause-given c = let i = c.self.inside in rw (← c.self.view_is) (ap (s
 
 pub returns-clause-cells : goal.returns-clause-cells
 returns-clause-cells c = rw (← c.self.view_is) (change-cells _ _ _ _ _ _ _ (gives c) (gives_keeps c.args.word))
+
+pub returns-clause-rows : goal.returns-clause-rows
+returns-clause-rows c =
+    let i = c.self.inside in
+    let step = change-step _ _ _ _ _ _ _ (gives c) i.settled i.frame i.threshold i.limit c.self.invariant in
+    let local = ap (λ (x : Player). x.local) (change-old _ _ _ _ _ _ _ (gives c)) ∙ (may c).local in
+    rw (← c.self.view_is) (change-rows _ _ _ _ _ _ _ (gives c) i.settled (gives_keeps c.args.word) (step.ahead (step.stays local)))

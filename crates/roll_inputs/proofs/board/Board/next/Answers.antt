@@ -1,12 +1,12 @@
-use Rattle.std.proofs.Common.{◌≡◌, ◌∙◌, ◌++◌, ap, sym, not, map, take, drop, length, subst, ◌≤◌, ◌+◌}
+use Rattle.std.proofs.Common.{◌≡◌, ◌∙◌, ◌++◌, List, ap, sym, not, map, take, drop, length, subst, ◌≤◌, ◌+◌}
 use Rattle.std.specs.Prelude.{◌&&◌}
 use Rattle.std.specs.List.{list_any}
 use Rattle.std.proofs.lemmas.Bool.{not-true}
-use Rattle.roll_frame.specs.Timeline.{Player}
-use Rattle.roll_inputs.specs.Boards.{Inputs, started}
+use Rattle.roll_frame.specs.Timeline.{Player, timeline}
+use Rattle.roll_inputs.specs.Boards.{Inputs, players_of, started}
 use Rattle.roll_inputs.specs.Queues.{Known}
 use Rattle.roll_inputs.proofs.Steps.{start_keeps, start_players, list_any-map, all_written}
-use Rattle.roll_inputs.proofs.Changes.{seen}
+use Rattle.roll_inputs.proofs.Changes.{seen, start_rows}
 use Rattle.roll_inputs.proofs.board.Board.next.Goals as goal
 
 begun : (c : goal.After-self-2-1) → take c.self.inside.queues.len (c.start_frames.new.queues ++ drop (length c.start_frames.new.queues) c.self.inside.queues.items) ≡ map started c.self.inside.queues.items
@@ -21,7 +21,12 @@ invariant_of-self c =
     let near = subst (λ (k : Inputs). k.frame ≤ k.settled + k.threshold) (sym c.self.view_is) c.requires.near in
     rw (begun c) (start_keeps i.queues.items i.frame i.settled i.threshold i.limit c.self.invariant given near)
 
-pub returns : goal.returns
-returns c =
+pub returns-clause-begun : goal.returns-clause-begun
+returns-clause-begun c =
     let i = c.self.inside in
     rw (← c.self.view_is, begun c) (ap (seen (i.frame + 1) i.settled i.threshold i.limit) (start_players i.queues.items))
+
+pub returns-clause-rows : goal.returns-clause-rows
+returns-clause-rows c =
+    let i = c.self.inside in
+    rw (← c.self.view_is, begun c) (ap (λ (ps : List Player). timeline ps i.settled) (start_players i.queues.items) ∙ start_rows (players_of i.queues.items) i.settled)

@@ -7,7 +7,7 @@ use Rattle.roll_frame.specs.Timeline.{Player}
 use Rattle.roll_inputs.specs.contracts.heard.Heard.{the_type}
 use Rattle.roll_inputs.specs.declared.heard.Heard.TheVariants.{Repeated, Taken}
 use Rattle.roll_inputs.specs.Boards.{Inputs, IsInStep, players_of, remote_refusal}
-use Rattle.roll_inputs.proofs.Changes.{MayTell, may_tell, IsChange, change-old, change-step, change-board, change-players, change-cells, hear_step, seen}
+use Rattle.roll_inputs.proofs.Changes.{MayTell, may_tell, IsChange, change-old, change-step, change-board, change-players, change-cells, change-rows, hear_step, seen}
 use Rattle.roll_inputs.proofs.Players.{hears_keeps}
 use Rattle.roll_inputs.proofs.board.Board.remote.Goals as goal
 
@@ -47,3 +47,10 @@ returns-then-eq-clause-words c =
 
 pub returns-then-eq-clause-cells : goal.returns-then-eq-clause-cells
 returns-then-eq-clause-cells c = rw (← c.self.view_is) (change-cells _ _ _ _ _ _ _ (hears c) (hears_keeps c.args.word))
+
+pub returns-then-eq-clause-rows : goal.returns-then-eq-clause-rows
+returns-then-eq-clause-rows c =
+    let i = c.self.inside in
+    let step = change-step _ _ _ _ _ _ _ (hears c) i.settled i.frame i.threshold i.limit c.self.invariant in
+    let there = ap (λ (x : Player). x.gone) (change-old _ _ _ _ _ _ _ (hears c)) ∙ (may c).there in
+    rw (← c.self.view_is) (change-rows _ _ _ _ _ _ _ (hears c) i.settled (hears_keeps c.args.word) (step.ahead there))
