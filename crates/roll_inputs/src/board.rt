@@ -16,7 +16,7 @@ use std::marker::Model;
 /// The inputs of all players, and the timeline that follows from them.
 ///
 /// Only `new` takes memory: the words past the settled frame lie in rings that it makes. A contract sees all words
-/// that were ever confirmed.
+/// that were ever confirmed. Players are numbered from 1.
 #[derive(Drop)]
 pub struct Board {
     queues: Vec<Queue>,

@@ -14,6 +14,9 @@ impl Model for History {
     ghost also_owns = { λ _. ftrue };
 }
 
+// It owns nothing.
+unsafe impl Send for History {}
+
 impl History {
     pub(crate) fn new() -> History
         ensures { result.words ≡ [] }
