@@ -1,0 +1,10 @@
+mod Walks
+mod Words
+mod Fronts
+mod Cells
+mod Refused
+mod Players
+mod Steps
+mod Changes
+mod Replies
+mod Starts

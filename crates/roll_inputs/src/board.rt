@@ -1,0 +1,243 @@
+//! The inputs of all players.
+ghost use Rattle.std.specs.Prelude.{◌≡◌, ◌≢◌, ◌+◌, ◌≤◌, [], ◌∷◌, length, map, min, Some, None, false, IsTrue, IfOk, IfErr, OnOk, OnErr, unwrap_or, if◌then◌else◌};
+ghost use Rattle.roll_frame.specs.Events.{all_given};
+ghost use Rattle.roll_frame.specs.Inputs.{is_repeated, with_words, with_given, with_gone, with_none_given};
+ghost use Rattle.roll_frame.specs.Settings.{start_refusal};
+ghost use Rattle.roll_frame.specs.Timeline.{timeline, front as front_of, row_at as row_of};
+ghost use Rattle.roll_inputs.specs.Boards.{first_inputs, with_player, local_refusal, remote_refusal, disconnect_refusal, count_of, KeepsCells};
+
+use crate::heard::Heard;
+use crate::queue::Queue;
+use crate::queues::{first_queues, front, is_missing, queue_of, row_at, settle_all, start_frames};
+use roll_frame::{Refusal, Row, Settings};
+use std::alloc::Global;
+use std::marker::Model;
+
+/// The inputs of all players, and the timeline that follows from them.
+///
+/// Only `new` takes memory: the words past the settled frame lie in rings that it makes. A contract sees all words
+/// that were ever confirmed. Players are numbered from 1.
+#[derive(Drop)]
+pub struct Board {
+    queues: Vec<Queue>,
+    frame: u32,
+    settled: u32,
+    threshold: u32,
+    limit: u32,
+}
+
+impl Model for Board {
+    ghost use Rattle.roll_inputs.specs.Boards.{Inputs, players_of, IsBoard};
+
+    ghost Value = { Inputs };
+
+    ghost view = { λ b. record { players = players_of b.queues.items; frame = b.frame; settled = b.settled; threshold = b.threshold; limit = b.limit } };
+
+    ghost invariant = { λ b. IsBoard b.queues.items b.frame b.settled b.threshold b.limit };
+}
+
+impl Board {
+    /// The players at the start. The limit of the log is judged with the other settings, though a board has no log.
+    ///
+    /// # Errors
+    ///
+    /// The refusal of the settings, else `NoMemory` where the allocator has no room.
+    pub fn new(alloc: Global, settings: &Settings) -> Result<Board, Refusal>
+        ensures board { IfOk result (λ board. board ≡ first_inputs settings.now) }
+        ensures accepted { OnOk result (start_refusal settings.now ≡ None) }
+        ensures refused { IfErr result (λ why. why ≡ unwrap_or (start_refusal settings.now) Refusal.NoMemory) }
+    {
+        if let Some(why) = settings.refusal() {
+            return Err(why);
+        }
+        let Ok(queues) = first_queues(alloc, settings) else {
+            return Err(Refusal::NoMemory);
+        };
+        Ok(Board {
+            queues,
+            frame: 0,
+            settled: 0,
+            threshold: settings.threshold,
+            limit: settings.limit,
+        })
+    }
+
+    /// Why a local word would be refused now, if it would.
+    pub fn local_refusal(&self, player: u8) -> Option<Refusal>
+        ensures { result ≡ local_refusal self.now player }
+    {
+        let Some(queue) = queue_of(&self.queues, player) else {
+            return Some(Refusal::InvalidPlayer);
+        };
+        if !queue.is_local() {
+            Some(Refusal::InvalidPlayer)
+        } else if queue.is_given() {
+            Some(Refusal::InputTwice)
+        } else if self.frame >= self.threshold && self.frame - self.threshold >= self.front() {
+            Some(Refusal::PredictionThreshold)
+        } else if self.frame == self.limit {
+            Some(Refusal::FrameLimit)
+        } else {
+            None
+        }
+    }
+
+    /// Gives a local player's word of this frame.
+    pub fn local(&mut self, player: u8, word: u32) -> Result<(), Refusal>
+        ensures accepted { OnOk result (local_refusal self.old player ≡ None) }
+        ensures given { OnOk result (self.new ≡ with_player (with_given word) self.old player) }
+        ensures refused { IfErr result (λ why. local_refusal self.old player ≡ Some why) }
+        ensures unchanged { OnErr result (self.new ≡ self.old) }
+        ensures cells { KeepsCells self.old.players self.new.players player }
+        ensures rows { timeline self.new.players self.old.settled ≡ timeline self.old.players self.old.settled }
+    {
+        if let Some(why) = self.local_refusal(player) {
+            return Err(why);
+        }
+        self.queues[usize::from(player) - 1].give(word);
+        Ok(())
+    }
+
+    /// What a remote word would be answered now. `past` is the settled rows.
+    pub fn remote_reply(
+        &self,
+        past: &[Row],
+        player: u8,
+        frame: u32,
+        word: u32,
+    ) -> Result<Heard, Refusal>
+        requires past { past.now ≡ timeline self.now.players self.now.settled }
+        ensures heard { IfOk result (λ heard. heard ≡ (if is_repeated self.now.players player frame word then Heard.Repeated else Heard.Taken)) }
+        ensures accepted { IfOk result (λ heard. heard ≡ Heard.Taken → remote_refusal self.now player frame ≡ None) }
+        ensures refused { IfErr result (λ why. remote_refusal self.now player frame ≡ Some why) }
+        ensures new { OnErr result (is_repeated self.now.players player frame word ≡ false) }
+    {
+        let Some(queue) = queue_of(&self.queues, player) else {
+            return Err(Refusal::InvalidPlayer);
+        };
+        queue.reply(past, usize::from(player) - 1, frame, word)
+    }
+
+    /// Takes the next word of a remote player, or sees that it was taken before. `past` is the settled rows.
+    pub fn remote(
+        &mut self,
+        past: &[Row],
+        player: u8,
+        frame: u32,
+        word: u32,
+    ) -> Result<Heard, Refusal>
+        requires past { past.now ≡ timeline self.old.players self.old.settled }
+        ensures heard { IfOk result (λ heard. heard ≡ (if is_repeated self.old.players player frame word then Heard.Repeated else Heard.Taken)) }
+        ensures accepted { IfOk result (λ heard. heard ≡ Heard.Taken → remote_refusal self.old player frame ≡ None) }
+        ensures words { OnOk result (self.new ≡ (if is_repeated self.old.players player frame word then self.old else with_player (with_words (word ∷ [])) self.old player)) }
+        ensures refused { IfErr result (λ why. remote_refusal self.old player frame ≡ Some why) }
+        ensures new { OnErr result (is_repeated self.old.players player frame word ≡ false) }
+        ensures unchanged { OnErr result (self.new ≡ self.old) }
+        ensures cells { KeepsCells self.old.players self.new.players player }
+        ensures rows { timeline self.new.players self.old.settled ≡ timeline self.old.players self.old.settled }
+    {
+        let heard = self.remote_reply(past, player, frame, word)?;
+        if heard == Heard::Taken {
+            self.queues[usize::from(player) - 1].hear(word);
+        }
+        Ok(heard)
+    }
+
+    /// Why a disconnect would be refused now, if it would.
+    pub fn disconnect_refusal(&self, player: u8) -> Option<Refusal>
+        ensures { result ≡ disconnect_refusal self.now player }
+    {
+        let Some(queue) = queue_of(&self.queues, player) else {
+            return Some(Refusal::InvalidPlayer);
+        };
+        if queue.is_local() {
+            Some(Refusal::InvalidPlayer)
+        } else if queue.is_gone() {
+            Some(Refusal::PlayerDisconnected)
+        } else {
+            None
+        }
+    }
+
+    /// A remote player leaves.
+    pub fn disconnect(&mut self, player: u8) -> Result<(), Refusal>
+        ensures accepted { OnOk result (disconnect_refusal self.old player ≡ None) }
+        ensures gone { OnOk result (self.new ≡ with_player with_gone self.old player) }
+        ensures refused { IfErr result (λ why. disconnect_refusal self.old player ≡ Some why) }
+        ensures unchanged { OnErr result (self.new ≡ self.old) }
+        ensures cells { KeepsCells self.old.players self.new.players player }
+        ensures rows { timeline self.new.players self.old.settled ≡ timeline self.old.players self.old.settled }
+    {
+        if let Some(why) = self.disconnect_refusal(player) {
+            return Err(why);
+        }
+        self.queues[usize::from(player) - 1].leave();
+        Ok(())
+    }
+
+    /// Begins the next frame, with no word given.
+    pub fn next(&mut self)
+        requires given { IsTrue (all_given self.old.players) }
+        requires near { self.old.frame ≤ self.old.settled + self.old.threshold }
+        ensures begun { self.new ≡ record self.old { frame = self.old.frame + 1; players = map with_none_given self.old.players } }
+        ensures rows { timeline self.new.players self.old.settled ≡ timeline self.old.players self.old.settled }
+    {
+        self.frame += 1;
+        start_frames(&mut self.queues);
+    }
+
+    /// The current frame.
+    pub fn frame(&self) -> u32
+        ensures { result ≡ self.now.frame }
+    {
+        self.frame
+    }
+
+    /// The settled frame: the rows below it are settled.
+    pub fn settled(&self) -> u32
+        ensures { result ≡ self.now.settled }
+    {
+        self.settled
+    }
+
+    /// Whether each local player has given its word of this frame.
+    pub fn ready(&self) -> bool
+        ensures { result ≡ all_given self.now.players }
+    {
+        !is_missing(&self.queues)
+    }
+
+    /// The timeline's row of a frame.
+    pub fn row(&self, frame: u32) -> Row
+        requires { self.now.settled ≤ frame }
+        ensures { result ≡ row_of self.now.players frame }
+    {
+        row_at(&self.queues, frame)
+    }
+
+    /// How many rows are confirmed by all players that are not gone.
+    pub fn front(&self) -> u32
+        ensures { result ≡ front_of self.now.players }
+    {
+        front(&self.queues)
+    }
+
+    /// How many words of a player are confirmed.
+    pub fn count(&self, player: u8) -> u32
+        requires some { 1 ≤ player }
+        requires few { player ≤ length self.now.players }
+        ensures { result ≡ count_of self.now.players player }
+    {
+        self.queues[usize::from(player) - 1].count()
+    }
+
+    /// Settles the rows below a frame: their words are let go.
+    pub fn settle(&mut self, to: u32)
+        requires reached { self.old.settled ≤ to }
+        requires confirmed { to ≤ min (front_of self.old.players) self.old.frame }
+        ensures { self.new ≡ record self.old { settled = to } }
+    {
+        settle_all(&mut self.queues, to);
+        self.settled = to;
+    }
+}

@@ -1,0 +1,13 @@
+//! The inputs of a session: confirmed words in rings that are made once, and the timeline that follows from them.
+#![tactic(auto)]
+
+mod board;
+mod heard;
+mod history;
+mod queue;
+mod queues;
+#[cfg(test)]
+mod tests;
+
+pub use board::Board;
+pub use heard::Heard;

@@ -1,0 +1,204 @@
+//! One player's input queue.
+ghost use Rattle.std.specs.Prelude.{◌≡◌, ◌+◌, ◌<◌, ◌≤◌, ◌^◌, IfOk, length, [], ◌∷◌, ◌==◌, slice_index, if◌then◌else◌, Some, None, false, IfErr, OnErr};
+ghost use Rattle.roll_frame.specs.Inputs.{is_repeated, remote_tests, with_words, with_given, with_gone, with_none_given};
+ghost use Rattle.roll_frame.specs.Refusals.{first_refusal};
+ghost use Rattle.roll_frame.specs.Settings.{first_player, delay_at};
+ghost use Rattle.roll_frame.specs.Timeline.{cell_at};
+
+use crate::heard::Heard;
+use crate::history::History;
+use circular_buffer::HeapCircularBuffer;
+use roll_frame::{Cell, DELAY_LIMIT, PLAYER_LIMIT, QUEUE_LIMIT, Refusal, Row, Settings};
+use std::alloc::{AllocError, Global};
+use std::marker::Model;
+
+/// What is known of one player. The ring has the confirmed words from a frame on.
+#[derive(Drop)]
+pub(crate) struct Queue {
+    ring: HeapCircularBuffer<u32>,
+    from: u32,
+    count: u32,
+    last: u32,
+    mask: u32,
+    local: bool,
+    gone: bool,
+    given: bool,
+    history: History,
+}
+
+impl Model for Queue {
+    ghost use Rattle.roll_inputs.specs.Queues.{Known, known, IsQueue};
+
+    ghost Value = { Known };
+
+    ghost view = { known };
+
+    ghost invariant = { IsQueue };
+}
+
+impl Queue {
+    ghost use Rattle.roll_inputs.specs.Queues.{HasPast};
+
+    /// A player at the start, with a zero for each frame of delay.
+    pub(crate) fn new(alloc: Global, settings: &Settings, place: u8) -> Result<Queue, AllocError>
+        requires place { place < PLAYER_LIMIT }
+        requires delay { delay_at settings.now place ≤ DELAY_LIMIT }
+        ensures { IfOk result (λ q. q ≡ record { player = first_player settings.now place; from = 0 }) }
+    {
+        let mut queue = Queue {
+            ring: HeapCircularBuffer::with_capacity(alloc, QUEUE_LIMIT)?,
+            from: 0,
+            count: 0,
+            last: 0,
+            mask: settings.masks[usize::from(place)],
+            local: settings.is_local(place),
+            gone: false,
+            given: false,
+            history: History::new(),
+        };
+        for _ in 0..settings.delays[usize::from(place)] {
+            queue.hear(0);
+        }
+        Ok(queue)
+    }
+
+    pub(crate) fn is_local(&self) -> bool
+        ensures { result ≡ self.now.player.local }
+    {
+        self.local
+    }
+
+    pub(crate) fn is_gone(&self) -> bool
+        ensures { result ≡ self.now.player.gone }
+    {
+        self.gone
+    }
+
+    /// Whether the word of this frame was given.
+    pub(crate) fn is_given(&self) -> bool
+        ensures { result ≡ self.now.player.given }
+    {
+        self.given
+    }
+
+    /// How many words are confirmed.
+    pub(crate) fn count(&self) -> u32
+        ensures { result ≡ length self.now.player.words }
+    {
+        self.count
+    }
+
+    /// The cell of a frame: confirmed, gone or predicted.
+    pub(crate) fn cell(&self, frame: u32) -> Cell
+        requires { self.now.from ≤ frame }
+        ensures { result ≡ cell_at frame self.now.player }
+    {
+        if frame < self.count {
+            match self.ring.get((frame - self.from) as usize) {
+                Some(word) => Cell::Word(*word),
+                None => unreachable!(),
+            }
+        } else if self.gone {
+            Cell::Gone
+        } else {
+            Cell::Word(self.last & self.mask)
+        }
+    }
+
+    /// Whether the word of a confirmed frame is this one. `past` has the rows below the ring's first frame, with the
+    /// player's cells at a place.
+    pub(crate) fn has(&self, past: &[Row], place: usize, frame: u32, word: u32) -> bool
+        requires past { HasPast self.now past.now place }
+        requires confirmed { frame < length self.now.player.words }
+        ensures { result ≡ (slice_index self.now.player.words frame == word) }
+    {
+        if frame < self.from {
+            past[frame as usize].get(place) == Some(Cell::Word(word))
+        } else {
+            self.cell(frame) == Cell::Word(word)
+        }
+    }
+
+    /// What a remote word is answered, by the tests of this player alone. `past` as in `has`.
+    pub(crate) fn reply(
+        &self,
+        past: &[Row],
+        place: usize,
+        frame: u32,
+        word: u32,
+    ) -> Result<Heard, Refusal>
+        requires past { HasPast self.now past.now place }
+        requires ahead { self.now.player.gone ≡ false → self.now.from ≤ length self.now.player.words }
+        ensures heard { IfOk result (λ heard. heard ≡ (if is_repeated (self.now.player ∷ []) 1 frame word then Heard.Repeated else Heard.Taken)) }
+        ensures accepted { IfOk result (λ heard. heard ≡ Heard.Taken → first_refusal (remote_tests (self.now.player ∷ []) self.now.from 1 frame) ≡ None) }
+        ensures refused { IfErr result (λ why. first_refusal (remote_tests (self.now.player ∷ []) self.now.from 1 frame) ≡ Some why) }
+        ensures new { OnErr result (is_repeated (self.now.player ∷ []) 1 frame word ≡ false) }
+    {
+        if self.local {
+            Err(Refusal::InvalidPlayer)
+        } else if self.gone {
+            Err(Refusal::PlayerDisconnected)
+        } else if frame < self.count {
+            if self.has(past, place, frame, word) {
+                Ok(Heard::Repeated)
+            } else {
+                Err(Refusal::Conflict)
+            }
+        } else if frame > self.count {
+            Err(Refusal::Gap)
+        } else if (self.count - self.from) as usize >= QUEUE_LIMIT {
+            Err(Refusal::QueueFull)
+        } else {
+            Ok(Heard::Taken)
+        }
+    }
+
+    /// Confirms the next word.
+    pub(crate) fn hear(&mut self, word: u32)
+        requires ahead { self.old.from ≤ length self.old.player.words }
+        requires room { length self.old.player.words < self.old.from + QUEUE_LIMIT }
+        requires fits { length self.old.player.words + 1 < 2 ^ 32 }
+        ensures { self.new ≡ record self.old { player = with_words (word ∷ []) self.old.player } }
+    {
+        self.ring.push_back(word);
+        self.history = self.history.and(&word);
+        self.count += 1;
+        self.last = word;
+    }
+
+    /// Confirms the next word, which is that of this frame.
+    pub(crate) fn give(&mut self, word: u32)
+        requires ahead { self.old.from ≤ length self.old.player.words }
+        requires room { length self.old.player.words < self.old.from + QUEUE_LIMIT }
+        requires fits { length self.old.player.words + 1 < 2 ^ 32 }
+        ensures { self.new ≡ record self.old { player = with_given word self.old.player } }
+    {
+        self.hear(word);
+        self.given = true;
+    }
+
+    /// The player leaves.
+    pub(crate) fn leave(&mut self)
+        ensures { self.new ≡ record self.old { player = with_gone self.old.player } }
+    {
+        self.gone = true;
+    }
+
+    /// Begins a frame, with no word given.
+    pub(crate) fn start_frame(&mut self)
+        ensures { self.new ≡ record self.old { player = with_none_given self.old.player } }
+    {
+        self.given = false;
+    }
+
+    /// Lets go of the words below a frame.
+    pub(crate) fn settle(&mut self, to: u32)
+        requires { self.old.from ≤ to }
+        ensures { self.new ≡ record self.old { from = to } }
+    {
+        let settled = (to - self.from) as usize;
+        let left = self.ring.len().saturating_sub(settled);
+        self.ring.truncate_front(left);
+        self.from = to;
+    }
+}
