@@ -7,3 +7,6 @@ pub mod Walks
 pub mod Cuts
 pub mod Way
 pub mod Lists
+pub mod Rules
+pub mod Tests
+pub mod Pruning

@@ -1,5 +1,6 @@
 -- Lists of paths: which are among them, and the longest that some rows begin with.
 use Rattle.std.proofs.Common.{◌≡◌, ◌⊎◌, ◌||◌, ℕ, ◌+◌, ◌-◌, ◌≤◌, List, [], ◌∷◌, length, take, map, max, Bool, true, false, cond, Option, Some, None, refl, sym, ap, subst, ◌∙◌, inl, inr, arith, length-take, eqb}
+use Rattle.std.specs.Prelude.{IsSomeAnd}
 use Rattle.std.specs.List.{find}
 use Rattle.std.proofs.lemmas.List.{take_all}
 use Rattle.std.proofs.lemmas.Option.{none-some, same_Some}
@@ -46,3 +47,22 @@ module _ {S : Type 0} where
   -- the path of a state that is held is one of the paths
   pub held_path : (t : Kept S) (name : ℕ) (s : Saved S) → held t name ≡ Some s → contains (paths_of t) s.path ≡ true
   held_path t name s e = found_path t.states name s e
+
+  -- the state on the way of some rows is that of the rows where it is as long
+  pub reached : (t : Kept S) (name : ℕ) (rows : Rows) → IsSomeAnd (held t name) (λ s. s.path ≡ take (longest (paths_of t) rows) rows) → longest (paths_of t) rows ≡ length rows → contains (paths_of t) rows ≡ true
+  reached t name rows here whole = go (held t name) refl here
+    where
+      go : (o : Option (Saved S)) → held t name ≡ o → IsSomeAnd o (λ s. s.path ≡ take (longest (paths_of t) rows) rows) → contains (paths_of t) rows ≡ true
+      go None e h = absurd (some_and_none h)
+        where
+          some_and_none : IsSomeAnd None (λ (s : Saved S). s.path ≡ take (longest (paths_of t) rows) rows) → ⊥
+          some_and_none k = elim k [ ]
+      go (Some s) e h =
+          subst (λ (p : Rows). contains (paths_of t) p ≡ true) (h ∙ ap (λ (n : ℕ). take n rows) whole ∙ take_all (length rows) rows (omega arith)) (held_path t name s e)
+
+  pub not_reached : (t : Kept S) (rows : Rows) → (longest (paths_of t) rows ≡ length rows → ⊥) → contains (paths_of t) rows ≡ false
+  not_reached t rows short = go (cases_Bool (contains (paths_of t) rows))
+    where
+      go : (contains (paths_of t) rows ≡ true) ⊎ (contains (paths_of t) rows ≡ false) → contains (paths_of t) rows ≡ false
+      go (inl there) = absurd (short (omega (arith, longest_has (paths_of t) rows there, longest_within (paths_of t) rows)))
+      go (inr out) = out

@@ -168,7 +168,7 @@ impl<S> Tree<S> {
         ensures found { IfSome result (λ name. IsSomeAnd (held self.now name) (λ s. s.path ≡ path.now.rows.items)) }
         ensures when { is_some result ≡ contains (paths_of self.now) path.now.rows.items }
     {
-        let (node, end) = self.longest(&path.rows);
+        let (node, end) = self.longest(path.rows.as_slice());
         if u64::from(end) == path.frames() {
             Some(node)
         } else {
