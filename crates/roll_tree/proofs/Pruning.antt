@@ -11,14 +11,14 @@ use Rattle.roll_frame.specs.declared.limits.TheConstants.{TREE_LIMIT}
 use Rattle.roll_frame.specs.Cells.{Rows}
 use Rattle.roll_frame.specs.Paths.{begins_with}
 use Rattle.roll_tree.specs.Kept.{Saved, Kept, held, later, has_other}
-use Rattle.roll_tree.specs.Layout.{node_at, kept_of, IsAfter, AreOrdered, IsTree}
+use Rattle.roll_tree.specs.Layout.{node_at, saved_of, kept_of, IsAfter, AreOrdered, IsTree}
 use Rattle.roll_tree.specs.Rule.{IsLive, IsPruned}
 use Rattle.roll_tree.specs.declared.node.Node.{Node}
 use Rattle.roll_tree.specs.declared.prune.Rule.TheVariants.{Any, Agrees}
 use Rattle.roll_tree.specs.declared.tree.Tree.TheInside.{Inside}
 use Rattle.roll_tree.proofs.Names.{option_cases}
 use Rattle.roll_tree.proofs.Nodes.{path_at, path_at-top, length-path_at}
-use Rattle.roll_tree.proofs.States.{states_at, base_is, held_node}
+use Rattle.roll_tree.proofs.States.{states_at, held_at, held_node}
 use Rattle.roll_tree.proofs.Cuts.{detached}
 use Rattle.roll_tree.proofs.Rules.{live_by, is_live, left_states, left_tree}
 use Rattle.roll_tree.proofs.Tests.{cut_rule, settle_rule}
@@ -96,11 +96,24 @@ module _ {S : Type 0} (t : Inside S) (tree : IsTree t) (top : ℕ) (first : Node
       ∙ ap (λ (p : Rows). map (later (length p)) (filter (λ s. begins_with s.path p) (states_at t.base t.nodes.slots t.order.items))) path
       ∙ ap (λ (k : Kept S). map (later (length to)) (filter (λ s. begins_with s.path to) k.states)) view
 
+-- the node of a state that was found
+pub found_node : {S : Type 0} (t : Inside S) (kept : Kept S) (name : ℕ) (to : Rows) → kept_of t ≡ kept → IsTree t → IsSomeAnd (held kept name) (λ s. s.path ≡ to) → (node : Node S) × (node_at t.nodes.slots name ≡ Some node) × (path_at t.base t.nodes.slots node ≡ to)
+found_node {S} t kept name to view tree found = go (option_cases (node_at t.nodes.slots name))
+  where
+    nowhere : IsSomeAnd None (λ (s : Saved S). s.path ≡ to) → ⊥
+    nowhere h = elim h [ ]
+
+    go : (node_at t.nodes.slots name ≡ None) ⊎ ((node : Node S) × (node_at t.nodes.slots name ≡ Some node)) → (node : Node S) × (node_at t.nodes.slots name ≡ Some node) × (path_at t.base t.nodes.slots node ≡ to)
+    go (inl none) = absurd (nowhere (subst (λ (o : Option (Saved S)). IsSomeAnd o (λ s. s.path ≡ to)) (held_at t kept name view tree ∙ ap (option_map (saved_of t.base t.nodes.slots name)) none) found))
+    go (inr some) = (some.0, some.1, subst (λ (o : Option (Saved S)). IsSomeAnd o (λ s. s.path ≡ to)) (held_node t kept name some.0 view tree some.1) found)
+
+module _ {S : Type 0} (old mid : List (Option (Node S))) (top : ℕ) (first : Node S) (at_top : node_at mid top ≡ Some (detached first)) (others : (name : ℕ) → name ≢ top → node_at mid name ≡ node_at old name) where
   -- names stay in order where a node loses its edge
-  pub detached_order : (above names : List ℕ) → AreOrdered t.nodes.slots above names → AreOrdered mid.slots above names
+  pub detached_order : (above names : List ℕ) → AreOrdered old above names → AreOrdered mid above names
   detached_order above [] ordered = tt
   detached_order above (n ∷ names) ordered = (go (cases_eq n top), detached_order (above ++ n ∷ []) names ordered.1)
     where
-      go : (n ≡ top) ⊎ (n ≡ top → ⊥) → IsAfter mid.slots above n
-      go (inl same) = record { once = ordered.0.once; node = detached first; node_is = ap (get mid) same ∙ at_top; parent = λ e is. absurd (none-some e is) }
+      go : (n ≡ top) ⊎ (n ≡ top → ⊥) → IsAfter mid above n
+      go (inl same) = record { once = ordered.0.once; node = detached first; node_is = ap (node_at mid) same ∙ at_top; parent = λ e is. absurd (none-some e is) }
       go (inr differs) = record { once = ordered.0.once; node = ordered.0.node; node_is = others n differs ∙ ordered.0.node_is; parent = ordered.0.parent }
+
