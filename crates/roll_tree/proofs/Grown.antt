@@ -1,10 +1,10 @@
 -- A tree that gains a node.
-use Rattle.std.proofs.Common.{◌≡◌, ◌≢◌, ◌⊎◌, ℕ, zero, suc, ◌+◌, ◌-◌, ◌<◌, ◌≤◌, List, [], ◌∷◌, ◌++◌, length, Bool, true, false, Option, Some, None, IsSome, refl, sym, ap, subst, ◌∙◌, inl, inr, arith, length-append, append-nil, append_assoc, vec_capacity}
+use Rattle.std.proofs.Common.{◌≡◌, ◌≢◌, ◌⊎◌, ℕ, zero, suc, ◌+◌, ◌-◌, ◌<◌, ◌≤◌, List, [], ◌∷◌, ◌++◌, length, Bool, true, false, Option, Some, None, IsSome, refl, sym, ap, subst, ◌∙◌, inl, inr, arith, length-append, append-nil, append_assoc, vec_capacity, eqb}
 use Rattle.std.specs.Prelude.{option_map}
 use Rattle.std.specs.List.{filter_map}
 use Rattle.std.proofs.lemmas.List.Elements.{filter_map-append}
 use Rattle.std.proofs.lemmas.Option.{none-some, same_Some}
-use Rattle.std.proofs.lemmas.Bool.{cases_eq, cases_lt, false≢true}
+use Rattle.std.proofs.lemmas.Bool.{cases_eq, false≢true, or_left, eq-eqb}
 use Rattle.slab.specs.Slab.{slab_len}
 use Rattle.roll_frame.specs.declared.row.Cell.{Cell}
 use Rattle.roll_frame.specs.declared.limits.TheConstants.{PATH_LIMIT, TREE_LIMIT}
@@ -202,3 +202,34 @@ module _ {S : Type 0} where
       ∙ grown_states t.base t.nodes.slots u.nodes.slots name child parent edge tree.links grown t.order.items tree.ordered
       ∙ ap (λ (x : Saved S). states_at t.base t.nodes.slots t.order.items ++ (record { name = name; path = x.path ++ edge.row ∷ []; snapshot = child.snapshot }) ∷ []) above in
       subst (λ (k : Kept S). kept_of u ≡ with_state k (record { name = name; path = s.path ++ edge.row ∷ []; snapshot = child.snapshot })) view (λ i. record { base = base i; root = root i; states = states i })
+
+  -- a tree of a root alone
+  pub new_tree : (u : Inside S) (node : Node S) → node_at u.nodes.slots u.root ≡ Some node → ((other : ℕ) → other ≢ u.root → node_at u.nodes.slots other ≡ None) → node.edge ≡ None → node.end ≡ u.base → u.order.items ≡ u.root ∷ [] → slab_len u.nodes ≡ 1 → TREE_LIMIT ≤ u.nodes.capacity → TREE_LIMIT ≤ vec_capacity u.order → IsTree u
+  new_tree u node found others edge end order len room space = record {
+    links = record {
+      low = λ k other at. omega (arith, only k other at);
+      high = λ k other at. omega (arith, only k other at);
+      top = λ k other at flat. (only k other at).1;
+      linked = λ k other at deep. absurd (omega (arith, (only k other at).0, deep));
+    };
+    distinct = λ j k m n atj atk e. named j m atj ∙ sym (named k n atk);
+    rooted = ap (option_map (λ (n : Node S). n.end)) found ∙ ap Some end;
+    listed = λ k other at. ap (λ (l : List ℕ). has_name l k) (order ∙ ap (λ (r : ℕ). r ∷ []) (sym (named k other at))) ∙ or_left (eqb k k) false (eq-eqb k k refl);
+    ordered = subst (AreOrdered u.nodes.slots []) (sym order) (record { once = refl; node = node; node_is = found; parent = λ e is. absurd (none-some e (sym edge ∙ is)) }, tt);
+    counted = ap (λ (l : List ℕ). length l) order ∙ sym len;
+    few = omega (arith, len);
+    room = room;
+    space = space;
+  }
+    where
+      named : (k : ℕ) (other : Node S) → node_at u.nodes.slots k ≡ Some other → k ≡ u.root
+      named k other at = go (cases_eq k u.root)
+        where
+          go : (k ≡ u.root) ⊎ (k ≡ u.root → ⊥) → k ≡ u.root
+          go (inl same) = same
+          go (inr differs) = absurd (none-some other (sym (others k differs) ∙ at))
+
+      only : (k : ℕ) (other : Node S) → node_at u.nodes.slots k ≡ Some other → (other.end ≡ u.base) × (other.edge ≡ None)
+      only k other at =
+          let same : node ≡ other = same_Some _ _ (sym found ∙ ap (node_at u.nodes.slots) (sym (named k other at)) ∙ at) in
+          (sym (ap (λ (n : Node S). n.end) same) ∙ end, sym (ap (λ (n : Node S). n.edge) same) ∙ edge)

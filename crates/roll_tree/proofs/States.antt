@@ -1,10 +1,13 @@
 -- The states of a tree, from its nodes.
-use Rattle.std.proofs.Common.{◌≡◌, ◌≢◌, ◌⊎◌, ◌||◌, ℕ, ◌+◌, ◌-◌, ◌<◌, ◌≤◌, List, [], ◌∷◌, ◌++◌, length, take, map, max, min, Bool, true, false, cond, Option, Some, None, IsSome, is_some, refl, sym, ap, subst, ◌∙◌, inl, inr, arith, eqb}
+use Rattle.std.proofs.Common.{◌≡◌, ◌≢◌, ◌⊎◌, ◌||◌, ℕ, zero, suc, get_or, ◌+◌, ◌-◌, ◌<◌, ◌≤◌, List, [], ◌∷◌, ◌++◌, length, take, map, max, min, Bool, true, false, cond, Option, Some, None, IsSome, is_some, refl, sym, ap, subst, ◌∙◌, inl, inr, arith, eqb}
 use Rattle.std.specs.Prelude.{option_map, IsSomeAnd}
 use Rattle.std.specs.List.{find, filter_map, list_any}
 use Rattle.std.proofs.lemmas.Bool.{false≢true, cases_Bool, cases_lt, or_cases, or_left, or_right, eqb-true, eq-eqb}
 use Rattle.std.proofs.lemmas.List.{take_all}
 use Rattle.std.proofs.lemmas.Option.{none-some, same_Some}
+use Rattle.std.specs.Prelude.{All}
+use Rattle.std.proofs.lemmas.List.Elements.{All-cons}
+use Rattle.roll_frame.specs.declared.limits.TheConstants.{PATH_LIMIT}
 use Rattle.roll_frame.specs.Cells.{Rows, rows_eq, rows_eq-Decides}
 use Rattle.roll_frame.specs.Paths.{begins_with, contains, longest}
 use Rattle.roll_tree.specs.Kept.{Saved, Kept, held, paths_of, IsClosed, IsDistinct}
@@ -201,3 +204,26 @@ module _ {S : Type 0} where
       go (inr some) =
           let end : some.0.end ≡ t.base = same_Some _ _ (ap (option_map (λ (n : Node S). n.end)) (sym some.1) ∙ tree.rooted) in
           rw (held_node t kept t.root some.0 view tree some.1) (path_at-top t.base t.nodes.slots some.0 end)
+
+  short_at : (base : ℕ) (slots : List (Option (Node S))) (names : List ℕ) → AreLinked base slots → All (λ (s : Saved S). length s.path ≤ PATH_LIMIT) (states_at base slots names)
+  short_at base slots [] links = λ k d within. absurd (omega arith)
+  short_at base slots (n ∷ names) links = go (option_cases (node_at slots n)) (short_at base slots names links)
+    where
+      go : (node_at slots n ≡ None) ⊎ ((node : Node S) × (node_at slots n ≡ Some node)) → All (λ (s : Saved S). length s.path ≤ PATH_LIMIT) (states_at base slots names) → All (λ (s : Saved S). length s.path ≤ PATH_LIMIT) (states_at base slots (n ∷ names))
+      go (inl none) ih = subst (All (λ (s : Saved S). length s.path ≤ PATH_LIMIT)) (sym (states-none base slots n names none)) ih
+      go (inr some) ih =
+          subst (All (λ (s : Saved S). length s.path ≤ PATH_LIMIT)) (sym (states-some base slots n names some.0 some.1))
+            (All-cons (λ (s : Saved S). length s.path ≤ PATH_LIMIT) (saved_of base slots n some.0) (states_at base slots names)
+              (omega (arith, length-path_at base slots links n some.0 some.1, links.high n some.0 some.1)) ih)
+
+  pub are_short : (t : Inside S) (kept : Kept S) → kept_of t ≡ kept → IsTree t → All (λ (s : Saved S). length s.path ≤ PATH_LIMIT) kept.states
+  are_short t kept view tree = subst (λ (k : Kept S). All (λ (s : Saved S). length s.path ≤ PATH_LIMIT) k.states) view (short_at t.base t.nodes.slots t.order.items tree.links)
+
+  -- the path at a place is that of the node of the name there
+  pub path_in : (base : ℕ) (slots : List (Option (Node S))) (above names : List ℕ) → AreOrdered slots above names → (i : ℕ) (node : Node S) → i < length names → node_at slots (get_or names i 0) ≡ Some node → get_or (paths_at base slots names) i [] ≡ path_at base slots node
+  path_in base slots above [] ordered i node within found = absurd (omega arith)
+  path_in base slots above (n ∷ names) ordered zero node within found =
+      ap (λ (l : List (Saved S)). get_or (map (λ s. s.path) l) 0 []) (states-some base slots n names node found)
+  path_in base slots above (n ∷ names) ordered (suc i) node within found =
+      ap (λ (l : List (Saved S)). get_or (map (λ s. s.path) l) (suc i) []) (states-some base slots n names ordered.0.node ordered.0.node_is)
+      ∙ path_in base slots (above ++ n ∷ []) names ordered.1 i node (omega (arith, within)) found

@@ -1,7 +1,8 @@
 -- A walk from a node up to the root, which collects its rows.
-use Rattle.std.proofs.Common.{◌≡◌, ℕ, ◌+◌, ◌-◌, ◌<◌, ◌≤◌, List, [], ◌∷◌, ◌++◌, length, Option, Some, None, refl, sym, ap, ◌∙◌, arith, append-nil, append_assoc, length-append}
+use Rattle.std.proofs.Common.{◌≡◌, ℕ, ◌+◌, ◌-◌, ◌<◌, ◌≤◌, List, [], ◌∷◌, ◌++◌, length, take, drop, Option, Some, None, refl, sym, ap, ◌∙◌, arith, append-nil, append_assoc, length-append}
 use Rattle.std.specs.Prelude.{reverse}
-use Rattle.std.proofs.lemmas.List.{reverse-append}
+use Rattle.std.specs.List.{refill}
+use Rattle.std.proofs.lemmas.List.{reverse-append, take-append-le, take_all}
 use Rattle.roll_frame.specs.declared.limits.TheConstants.{PATH_LIMIT}
 use Rattle.roll_frame.specs.declared.row.Cell.{Cell}
 use Rattle.roll_frame.specs.Cells.{Rows}
@@ -9,6 +10,12 @@ use Rattle.roll_tree.specs.Layout.{node_at, AreLinked, HasParent}
 use Rattle.roll_tree.specs.declared.node.Edge.{Edge}
 use Rattle.roll_tree.specs.declared.node.Node.{Node}
 use Rattle.roll_tree.proofs.Nodes.{path_at, path_at-below, path_at-top, no_edge, with_edge}
+
+-- rows that take the place of as many are what is there then
+pub refilled : (old new : Rows) → length new ≡ length old → refill (length old) old new ≡ new
+refilled old new same =
+    take-append-le (length old) new (drop (length new) old) (omega (arith, same))
+    ∙ take_all (length old) new (omega (arith, same))
 
 module _ {S : Type 0} where
   pub record IsWalk (base : ℕ) (slots : List (Option (Node S))) (start at : ℕ) (rows : Rows) : Type 0 where

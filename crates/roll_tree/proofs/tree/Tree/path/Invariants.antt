@@ -5,8 +5,8 @@ use Rattle.roll_tree.proofs.Walks.{IsWalk}
 use Rattle.roll_tree.proofs.tree.Tree.path.Given as goal
 
 -- the rows so far, last first, lead on from the node where the walk stands
-abbrev pub invariant-loop-self : goal.invariant-loop-self
-invariant-loop-self g l = IsWalk l.self-inside.base l.self-inside.nodes.slots l.node l.at l.rows.items
+abbrev pub invariant-loop-edge : goal.invariant-loop-edge
+invariant-loop-edge g l = IsWalk l.self-inside.base l.self-inside.nodes.slots l.node l.at l.rows.items
 
-abbrev pub decreases-loop-self : goal.decreases-loop-self
-decreases-loop-self g l = option_map_or (λ n. n.end) (node_at l.self-inside.nodes.slots l.at) 0 - l.self-inside.base
+abbrev pub decreases-loop-edge : goal.decreases-loop-edge
+decreases-loop-edge g l = option_map_or (λ n. n.end) (node_at l.self-inside.nodes.slots l.at) 0 - l.self-inside.base
