@@ -50,7 +50,7 @@ module _ {S : Type 0} where
         let at_top = root_stays t tree first.0 first.1 first.2 in
         let live = is_live t t.root first.0 (Agrees place frame cell) passes t.nodes tree rule at_top (λ name differs. refl) in
         left_tree t t.root first.0 (Agrees place frame cell) passes t.nodes tree rule at_top (λ name differs. refl) u.nodes u.order.items (pruned (live_by t t.root first.0 (Agrees place frame cell) passes) live)
-          u (base ∙ sym first.2) root refl refl refl room space
+        u (base ∙ sym first.2) root refl refl refl room space
 
     pub cut_view : (kept : Kept S) → kept_of t ≡ kept → kept_of u ≡ record kept { states = filter (λ s. not (has_other player (frame - kept.base) cell s.path)) kept.states }
     cut_view kept view =
@@ -61,10 +61,10 @@ module _ {S : Type 0} where
         let left = left_states t t.root first.0 (Agrees place frame cell) passes t.nodes tree rule at_top (λ name differs. refl) u.nodes u.order.items (pruned (live_by t t.root first.0 (Agrees place frame cell) passes) live) in
         let none : length (path_at t.base t.nodes.slots first.0) ≡ 0 = ap (λ (l : Rows). length l) (path_at-top t.base t.nodes.slots first.0 first.2) in
         let states : states_at u.base u.nodes.slots u.order.items ≡ filter passes (states_at t.base t.nodes.slots t.order.items) =
-            ap (λ (b : ℕ). states_at b u.nodes.slots u.order.items) (base ∙ sym first.2)
-            ∙ left
-            ∙ ap (λ (n : ℕ). map (later n) (filter passes (states_at t.base t.nodes.slots t.order.items))) none
-            ∙ later_none (filter passes (states_at t.base t.nodes.slots t.order.items)) in
+        ap (λ (b : ℕ). states_at b u.nodes.slots u.order.items) (base ∙ sym first.2)
+        ∙ left
+        ∙ ap (λ (n : ℕ). map (later n) (filter passes (states_at t.base t.nodes.slots t.order.items))) none
+        ∙ later_none (filter passes (states_at t.base t.nodes.slots t.order.items)) in
         subst (λ (k : Kept S). kept_of u ≡ record k { states = filter (λ s. not (has_other player (frame - k.base) cell s.path)) k.states }) view (λ i. record { base = base i; root = root i; states = states i })
 
 -- there is no player 0, so nothing differs there
@@ -84,7 +84,7 @@ module _ {S : Type 0} (t : Inside S) (tree : IsTree t) (top : ℕ) (first : Node
       let rule = settle_rule t tree top first first_is in
       let live = is_live t top first Any begins_there mid tree rule at_top others in
       left_tree t top first Any begins_there mid tree rule at_top others u.nodes u.order.items (pruned (live_by t top first Any begins_there) live)
-        u base root refl refl len room space
+      u base root refl refl len room space
 
   pub settle_view : (kept : Kept S) (to : Rows) → kept_of t ≡ kept → path_at t.base t.nodes.slots first ≡ to → (kept_of u).states ≡ map (later (length to)) (filter (λ s. begins_with s.path to) kept.states)
   settle_view kept to view path =
@@ -116,4 +116,3 @@ module _ {S : Type 0} (old mid : List (Option (Node S))) (top : ℕ) (first : No
       go : (n ≡ top) ⊎ (n ≡ top → ⊥) → IsAfter mid above n
       go (inl same) = record { once = ordered.0.once; node = detached first; node_is = ap (node_at mid) same ∙ at_top; parent = λ e is. absurd (none-some e is) }
       go (inr differs) = record { once = ordered.0.once; node = ordered.0.node; node_is = others n differs ∙ ordered.0.node_is; parent = ordered.0.parent }
-

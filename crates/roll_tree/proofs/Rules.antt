@@ -123,12 +123,16 @@ module _ {S : Type 0} (t : Inside S) (top : ℕ) (first : Node S) (rule : Rule) 
         where
           each : (name : ℕ) → has_name t.order.items name ≡ true → (s : Saved S) × (state_at t.base t.nodes.slots name ≡ Some s) × (live_by name ≡ passes s) × (live_by name ≡ true → state_at first.end new.slots name ≡ Some (later (length (path_at t.base t.nodes.slots first)) s))
           each name named =
-              let node = named_node t.nodes.slots [] t.order.items tree.ordered name named in
-              (state name node.0, ap (option_map (saved_of t.base t.nodes.slots name)) node.1, live_is name node.0 node.1, λ alive.
-                let left = left_at t.base top first live_by t.nodes.slots new.slots is_cut name node.0 node.1 alive in
-                let path : path_at first.end new.slots left.now ≡ drop (length (path_at t.base t.nodes.slots first)) (path_at t.base t.nodes.slots node.0) =
+              let node = named_node t.nodes.slots [] t.order.items tree.ordered name named in (
+                state name node.0,
+                ap (option_map (saved_of t.base t.nodes.slots name)) node.1,
+                live_is name node.0 node.1,
+                λ alive.
+                    let left = left_at t.base top first live_by t.nodes.slots new.slots is_cut name node.0 node.1 alive in
+                    let path : path_at first.end new.slots left.now ≡ drop (length (path_at t.base t.nodes.slots first)) (path_at t.base t.nodes.slots node.0) =
                     sym (ap (drop (length (path_at t.base t.nodes.slots first))) left.path_is ∙ drop-append_seam (path_at t.base t.nodes.slots first) (path_at first.end new.slots left.now)) in
-                ap (option_map (saved_of first.end new.slots name)) left.now_is ∙ ap Some (λ i. record { name = name; path = path i; snapshot = left.snapshot_is i }))
+                    ap (option_map (saved_of first.end new.slots name)) left.now_is ∙ ap Some (λ i. record { name = name; path = path i; snapshot = left.snapshot_is i }),
+              )
 
       pub left_tree : (u : Inside S) → u.base ≡ first.end → u.root ≡ top → u.nodes ≡ new → u.order.items ≡ kept → slab_len mid ≡ slab_len t.nodes → TREE_LIMIT ≤ new.capacity → TREE_LIMIT ≤ vec_capacity u.order → IsTree u
       left_tree u base root nodes order len room space =

@@ -213,8 +213,8 @@ module _ {S : Type 0} where
       go (inl none) ih = subst (All (λ (s : Saved S). length s.path ≤ PATH_LIMIT)) (sym (states-none base slots n names none)) ih
       go (inr some) ih =
           subst (All (λ (s : Saved S). length s.path ≤ PATH_LIMIT)) (sym (states-some base slots n names some.0 some.1))
-            (All-cons (λ (s : Saved S). length s.path ≤ PATH_LIMIT) (saved_of base slots n some.0) (states_at base slots names)
-              (omega (arith, length-path_at base slots links n some.0 some.1, links.high n some.0 some.1)) ih)
+          (All-cons (λ (s : Saved S). length s.path ≤ PATH_LIMIT) (saved_of base slots n some.0) (states_at base slots names)
+          (omega (arith, length-path_at base slots links n some.0 some.1, links.high n some.0 some.1)) ih)
 
   pub are_short : (t : Inside S) (kept : Kept S) → kept_of t ≡ kept → IsTree t → All (λ (s : Saved S). length s.path ≤ PATH_LIMIT) kept.states
   are_short t kept view tree = subst (λ (k : Kept S). All (λ (s : Saved S). length s.path ≤ PATH_LIMIT) k.states) view (short_at t.base t.nodes.slots t.order.items tree.links)
@@ -227,3 +227,11 @@ module _ {S : Type 0} where
   path_in base slots above (n ∷ names) ordered (suc i) node within found =
       ap (λ (l : List (Saved S)). get_or (map (λ s. s.path) l) (suc i) []) (states-some base slots n names ordered.0.node ordered.0.node_is)
       ∙ path_in base slots (above ++ n ∷ []) names ordered.1 i node (omega (arith, within)) found
+
+  -- a name that has a node is seen
+  pub held_of_node : (t : Inside S) (kept : Kept S) (name : ℕ) → kept_of t ≡ kept → IsTree t → IsSome (node_at t.nodes.slots name) → IsSome (held kept name)
+  held_of_node t kept name view tree h = go (node_at t.nodes.slots name) refl h
+    where
+      go : (o : Option (Node S)) → node_at t.nodes.slots name ≡ o → IsSome o → IsSome (held kept name)
+      go None e k = absurd (false≢true k)
+      go (Some node) e k = rw (held_node t kept name node view tree e) refl

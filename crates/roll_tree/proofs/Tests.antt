@@ -104,10 +104,10 @@ other_front base frame player place end cell path row low is deep = go (cases_lt
         ap not (named (path ++ row ∷ []) ∙ ap (differs_from cell) whole)
         ∙ agrees_not place cell row
         ∙ sym (ap (λ (b : Bool). not b && allows (Agrees place frame cell) end row) (named path ∙ ap (differs_from cell) front)
-          ∙ ap (λ (b : Bool). not b || agrees place cell row) last)
+        ∙ ap (λ (b : Bool). not b || agrees place cell row) last)
     go (inr past) (inr apart) =
         same (ap (λ (r : Option (List Cell)). cell_of_row r place) (slice_get_past (path ++ row ∷ []) (frame - base) (omega (arith, past, apart, length-append path (row ∷ [])))
-          ∙ sym (slice_get_past path (frame - base) past))) apart
+        ∙ sym (slice_get_past path (frame - base) past))) apart
 
 take_none : (n : ℕ) → let none : Rows = [] in take n none ≡ none
 take_none zero = refl
@@ -128,7 +128,7 @@ module _ {S : Type 0} (t : Inside S) (tree : IsTree t) where
     first_is = first_is;
     alive = ap (λ (p : Rows). not (has_other player (frame - t.base) cell p)) (path_at-top t.base t.nodes.slots first end) ∙ ap not (other_none player (frame - t.base) cell);
     lone = λ name node found differs none. absurd (differs (tree.distinct name t.root node first found first_is
-      (path_at-top t.base t.nodes.slots node (no_edge t.base t.nodes.slots tree.links name node found none) ∙ sym (path_at-top t.base t.nodes.slots first end))));
+        (path_at-top t.base t.nodes.slots node (no_edge t.base t.nodes.slots tree.links name node found none) ∙ sym (path_at-top t.base t.nodes.slots first end))));
     step = λ name node found differs up.
         let long = length-path_at t.base t.nodes.slots tree.links up.edge.parent up.parent up.parent_is in
         ap (λ (p : Rows). not (has_other player (frame - t.base) cell p)) (path_at-below t.base t.nodes.slots tree.links node up)

@@ -6,3 +6,6 @@ mod prune;
 mod tree;
 
 pub use tree::{Tree, TreeFull};
+
+#[cfg(test)]
+mod tests;

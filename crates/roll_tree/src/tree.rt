@@ -77,6 +77,13 @@ impl<S> Tree<S> {
         self.order.len()
     }
 
+    /// Whether a state of this name is kept.
+    pub fn contains(&self, node: usize) -> bool
+        ensures { IsTrue result ↔ IsSome (held self.now node) }
+    {
+        self.nodes.contains(node)
+    }
+
     /// The frame at which the root ends.
     pub fn base(&self) -> u32
         ensures { result ≡ self.now.base }

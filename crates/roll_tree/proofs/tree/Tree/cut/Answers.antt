@@ -19,7 +19,7 @@ returns-in_default g c =
       | inr none ↦ omega (arith, none)
     ] in
     subst (λ (player : ℕ). c.args.self.now ≡ record c.args.self.now { states = filter (λ s. not (has_other player (c.args.frame - c.args.self.now.base) c.args.cell s.path)) c.args.self.now.states }) (sym nobody)
-      (cut_nobody c.args.self.now (c.args.frame - c.args.self.now.base) c.args.cell)
+    (cut_nobody c.args.self.now (c.args.frame - c.args.self.now.base) c.args.cell)
 
 pub invariant_of-self : goal.invariant_of-self
 invariant_of-self g c =

@@ -43,9 +43,9 @@ loop-name-preserved g c =
     let after = ordered_at t.nodes.slots [] t.order.items c.self.invariant.ordered place within in
     let seen = held_node t kept (get_or t.order.items place 0) after.node c.self.view_is c.self.invariant after.node_is in
     let rows : path_at t.base t.nodes.slots after.node ≡ c.path.result.rows.items =
-        same_Some _ _ (sym (ap (option_map (λ (s : Saved g.row.S.Denot). s.path)) seen) ∙ (rw c.deref-name-items.ensures.value at c.path.ensures.rows)) in
+    same_Some _ _ (sym (ap (option_map (λ (s : Saved g.row.S.Denot). s.path)) seen) ∙ (rw c.deref-name-items.ensures.value at c.path.ensures.rows)) in
     let here : get_or (paths_of kept) place [] ≡ c.path.result.rows.items =
-        ap (λ (l : List Rows). get_or l place []) (paths_are t kept c.self.view_is) ∙ path_in t.base t.nodes.slots [] t.order.items c.self.invariant.ordered place after.node within after.node_is ∙ rows in
+    ap (λ (l : List Rows). get_or l place []) (paths_are t kept c.self.view_is) ∙ path_in t.base t.nodes.slots [] t.order.items c.self.invariant.ordered place after.node within after.node_is ∙ rows in
     let path : c.path.result ≡ path_of kept.base (get_or (paths_of kept) place []) = λ i. record { base = c.path.ensures.base i; rows = record { items = sym here i } } in
     let states = length-states t kept c.self.view_is c.self.invariant in
     let paths = length-map kept.states (λ (s : Saved g.row.S.Denot). s.path) in

@@ -39,12 +39,12 @@ loop-name-preserved g c =
     elim c.if-is_child.branch [
       | then-is_child w ↦
           rw (w.best-is, w.depth-is, c.deref-name-items.ensures.value)
-            (way_on t.base t.nodes.slots t.order.items rows tree.links tree.distinct tree.ordered place c.loop-name.best c.loop-name.depth within c.loop-name.invariant node found
-              read.0 (says ∙ w.if-is_child.true))
+          (way_on t.base t.nodes.slots t.order.items rows tree.links tree.distinct tree.ordered place c.loop-name.best c.loop-name.depth within c.loop-name.invariant node found
+          read.0 (says ∙ w.if-is_child.true))
       | else-is_child w ↦
           rw (w.best-is, w.depth-is)
-            (way_past t.base t.nodes.slots t.order.items rows tree.links tree.distinct tree.ordered place c.loop-name.best c.loop-name.depth within c.loop-name.invariant node found
-              (says ∙ w.if-is_child.false))
+          (way_past t.base t.nodes.slots t.order.items rows tree.links tree.distinct tree.ordered place c.loop-name.best c.loop-name.depth within c.loop-name.invariant node found
+          (says ∙ w.if-is_child.false))
     ]
 
 pub returns-clause-node : goal.returns-clause-node

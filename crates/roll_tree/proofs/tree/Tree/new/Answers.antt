@@ -16,9 +16,9 @@ invariant_of-result g c =
     let pushed = rw c.unwrap.ensures at c.push.ensures.items in
     let empty = ap (λ (l : List (Option (Node g.row.S.Denot))). l) c.in-Ok.ensures.empty in
     new_tree after node c.insert_reserved-root.ensures.updates.changed
-      (λ other differs. c.insert_reserved-root.ensures.updates.others other differs ∙ ap (λ (l : List (Option (Node g.row.S.Denot))). node_at l other) empty ∙ get_nothing other None)
-      refl refl
-      (pushed ∙ ap (λ (l : List ℕ). l ++ c.insert_reserved-root.result ∷ []) c.in-Ok-with_capacity.ensures.items)
-      (c.insert_reserved-root.ensures.len ∙ rw empty refl)
-      (omega (arith, c.insert_reserved-root.ensures.capacity, c.in-Ok.ensures.capacity))
-      (omega (arith, c.push.ensures.capacity, c.in-Ok-with_capacity.ensures.capacity))
+    (λ other differs. c.insert_reserved-root.ensures.updates.others other differs ∙ ap (λ (l : List (Option (Node g.row.S.Denot))). node_at l other) empty ∙ get_nothing other None)
+    refl refl
+    (pushed ∙ ap (λ (l : List ℕ). l ++ c.insert_reserved-root.result ∷ []) c.in-Ok-with_capacity.ensures.items)
+    (c.insert_reserved-root.ensures.len ∙ rw empty refl)
+    (omega (arith, c.insert_reserved-root.ensures.capacity, c.in-Ok.ensures.capacity))
+    (omega (arith, c.push.ensures.capacity, c.in-Ok-with_capacity.ensures.capacity))

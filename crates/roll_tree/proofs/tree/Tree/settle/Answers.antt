@@ -23,7 +23,7 @@ invariant_of-self g c =
     let after : Inside g.row.S.Denot = record { base = c.index.result.now.end; root = c.in-Some.top; nodes = c.prune.new.nodes; order = c.prune.new.order } in
     let lost = rw c.index.ensures at c.detach.ensures.changed in
     settle_tree c.self.inside c.self.invariant c.in-Some.top c.index.result.now c.index.ensures c.detach.new.nodes lost c.detach.ensures.others c.detach.ensures.len after refl refl c.prune.ensures.pruned
-      (omega (arith, c.prune.ensures.capacity, c.detach.ensures.capacity, c.self.invariant.room)) (omega (arith, c.prune.ensures.space, c.self.invariant.space))
+    (omega (arith, c.prune.ensures.capacity, c.detach.ensures.capacity, c.self.invariant.room)) (omega (arith, c.prune.ensures.space, c.self.invariant.space))
 
 pub returns-clause-base : goal.returns-clause-base
 returns-clause-base g c =
@@ -39,4 +39,4 @@ returns-clause-states g c =
     let found = found_node c.self.inside c.args.self.now c.in-Some.top c.args.to.now.rows.items c.self.view_is c.self.invariant c.in-Some.ensures.found in
     let same : found.0 ≡ c.index.result.now = same_Some _ _ (sym found.1 ∙ c.index.ensures) in
     settle_view c.self.inside c.self.invariant c.in-Some.top c.index.result.now c.index.ensures c.detach.new.nodes lost c.detach.ensures.others c.detach.ensures.len after refl refl c.prune.ensures.pruned
-      c.args.self.now c.args.to.now.rows.items c.self.view_is (ap (path_at c.self.inside.base c.self.inside.nodes.slots) (sym same) ∙ found.2)
+    c.args.self.now c.args.to.now.rows.items c.self.view_is (ap (path_at c.self.inside.base c.self.inside.nodes.slots) (sym same) ∙ found.2)
