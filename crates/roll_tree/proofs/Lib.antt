@@ -8,5 +8,5 @@ pub mod Cuts
 pub mod Way
 pub mod Lists
 pub mod Rules
-pub mod Tests
+pub mod Fronts
 pub mod Pruning

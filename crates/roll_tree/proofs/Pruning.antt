@@ -21,7 +21,7 @@ use Rattle.roll_tree.proofs.Nodes.{path_at, path_at-top, length-path_at}
 use Rattle.roll_tree.proofs.States.{states_at, held_at, held_node}
 use Rattle.roll_tree.proofs.Cuts.{detached}
 use Rattle.roll_tree.proofs.Rules.{live_by, is_live, left_states, left_tree}
-use Rattle.roll_tree.proofs.Tests.{cut_rule, settle_rule}
+use Rattle.roll_tree.proofs.Fronts.{cut_rule, settle_rule}
 
 module _ {S : Type 0} where
   later_none : (states : List (Saved S)) → map (later 0) states ≡ states

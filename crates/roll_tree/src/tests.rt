@@ -1,6 +1,7 @@
 use crate::{Tree, TreeFull};
 use roll_frame::{Cell, Path, Row, TREE_LIMIT};
 use std::alloc::Global;
+use std::mem;
 use std::process::Abort;
 use std::test::Fail;
 use std::time::Instant;
@@ -100,15 +101,24 @@ fn settles_and_cuts(rt: HostRuntime) -> Result<(), Fail> {
         .as_slice()
     );
     let to = path(5, &[row(1, 0)]);
-    assert!(rt; tree.find(&to) == Some(right) && to.base == tree.base());
+    assert_eq!(rt; found(&tree, &to), Some(right));
     settle(&mut tree, &to);
     assert_eq!(rt; (tree.base(), tree.root()), (6, right));
     assert_eq!(rt;
         tree.kept(rt.alloc())?.as_slice(),
         [path(6, &[]), path(6, &[row(2, 0)])].as_slice()
     );
-    assert_eq!(rt; tree.find(&path(6, &[row(2, 0)])), Some(next));
+    assert_eq!(rt; found(&tree, &path(6, &[row(2, 0)])), Some(next));
     Ok(())
+}
+
+// The kept state of a path, where the path has the tree's base.
+fn found(tree: &Tree<u32>, path: &Path) -> Option<usize> {
+    if path.base == tree.base() {
+        tree.find(path)
+    } else {
+        None
+    }
 }
 
 // Settles where it may.
@@ -145,6 +155,7 @@ struct Plain {
     snapshot: u32,
 }
 
+#[derive(Drop)]
 struct Random(u64);
 
 impl Random {
@@ -195,4 +206,174 @@ fn settled(plain: Vec<Plain>, to: &Path, alloc: Global) -> Result<Vec<Plain>, Fa
         }
     }
     Ok(left)
+}
+
+// The tree beside the plain list.
+#[derive(Drop)]
+struct Both {
+    alloc: Global,
+    tree: Tree<u32>,
+    plain: Vec<Plain>,
+    random: Random,
+}
+
+impl Both {
+    fn pick(&mut self) -> Option<&Plain> {
+        let place = self.random.below(self.plain.len());
+        self.plain.get(place)
+    }
+
+    fn insert(&mut self, rt: &impl Abort, snapshot: u32) -> Result<(), Fail> {
+        let row = self.random.row();
+        let Some(state) = self.pick() else {
+            return Ok(());
+        };
+        let parent = state.name;
+        let mut path = state.path.clone()?;
+        if path.is_full() {
+            return Ok(());
+        }
+        path.push(row);
+        let known = self.plain.iter().any(|s| s.path == path);
+        match add(&mut self.tree, parent, row, snapshot) {
+            None => assert!(rt; known),
+            Some(Err(full)) => {
+                assert!(rt; !known && self.plain.len() == TREE_LIMIT && full.snapshot == snapshot);
+            }
+            Some(Ok(name)) => {
+                assert!(rt; !known && self.plain.iter().all(|s| s.name != name));
+                self.plain.push(Plain {
+                    name,
+                    path,
+                    snapshot,
+                })?;
+            }
+        }
+        Ok(())
+    }
+
+    fn cut(&mut self) {
+        let player = u8::try_from(self.random.below(4)).unwrap_or(0);
+        let ahead = u32::try_from(self.random.below(6)).unwrap_or(0);
+        let frame = self.tree.base().saturating_add(ahead);
+        let cell = self.random.cell();
+        if self.tree.base() <= frame {
+            self.tree.cut(player, frame, cell);
+        }
+        self.plain
+            .retain(|s| !has_other(&s.path, player, frame, cell));
+    }
+
+    fn settle(&mut self) -> Result<(), Fail> {
+        let Some(state) = self.pick() else {
+            return Ok(());
+        };
+        if state.path.rows.len() > 3 {
+            return Ok(());
+        }
+        let to = state.path.clone()?;
+        settle(&mut self.tree, &to);
+        let plain = mem::replace(&mut self.plain, Vec::new(self.alloc));
+        self.plain = settled(plain, &to, self.alloc)?;
+        Ok(())
+    }
+
+    // Looks for a kept path with a row more, which is mostly not kept.
+    fn find(&mut self, rt: &impl Abort) -> Result<(), Fail> {
+        let row = self.random.row();
+        let Some(state) = self.pick() else {
+            return Ok(());
+        };
+        let mut path = state.path.clone()?;
+        if !path.is_full() {
+            path.push(row);
+        }
+        let there = self.plain.iter().find(|s| s.path == path);
+        assert_eq!(rt; found(&self.tree, &path), there.map(|s| s.name));
+        let mut best = None;
+        let mut length = 0;
+        for s in &self.plain {
+            if path.rows.as_slice().starts_with(s.path.rows.as_slice())
+                && s.path.frames() >= length
+            {
+                best = Some(s.name);
+                length = s.path.frames();
+            }
+        }
+        let (node, end) = self.tree.longest(path.rows.as_slice());
+        assert_eq!(rt; (Some(node), u64::from(end)), (best, length));
+        Ok(())
+    }
+
+    fn agree(&self, rt: &impl Abort) -> Result<(), Fail> {
+        assert_eq!(rt; self.tree.len(), self.plain.len());
+        let mut paths = Vec::new(self.alloc);
+        for state in &self.plain {
+            assert!(rt; self.tree.contains(state.name));
+            assert_eq!(rt; *self.tree.get(state.name), state.snapshot);
+            assert_eq!(rt; self.tree.path(state.name), state.path);
+            paths.push(state.path.clone()?)?;
+        }
+        paths.sort()?;
+        assert_eq!(rt; self.tree.kept(self.alloc)?.as_slice(), paths.as_slice());
+        Ok(())
+    }
+}
+
+#[test]
+fn goes_with_a_plain_list(rt: HostRuntime) -> Result<(), Fail> {
+    let tree = Tree::new(rt.alloc(), 0, 0)?;
+    let mut plain = Vec::new(rt.alloc());
+    plain.push(Plain {
+        name: tree.root(),
+        path: Path::new(0),
+        snapshot: 0,
+    })?;
+    let mut both = Both {
+        alloc: rt.alloc(),
+        tree,
+        plain,
+        random: Random(1),
+    };
+    let mut most = 0;
+    for call in 0..10_000 {
+        match both.random.below(100) {
+            0 => both.cut(),
+            1 => both.settle()?,
+            k if k < 30 => both.find(&rt)?,
+            _ => both.insert(&rt, call)?,
+        }
+        if call % 100 == 0 {
+            both.agree(&rt)?;
+        }
+        most = most.max(both.tree.len());
+    }
+    assert!(rt; most > 100, "at most {most} states");
+    Ok(())
+}
+
+#[test]
+fn runs_a_million_calls_of_each_kind(rt: HostRuntime) -> Result<(), Fail> {
+    let mut tree = Tree::new(rt.alloc(), 0, 0)?;
+    let root = tree.root();
+    for word in 1..10 {
+        let mut tip = root;
+        for depth in 0..22 {
+            tip = grown(&rt, &mut tree, tip, row(word, depth), depth);
+        }
+    }
+    assert_eq!(rt; tree.len(), 199);
+    let start = Instant::now(&rt)?;
+    for _ in 0..20_000 {
+        grown(&rt, &mut tree, root, row(0, 1), 0);
+        tree.cut(2, tree.base(), Cell::Word(0));
+        let to = Path::new(tree.base());
+        settle(&mut tree, &to);
+    }
+    println!(rt;
+        "a million inserts, cuts and settles: {:?}",
+        start.elapsed(&rt)?
+    )?;
+    assert_eq!(rt; tree.len(), 199);
+    Ok(())
 }
