@@ -1,5 +1,5 @@
 -- A tree that gains a node.
-use Rattle.std.proofs.Common.{◌≡◌, ◌≢◌, ◌⊎◌, ℕ, zero, suc, ◌+◌, ◌-◌, ◌<◌, ◌≤◌, List, [], ◌∷◌, ◌++◌, length, Bool, true, false, Option, Some, None, IsSome, refl, sym, ap, subst, ◌∙◌, inl, inr, arith, length-append, append-nil, append_assoc, vec_capacity, eqb}
+use Rattle.std.proofs.Common.{◌≡◌, ◌≢◌, ◌⊎◌, ℕ, zero, suc, ◌+◌, ◌-◌, ◌<◌, ◌≤◌, ◌^◌, List, [], ◌∷◌, ◌++◌, length, Bool, true, false, Option, Some, None, IsSome, refl, sym, ap, subst, ◌∙◌, inl, inr, arith, length-append, append-nil, append_assoc, vec_capacity, eqb}
 use Rattle.std.specs.Prelude.{option_map}
 use Rattle.std.specs.List.{filter_map}
 use Rattle.std.proofs.lemmas.List.Elements.{filter_map-append}
@@ -132,7 +132,7 @@ module _ {S : Type 0} where
 
   -- what a caller promises of `insert`, of the nodes
   pub record FitsBelow (t : Inside S) (parent : Node S) (row : List Cell) : Type 0 where
-    pub frame : parent.end < 4294967295
+    pub frame : parent.end + 1 < 2 ^ 32
     pub short : parent.end + 1 ≤ t.base + PATH_LIMIT
     pub fresh : (k : ℕ) (node : Node S) → node_at t.nodes.slots k ≡ Some node → path_at t.base t.nodes.slots node ≢ path_at t.base t.nodes.slots parent ++ row ∷ []
 

@@ -235,3 +235,18 @@ module _ {S : Type 0} where
       go : (o : Option (Node S)) → node_at t.nodes.slots name ≡ o → IsSome o → IsSome (held kept name)
       go None e k = absurd (false≢true k)
       go (Some node) e k = rw (held_node t kept name node view tree e) refl
+
+  named_at : (t : Inside S) (kept : Kept S) → kept_of t ≡ kept → IsTree t → (names : List ℕ) → All (λ (s : Saved S). held kept s.name ≡ Some s) (states_at t.base t.nodes.slots names)
+  named_at t kept view tree [] = λ k d within. absurd (omega arith)
+  named_at t kept view tree (n ∷ names) = go (option_cases (node_at t.nodes.slots n)) (named_at t kept view tree names)
+    where
+      go : (node_at t.nodes.slots n ≡ None) ⊎ ((node : Node S) × (node_at t.nodes.slots n ≡ Some node)) → All (λ (s : Saved S). held kept s.name ≡ Some s) (states_at t.base t.nodes.slots names) → All (λ (s : Saved S). held kept s.name ≡ Some s) (states_at t.base t.nodes.slots (n ∷ names))
+      go (inl none) ih = subst (All (λ (s : Saved S). held kept s.name ≡ Some s)) (sym (states-none t.base t.nodes.slots n names none)) ih
+      go (inr some) ih =
+          subst (All (λ (s : Saved S). held kept s.name ≡ Some s)) (sym (states-some t.base t.nodes.slots n names some.0 some.1))
+          (All-cons (λ (s : Saved S). held kept s.name ≡ Some s) (saved_of t.base t.nodes.slots n some.0) (states_at t.base t.nodes.slots names)
+          (held_node t kept n some.0 view tree some.1) ih)
+
+  -- each state is held under its name
+  pub are_named : (t : Inside S) (kept : Kept S) → kept_of t ≡ kept → IsTree t → All (λ (s : Saved S). held kept s.name ≡ Some s) kept.states
+  are_named t kept view tree = subst (All (λ (s : Saved S). held kept s.name ≡ Some s)) (ap (λ (k : Kept S). k.states) view) (named_at t kept view tree t.order.items)

@@ -1,5 +1,5 @@
 -- What a contract sees of a `Tree`.
-use Rattle.std.specs.Prelude.{◌≡◌, ℕ, ◌+◌, ◌-◌, ◌<◌, ◌≤◌, ◌==◌, List, [], ◌∷◌, ◌++◌, length, map, take, drop, not, Bool, true, false, Option, Some, None, IsSome, if◌then◌else◌}
+use Rattle.std.specs.Prelude.{◌≡◌, ℕ, ◌+◌, ◌-◌, ◌<◌, ◌≤◌, ◌^◌, ◌==◌, List, [], ◌∷◌, ◌++◌, length, map, take, drop, not, Bool, true, false, Option, Some, None, IsSome, if◌then◌else◌}
 use Rattle.std.specs.List.{find}
 use Rattle.std.specs.Option.{option_map_or}
 use Rattle.roll_frame.specs.declared.row.Cell.{Cell}
@@ -37,7 +37,7 @@ module _ {S : Type 0} where
   pub record CanGrow (t : Kept S) (parent : ℕ) (row : List Cell) : Type 0 where
     pub kept : IsSome (held t parent)
     pub short : (s : Saved S) → held t parent ≡ Some s → length s.path < PATH_LIMIT
-    pub frames : (s : Saved S) → held t parent ≡ Some s → t.base + length s.path < 4294967295
+    pub frames : (s : Saved S) → held t parent ≡ Some s → t.base + length s.path + 1 < 2 ^ 32
     pub fresh : (s : Saved S) → held t parent ≡ Some s → contains (paths_of t) (s.path ++ row ∷ []) ≡ false
 
   -- the state as it is seen from so many frames later

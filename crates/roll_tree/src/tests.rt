@@ -1,5 +1,5 @@
 use crate::{Tree, TreeFull};
-use roll_frame::{Cell, Path, Row, TREE_LIMIT};
+use roll_frame::{Cell, Path, Refusal, Row, TREE_LIMIT};
 use std::alloc::Global;
 use std::mem;
 use std::process::Abort;
@@ -73,7 +73,10 @@ fn hands_back_what_is_one_too_many(rt: HostRuntime) -> Result<(), Fail> {
     }
     assert_eq!(rt; tree.len(), 256);
     match add(&mut tree, root, row(0, 0), 7) {
-        Some(Err(full)) => assert_eq!(rt; full.snapshot, 7),
+        Some(Err(full)) => {
+            assert_eq!(rt; full.snapshot, 7);
+            assert_eq!(rt; Refusal::from(full).code(), 113);
+        }
         _ => panic!(rt; "the tree takes a 257th state"),
     }
     assert_eq!(rt; tree.len(), 256);
@@ -364,7 +367,7 @@ fn runs_a_million_calls_of_each_kind(rt: HostRuntime) -> Result<(), Fail> {
     }
     assert_eq!(rt; tree.len(), 199);
     let start = Instant::now(&rt)?;
-    for _ in 0..20_000 {
+    for _ in 0..1_000_000 {
         grown(&rt, &mut tree, root, row(0, 1), 0);
         tree.cut(2, tree.base(), Cell::Word(0));
         let to = Path::new(tree.base());

@@ -7,7 +7,7 @@ ghost use Rattle.roll_tree.specs.Kept.{Saved, Kept, held, paths_of, with_state, 
 use crate::node::{Edge, Node, detach};
 use crate::prune::{Rule, prune};
 use arrayvec::ArrayVec;
-use roll_frame::{Cell, PATH_LIMIT, Path, Row, TREE_LIMIT};
+use roll_frame::{Cell, PATH_LIMIT, Path, Refusal, Row, TREE_LIMIT};
 use slab::Slab;
 use std::alloc::{AllocError, AllocFailed, Global};
 use std::marker::Model;
@@ -26,6 +26,17 @@ pub struct Tree<S> {
 #[derive(Drop)]
 pub struct TreeFull<S> {
     pub snapshot: S,
+}
+
+impl<S: Drop> From<TreeFull<S>> for Refusal {
+    ghost use Rattle.std.specs.Prelude.{◌≡◌};
+    ghost use Rattle.roll_frame.specs.declared.refusal.Refusal.TheVariants.{TreeFull};
+
+    ghost from_gives = { λ _ refusal. refusal ≡ TreeFull };
+
+    fn from(_full: TreeFull<S>) -> Refusal {
+        Refusal::TreeFull
+    }
 }
 
 impl<S> Model for Tree<S> {
@@ -234,6 +245,7 @@ impl<S> Tree<S> {
         ensures closed { IsClosed self.now }
         ensures distinct { IsDistinct self.now }
         ensures short { All (λ s. length s.path ≤ PATH_LIMIT) self.now.states }
+        ensures named { All (λ s. held self.now s.name ≡ Some s) self.now.states }
     {
         let _ = &self.base;
     }
