@@ -10,3 +10,4 @@ pub mod Lists
 pub mod Rules
 pub mod Fronts
 pub mod Pruning
+pub mod Sorting

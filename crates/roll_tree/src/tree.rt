@@ -1,6 +1,6 @@
 //! The tree.
-ghost use Rattle.std.specs.Prelude.{◌≡◌, ℕ, ◌+◌, ◌-◌, ◌≤◌, ◌<◌, ◌↔◌, [], ◌∷◌, ◌++◌, length, map, filter, take, not, true, false, is_some, IsSome, IsSomeAnd, IsTrue, IsErr, IfOk, IfErr, IfSome, OnErr, option_map, Some, None, All, IsPermutation, IsSorted};
-ghost use Rattle.roll_frame.specs.Order.{frames_of, path_cmp};
+ghost use Rattle.std.specs.Prelude.{◌≡◌, ℕ, ◌+◌, ◌-◌, ◌≤◌, ◌<◌, ◌↔◌, [], ◌∷◌, ◌++◌, length, map, filter, take, not, true, false, is_some, IsSome, IsSomeAnd, IsTrue, IsErr, IfOk, IfErr, IfSome, OnErr, option_map, Some, None, All};
+ghost use Rattle.roll_frame.specs.Order.{frames_of, in_order};
 ghost use Rattle.roll_frame.specs.Paths.{begins_with, contains, longest as longest_of};
 ghost use Rattle.roll_tree.specs.Kept.{Saved, Kept, held, paths_of, with_state, CanGrow, later, has_other, IsClosed, IsDistinct, path_of};
 
@@ -80,7 +80,7 @@ impl<S> Tree<S> {
         })
     }
 
-    /// How many states are kept, from 1 to 256.
+    /// How many states are kept, the root among them.
     pub fn len(&self) -> usize
         ensures value { result ≡ length self.now.states }
         ensures few { result ≤ TREE_LIMIT }
@@ -229,8 +229,7 @@ impl<S> Tree<S> {
 
     /// The paths of all kept states, in their order.
     pub fn kept(&self, alloc: Global) -> Result<Vec<Path>, AllocError>
-        ensures all { IfOk result (λ paths. IsPermutation (map (path_of self.now.base) (paths_of self.now)) paths.items) }
-        ensures ordered { IfOk result (λ paths. IsSorted path_cmp paths.items) }
+        ensures { IfOk result (λ paths. paths.items ≡ map (path_of self.now.base) (in_order (paths_of self.now))) }
     {
         let mut paths = Vec::with_capacity(alloc, self.order.len())?;
         for name in &self.order {

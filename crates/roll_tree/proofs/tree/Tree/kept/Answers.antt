@@ -10,6 +10,7 @@ use Rattle.roll_tree.specs.declared.node.Node.{Node}
 use Rattle.roll_tree.proofs.Nodes.{path_at}
 use Rattle.roll_tree.proofs.Prunes.{ordered_at}
 use Rattle.roll_tree.proofs.States.{held_node, length-states, path_in, paths_are}
+use Rattle.roll_tree.proofs.Sorting.{sorted_is}
 use Rattle.roll_tree.proofs.tree.Tree.kept.Goals as goal
 
 pub loop-name-init : goal.loop-name-init
@@ -59,12 +60,12 @@ loop-name-preserved g c =
       room = omega (arith, c.loop-name.invariant.room, c.push.ensures.capacity);
     }
 
-pub returns-clause-all : goal.returns-clause-all
-returns-clause-all g c =
+pub returns : goal.returns
+returns g c =
     let t = c.self.inside in
     let kept = c.args.self.now in
     let over : length t.order.items ≤ c.loop-name.name-index = rw c.deref-name-items.ensures.value at c.loop-name-test.false in
     let states = length-states t kept c.self.view_is c.self.invariant in
     let paths = length-map kept.states (λ (s : Saved g.row.S.Denot). s.path) in
     let whole = c.loop-name.invariant.paths ∙ ap (map (path_of kept.base)) (take_all c.loop-name.name-index (paths_of kept) (omega (arith, over, states, paths))) in
-    subst (λ (l : List Path). IsPermutation l c.sort_unstable.new.self.items) whole c.sort_unstable.ensures.permutation
+    sorted_is kept.base (paths_of kept) c.sort_unstable.new.self.items (subst (λ (l : List Path). IsPermutation l c.sort_unstable.new.self.items) whole c.sort_unstable.ensures.permutation) c.sort_unstable.ensures.sorted
