@@ -1,23 +1,15 @@
 -- A tree of which only what hangs below one node is left.
-use Rattle.std.proofs.Common.{◌≡◌, ◌≢◌, ◌⊎◌, ◌||◌, ◌&&◌, not, ℕ, zero, suc, ◌+◌, ◌-◌, ◌<◌, ◌≤◌, List, [], ◌∷◌, ◌++◌, length, map, drop, Bool, true, false, cond, Option, Some, None, IsSome, refl, sym, ap, subst, ◌∙◌, inl, inr, arith, length-append, append-nil, append_assoc, eqb}
-use Rattle.std.specs.Prelude.{option_map}
+use Rattle.std.proofs.Common.{◌≡◌, ◌≢◌, ◌⊎◌, ◌&&◌, ℕ, zero, suc, ◌+◌, ◌-◌, ◌≤◌, List, [], ◌∷◌, ◌++◌, map, Bool, true, false, cond, Option, Some, None, refl, sym, ap, subst, ◌∙◌, inl, inr, arith, append-nil, append_assoc, eqb}
 use Rattle.std.specs.List.{filter, filter_map}
-use Rattle.std.specs.Option.{option_map_or}
 use Rattle.std.proofs.lemmas.List.Elements.{filter-append}
 use Rattle.std.proofs.lemmas.Option.{none-some, same_Some}
-use Rattle.std.proofs.lemmas.Bool.{cases_eq, cases_lt, cases_Bool, false≢true, or_cases, or_left, or_right, eqb-true, eq-eqb}
-use Rattle.slab.specs.Slab.{slab_len}
-use Rattle.roll_frame.specs.declared.row.Cell.{Cell}
-use Rattle.roll_frame.specs.declared.limits.TheConstants.{PATH_LIMIT, TREE_LIMIT}
+use Rattle.std.proofs.lemmas.Bool.{cases_eq, cases_Bool, or_left, or_right, eq-eqb}
 use Rattle.roll_frame.specs.Cells.{Rows}
-use Rattle.roll_tree.specs.Kept.{Saved, Kept}
-use Rattle.roll_tree.specs.Layout.{has_name, node_at, rows_to, saved_of, state_at, HasParent, AreLinked, AreDistinct, IsAfter, AreOrdered}
+use Rattle.roll_tree.specs.Layout.{has_name, node_at, HasParent, AreLinked, AreDistinct, IsAfter, AreOrdered}
 use Rattle.roll_tree.specs.declared.node.Edge.{Edge}
 use Rattle.roll_tree.specs.declared.node.Node.{Node}
-use Rattle.roll_tree.proofs.Names.{option_cases, has_name-filter}
-use Rattle.roll_tree.proofs.Nodes.{path_at, path_at-top, path_at-below, path_at-under, length-path_at}
-use Rattle.roll_tree.proofs.Prunes.{named_node}
-use Rattle.roll_tree.proofs.States.{states_at}
+use Rattle.roll_tree.proofs.Names.{has_name-filter}
+use Rattle.roll_tree.proofs.Nodes.{path_at, path_at-top, path_at-below, path_at-under}
 
 module _ {S : Type 0} where
   abbrev pub detached : Node S → Node S

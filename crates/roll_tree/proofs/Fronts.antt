@@ -1,22 +1,19 @@
 -- Where a path and the path one row further begin with the same, or have the same cell.
-use Rattle.std.proofs.Common.{◌≡◌, ◌≢◌, ◌⊎◌, ◌||◌, ◌&&◌, not, ℕ, zero, suc, ◌+◌, ◌-◌, ◌<◌, ◌≤◌, List, [], ◌∷◌, ◌++◌, length, get_or, take, Bool, true, false, cond, Option, Some, None, refl, sym, ap, subst, ◌∙◌, inl, inr, arith, length-append, length-take, eqb}
+use Rattle.std.proofs.Common.{◌≡◌, ◌≢◌, ◌⊎◌, ◌||◌, ◌&&◌, not, ℕ, zero, suc, ◌+◌, ◌-◌, ◌<◌, ◌≤◌, List, [], ◌∷◌, ◌++◌, length, take, Bool, true, false, cond, Option, Some, None, refl, sym, ap, ◌∙◌, inl, inr, arith, length-append, length-take, eqb}
 use Rattle.std.specs.Prelude.{slice_get}
 use Rattle.std.specs.Cmp.Lexicographic.{pointwise}
 use Rattle.std.specs.Option.{option_map_or}
 use Rattle.std.proofs.lemmas.List.{take-append-le, take_all, get_or_append_left}
-use Rattle.std.proofs.lemmas.Option.{none-some, same_Some, slice_get_past, slice_get-get_or}
-use Rattle.std.proofs.lemmas.Bool.{cases_eq, cases_lt, cases_Bool, false≢true, eqb-true, eq-eqb}
-use Rattle.slab.specs.Slab.{slab_len}
+use Rattle.std.proofs.lemmas.Option.{slice_get_past, slice_get-get_or}
+use Rattle.std.proofs.lemmas.Bool.{cases_eq, cases_lt, eqb-true, eq-eqb}
 use Rattle.roll_frame.specs.declared.row.Cell.{Cell}
 use Rattle.roll_frame.specs.Cells.{Rows, cell_eq, row_eq}
 use Rattle.roll_frame.specs.Claims.{cell_of_row, cell_in}
 use Rattle.roll_frame.specs.Paths.{begins_with}
-use Rattle.roll_tree.specs.Kept.{Saved, cell_of, has_other}
-use Rattle.roll_tree.specs.Layout.{node_at, saved_of, HasParent, AreLinked, IsTree}
+use Rattle.roll_tree.specs.Kept.{has_other}
+use Rattle.roll_tree.specs.Layout.{node_at, IsTree}
 use Rattle.roll_tree.specs.Rule.{agrees, allows}
-use Rattle.roll_tree.specs.declared.node.Edge.{Edge}
 use Rattle.roll_tree.specs.declared.node.Node.{Node}
-use Rattle.roll_tree.specs.declared.prune.Rule.{Rule}
 use Rattle.roll_tree.specs.declared.prune.Rule.TheVariants.{Any, Agrees}
 use Rattle.roll_tree.specs.declared.tree.Tree.TheInside.{Inside}
 use Rattle.roll_tree.proofs.Nodes.{path_at, path_at-top, path_at-below, length-path_at, no_edge}

@@ -1,7 +1,6 @@
 -- A tree that gains a node.
-use Rattle.std.proofs.Common.{◌≡◌, ◌≢◌, ◌⊎◌, ℕ, zero, suc, ◌+◌, ◌-◌, ◌<◌, ◌≤◌, ◌^◌, List, [], ◌∷◌, ◌++◌, length, Bool, true, false, Option, Some, None, IsSome, refl, sym, ap, subst, ◌∙◌, inl, inr, arith, length-append, append-nil, append_assoc, vec_capacity, eqb}
+use Rattle.std.proofs.Common.{◌≡◌, ◌≢◌, ◌⊎◌, ℕ, ◌+◌, ◌<◌, ◌≤◌, ◌^◌, List, [], ◌∷◌, ◌++◌, length, Bool, true, false, Option, Some, None, refl, sym, ap, subst, ◌∙◌, inl, inr, arith, length-append, append-nil, append_assoc, vec_capacity, eqb}
 use Rattle.std.specs.Prelude.{option_map}
-use Rattle.std.specs.List.{filter_map}
 use Rattle.std.proofs.lemmas.List.Elements.{filter_map-append}
 use Rattle.std.proofs.lemmas.Option.{none-some, same_Some}
 use Rattle.std.proofs.lemmas.Bool.{cases_eq, false≢true, or_left, eq-eqb}
@@ -10,15 +9,15 @@ use Rattle.roll_frame.specs.declared.row.Cell.{Cell}
 use Rattle.roll_frame.specs.declared.limits.TheConstants.{PATH_LIMIT, TREE_LIMIT}
 use Rattle.roll_frame.specs.Cells.{Rows}
 use Rattle.roll_frame.specs.Paths.{contains}
-use Rattle.roll_tree.specs.Kept.{Saved, Kept, held, paths_of, with_state, CanGrow}
-use Rattle.roll_tree.specs.Layout.{has_name, node_at, rows_to, saved_of, state_at, kept_of, HasParent, AreLinked, AreDistinct, IsAfter, AreOrdered, IsTree}
+use Rattle.roll_tree.specs.Kept.{Saved, Kept, held, with_state, CanGrow}
+use Rattle.roll_tree.specs.Layout.{has_name, node_at, saved_of, state_at, kept_of, HasParent, AreLinked, AreDistinct, IsAfter, AreOrdered, IsTree}
 use Rattle.roll_tree.specs.declared.node.Edge.{Edge}
 use Rattle.roll_tree.specs.declared.node.Node.{Node}
 use Rattle.roll_tree.specs.declared.tree.Tree.TheInside.{Inside}
-use Rattle.roll_tree.proofs.Names.{option_cases, has_name_cases, has_name-front, has_itself, filter_map-same}
+use Rattle.roll_tree.proofs.Names.{option_cases, has_name-front, has_itself, filter_map-same}
 use Rattle.roll_tree.proofs.Nodes.{IsWithin, parent_within, path_at, path_at-within, path_at-below, length-path_at}
 use Rattle.roll_tree.proofs.Prunes.{named_node}
-use Rattle.roll_tree.proofs.States.{states_at, contains_at, held_node, held_at, node_of_held, paths_are, base_is, paths_at}
+use Rattle.roll_tree.proofs.States.{states_at, contains_at, held_node, paths_are, base_is, paths_at}
 
 module _ {S : Type 0} where
   -- the node is new under this name, below this parent, and all else stays

@@ -1,8 +1,7 @@
 -- What `cut` and `settle` make of a tree.
-use Rattle.std.proofs.Common.{◌≡◌, ◌≢◌, ◌⊎◌, ℕ, ◌+◌, ◌-◌, ◌≤◌, List, [], ◌∷◌, ◌++◌, length, map, Option, Some, None, Bool, true, false, not, cond, refl, sym, ap, subst, ◌∙◌, inl, inr, arith, vec_capacity, eqb}
+use Rattle.std.proofs.Common.{◌≡◌, ◌≢◌, ◌⊎◌, ℕ, ◌+◌, ◌-◌, ◌≤◌, List, [], ◌∷◌, ◌++◌, length, map, Option, Some, None, Bool, not, refl, sym, ap, subst, ◌∙◌, inl, inr, vec_capacity}
 use Rattle.std.specs.Prelude.{option_map, IsSomeAnd}
 use Rattle.std.specs.List.{filter}
-use Rattle.std.specs.declared.vec.Vec.{Vec}
 use Rattle.std.proofs.lemmas.Option.{none-some, same_Some}
 use Rattle.std.proofs.lemmas.Bool.{cases_eq}
 use Rattle.slab.specs.Slab.{Slab, get, slab_len}
@@ -17,7 +16,7 @@ use Rattle.roll_tree.specs.declared.node.Node.{Node}
 use Rattle.roll_tree.specs.declared.prune.Rule.TheVariants.{Any, Agrees}
 use Rattle.roll_tree.specs.declared.tree.Tree.TheInside.{Inside}
 use Rattle.roll_tree.proofs.Names.{option_cases}
-use Rattle.roll_tree.proofs.Nodes.{path_at, path_at-top, length-path_at}
+use Rattle.roll_tree.proofs.Nodes.{path_at, path_at-top}
 use Rattle.roll_tree.proofs.States.{states_at, held_at, held_node}
 use Rattle.roll_tree.proofs.Cuts.{detached}
 use Rattle.roll_tree.proofs.Rules.{live_by, is_live, left_states, left_tree}

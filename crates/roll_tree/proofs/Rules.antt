@@ -1,27 +1,25 @@
 -- The tests by which a tree is pruned, and the tree afterwards.
-use Rattle.std.proofs.Common.{◌≡◌, ◌≢◌, ◌⊎◌, ◌||◌, ◌&&◌, not, ℕ, zero, suc, ◌+◌, ◌-◌, ◌<◌, ◌≤◌, List, [], ◌∷◌, ◌++◌, length, map, drop, take, Bool, true, false, cond, Option, Some, None, IsSome, refl, sym, ap, subst, ◌∙◌, inl, inr, arith, length-append, append-nil, append_assoc, eqb, vec_capacity}
+use Rattle.std.proofs.Common.{◌≡◌, ◌≢◌, ◌⊎◌, ◌||◌, ◌&&◌, not, ℕ, ◌≤◌, List, [], ◌∷◌, length, map, drop, Bool, true, false, cond, Option, Some, None, refl, sym, ap, subst, ◌∙◌, inl, inr, arith, eqb, vec_capacity}
 use Rattle.std.specs.Prelude.{option_map}
-use Rattle.std.specs.List.{filter, filter_map}
+use Rattle.std.specs.List.{filter}
 use Rattle.std.specs.Option.{option_map_or}
 use Rattle.std.proofs.Math.Seq.{drop-append_seam}
-use Rattle.std.proofs.lemmas.Option.{none-some, same_Some}
-use Rattle.std.proofs.lemmas.Bool.{cases_eq, cases_lt, cases_Bool, false≢true, or_cases, or_left, or_right, eqb-true, eq-eqb}
+use Rattle.std.proofs.lemmas.Option.{none-some}
+use Rattle.std.proofs.lemmas.Bool.{cases_eq, false≢true, or_left, eqb-true, eq-eqb}
 use Rattle.slab.specs.Slab.{Slab, get, slab_len}
-use Rattle.roll_frame.specs.declared.row.Cell.{Cell}
-use Rattle.roll_frame.specs.declared.limits.TheConstants.{PATH_LIMIT, TREE_LIMIT}
-use Rattle.roll_frame.specs.Cells.{Rows}
-use Rattle.roll_tree.specs.Kept.{Saved, Kept, held, later}
-use Rattle.roll_tree.specs.Layout.{has_name, node_at, rows_to, saved_of, state_at, kept_of, HasParent, AreLinked, AreDistinct, IsAfter, AreOrdered, IsTree}
+use Rattle.roll_frame.specs.declared.limits.TheConstants.{TREE_LIMIT}
+use Rattle.roll_tree.specs.Kept.{Saved, later}
+use Rattle.roll_tree.specs.Layout.{has_name, node_at, saved_of, state_at, HasParent, AreLinked, AreDistinct, AreOrdered, IsTree}
 use Rattle.roll_tree.specs.Rule.{allows, IsLive, IsPruned}
 use Rattle.roll_tree.specs.declared.node.Edge.{Edge}
 use Rattle.roll_tree.specs.declared.node.Node.{Node}
 use Rattle.roll_tree.specs.declared.prune.Rule.{Rule}
 use Rattle.roll_tree.specs.declared.tree.Tree.TheInside.{Inside}
 use Rattle.roll_tree.proofs.Names.{option_cases, has_name-filter}
-use Rattle.roll_tree.proofs.Nodes.{path_at, path_at-top, path_at-below, length-path_at, no_edge, with_edge}
+use Rattle.roll_tree.proofs.Nodes.{path_at, with_edge}
 use Rattle.roll_tree.proofs.Prunes.{named_node}
 use Rattle.roll_tree.proofs.States.{states_at}
-use Rattle.roll_tree.proofs.Cuts.{detached, IsCut, IsLeft, left_at, was_at, cut_links, cut_distinct, cut_ordered, filter_map-live}
+use Rattle.roll_tree.proofs.Cuts.{detached, IsCut, left_at, was_at, cut_links, cut_distinct, cut_ordered, filter_map-live}
 
 length-filter : (live : ℕ → Bool) (names : List ℕ) → length (filter live names) ≤ length names
 length-filter live [] = omega arith

@@ -1,5 +1,5 @@
 -- A list that is sorted and has the paths of another is that other in order.
-use Rattle.std.proofs.Common.{◌≡◌, ◌⊎◌, ℕ, zero, suc, ◌+◌, ◌≤◌, List, [], ◌∷◌, length, map, get_or, Bool, true, false, cond, refl, sym, ap, subst, ◌∙◌, inl, inr, arith}
+use Rattle.std.proofs.Common.{◌≡◌, ℕ, suc, ◌+◌, ◌≤◌, List, [], ◌∷◌, length, map, get_or, Bool, true, false, cond, refl, sym, ap, subst, ◌∙◌, arith}
 use Rattle.std.specs.List.{sum_by}
 use Rattle.std.specs.List.Sorted.{IsPermutation, IsSorted}
 use Rattle.std.specs.Cmp.{IsTotalOrder}
@@ -7,13 +7,13 @@ use Rattle.std.specs.Cmp.Lexicographic.{slice_cmp}
 use Rattle.std.specs.Ordering.{nat_cmp, is_eq, is_lt, is_gt, ordering_reverse, ordering_then}
 use Rattle.std.specs.declared.cmp.Ordering.{Ordering}
 use Rattle.std.specs.declared.cmp.Ordering.TheVariants.{Less, Equal, Greater}
-use Rattle.std.proofs.lemmas.Bool.{cases_Bool, false≢true}
+use Rattle.std.proofs.lemmas.Bool.{false≢true}
 use Rattle.std.proofs.lemmas.Bool.Decides.{nat_tests}
 use Rattle.std.proofs.lemmas.Cmp.{upto, tied_itself}
 use Rattle.std.proofs.lemmas.List.Sorted.{sum_by-IsPermutation}
 use Rattle.std.proofs.lemmas.List.Sums.{sum_by-cons}
 use Rattle.roll_frame.specs.declared.path.Path.{Path}
-use Rattle.roll_frame.specs.Cells.{Rows, path_eq, path_eq-Decides}
+use Rattle.roll_frame.specs.Cells.{Rows, path_eq-Decides}
 use Rattle.roll_frame.specs.Order.{row_cmp, rows_cmp, rows_cmp_total, path_cmp, path_cmp_total, placed, in_order}
 use Rattle.roll_frame.specs.Ties.{path_cmp_ties}
 use Rattle.roll_tree.specs.Kept.{path_of}
@@ -138,7 +138,7 @@ module _ (base : ℕ) where
   path_rows : (p q : Rows) → path_cmp (path_of base p) (path_of base q) ≡ rows_cmp p q
   path_rows p q =
       ap (λ (r : Ordering). ordering_then r (slice_cmp row_cmp p q))
-        (then_equal (nat_cmp (base + length p) (base + length q)) (nat_cmp base base) alone ∙ ahead (length p) (length q))
+      (then_equal (nat_cmp (base + length p) (base + length q)) (nat_cmp base base) alone ∙ ahead (length p) (length q))
 
   mapped_at_least : (x : Rows) (xs : List Rows) → AtLeast rows_cmp x xs → AtLeast path_cmp (path_of base x) (map (path_of base) xs)
   mapped_at_least x [] all = tt
@@ -166,6 +166,6 @@ module _ (base : ℕ) where
   pub sorted_is : (ps : List Rows) (ys : List Path) → IsPermutation (map (path_of base) ps) ys → IsSorted path_cmp ys → ys ≡ map (path_of base) (in_order ps)
   sorted_is ps ys moved sorted =
       unique path_cmp path_cmp_total same_path ys (map (path_of base) (in_order ps))
-        (sorted_ascends path_cmp path_cmp_total ys sorted)
-        (mapped_ascends (in_order ps) (order_ascends ps))
-        (λ z. sum_by-IsPermutation (tied path_cmp z) (map (path_of base) ps) ys moved ∙ sym (order_sum (tied path_cmp z) ps))
+      (sorted_ascends path_cmp path_cmp_total ys sorted)
+      (mapped_ascends (in_order ps) (order_ascends ps))
+      (λ z. sum_by-IsPermutation (tied path_cmp z) (map (path_of base) ps) ys moved ∙ sym (order_sum (tied path_cmp z) ps))

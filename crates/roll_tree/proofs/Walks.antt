@@ -1,12 +1,11 @@
 -- A walk from a node up to the root, which collects its rows.
-use Rattle.std.proofs.Common.{◌≡◌, ℕ, ◌+◌, ◌-◌, ◌<◌, ◌≤◌, List, [], ◌∷◌, ◌++◌, length, take, drop, Option, Some, None, refl, sym, ap, ◌∙◌, arith, append-nil, append_assoc, length-append}
+use Rattle.std.proofs.Common.{◌≡◌, ℕ, ◌+◌, List, [], ◌∷◌, ◌++◌, length, drop, Option, Some, None, sym, ap, ◌∙◌, arith, append-nil, append_assoc, length-append}
 use Rattle.std.specs.Prelude.{reverse}
 use Rattle.std.specs.List.{refill}
 use Rattle.std.proofs.lemmas.List.{reverse-append, take-append-le, take_all}
-use Rattle.roll_frame.specs.declared.limits.TheConstants.{PATH_LIMIT}
 use Rattle.roll_frame.specs.declared.row.Cell.{Cell}
 use Rattle.roll_frame.specs.Cells.{Rows}
-use Rattle.roll_tree.specs.Layout.{node_at, AreLinked, HasParent}
+use Rattle.roll_tree.specs.Layout.{node_at, AreLinked}
 use Rattle.roll_tree.specs.declared.node.Edge.{Edge}
 use Rattle.roll_tree.specs.declared.node.Node.{Node}
 use Rattle.roll_tree.proofs.Nodes.{path_at, path_at-below, path_at-top, no_edge, with_edge}

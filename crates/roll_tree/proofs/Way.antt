@@ -1,14 +1,14 @@
 -- The walk along the names of a tree that finds how far the tree goes with some rows.
-use Rattle.std.proofs.Common.{◌≡◌, ◌≢◌, ◌⊎◌, ◌&&◌, ℕ, zero, suc, ◌+◌, ◌-◌, ◌<◌, ◌≤◌, List, [], ◌∷◌, ◌++◌, length, take, get_or, Bool, true, false, Option, Some, None, refl, sym, ap, subst, ◌∙◌, inl, inr, arith, length-append, length-take, eqb}
+use Rattle.std.proofs.Common.{◌≡◌, ◌⊎◌, ◌&&◌, ℕ, ◌+◌, ◌<◌, ◌≤◌, List, [], ◌∷◌, ◌++◌, length, take, get_or, Bool, true, false, Option, Some, None, refl, sym, ap, subst, ◌∙◌, inl, inr, arith, length-append, length-take, eqb}
 use Rattle.std.specs.Prelude.{reverse, option_map}
 use Rattle.std.specs.Option.{option_map_or}
 use Rattle.std.proofs.lemmas.List.{take_more, take_all, reverse-append, reverse-reverse}
 use Rattle.std.proofs.lemmas.Option.{none-some, same_Some}
-use Rattle.std.proofs.lemmas.Bool.{cases_eq, cases_lt, cases_Bool, false≢true, eqb-true, eq-eqb}
+use Rattle.std.proofs.lemmas.Bool.{cases_eq, cases_lt, false≢true, eqb-true, eq-eqb}
 use Rattle.roll_frame.specs.declared.row.Cell.{Cell}
-use Rattle.roll_frame.specs.Cells.{Rows, row_eq, row_eq-Decides, rows_eq, rows_eq-Decides}
+use Rattle.roll_frame.specs.Cells.{Rows, row_eq, row_eq-Decides, rows_eq-Decides}
 use Rattle.roll_frame.specs.Paths.{begins_with, longest}
-use Rattle.roll_tree.specs.Layout.{has_name, node_at, HasParent, AreLinked, AreDistinct, IsAfter, AreOrdered, IsTree}
+use Rattle.roll_tree.specs.Layout.{has_name, node_at, AreLinked, AreDistinct, IsAfter, AreOrdered, IsTree}
 use Rattle.roll_tree.specs.Node.{is_child_of}
 use Rattle.roll_tree.specs.declared.node.Edge.{Edge}
 use Rattle.roll_tree.specs.declared.node.Node.{Node}

@@ -1,5 +1,5 @@
 -- How a `Tree` lies in its slab. No public clause cites this module.
-use Rattle.std.specs.Prelude.{◌≡◌, ℕ, zero, suc, ◌+◌, ◌-◌, ◌<◌, ◌≤◌, List, length, map, [], ◌∷◌, ◌++◌, Bool, true, false, nat_eq, Option, Some, None, option_map, slice_index_or, vec_capacity, ◌==◌}
+use Rattle.std.specs.Prelude.{◌≡◌, ℕ, zero, suc, ◌+◌, ◌-◌, ◌<◌, ◌≤◌, List, length, [], ◌∷◌, ◌++◌, Bool, true, false, Option, Some, None, option_map, slice_index_or, vec_capacity, ◌==◌}
 use Rattle.std.specs.List.{filter_map, list_any}
 use Rattle.std.specs.Option.{option_map_or, option_and_then}
 use Rattle.slab.specs.Slab.{slab_len}

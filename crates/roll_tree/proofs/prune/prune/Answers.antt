@@ -1,7 +1,6 @@
-use Rattle.std.proofs.Common.{◌≡◌, ℕ, Bool, refl, is_some, rules}
+use Rattle.std.proofs.Common.{is_some, rules}
 use Rattle.std.proofs.lemmas.Fn.{filter_same}
 use Rattle.slab.specs.Slab.{get}
-use Rattle.roll_tree.specs.Rule.{IsLive, IsPruned}
 use Rattle.roll_tree.proofs.Prunes.{IsPruned-from}
 use Rattle.roll_tree.proofs.prune.prune.Goals as goal
 

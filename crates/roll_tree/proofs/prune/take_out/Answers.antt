@@ -1,4 +1,4 @@
-use Rattle.std.proofs.Common.{◌≡◌, ◌+◌, take, Some, IsSome, Bool, ℕ, true, false, refl, sym, ap, subst, ◌∙◌}
+use Rattle.std.proofs.Common.{◌+◌, take, Bool, ℕ, refl, sym, ap, subst, ◌∙◌}
 use Rattle.slab.specs.Slab.{Slab}
 use Rattle.roll_tree.specs.Rule.{IsLive}
 use Rattle.roll_tree.specs.declared.node.Node.{Node}

@@ -1,11 +1,6 @@
-use Rattle.std.proofs.Common.{◌≡◌, ◌≢◌, ◌⊎◌, ℕ, ◌+◌, ◌-◌, ◌≤◌, List, [], Option, Some, None, Bool, not, true, refl, sym, ap, subst, ◌∙◌, inl, inr, arith, length, map}
-use Rattle.std.specs.Prelude.{option_map}
+use Rattle.std.proofs.Common.{◌≡◌, ℕ, ◌-◌, not, refl, sym, subst, inl, inr, arith}
 use Rattle.std.specs.List.{filter}
-use Rattle.roll_frame.specs.Cells.{Rows}
-use Rattle.slab.specs.Slab.{Slab, get}
-use Rattle.roll_tree.specs.Kept.{Saved, Kept, has_other}
-use Rattle.roll_tree.specs.Layout.{kept_of}
-use Rattle.roll_tree.specs.declared.node.Node.{Node}
+use Rattle.roll_tree.specs.Kept.{has_other}
 use Rattle.roll_tree.specs.declared.tree.Tree.TheInside.{Inside}
 use Rattle.std.proofs.lemmas.Bool.{cases_lt}
 use Rattle.roll_tree.proofs.States.{base_is}

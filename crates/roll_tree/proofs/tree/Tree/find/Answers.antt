@@ -1,4 +1,4 @@
-use Rattle.std.proofs.Common.{◌≡◌, ℕ, ◌+◌, length, sym, ap, ◌∙◌, arith}
+use Rattle.std.proofs.Common.{◌≡◌, length, sym, arith}
 use Rattle.roll_frame.specs.Paths.{longest}
 use Rattle.roll_tree.specs.Kept.{paths_of}
 use Rattle.roll_tree.proofs.Lists.{reached, not_reached}

@@ -1,4 +1,4 @@
-use Rattle.std.proofs.Common.{◌≡◌, Some, refl, ap}
+use Rattle.std.proofs.Common.{refl, ap}
 use Rattle.std.specs.Prelude.{option_map}
 use Rattle.roll_tree.specs.Kept.{Saved}
 use Rattle.roll_tree.proofs.States.{node_of_held, held_node}

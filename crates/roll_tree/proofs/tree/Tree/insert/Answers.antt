@@ -1,13 +1,13 @@
-use Rattle.std.proofs.Common.{◌≡◌, ℕ, ◌+◌, ◌<◌, ◌≤◌, List, [], ◌∷◌, ◌++◌, Option, Some, None, cond, refl, sym, ap, subst, ◌∙◌, arith}
-use Rattle.std.specs.Prelude.{is_ok, option_map, IfSome}
+use Rattle.std.proofs.Common.{◌+◌, Some, refl, ap, ◌∙◌, arith}
+use Rattle.std.specs.Prelude.{option_map}
 use Rattle.std.proofs.lemmas.Bool.{false≢true}
-use Rattle.roll_tree.specs.Kept.{Kept, Saved, held, with_state}
-use Rattle.roll_tree.specs.Layout.{kept_of, saved_of, IsTree}
+use Rattle.roll_tree.specs.Kept.{Saved}
+use Rattle.roll_tree.specs.Layout.{saved_of}
 use Rattle.roll_tree.specs.declared.node.Edge.{Edge}
 use Rattle.roll_tree.specs.declared.node.Node.{Node}
 use Rattle.roll_tree.specs.declared.tree.Tree.TheInside.{Inside}
 use Rattle.roll_tree.proofs.States.{node_of_held, held_at, held_node, length-states}
-use Rattle.roll_tree.proofs.Grown.{IsGrown, FitsBelow, fits_below, grown_tree, grown_view}
+use Rattle.roll_tree.proofs.Grown.{IsGrown, fits_below, grown_tree, grown_view}
 use Rattle.roll_tree.proofs.tree.Tree.insert.Goals as goal
 
 pub index-requires : goal.index-requires

@@ -1,12 +1,11 @@
-use Rattle.std.proofs.Common.{◌≡◌, ℕ, ◌+◌, ◌<◌, ◌≤◌, List, [], ◌∷◌, ◌++◌, Some, length, map, take, get_or, refl, sym, ap, subst, ◌∙◌, arith, length-take}
+use Rattle.std.proofs.Common.{◌≡◌, ◌<◌, ◌≤◌, List, [], ◌∷◌, ◌++◌, length, map, take, get_or, refl, sym, ap, subst, ◌∙◌, arith, length-take}
 use Rattle.std.specs.Prelude.{option_map}
 use Rattle.std.specs.List.Sorted.{IsPermutation}
 use Rattle.std.proofs.lemmas.Option.{same_Some}
 use Rattle.std.proofs.lemmas.List.{take_more, take_all, length-map, map-append}
 use Rattle.roll_frame.specs.declared.path.Path.{Path}
 use Rattle.roll_frame.specs.Cells.{Rows}
-use Rattle.roll_tree.specs.Kept.{Saved, held, path_of, paths_of}
-use Rattle.roll_tree.specs.declared.node.Node.{Node}
+use Rattle.roll_tree.specs.Kept.{Saved, path_of, paths_of}
 use Rattle.roll_tree.proofs.Nodes.{path_at}
 use Rattle.roll_tree.proofs.Prunes.{ordered_at}
 use Rattle.roll_tree.proofs.States.{held_node, length-states, path_in, paths_are}

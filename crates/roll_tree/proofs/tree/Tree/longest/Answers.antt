@@ -1,16 +1,13 @@
-use Rattle.std.proofs.Common.{◌≡◌, ◌⊎◌, ℕ, ◌+◌, ◌≤◌, ◌<◌, List, [], length, get_or, Some, None, refl, sym, ap, subst, ◌∙◌, arith, inl, inr, take}
-use Rattle.std.specs.Prelude.{option_map, IsSomeAnd}
+use Rattle.std.proofs.Common.{◌≡◌, ◌⊎◌, ◌≤◌, ◌<◌, List, [], length, get_or, Some, refl, sym, ap, ◌∙◌, arith, inl, inr}
 use Rattle.std.proofs.lemmas.Option.{same_Some}
-use Rattle.roll_frame.specs.declared.row.Cell.{Cell}
 use Rattle.roll_frame.specs.Cells.{Rows}
 use Rattle.roll_frame.specs.Paths.{longest}
-use Rattle.roll_tree.specs.Kept.{Kept, Saved, held, paths_of}
+use Rattle.roll_tree.specs.Kept.{paths_of}
 use Rattle.roll_tree.specs.Node.{is_child_of}
 use Rattle.slab.specs.Slab.{get}
 use Rattle.roll_tree.specs.declared.node.Node.{Node}
 use Rattle.roll_tree.proofs.Prunes.{ordered_at}
-use Rattle.roll_tree.proofs.States.{held_node, paths_are, base_is, paths_at}
-use Rattle.roll_tree.proofs.Nodes.{length-path_at}
+use Rattle.roll_tree.proofs.States.{held_node, paths_are, base_is}
 use Rattle.roll_tree.proofs.Way.{way_start, way_past, way_on, way_end, way_length}
 use Rattle.roll_tree.proofs.tree.Tree.longest.Goals.{then-is_child, else-is_child, else-loop-name-test, then-loop-name-test+in_default}
 use Rattle.roll_tree.proofs.tree.Tree.longest.Goals as goal

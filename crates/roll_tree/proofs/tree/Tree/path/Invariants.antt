@@ -1,4 +1,4 @@
-use Rattle.std.proofs.Common.{◌≡◌, ℕ, ◌-◌}
+use Rattle.std.proofs.Common.{◌-◌}
 use Rattle.std.specs.Option.{option_map_or}
 use Rattle.roll_tree.specs.Layout.{node_at}
 use Rattle.roll_tree.proofs.Walks.{IsWalk}

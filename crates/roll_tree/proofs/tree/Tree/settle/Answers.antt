@@ -1,8 +1,6 @@
-use Rattle.std.proofs.Common.{◌≡◌, ◌≢◌, ℕ, ◌+◌, Bool, [], Some, None, refl, sym, ap, subst, ◌∙◌, arith, length}
+use Rattle.std.proofs.Common.{◌≡◌, [], refl, sym, ap, ◌∙◌, arith, length}
 use Rattle.std.proofs.lemmas.Option.{same_Some}
-use Rattle.slab.specs.Slab.{Slab, get, slab_len}
 use Rattle.roll_frame.specs.Cells.{Rows}
-use Rattle.roll_tree.specs.Kept.{Saved, Kept}
 use Rattle.roll_tree.specs.declared.node.Node.{Node}
 use Rattle.roll_tree.specs.declared.tree.Tree.TheInside.{Inside}
 use Rattle.roll_tree.proofs.Nodes.{path_at, length-path_at}
