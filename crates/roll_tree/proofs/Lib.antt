@@ -1,0 +1,13 @@
+pub mod Names
+pub mod Nodes
+pub mod States
+pub mod Prunes
+pub mod Grown
+pub mod Walks
+pub mod Cuts
+pub mod Way
+pub mod Lists
+pub mod Rules
+pub mod Fronts
+pub mod Pruning
+pub mod Sorting

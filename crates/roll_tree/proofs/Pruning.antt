@@ -1,0 +1,117 @@
+-- What `cut` and `settle` make of a tree.
+use Rattle.std.proofs.Common.{◌≡◌, ◌≢◌, ◌⊎◌, ℕ, ◌+◌, ◌-◌, ◌≤◌, List, [], ◌∷◌, ◌++◌, length, map, Option, Some, None, Bool, not, refl, sym, ap, subst, ◌∙◌, inl, inr, vec_capacity}
+use Rattle.std.specs.Prelude.{option_map, IsSomeAnd}
+use Rattle.std.specs.List.{filter}
+use Rattle.std.proofs.lemmas.Option.{none-some, same_Some}
+use Rattle.std.proofs.lemmas.Bool.{cases_eq}
+use Rattle.slab.specs.Slab.{Slab, get, slab_len}
+use Rattle.roll_frame.specs.declared.row.Cell.{Cell}
+use Rattle.roll_frame.specs.declared.limits.TheConstants.{TREE_LIMIT}
+use Rattle.roll_frame.specs.Cells.{Rows}
+use Rattle.roll_frame.specs.Paths.{begins_with}
+use Rattle.roll_tree.specs.Kept.{Saved, Kept, held, later, has_other}
+use Rattle.roll_tree.specs.Layout.{node_at, saved_of, kept_of, IsAfter, AreOrdered, IsTree}
+use Rattle.roll_tree.specs.Rule.{IsLive, IsPruned}
+use Rattle.roll_tree.specs.declared.node.Node.{Node}
+use Rattle.roll_tree.specs.declared.prune.Rule.TheVariants.{Any, Agrees}
+use Rattle.roll_tree.specs.declared.tree.Tree.TheInside.{Inside}
+use Rattle.roll_tree.proofs.Names.{option_cases}
+use Rattle.roll_tree.proofs.Nodes.{path_at, path_at-top}
+use Rattle.roll_tree.proofs.States.{states_at, held_at, held_node}
+use Rattle.roll_tree.proofs.Cuts.{detached}
+use Rattle.roll_tree.proofs.Rules.{live_by, is_live, left_states, left_tree}
+use Rattle.roll_tree.proofs.Fronts.{cut_rule, settle_rule}
+
+module _ {S : Type 0} where
+  later_none : (states : List (Saved S)) → map (later 0) states ≡ states
+  later_none [] = refl
+  later_none (s ∷ states) = ap (λ (l : List (Saved S)). s ∷ l) (later_none states)
+
+  pub root_node : (t : Inside S) → IsTree t → (first : Node S) × (node_at t.nodes.slots t.root ≡ Some first) × (first.end ≡ t.base)
+  root_node t tree = go (option_cases (node_at t.nodes.slots t.root))
+    where
+      go : (node_at t.nodes.slots t.root ≡ None) ⊎ ((node : Node S) × (node_at t.nodes.slots t.root ≡ Some node)) → (first : Node S) × (node_at t.nodes.slots t.root ≡ Some first) × (first.end ≡ t.base)
+      go (inl none) = absurd (none-some t.base (ap (option_map (λ (n : Node S). n.end)) (sym none) ∙ tree.rooted))
+      go (inr some) = (some.0, some.1, same_Some _ _ (ap (option_map (λ (n : Node S). n.end)) (sym some.1) ∙ tree.rooted))
+
+  -- the root has no edge to lose
+  root_stays : (t : Inside S) (tree : IsTree t) (first : Node S) → node_at t.nodes.slots t.root ≡ Some first → first.end ≡ t.base → node_at t.nodes.slots t.root ≡ Some (detached first)
+  root_stays t tree first found end = found ∙ ap (λ o. Some (record first { edge = o })) (tree.links.top t.root first found end)
+
+  module _ (t : Inside S) (tree : IsTree t) (frame player place : ℕ) (cell : Cell) (low : t.base ≤ frame) (is : player ≡ place + 1) (u : Inside S) (base : u.base ≡ t.base) (root : u.root ≡ t.root) (pruned : (live : ℕ → Bool) → IsLive t.root (Agrees place frame cell) t.nodes.slots live → IsPruned live t.nodes u.nodes t.order.items u.order.items) where
+    abbrev passes : Saved S → Bool
+    passes s = not (has_other player (frame - t.base) cell s.path)
+
+    pub cut_tree : TREE_LIMIT ≤ u.nodes.capacity → TREE_LIMIT ≤ vec_capacity u.order → IsTree u
+    cut_tree room space =
+        let first = root_node t tree in
+        let rule = cut_rule t tree first.0 frame player place cell first.1 first.2 low is in
+        let at_top = root_stays t tree first.0 first.1 first.2 in
+        let live = is_live t t.root first.0 (Agrees place frame cell) passes t.nodes tree rule at_top (λ name differs. refl) in
+        left_tree t t.root first.0 (Agrees place frame cell) passes t.nodes tree rule at_top (λ name differs. refl) u.nodes u.order.items (pruned (live_by t t.root first.0 (Agrees place frame cell) passes) live)
+        u (base ∙ sym first.2) root refl refl refl room space
+
+    pub cut_view : (kept : Kept S) → kept_of t ≡ kept → kept_of u ≡ record kept { states = filter (λ s. not (has_other player (frame - kept.base) cell s.path)) kept.states }
+    cut_view kept view =
+        let first = root_node t tree in
+        let rule = cut_rule t tree first.0 frame player place cell first.1 first.2 low is in
+        let at_top = root_stays t tree first.0 first.1 first.2 in
+        let live = is_live t t.root first.0 (Agrees place frame cell) passes t.nodes tree rule at_top (λ name differs. refl) in
+        let left = left_states t t.root first.0 (Agrees place frame cell) passes t.nodes tree rule at_top (λ name differs. refl) u.nodes u.order.items (pruned (live_by t t.root first.0 (Agrees place frame cell) passes) live) in
+        let none : length (path_at t.base t.nodes.slots first.0) ≡ 0 = ap (λ (l : Rows). length l) (path_at-top t.base t.nodes.slots first.0 first.2) in
+        let states : states_at u.base u.nodes.slots u.order.items ≡ filter passes (states_at t.base t.nodes.slots t.order.items) =
+        ap (λ (b : ℕ). states_at b u.nodes.slots u.order.items) (base ∙ sym first.2)
+        ∙ left
+        ∙ ap (λ (n : ℕ). map (later n) (filter passes (states_at t.base t.nodes.slots t.order.items))) none
+        ∙ later_none (filter passes (states_at t.base t.nodes.slots t.order.items)) in
+        subst (λ (k : Kept S). kept_of u ≡ record k { states = filter (λ s. not (has_other player (frame - k.base) cell s.path)) k.states }) view (λ i. record { base = base i; root = root i; states = states i })
+
+-- there is no player 0, so nothing differs there
+cut_all : {S : Type 0} (place : ℕ) (cell : Cell) (states : List (Saved S)) → states ≡ filter (λ s. not (has_other 0 place cell s.path)) states
+cut_all place cell [] = refl
+cut_all place cell (s ∷ states) = ap (λ l. s ∷ l) (cut_all place cell states)
+
+pub cut_nobody : {S : Type 0} (kept : Kept S) (place : ℕ) (cell : Cell) → kept ≡ record kept { states = filter (λ s. not (has_other 0 place cell s.path)) kept.states }
+cut_nobody kept place cell = ap (λ l. record kept { states = l }) (cut_all place cell kept.states)
+
+module _ {S : Type 0} (t : Inside S) (tree : IsTree t) (top : ℕ) (first : Node S) (first_is : node_at t.nodes.slots top ≡ Some first) (mid : Slab (Node S)) (at_top : get mid top ≡ Some (detached first)) (others : (name : ℕ) → name ≢ top → get mid name ≡ get t.nodes name) (len : slab_len mid ≡ slab_len t.nodes) (u : Inside S) (base : u.base ≡ first.end) (root : u.root ≡ top) (pruned : (live : ℕ → Bool) → IsLive top Any mid.slots live → IsPruned live mid u.nodes t.order.items u.order.items) where
+  abbrev begins_there : Saved S → Bool
+  begins_there s = begins_with s.path (path_at t.base t.nodes.slots first)
+
+  pub settle_tree : TREE_LIMIT ≤ u.nodes.capacity → TREE_LIMIT ≤ vec_capacity u.order → IsTree u
+  settle_tree room space =
+      let rule = settle_rule t tree top first first_is in
+      let live = is_live t top first Any begins_there mid tree rule at_top others in
+      left_tree t top first Any begins_there mid tree rule at_top others u.nodes u.order.items (pruned (live_by t top first Any begins_there) live)
+      u base root refl refl len room space
+
+  pub settle_view : (kept : Kept S) (to : Rows) → kept_of t ≡ kept → path_at t.base t.nodes.slots first ≡ to → (kept_of u).states ≡ map (later (length to)) (filter (λ s. begins_with s.path to) kept.states)
+  settle_view kept to view path =
+      let rule = settle_rule t tree top first first_is in
+      let live = is_live t top first Any begins_there mid tree rule at_top others in
+      let left = left_states t top first Any begins_there mid tree rule at_top others u.nodes u.order.items (pruned (live_by t top first Any begins_there) live) in
+      ap (λ (b : ℕ). states_at b u.nodes.slots u.order.items) base
+      ∙ left
+      ∙ ap (λ (p : Rows). map (later (length p)) (filter (λ s. begins_with s.path p) (states_at t.base t.nodes.slots t.order.items))) path
+      ∙ ap (λ (k : Kept S). map (later (length to)) (filter (λ s. begins_with s.path to) k.states)) view
+
+-- the node of a state that was found
+pub found_node : {S : Type 0} (t : Inside S) (kept : Kept S) (name : ℕ) (to : Rows) → kept_of t ≡ kept → IsTree t → IsSomeAnd (held kept name) (λ s. s.path ≡ to) → (node : Node S) × (node_at t.nodes.slots name ≡ Some node) × (path_at t.base t.nodes.slots node ≡ to)
+found_node {S} t kept name to view tree found = go (option_cases (node_at t.nodes.slots name))
+  where
+    nowhere : IsSomeAnd None (λ (s : Saved S). s.path ≡ to) → ⊥
+    nowhere h = elim h [ ]
+
+    go : (node_at t.nodes.slots name ≡ None) ⊎ ((node : Node S) × (node_at t.nodes.slots name ≡ Some node)) → (node : Node S) × (node_at t.nodes.slots name ≡ Some node) × (path_at t.base t.nodes.slots node ≡ to)
+    go (inl none) = absurd (nowhere (subst (λ (o : Option (Saved S)). IsSomeAnd o (λ s. s.path ≡ to)) (held_at t kept name view tree ∙ ap (option_map (saved_of t.base t.nodes.slots name)) none) found))
+    go (inr some) = (some.0, some.1, subst (λ (o : Option (Saved S)). IsSomeAnd o (λ s. s.path ≡ to)) (held_node t kept name some.0 view tree some.1) found)
+
+module _ {S : Type 0} (old mid : List (Option (Node S))) (top : ℕ) (first : Node S) (at_top : node_at mid top ≡ Some (detached first)) (others : (name : ℕ) → name ≢ top → node_at mid name ≡ node_at old name) where
+  -- names stay in order where a node loses its edge
+  pub detached_order : (above names : List ℕ) → AreOrdered old above names → AreOrdered mid above names
+  detached_order above [] ordered = tt
+  detached_order above (n ∷ names) ordered = (go (cases_eq n top), detached_order (above ++ n ∷ []) names ordered.1)
+    where
+      go : (n ≡ top) ⊎ (n ≡ top → ⊥) → IsAfter mid above n
+      go (inl same) = record { once = ordered.0.once; node = detached first; node_is = ap (node_at mid) same ∙ at_top; parent = λ e is. absurd (none-some e is) }
+      go (inr differs) = record { once = ordered.0.once; node = ordered.0.node; node_is = others n differs ∙ ordered.0.node_is; parent = ordered.0.parent }

@@ -1,0 +1,14 @@
+use Rattle.roll_tree.proofs.States.{is_closed, is_distinct, are_short, are_named}
+use Rattle.roll_tree.proofs.tree.Tree.laws.Goals as goal
+
+pub returns-clause-closed : goal.returns-clause-closed
+returns-clause-closed g c = is_closed c.self.inside c.args.self.now c.self.view_is c.self.invariant
+
+pub returns-clause-distinct : goal.returns-clause-distinct
+returns-clause-distinct g c = is_distinct c.self.inside c.args.self.now c.self.view_is c.self.invariant
+
+pub returns-clause-short : goal.returns-clause-short
+returns-clause-short g c = are_short c.self.inside c.args.self.now c.self.view_is c.self.invariant
+
+pub returns-clause-named : goal.returns-clause-named
+returns-clause-named g c = are_named c.self.inside c.args.self.now c.self.view_is c.self.invariant

@@ -1,0 +1,65 @@
+-- What a contract sees of a `Tree`.
+use Rattle.std.specs.Prelude.{◌≡◌, ℕ, ◌+◌, ◌-◌, ◌<◌, ◌^◌, ◌==◌, List, [], ◌∷◌, ◌++◌, length, map, take, drop, not, Bool, true, false, Option, Some, None, IsSome, if◌then◌else◌}
+use Rattle.std.specs.List.{find}
+use Rattle.std.specs.Option.{option_map_or}
+use Rattle.roll_frame.specs.declared.row.Cell.{Cell}
+use Rattle.roll_frame.specs.declared.limits.TheConstants.{PATH_LIMIT}
+use Rattle.roll_frame.specs.declared.path.Path.{Path}
+use Rattle.roll_frame.specs.Cells.{Rows, cell_eq}
+use Rattle.roll_frame.specs.Claims.{cell_in}
+use Rattle.roll_frame.specs.Paths.{contains}
+
+-- a saved state: its name, the rows that lead to it from the base, and its snapshot
+pub record Saved (S : Type 0) : Type 0 where
+  pub name : ℕ
+  pub path : Rows
+  pub snapshot : S
+
+-- the frame of the root, the root's name, and the states in the order in which they came
+pub record Kept (S : Type 0) : Type 0 where
+  pub base : ℕ
+  pub root : ℕ
+  pub states : List (Saved S)
+
+module _ {S : Type 0} where
+  -- the state of this name
+  abbrev pub held : Kept S → ℕ → Option (Saved S)
+  held t name = find (λ s. s.name == name) t.states
+
+  abbrev pub paths_of : Kept S → List Rows
+  paths_of t = map (λ s. s.path) t.states
+
+  -- the tree with one state more
+  abbrev pub with_state : Kept S → Saved S → Kept S
+  with_state t s = record t { states = t.states ++ s ∷ [] }
+
+  -- a state one row below this one fits, and isn't there
+  pub record CanGrow (t : Kept S) (parent : ℕ) (row : List Cell) : Type 0 where
+    pub kept : IsSome (held t parent)
+    pub short : (s : Saved S) → held t parent ≡ Some s → length s.path < PATH_LIMIT
+    pub frames : (s : Saved S) → held t parent ≡ Some s → t.base + length s.path + 1 < 2 ^ 32
+    pub fresh : (s : Saved S) → held t parent ≡ Some s → contains (paths_of t) (s.path ++ row ∷ []) ≡ false
+
+  -- the state as it is seen from so many frames later
+  abbrev pub later : ℕ → Saved S → Saved S
+  later frames s = record s { path = drop frames s.path }
+
+  -- each front of a path that is kept is kept
+  abbrev pub IsClosed : Kept S → Type 0
+  IsClosed t = (name : ℕ) (s : Saved S) (k : ℕ) → held t name ≡ Some s → contains (paths_of t) (take k s.path) ≡ true
+
+  -- no two states have the same path
+  abbrev pub IsDistinct : Kept S → Type 0
+  IsDistinct t = (j k : ℕ) (s u : Saved S) → held t j ≡ Some s → held t k ≡ Some u → s.path ≡ u.path → j ≡ k
+
+-- a path of these rows from the base on
+abbrev pub path_of : ℕ → Rows → Path
+path_of base rows = record { base = base; rows = record { items = rows } }
+
+-- the cell of a player, from 1, in the row at a place of a path, where there is one
+abbrev pub cell_of : ℕ → ℕ → Rows → Option Cell
+cell_of player place path = if player == 0 then None else cell_in path place (player - 1)
+
+-- whether a path has another cell than this there
+abbrev pub has_other : ℕ → ℕ → Cell → Rows → Bool
+has_other player place cell path = option_map_or (λ c. not (cell_eq c cell)) (cell_of player place path) false

@@ -1,0 +1,4 @@
+pub mod Kept
+pub mod Layout
+pub mod Rule
+pub mod Node

@@ -1,0 +1,46 @@
+//! The nodes of a tree.
+ghost use Rattle.std.specs.Prelude.{◌≡◌, ◌≢◌, ℕ, None, Some, IsSome, IsSomeAnd};
+ghost use Rattle.slab.specs.Slab.{get, slab_len};
+ghost use Rattle.roll_tree.specs.Node.{is_child_of};
+
+use roll_frame::Row;
+use slab::Slab;
+
+/// What leads to a node: its parent's name, and the row.
+#[derive(Clone, Copy)]
+pub struct Edge {
+    pub parent: usize,
+    pub row: Row,
+}
+
+/// A saved state. The root has no edge.
+#[derive(Drop)]
+pub struct Node<S> {
+    pub edge: Option<Edge>,
+    /// How many frames its path has, from frame 0.
+    pub end: u32,
+    pub snapshot: S,
+}
+
+impl<S> Node<S> {
+    /// Whether it is one row below another node.
+    pub fn is_child(&self, parent: usize, row: &Row) -> bool
+        ensures { result ≡ is_child_of parent self.now row.now }
+    {
+        match &self.edge {
+            Some(edge) => edge.parent == parent && edge.row == *row,
+            None => false,
+        }
+    }
+}
+
+/// Makes a node a root.
+pub fn detach<S>(nodes: &mut Slab<Node<S>>, name: usize)
+    requires { IsSome (get nodes.old name) }
+    ensures changed { IsSomeAnd (get nodes.old name) (λ was. get nodes.new name ≡ Some (record was { edge = None })) }
+    ensures others { (other : ℕ) → other ≢ name → get nodes.new other ≡ get nodes.old other }
+    ensures len { slab_len nodes.new ≡ slab_len nodes.old }
+    ensures capacity { nodes.new.capacity ≡ nodes.old.capacity }
+{
+    nodes[name].edge = None;
+}

@@ -1,0 +1,251 @@
+//! The tree.
+ghost use Rattle.std.specs.Prelude.{◌≡◌, ℕ, ◌+◌, ◌-◌, ◌≤◌, ◌<◌, ◌↔◌, [], ◌∷◌, ◌++◌, length, map, filter, take, not, true, false, is_some, IsSome, IsSomeAnd, IsTrue, IsErr, IfOk, IfErr, IfSome, OnErr, option_map, Some, None, All};
+ghost use Rattle.roll_frame.specs.Order.{frames_of, in_order};
+ghost use Rattle.roll_frame.specs.Paths.{begins_with, contains, longest as longest_of};
+ghost use Rattle.roll_tree.specs.Kept.{Saved, Kept, held, paths_of, with_state, CanGrow, later, has_other, IsClosed, IsDistinct, path_of};
+
+use crate::node::{Edge, Node, detach};
+use crate::prune::{Rule, prune};
+use arrayvec::ArrayVec;
+use roll_frame::{Cell, PATH_LIMIT, Path, Refusal, Row, TREE_LIMIT};
+use slab::Slab;
+use std::alloc::{AllocError, AllocFailed, Global};
+use std::marker::Model;
+
+/// The saved states that can still matter, each named by a key, below one root.
+#[derive(Drop)]
+pub struct Tree<S> {
+    base: u32,
+    root: usize,
+    nodes: Slab<Node<S>>,
+    // The names of the nodes, each after its parent's.
+    order: Vec<usize>,
+}
+
+/// 256 states are kept, and the tree doesn't take this one.
+#[derive(Drop)]
+pub struct TreeFull<S> {
+    pub snapshot: S,
+}
+
+impl<S: Drop> From<TreeFull<S>> for Refusal {
+    ghost use Rattle.std.specs.Prelude.{◌≡◌};
+    ghost use Rattle.roll_frame.specs.declared.refusal.Refusal.TheVariants.{TreeFull};
+
+    ghost from_gives = { λ _ refusal. refusal ≡ TreeFull };
+
+    fn from(_full: TreeFull<S>) -> Refusal {
+        Refusal::TreeFull
+    }
+}
+
+impl<S> Model for Tree<S> {
+    ghost use Rattle.roll_tree.specs.Kept.{Kept};
+
+    ghost Value = { Kept S };
+
+    ghost use Rattle.roll_tree.specs.Layout.{kept_of, IsTree};
+
+    ghost view = { kept_of };
+
+    ghost invariant = { IsTree };
+}
+
+impl<S> Tree<S> {
+    /// A tree that keeps its root alone, with room for 256 states. Where memory is refused, the root comes back.
+    pub fn new(alloc: Global, base: u32, root: S) -> Result<Tree<S>, AllocFailed<S>>
+    where
+        S: Drop,
+        ensures base { IfOk result (λ t. t.base ≡ base) }
+        ensures alone { IfOk result (λ t. t.states ≡ record { name = t.root; path = []; snapshot = root } ∷ []) }
+        ensures returned { IfErr result (λ failed. failed.value ≡ root) }
+    {
+        let Ok(mut nodes) = Slab::with_capacity(alloc, TREE_LIMIT) else {
+            return Err(AllocFailed { value: root });
+        };
+        let Ok(mut order) = Vec::with_capacity(alloc, TREE_LIMIT) else {
+            return Err(AllocFailed { value: root });
+        };
+        let root = nodes.insert_reserved(Node {
+            edge: None,
+            end: base,
+            snapshot: root,
+        });
+        order.push(root).unwrap();
+        Ok(Tree {
+            base,
+            root,
+            nodes,
+            order,
+        })
+    }
+
+    /// How many states are kept, the root among them.
+    pub fn len(&self) -> usize
+        ensures value { result ≡ length self.now.states }
+        ensures few { result ≤ TREE_LIMIT }
+    {
+        self.order.len()
+    }
+
+    /// Whether a state of this name is kept.
+    pub fn contains(&self, node: usize) -> bool
+        ensures { IsTrue result ↔ IsSome (held self.now node) }
+    {
+        self.nodes.contains(node)
+    }
+
+    /// The frame at which the root ends.
+    pub fn base(&self) -> u32
+        ensures { result ≡ self.now.base }
+    {
+        self.base
+    }
+
+    /// The name of the root.
+    pub fn root(&self) -> usize
+        ensures value { result ≡ self.now.root }
+        ensures held { IsSomeAnd (held self.now result) (λ s. s.path ≡ []) }
+    {
+        self.root
+    }
+
+    /// Adds a state one row below another. Where 256 are kept, the snapshot comes back.
+    pub fn insert(&mut self, parent: usize, row: Row, snapshot: S) -> Result<usize, TreeFull<S>>
+    where
+        S: Drop,
+        requires { CanGrow self.old parent row }
+        ensures full { IsErr result ↔ (length self.old.states ≡ TREE_LIMIT) }
+        ensures unchanged { OnErr result (self.new ≡ self.old) }
+        ensures returned { IfErr result (λ full. full.snapshot ≡ snapshot) }
+        ensures vacant { IfOk result (λ name. held self.old name ≡ None) }
+        ensures added { IfOk result (λ name. IfSome (held self.old parent) (λ s. self.new ≡ with_state self.old (record { name = name; path = s.path ++ row ∷ []; snapshot = snapshot }))) }
+    {
+        if self.order.len() == TREE_LIMIT {
+            return Err(TreeFull { snapshot });
+        }
+        let end = self.nodes[parent].end + 1;
+        let name = self.nodes.insert_reserved(Node {
+            edge: Some(Edge { parent, row }),
+            end,
+            snapshot,
+        });
+        self.order.push(name).unwrap();
+        Ok(name)
+    }
+
+    /// The snapshot of a kept state.
+    pub fn get(&self, node: usize) -> &S
+        requires { IsSome (held self.now node) }
+        ensures { option_map (λ s. s.snapshot) (held self.now node) ≡ Some result.now }
+    {
+        &self.nodes[node].snapshot
+    }
+
+    /// The path of a kept state.
+    pub fn path(&self, node: usize) -> Path
+        requires { IsSome (held self.now node) }
+        ensures base { result.base ≡ self.now.base }
+        ensures rows { option_map (λ s. s.path) (held self.now node) ≡ Some result.rows.items }
+    {
+        let mut rows = ArrayVec::new();
+        let mut at = node;
+        while let Some(edge) = self.nodes[at].edge {
+            rows.push(edge.row);
+            at = edge.parent;
+        }
+        rows.reverse();
+        Path {
+            base: self.base,
+            rows,
+        }
+    }
+
+    /// The deepest kept state on the way that these rows go from the base, and its length, from frame 0.
+    pub fn longest(&self, rows: &[Row]) -> (usize, u32)
+        ensures node { IsSomeAnd (held self.now result.0) (λ s. s.path ≡ take (longest_of (paths_of self.now) rows.now) rows.now) }
+        ensures length { result.1 ≡ self.now.base + longest_of (paths_of self.now) rows.now }
+    {
+        let mut best = self.root;
+        let mut depth = 0;
+        for name in &self.order {
+            let Some(row) = rows.get(depth) else {
+                break;
+            };
+            if self.nodes[*name].is_child(best, row) {
+                best = *name;
+                depth += 1;
+            }
+        }
+        (best, self.nodes[best].end)
+    }
+
+    /// The kept state of a path.
+    pub fn find(&self, path: &Path) -> Option<usize>
+        requires { path.now.base ≡ self.now.base }
+        ensures found { IfSome result (λ name. IsSomeAnd (held self.now name) (λ s. s.path ≡ path.now.rows.items)) }
+        ensures when { is_some result ≡ contains (paths_of self.now) path.now.rows.items }
+    {
+        let (node, end) = self.longest(path.rows.as_slice());
+        if u64::from(end) == path.frames() {
+            Some(node)
+        } else {
+            None
+        }
+    }
+
+    /// Makes the kept state of a path the root, and drops what doesn't begin with that path.
+    pub fn settle(&mut self, to: &Path)
+    where
+        S: Drop,
+        requires base { to.now.base ≡ self.old.base }
+        requires kept { contains (paths_of self.old) to.now.rows.items ≡ true }
+        ensures base { self.new.base ≡ frames_of to.now }
+        ensures root { IsSomeAnd (held self.old self.new.root) (λ s. s.path ≡ to.now.rows.items) }
+        ensures states { self.new.states ≡ map (later (length to.now.rows.items)) (filter (λ s. begins_with s.path to.now.rows.items) self.old.states) }
+    {
+        let Some(top) = self.find(to) else {
+            unreachable!();
+        };
+        self.base = self.nodes[top].end;
+        self.root = top;
+        detach(&mut self.nodes, top);
+        prune(&mut self.nodes, &mut self.order, top, &Rule::Any);
+    }
+
+    /// Drops each state whose path has another cell than this for the player, counted from 1, in the frame.
+    pub fn cut(&mut self, player: u8, frame: u32, cell: Cell)
+    where
+        S: Drop,
+        requires { self.old.base ≤ frame }
+        ensures { self.new ≡ record self.old { states = filter (λ s. not (has_other player (frame - self.old.base) cell s.path)) self.old.states } }
+    {
+        let Some(place) = usize::from(player).checked_sub(1) else {
+            return;
+        };
+        let rule = Rule::Agrees { place, frame, cell };
+        prune(&mut self.nodes, &mut self.order, self.root, &rule);
+    }
+
+    /// The paths of all kept states, in their order.
+    pub fn kept(&self, alloc: Global) -> Result<Vec<Path>, AllocError>
+        ensures { IfOk result (λ paths. paths.items ≡ map (path_of self.now.base) (in_order (paths_of self.now))) }
+    {
+        let mut paths = Vec::with_capacity(alloc, self.order.len())?;
+        for name in &self.order {
+            paths.push(self.path(*name)).unwrap();
+        }
+        paths.sort_unstable();
+        Ok(paths)
+    }
+
+    /// What holds of every tree. It does nothing.
+    pub fn laws(&self)
+        ensures closed { IsClosed self.now }
+        ensures distinct { IsDistinct self.now }
+        ensures short { All (λ s. length s.path ≤ PATH_LIMIT) self.now.states }
+        ensures named { All (λ s. held self.now s.name ≡ Some s) self.now.states }
+    {
+        let _ = &self.base;
+    }
+}
