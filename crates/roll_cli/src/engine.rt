@@ -2,8 +2,9 @@
 ghost use Rattle.std.specs.Prelude.{◌≡◌, ◌≢◌, ◌⊎◌, ◌≤◌, ◌<◌, ◌+◌, ◌^◌, ◌++◌, ℕ, List, Err, IfErr, IfOk, IfSome, OnOk, length};
 ghost use Rattle.std.specs.Io.KnownBytes.{Appends};
 ghost use Rattle.roll_text.specs.Lines.{ended, text_of as text_of_lines};
+ghost use Rattle.roll_text.specs.Streams.{IsBadAt};
 ghost use Rattle.roll_text.specs.declared.streams.TheConstants.{TEXT_LIMIT};
-ghost use Rattle.roll_cli.specs.Faults.{IsBadAt, TakesAtMost};
+ghost use Rattle.roll_cli.specs.Faults.{TakesAtMost};
 ghost use Rattle.roll_cli.specs.Output.{IsOutput, duel_output, duel_refusals, output, refusals, refused_line};
 ghost use Rattle.roll_cli.specs.Plays.{IsPlay, IsScript, play_lines, play_of};
 ghost use Rattle.roll_cli.specs.declared.engine.PlayFault.TheVariants.{NoMemory, Unreadable, Write as CannotWrite};
@@ -102,7 +103,7 @@ pub fn play<G: Shown + Drop, R: Read, W: Write>(
 ) -> Result<u32, PlayFault>
     ensures written { IfOk result (λ refused. IfSome (R.remaining reader.old) (λ text.
         (written : List ℕ) × IsOutput (output G.text_of (record { opening = G.snapshot_value opening; step = G.step })) (refusals (record { opening = G.snapshot_value opening; step = G.step })) text written refused × Appends (W.contents writer.old) (W.contents writer.new) written)) }
-    ensures unreadable { (line : ℕ) → result ≡ Err (Unreadable line) → IfSome (R.remaining reader.old) (IsBadAt line) }
+    ensures unreadable { (line : ℕ) → result ≡ Err (Unreadable line) → IfSome (R.remaining reader.old) (IsBadAt IsScript line) }
     ensures readable { result ≡ Err CannotWrite → IfSome (R.remaining reader.old) IsScript }
     ensures untouched { IfErr result (λ fault. (fault ≡ CannotWrite) ⊎ (writer.new ≡ writer.old)) }
     ensures taken { TakesAtMost (TEXT_LIMIT + 1) (R.remaining reader.old) (R.remaining reader.new) }
@@ -120,7 +121,7 @@ pub fn play_duel<R: Read, W: Write>(
 ) -> Result<u32, PlayFault>
     ensures written { IfOk result (λ refused. IfSome (R.remaining reader.old) (λ text.
         (written : List ℕ) × IsOutput duel_output duel_refusals text written refused × Appends (W.contents writer.old) (W.contents writer.new) written)) }
-    ensures unreadable { (line : ℕ) → result ≡ Err (Unreadable line) → IfSome (R.remaining reader.old) (IsBadAt line) }
+    ensures unreadable { (line : ℕ) → result ≡ Err (Unreadable line) → IfSome (R.remaining reader.old) (IsBadAt IsScript line) }
     ensures readable { result ≡ Err CannotWrite → IfSome (R.remaining reader.old) IsScript }
     ensures untouched { IfErr result (λ fault. (fault ≡ CannotWrite) ⊎ (writer.new ≡ writer.old)) }
     ensures taken { TakesAtMost (TEXT_LIMIT + 1) (R.remaining reader.old) (R.remaining reader.new) }
@@ -134,7 +135,7 @@ fn read_script<R: Read>(alloc: Global, reader: &mut R) -> Result<Script, PlayFau
     ensures fits { IfOk result (λ script. IsPlay (play_of script)) }
     ensures few { IfOk result (λ script. length script.commands.items < 2 ^ 32) }
     ensures spelled { IfOk result (λ script. IfSome (R.remaining reader.old) (λ text. text ≡ text_of_lines (play_lines (play_of script)))) }
-    ensures unreadable { (line : ℕ) → result ≡ Err (Unreadable line) → IfSome (R.remaining reader.old) (IsBadAt line) }
+    ensures unreadable { (line : ℕ) → result ≡ Err (Unreadable line) → IfSome (R.remaining reader.old) (IsBadAt IsScript line) }
     ensures fault { IfErr result (λ fault. fault ≢ CannotWrite) }
     ensures taken { TakesAtMost (TEXT_LIMIT + 1) (R.remaining reader.old) (R.remaining reader.new) }
 {
