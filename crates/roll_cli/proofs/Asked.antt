@@ -1,5 +1,5 @@
 -- The calls that commands ask for are their events.
-use Rattle.std.proofs.Common.{◌≡◌, length-set, ◌==◌, ℕ, ◌+◌, ◌-◌, ◌≤◌, ◌<◌, ◌⊎◌, inl, inr, List, [], ◌∷◌, length, Bool, true, false, refl, sym, ap, ◌∙◌, subst, arith, rules, tests, Option, Some, None}
+use Rattle.std.proofs.Common.{◌≡◌, length-set, ◌==◌, ℕ, ◌-◌, ◌≤◌, ◌⊎◌, inl, inr, List, [], ◌∷◌, length, Bool, true, false, refl, sym, ap, ◌∙◌, subst, arith, rules, tests, Option, Some, None}
 use Rattle.std.specs.Prelude.{nat_lt, slice_set, cond}
 use Rattle.std.specs.Option.{option_map_or}
 use Rattle.std.proofs.lemmas.List.{length-map}
@@ -16,7 +16,7 @@ use Rattle.roll_frame.specs.declared.refusal.Refusal.TheVariants.{InvalidPlayer}
 use Rattle.roll_frame.specs.declared.reply.Reply.TheVariants.{Refused}
 use Rattle.roll_frame.specs.declared.settings.Settings.{Settings}
 use Rattle.roll_session.specs.Seen.{plain}
-use Rattle.roll_session.specs.Calls.{event_of, entry_of}
+use Rattle.roll_session.specs.Calls.{entry_of}
 use Rattle.roll_session.specs.declared.event.Call.{Call}
 use Rattle.roll_cli.specs.declared.command.Command.{Command}
 use Rattle.roll_cli.specs.declared.command.Command.TheVariants.{Local as Gives, Remote as Tells, Disconnect as Leaves, Sync as Syncs, Advance as Advances, Guess, Extend, Claim}

@@ -1,5 +1,5 @@
 -- What a session that starts writes, and how long scripts are.
-use Rattle.std.proofs.Common.{◌≡◌, ℕ, ◌+◌, ◌≤◌, ◌<◌, ◌^◌, ◌++◌, List, [], ◌∷◌, length, length-append, map, refl, sym, ap, ◌∙◌, subst, arith, Option, Some, None}
+use Rattle.std.proofs.Common.{◌≡◌, ℕ, ◌≤◌, ◌<◌, ◌^◌, List, [], ◌∷◌, length, length-append, refl, sym, ap, ◌∙◌, subst, arith, Option, Some, None}
 use Rattle.std.specs.Prelude.{◌≢◌, unwrap_or, Result, Ok, Err, IfOk, OnOk}
 use Rattle.std.proofs.lemmas.List.{length-map}
 use Rattle.roll_frame.specs.Core.{Core, first_core}
@@ -14,8 +14,7 @@ use Rattle.roll_text.specs.Lines.{ended, text_of}
 use Rattle.roll_text.specs.declared.streams.TheConstants.{TEXT_LIMIT}
 use Rattle.roll_cli.specs.declared.command.Command.{Command}
 use Rattle.roll_cli.specs.Commands.{line_of}
-use Rattle.roll_cli.specs.Headers.{settings_of}
-use Rattle.roll_cli.specs.Output.{Texts, output, refusals, refused_line, refusals_from, written_from}
+use Rattle.roll_cli.specs.Output.{Texts, output_under, refusals_under, refused_line, refusals_from, written_from}
 use Rattle.roll_cli.specs.Plays.{Play, play_lines}
 
 lines_fit : (lines : List (List ℕ)) → length lines ≤ length (text_of lines)
@@ -26,44 +25,39 @@ lines_fit (line ∷ lines) = omega (arith, length-append (ended line) (text_of l
 pub few_commands : (play : Play) (text : List ℕ) → text ≡ text_of (play_lines play) → length text ≤ TEXT_LIMIT → length play.commands < 2 ^ 32
 few_commands play text e short = omega (arith, ap length e, lines_fit (play_lines play), length-map play.commands line_of)
 
-starts_so : (play : Play) (settings : Settings) → settings ≡ settings_of play.setup → start_refusal settings ≡ None → start_refusal (settings_of play.setup) ≡ None
-starts_so play settings same starts = ap start_refusal (sym same) ∙ starts
-
 -- what a session that has just started writes
-pub written_started : (texts : Texts) (step : Step) (s : Seen) (play : Play) (settings : Settings) (x : Value) (turns refused : ℕ) → s ≡ record { settings = settings; opening = x; log = []; turns = turns; refused = refused }
-    → settings ≡ settings_of play.setup → start_refusal settings ≡ None
-    → written_from texts s.settings (game_of step s) (core_of s) play.commands ≡ output texts (record { opening = x; step = step }) play
-written_started texts step s play settings x turns refused e same starts =
+pub written_started : (texts : Texts) (step : Step) (s : Seen) (commands : List Command) (settings : Settings) (x : Value) (turns refused : ℕ) → s ≡ record { settings = settings; opening = x; log = []; turns = turns; refused = refused }
+    → start_refusal settings ≡ None
+    → written_from texts s.settings (game_of step s) (core_of s) commands ≡ output_under texts settings (record { opening = x; step = step }) commands
+written_started texts step s commands settings x turns refused e starts =
     let game : Game = record { opening = x; step = step } in
-    subst (λ (v : Seen). written_from texts v.settings (game_of step v) (core_of v) play.commands ≡ written_from texts settings game (first_core settings) play.commands) (sym e)
-    (ap (λ (core : Core). written_from texts settings game core play.commands) (replay-nil settings))
-    ∙ ap (λ (t : Settings). written_from texts t game (first_core t) play.commands) same
-    ∙ sym (rw (starts_so play settings same starts) refl)
+    subst (λ (v : Seen). written_from texts v.settings (game_of step v) (core_of v) commands ≡ written_from texts settings game (first_core settings) commands) (sym e)
+    (ap (λ (core : Core). written_from texts settings game core commands) (replay-nil settings))
+    ∙ sym (rw starts refl)
 
-pub refusals_started : (step : Step) (s : Seen) (play : Play) (settings : Settings) (x : Value) (turns refused : ℕ) → s ≡ record { settings = settings; opening = x; log = []; turns = turns; refused = refused }
-    → settings ≡ settings_of play.setup → start_refusal settings ≡ None
-    → refusals_from s.settings (game_of step s) (core_of s) play.commands ≡ refusals (record { opening = x; step = step }) play
-refusals_started step s play settings x turns refused e same starts =
+pub refusals_started : (step : Step) (s : Seen) (commands : List Command) (settings : Settings) (x : Value) (turns refused : ℕ) → s ≡ record { settings = settings; opening = x; log = []; turns = turns; refused = refused }
+    → start_refusal settings ≡ None
+    → refusals_from s.settings (game_of step s) (core_of s) commands ≡ refusals_under settings (record { opening = x; step = step }) commands
+refusals_started step s commands settings x turns refused e starts =
     let game : Game = record { opening = x; step = step } in
-    subst (λ (v : Seen). refusals_from v.settings (game_of step v) (core_of v) play.commands ≡ refusals_from settings game (first_core settings) play.commands) (sym e)
-    (ap (λ (core : Core). refusals_from settings game core play.commands) (replay-nil settings))
-    ∙ ap (λ (t : Settings). refusals_from t game (first_core t) play.commands) same
-    ∙ sym (rw (starts_so play settings same starts) refl)
+    subst (λ (v : Seen). refusals_from v.settings (game_of step v) (core_of v) commands ≡ refusals_from settings game (first_core settings) commands) (sym e)
+    (ap (λ (core : Core). refusals_from settings game core commands) (replay-nil settings))
+    ∙ sym (rw starts refl)
 
 -- why a session doesn't start
-not_started : (play : Play) (settings : Settings) (why : Refusal) → settings ≡ settings_of play.setup → why ≡ unwrap_or (start_refusal settings) NoMemory → why ≢ NoMemory → start_refusal (settings_of play.setup) ≡ Some why
-not_started play settings why same e ne = ap start_refusal (sym same) ∙ go (start_refusal settings) e
+not_started : (settings : Settings) (why : Refusal) → why ≡ unwrap_or (start_refusal settings) NoMemory → why ≢ NoMemory → start_refusal settings ≡ Some why
+not_started settings why e ne = go (start_refusal settings) e
   where
     go : (o : Option Refusal) → why ≡ unwrap_or o NoMemory → o ≡ Some why
     go None f = absurd (ne f)
     go (Some w) f = ap Some (sym f)
 
-pub written_refused : (texts : Texts) (game : Game) (play : Play) (settings : Settings) (why : Refusal) → settings ≡ settings_of play.setup → why ≡ unwrap_or (start_refusal settings) NoMemory → why ≢ NoMemory
-    → ended (refused_line why) ≡ output texts game play
-written_refused texts game play settings why same e ne = sym (rw (not_started play settings why same e ne) refl)
+pub written_refused : (texts : Texts) (game : Game) (commands : List Command) (settings : Settings) (why : Refusal) → why ≡ unwrap_or (start_refusal settings) NoMemory → why ≢ NoMemory
+    → ended (refused_line why) ≡ output_under texts settings game commands
+written_refused texts game commands settings why e ne = sym (rw (not_started settings why e ne) refl)
 
-pub refusals_refused : (game : Game) (play : Play) (settings : Settings) (why : Refusal) → settings ≡ settings_of play.setup → why ≡ unwrap_or (start_refusal settings) NoMemory → why ≢ NoMemory → 1 ≡ refusals game play
-refusals_refused game play settings why same e ne = sym (rw (not_started play settings why same e ne) refl)
+pub refusals_refused : (game : Game) (commands : List Command) (settings : Settings) (why : Refusal) → why ≡ unwrap_or (start_refusal settings) NoMemory → why ≢ NoMemory → 1 ≡ refusals_under settings game commands
+refusals_refused game commands settings why e ne = sym (rw (not_started settings why e ne) refl)
 
 -- of a call that answered, where both are known
 pub on_ok_both : {X E : Type 0} {P Q : Type 0} {A : X → Type 0} (r : Result X E) → ((x : X) → A x → P → Q) → IfOk r A → OnOk r P → OnOk r Q

@@ -1,6 +1,6 @@
 -- The lines of commands, cut into their fields and joined again.
-use Rattle.std.proofs.Common.{◌≡◌, ℕ, ◌+◌, ◌<◌, ◌≤◌, ◌^◌, ◌==◌, ◌++◌, List, [], ◌∷◌, Option, Some, None, Bool, true, false, not, ◌||◌, refl, sym, ap, ◌∙◌, rules, tests, arith, codes, get_or, length}
-use Rattle.std.specs.List.{slice_split, join_with_byte, All, AllByRecursion}
+use Rattle.std.proofs.Common.{◌≡◌, ℕ, ◌<◌, ◌≤◌, ◌==◌, List, [], ◌∷◌, Option, Bool, false, not, ◌||◌, refl, sym, ap, ◌∙◌, rules, tests, arith, codes, get_or, length}
+use Rattle.std.specs.List.{slice_split, AllByRecursion}
 use Rattle.std.specs.Fmt.{decimal}
 use Rattle.std.proofs.lemmas.List.Elements.{All-cons, All-nil}
 use Rattle.roll_frame.specs.declared.limits.TheConstants.{PATH_LIMIT}
@@ -11,7 +11,7 @@ use Rattle.roll_text.proofs.Joined.{decimal-lacks, join-lacks, reads-joined}
 use Rattle.roll_text.proofs.Lists.{list_of-lacks, list_of-injective}
 use Rattle.roll_cli.specs.declared.command.Command.{Command}
 use Rattle.roll_cli.specs.declared.command.Command.TheVariants.{Local, Remote, Disconnect, Sync, Advance, Guess, Extend, Claim}
-use Rattle.roll_cli.specs.Commands.{IsCommand, IsPlayed, fields_of, line_of, is_played}
+use Rattle.roll_cli.specs.Commands.{IsCommand, fields_of, line_of, is_played}
 
 letter-lacks : (c l : ℕ) → (l == c) ≡ false → Lacks c (l ∷ [])
 letter-lacks c l apart = All-cons (λ b. (b == c) ≡ false) l [] apart (All-nil _)

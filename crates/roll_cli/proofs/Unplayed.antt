@@ -5,7 +5,7 @@ use Rattle.std.proofs.lemmas.List.{append-nil, length-map, map-append}
 use Rattle.std.proofs.lemmas.List.Elements.{All-cons, All-nil}
 use Rattle.roll_text.specs.Lines.{Lacks, ended, text_of}
 use Rattle.roll_text.specs.Numbers.{IsWord}
-use Rattle.roll_text.specs.Text.{IsUnreadableAt, Spells}
+use Rattle.roll_text.specs.Text.{IsUnreadableAt}
 use Rattle.roll_text.proofs.LineTexts.{text_of-next}
 use Rattle.roll_text.proofs.Spelled.{IsAfter, unended_line, bad_line, no_line, next_spelled}
 use Rattle.roll_cli.specs.declared.command.Command.{Command}

@@ -88,16 +88,20 @@ refusals_from settings game core [] = 0
 refusals_from settings game core (command ∷ commands) =
     (if refused_by settings game core command then 1 else 0) + refusals_from settings game (after_command settings game core command) commands
 
--- what a script writes, and how many of its replies are refusals: one where its session doesn't start
+-- what the commands of a session write, and how many of their replies are refusals: one where the session doesn't start
+abbrev pub output_under : Texts → Settings → Game → List Command → List ℕ
+output_under texts settings game commands =
+    option_map_or (λ why. ended (refused_line why)) (start_refusal settings) (written_from texts settings game (first_core settings) commands)
+
+abbrev pub refusals_under : Settings → Game → List Command → ℕ
+refusals_under settings game commands = option_map_or (λ why. 1) (start_refusal settings) (refusals_from settings game (first_core settings) commands)
+
+-- what a script writes, and how many of its replies are refusals
 abbrev pub output : Texts → Game → Play → List ℕ
-output texts game play =
-    option_map_or (λ why. ended (refused_line why)) (start_refusal (settings_of play.setup))
-    (written_from texts (settings_of play.setup) game (first_core (settings_of play.setup)) play.commands)
+output texts game play = output_under texts (settings_of play.setup) game play.commands
 
 abbrev pub refusals : Game → Play → ℕ
-refusals game play =
-    option_map_or (λ why. 1) (start_refusal (settings_of play.setup))
-    (refusals_from (settings_of play.setup) game (first_core (settings_of play.setup)) play.commands)
+refusals game play = refusals_under (settings_of play.setup) game play.commands
 
 -- the ship duel has as many ships as the script players
 abbrev pub duel_game : ℕ → Game

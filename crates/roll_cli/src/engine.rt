@@ -5,15 +5,16 @@ ghost use Rattle.roll_text.specs.Lines.{ended, text_of as text_of_lines};
 ghost use Rattle.roll_text.specs.Streams.{IsBadAt};
 ghost use Rattle.roll_text.specs.declared.streams.TheConstants.{TEXT_LIMIT};
 ghost use Rattle.roll_cli.specs.Faults.{TakesAtMost};
-ghost use Rattle.roll_cli.specs.Output.{IsOutput, duel_output, duel_refusals, output, refusals, refused_line};
+ghost use Rattle.roll_cli.specs.Output.{IsOutput, duel_output, duel_refusals, output, output_under, refusals, refusals_under, refused_line};
 ghost use Rattle.roll_cli.specs.Plays.{IsPlay, IsScript, play_lines, play_of};
 ghost use Rattle.roll_cli.specs.declared.engine.PlayFault.TheVariants.{NoMemory, Unreadable, Write as CannotWrite};
 
+use crate::command::Command;
 use crate::output::{push_refused, push_replies};
 use crate::script::{Script, ScriptFault};
 use crate::shown::Shown;
 use roll_duel::Duel;
-use roll_frame::Refusal;
+use roll_frame::{Refusal, Settings};
 use roll_game::NoMemory as GameFault;
 use roll_session::Session;
 use roll_text::{ReadFault, WriteFault, read_all, write_all};
@@ -159,7 +160,8 @@ fn write_played<G: Shown + Drop, W: Write>(
     ensures fault { IfErr result (λ fault. (fault ≡ CannotWrite) ⊎ ((fault ≡ NoMemory) × (writer.new ≡ writer.old))) }
 {
     let mut out = Vec::new(alloc);
-    let refused = push_output(alloc, &mut out, script, game, opening)?;
+    let settings = script.header.settings();
+    let refused = push_output(alloc, &mut out, settings, &script.commands, game, opening)?;
     write_all(writer, &out)?;
     Ok(refused)
 }
@@ -195,22 +197,22 @@ fn write_not_started<W: Write>(
     Ok(refused)
 }
 
-/// Writes all that a script writes at the end, and answers how many replies are refusals.
-fn push_output<G: Shown + Drop>(
+/// Writes all that the commands of a session write at the end, and answers how many replies are refusals.
+pub fn push_output<G: Shown + Drop>(
     alloc: Global,
     out: &mut Vec<u8>,
-    script: &Script,
+    settings: Settings,
+    commands: &[Command],
     game: G,
     opening: G::Snapshot,
 ) -> Result<u32, PlayFault>
-    requires fits { IsPlay (play_of script.now) }
-    requires few { length script.now.commands.items < 2 ^ 32 }
-    ensures written { OnOk result (out.new.items ≡ out.old.items ++ output G.text_of (record { opening = G.snapshot_value opening; step = G.step }) (play_of script.now)) }
-    ensures refused { IfOk result (λ refused. refused ≡ refusals (record { opening = G.snapshot_value opening; step = G.step }) (play_of script.now)) }
+    requires few { length commands.now < 2 ^ 32 }
+    ensures written { OnOk result (out.new.items ≡ out.old.items ++ output_under G.text_of settings (record { opening = G.snapshot_value opening; step = G.step }) commands.now) }
+    ensures refused { IfOk result (λ refused. refused ≡ refusals_under settings (record { opening = G.snapshot_value opening; step = G.step }) commands.now) }
     ensures fault { IfErr result (λ fault. fault ≡ NoMemory) }
 {
-    match Session::start(alloc, game, opening, script.header.settings()) {
-        Ok(mut session) => push_replies(out, &mut session, &script.commands),
+    match Session::start(alloc, game, opening, settings) {
+        Ok(mut session) => push_replies(out, &mut session, commands),
         Err(fault) => push_not_started(out, fault.why),
     }
 }

@@ -1,4 +1,4 @@
-use Rattle.std.proofs.Common.{◌≡◌, ◌<◌, length, arith}
+use Rattle.std.proofs.Common.{arith}
 use Rattle.std.specs.Fmt.{decimal}
 use Rattle.roll_cli.proofs.Spelled.{no_guess}
 use Rattle.roll_cli.proofs.command.guess.Goals as goal

@@ -1,4 +1,3 @@
-use Rattle.std.proofs.Common.{◌≡◌, ◌≤◌, length, arith}
 use Rattle.roll_cli.specs.Plays.{play_of}
 use Rattle.roll_cli.proofs.Played.{few_commands}
 use Rattle.roll_cli.proofs.engine.read_script.Goals as goal

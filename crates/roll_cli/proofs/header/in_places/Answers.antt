@@ -1,4 +1,4 @@
-use Rattle.std.proofs.Common.{◌≡◌, ◌∙◌, ◌++◌, length, drop, replicate, ap}
+use Rattle.std.proofs.Common.{◌∙◌, ◌++◌, length, drop, replicate, ap}
 use Rattle.roll_frame.specs.declared.limits.TheConstants.{PLAYER_LIMIT}
 use Rattle.roll_cli.proofs.Headings.{placed}
 use Rattle.roll_cli.proofs.header.in_places.Goals as goal

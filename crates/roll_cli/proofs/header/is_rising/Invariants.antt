@@ -1,4 +1,4 @@
-use Rattle.std.proofs.Common.{◌≡◌, ℕ, ◌↔◌, drop}
+use Rattle.std.proofs.Common.{◌↔◌, drop}
 use Rattle.roll_cli.specs.Headers.{IsRising}
 use Rattle.roll_cli.proofs.header.is_rising.Given as goal
 

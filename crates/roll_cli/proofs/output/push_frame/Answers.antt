@@ -1,4 +1,4 @@
-use Rattle.std.proofs.Common.{◌≡◌, ◌∙◌, ◌++◌, sym, ap}
+use Rattle.std.proofs.Common.{◌∙◌, ◌++◌, sym, ap}
 use Rattle.std.proofs.lemmas.List.{append-nil}
 use Rattle.roll_session.specs.Seen.{core_of, game_of}
 use Rattle.roll_cli.proofs.Written.{nothing_rolled, nothing_shown, rolled_line, six_pieces}

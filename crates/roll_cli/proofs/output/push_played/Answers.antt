@@ -1,11 +1,10 @@
-use Rattle.std.proofs.Common.{◌≡◌, ◌∙◌, ◌++◌, List, ℕ, Bool, sym, ap, refl, append_assoc, Option, Some, false, []}
+use Rattle.std.proofs.Common.{◌∙◌, ◌++◌, sym, ap, Option, false, []}
 use Rattle.std.specs.Option.{option_map_or}
 use Rattle.roll_frame.specs.Core.{Core}
 use Rattle.roll_frame.specs.Events.{after, reply}
 use Rattle.roll_frame.specs.Games.{Value, Game}
 use Rattle.roll_frame.specs.declared.entry.Entry.{Entry}
 use Rattle.roll_frame.specs.declared.reply.Reply.{Reply}
-use Rattle.roll_session.specs.Calls.{entry_of}
 use Rattle.roll_session.specs.Seen.{Seen, core_of, game_of, plain}
 use Rattle.roll_text.specs.Lines.{ended}
 use Rattle.roll_cli.specs.Output.{is_refused, reply_line}

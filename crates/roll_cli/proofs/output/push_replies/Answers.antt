@@ -1,10 +1,8 @@
-use Rattle.std.proofs.Common.{◌≡◌, ◌∙◌, ◌++◌, ◌+◌, ◌∷◌, ℕ, List, drop, get_or, length, sym, ap, refl, arith, append_assoc, add-one}
+use Rattle.std.proofs.Common.{◌≡◌, ◌∙◌, ◌+◌, ◌∷◌, drop, ap, refl, arith}
 use Rattle.std.specs.Prelude.{if◌then◌else◌}
 use Rattle.std.proofs.lemmas.Grind.{common_steps}
-use Rattle.roll_frame.specs.Core.{Core}
 use Rattle.roll_frame.specs.Games.{Value, Game}
 use Rattle.roll_session.specs.Seen.{Seen, core_of, game_of}
-use Rattle.roll_cli.specs.declared.command.Command.{Command}
 use Rattle.roll_cli.specs.Output.{after_command}
 use Rattle.roll_cli.proofs.Asked.{as_many_players}
 use Rattle.roll_cli.proofs.Written.{one_counted, one_written}

@@ -1,5 +1,4 @@
-use Rattle.std.proofs.Common.{◌≡◌, ◌≤◌, min, arith}
-use Rattle.std.proofs.lemmas.Grind.{common_steps}
+use Rattle.std.proofs.Common.{◌≤◌, min, arith}
 use Rattle.roll_frame.specs.Core.{Core, settled}
 use Rattle.roll_frame.specs.Timeline.{front}
 use Rattle.roll_session.specs.Seen.{core_of}

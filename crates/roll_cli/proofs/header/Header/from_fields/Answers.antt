@@ -1,4 +1,4 @@
-use Rattle.std.proofs.Common.{◌≡◌, ◌∙◌, ℕ, List, [], sym, ap, arith, length, map, get_or, Bor}
+use Rattle.std.proofs.Common.{◌≡◌, ◌∙◌, ℕ, List, sym, ap, arith, length, Bor}
 use Rattle.std.proofs.lemmas.List.{length-map}
 use Rattle.roll_text.specs.Numbers.{list_of}
 use Rattle.roll_cli.specs.Headers.{header_fields}

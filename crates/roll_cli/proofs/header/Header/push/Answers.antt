@@ -1,8 +1,8 @@
-use Rattle.std.proofs.Common.{◌≡◌, ◌∙◌, ◌++◌, codes, sym, ap, arith, length, append_assoc, refl}
+use Rattle.std.proofs.Common.{◌≡◌, ◌∙◌, ◌++◌, codes, sym, ap, arith, append_assoc, refl}
 use Rattle.std.proofs.lemmas.List.{append-nil}
 use Rattle.std.proofs.lemmas.Grind.{common_steps}
 use Rattle.roll_text.specs.Numbers.{list_of}
-use Rattle.roll_cli.specs.Headers.{Setup, header_of, setup_of}
+use Rattle.roll_cli.specs.Headers.{Setup, setup_of}
 use Rattle.roll_cli.proofs.Headings.{mask_text, mask_text_none, mask_text_some, header_pieces}
 use Rattle.roll_cli.proofs.header.Header.push.Goals as goal
 use Rattle.roll_cli.proofs.header.Header.push.Goals.{then-not-is_empty+in_ok-extend_from_slice-5+in_ok-push_list-3, else-not-is_empty}
