@@ -1,11 +1,14 @@
 -- A tree of which only what hangs below one node is left.
 use Rattle.std.proofs.Common.{◌≡◌, ◌≢◌, ◌⊎◌, ◌&&◌, ℕ, zero, suc, ◌+◌, ◌-◌, ◌≤◌, List, [], ◌∷◌, ◌++◌, map, Bool, true, false, cond, Option, Some, None, refl, sym, ap, subst, ◌∙◌, inl, inr, arith, append-nil, append_assoc, eqb}
+use Rattle.std.specs.Prelude.{slice_get}
 use Rattle.std.specs.List.{filter, filter_map}
 use Rattle.std.proofs.lemmas.List.Elements.{filter-append}
 use Rattle.std.proofs.lemmas.Option.{none-some, same_Some}
 use Rattle.std.proofs.lemmas.Bool.{cases_eq, cases_Bool, or_left, or_right, eq-eqb}
+use Rattle.roll_frame.specs.declared.row.Cell.{Cell}
 use Rattle.roll_frame.specs.Cells.{Rows}
-use Rattle.roll_tree.specs.Layout.{has_name, node_at, HasParent, AreLinked, AreDistinct, IsAfter, AreOrdered}
+use Rattle.roll_tree.specs.Layout.{has_name, node_at, HasParent, AreLinked, AreDistinct, IsAfter, AreOrdered, AreFresh}
+use Rattle.roll_tree.specs.Marks.{AreMarks}
 use Rattle.roll_tree.specs.declared.node.Edge.{Edge}
 use Rattle.roll_tree.specs.declared.node.Node.{Node}
 use Rattle.roll_tree.proofs.Names.{has_name-filter}
@@ -131,6 +134,18 @@ module _ {S : Type 0} where
         let was = was_at j m atj in
         let also = was_at k n atk in
         distinct j k was.0 also.0 was.1 also.1 (was.4 ∙ ap (λ (r : Rows). path_at base old first ++ r) e ∙ sym also.4)
+
+    -- the marks stay fresh where the time has lost the rows before the top's
+    pub cut_fresh : (time left : Rows) → AreFresh base time old → ((k : ℕ) → slice_get left k ≡ slice_get time (first.end - base + k)) → AreFresh first.end left new
+    cut_fresh time left fresh rest name node e found is = elim (left_cases name node found) [
+      | inl here ↦ absurd (none-some e (ap (λ (n : Node S). n.edge) here.1 ∙ is))
+      | inr there ↦
+          let up = cut.above name node there.2 there.0 there.1 in
+          let above = left_at up.0.edge.parent up.0.parent up.0.parent_is up.1 in
+          let low = cut.links.low top first cut.first_is in
+          let place : first.end - base + (node.end - first.end - 1) ≡ node.end - base - 1 = omega (arith, above.low, up.0.next) in
+          subst (λ (o : Option (List Cell)). AreMarks o e.row e.marks) (sym (rest (node.end - first.end - 1) ∙ ap (slice_get time) place)) (fresh name node e there.2 is)
+    ]
 
     -- the names that live stay in order
     live_after : (above : List ℕ) (name : ℕ) → IsAfter old above name → live name ≡ true → IsAfter new (filter live above) name

@@ -1,6 +1,6 @@
 -- A tree that gains a node.
-use Rattle.std.proofs.Common.{◌≡◌, ◌≢◌, ◌⊎◌, ℕ, ◌+◌, ◌<◌, ◌≤◌, ◌^◌, List, [], ◌∷◌, ◌++◌, length, Bool, true, false, Option, Some, None, refl, sym, ap, subst, ◌∙◌, inl, inr, arith, length-append, append-nil, append_assoc, vec_capacity, eqb}
-use Rattle.std.specs.Prelude.{option_map}
+use Rattle.std.proofs.Common.{◌≡◌, ◌≢◌, ◌⊎◌, ℕ, ◌+◌, ◌-◌, ◌<◌, ◌≤◌, ◌^◌, List, [], ◌∷◌, ◌++◌, length, Bool, true, false, Option, Some, None, refl, sym, ap, subst, ◌∙◌, inl, inr, arith, length-append, append-nil, append_assoc, vec_capacity, eqb}
+use Rattle.std.specs.Prelude.{option_map, slice_get}
 use Rattle.std.proofs.lemmas.List.Elements.{filter_map-append}
 use Rattle.std.proofs.lemmas.Option.{none-some, same_Some}
 use Rattle.std.proofs.lemmas.Bool.{cases_eq, false≢true, or_left, eq-eqb}
@@ -10,7 +10,8 @@ use Rattle.roll_frame.specs.declared.limits.TheConstants.{PATH_LIMIT, TREE_LIMIT
 use Rattle.roll_frame.specs.Cells.{Rows}
 use Rattle.roll_frame.specs.Paths.{contains}
 use Rattle.roll_tree.specs.Kept.{Saved, Kept, held, with_state, CanGrow}
-use Rattle.roll_tree.specs.Layout.{has_name, node_at, saved_of, state_at, kept_of, HasParent, AreLinked, AreDistinct, IsAfter, AreOrdered, IsTree}
+use Rattle.roll_tree.specs.Layout.{has_name, node_at, saved_of, state_at, kept_of, HasParent, AreLinked, AreDistinct, IsAfter, AreOrdered, AreFresh, IsTree}
+use Rattle.roll_tree.specs.Marks.{AreMarks}
 use Rattle.roll_tree.specs.declared.node.Edge.{Edge}
 use Rattle.roll_tree.specs.declared.node.Node.{Node}
 use Rattle.roll_tree.specs.declared.tree.Tree.TheInside.{Inside}
@@ -98,6 +99,16 @@ module _ {S : Type 0} where
           ]
         ]
 
+    pub grown_fresh : (time : Rows) → AreFresh base time old → AreMarks (slice_get time (child.end - base - 1)) edge.row edge.marks → AreFresh base time new
+    grown_fresh time fresh marks k node e found is =
+        elim (grown_cases k node found) [
+          | inl here ↦
+              let mine : edge ≡ e = same_Some _ _ (sym grown.edge_is ∙ ap (λ (n : Node S). n.edge) here.1 ∙ is) in
+              subst (λ (x : Edge). AreMarks (slice_get time (node.end - base - 1)) x.row x.marks) mine
+              (subst (λ (n : Node S). AreMarks (slice_get time (n.end - base - 1)) edge.row edge.marks) here.1 marks)
+          | inr there ↦ fresh k node e there is
+        ]
+
     -- the states afterwards
     pub grown_states : (names : List ℕ) → AreOrdered old [] names → states_at base new (names ++ name ∷ []) ≡ states_at base old names ++ (record { name = name; path = path_at base old parent ++ edge.row ∷ []; snapshot = child.snapshot }) ∷ []
     grown_states names ordered =
@@ -154,14 +165,15 @@ module _ {S : Type 0} where
       }
 
   -- the tree after `insert`
-  pub grown_tree : (t u : Inside S) (name : ℕ) (child parent : Node S) (edge : Edge) → u.base ≡ t.base → u.root ≡ t.root → u.order.items ≡ t.order.items ++ name ∷ [] → IsTree t → IsGrown t.base t.nodes.slots u.nodes.slots name child parent edge → FitsBelow t parent edge.row → slab_len u.nodes ≡ slab_len t.nodes + 1 → slab_len u.nodes ≤ TREE_LIMIT → TREE_LIMIT ≤ u.nodes.capacity → TREE_LIMIT ≤ vec_capacity u.order → IsTree u
-  grown_tree t u name child parent edge base root order tree grown fits len few room space =
+  pub grown_tree : (t u : Inside S) (name : ℕ) (child parent : Node S) (edge : Edge) → u.base ≡ t.base → u.root ≡ t.root → u.order.items ≡ t.order.items ++ name ∷ [] → u.time.items ≡ t.time.items → AreMarks (slice_get t.time.items (child.end - t.base - 1)) edge.row edge.marks → IsTree t → IsGrown t.base t.nodes.slots u.nodes.slots name child parent edge → FitsBelow t parent edge.row → slab_len u.nodes ≡ slab_len t.nodes + 1 → slab_len u.nodes ≤ TREE_LIMIT → TREE_LIMIT ≤ u.nodes.capacity → TREE_LIMIT ≤ vec_capacity u.order → IsTree u
+  grown_tree t u name child parent edge base root order time marks tree grown fits len few room space =
       let old = t.nodes.slots in
       let new = u.nodes.slots in
       let within = grown_within t.base old new name child parent edge tree.links grown in
       record {
         links = subst (λ (b : ℕ). AreLinked b new) (sym base) (grown_links t.base old new name child parent edge tree.links grown);
         distinct = subst (λ (b : ℕ). AreDistinct b new) (sym base) (grown_distinct t.base old new name child parent edge tree.links grown tree.distinct fits.fresh);
+        fresh = subst (λ (r : Rows). AreFresh u.base r new) (sym time) (subst (λ (b : ℕ). AreFresh b t.time.items new) (sym base) (grown_fresh t.base old new name child parent edge tree.links grown t.time.items tree.fresh marks));
         rooted = rooted_within within (option_cases (node_at old t.root));
         listed = λ k node found. ap (λ (l : List ℕ). has_name l k) order ∙ listed k node found (cases_eq k name);
         ordered = subst (λ (l : List ℕ). AreOrdered new [] l) (sym order) (ordered_push new [] t.order.items name (ordered_within old new within [] t.order.items tree.ordered) (record {
@@ -192,15 +204,15 @@ module _ {S : Type 0} where
       unnamed false e = e
 
   -- what is seen after `insert`
-  pub grown_view : (t u : Inside S) (kept : Kept S) (name : ℕ) (child parent : Node S) (edge : Edge) (s : Saved S) → u.base ≡ t.base → u.root ≡ t.root → u.order.items ≡ t.order.items ++ name ∷ [] → kept_of t ≡ kept → IsTree t → IsGrown t.base t.nodes.slots u.nodes.slots name child parent edge → held kept edge.parent ≡ Some s → kept_of u ≡ with_state kept (record { name = name; path = s.path ++ edge.row ∷ []; snapshot = child.snapshot })
-  grown_view t u kept name child parent edge s base root order view tree grown seen =
+  pub grown_view : (t u : Inside S) (kept : Kept S) (name : ℕ) (child parent : Node S) (edge : Edge) (s : Saved S) → u.base ≡ t.base → u.root ≡ t.root → u.order.items ≡ t.order.items ++ name ∷ [] → u.time.items ≡ t.time.items → kept_of t ≡ kept → IsTree t → IsGrown t.base t.nodes.slots u.nodes.slots name child parent edge → held kept edge.parent ≡ Some s → kept_of u ≡ with_state kept (record { name = name; path = s.path ++ edge.row ∷ []; snapshot = child.snapshot })
+  grown_view t u kept name child parent edge s base root order time view tree grown seen =
       let above : saved_of t.base t.nodes.slots edge.parent parent ≡ s = same_Some _ _ (sym (held_node t kept edge.parent parent view tree grown.above) ∙ seen) in
       let states : states_at u.base u.nodes.slots u.order.items ≡ states_at t.base t.nodes.slots t.order.items ++ (record { name = name; path = s.path ++ edge.row ∷ []; snapshot = child.snapshot }) ∷ [] =
       ap (λ (b : ℕ). states_at b u.nodes.slots u.order.items) base
       ∙ ap (states_at t.base u.nodes.slots) order
       ∙ grown_states t.base t.nodes.slots u.nodes.slots name child parent edge tree.links grown t.order.items tree.ordered
       ∙ ap (λ (x : Saved S). states_at t.base t.nodes.slots t.order.items ++ (record { name = name; path = x.path ++ edge.row ∷ []; snapshot = child.snapshot }) ∷ []) above in
-      subst (λ (k : Kept S). kept_of u ≡ with_state k (record { name = name; path = s.path ++ edge.row ∷ []; snapshot = child.snapshot })) view (λ i. record { base = base i; root = root i; states = states i })
+      subst (λ (k : Kept S). kept_of u ≡ with_state k (record { name = name; path = s.path ++ edge.row ∷ []; snapshot = child.snapshot })) view (λ i. record { base = base i; root = root i; states = states i; time = time i })
 
   -- a tree of a root alone
   pub new_tree : (u : Inside S) (node : Node S) → node_at u.nodes.slots u.root ≡ Some node → ((other : ℕ) → other ≢ u.root → node_at u.nodes.slots other ≡ None) → node.edge ≡ None → node.end ≡ u.base → u.order.items ≡ u.root ∷ [] → slab_len u.nodes ≡ 1 → TREE_LIMIT ≤ u.nodes.capacity → TREE_LIMIT ≤ vec_capacity u.order → IsTree u
@@ -212,6 +224,7 @@ module _ {S : Type 0} where
       linked = λ k other at deep. absurd (omega (arith, (only k other at).0, deep));
     };
     distinct = λ j k m n atj atk e. named j m atj ∙ sym (named k n atk);
+    fresh = λ k other e at is. absurd (none-some e (sym (only k other at).1 ∙ is));
     rooted = ap (option_map (λ (n : Node S). n.end)) found ∙ ap Some end;
     listed = λ k other at. ap (λ (l : List ℕ). has_name l k) (order ∙ ap (λ (r : ℕ). r ∷ []) (sym (named k other at))) ∙ or_left (eqb k k) false (eq-eqb k k refl);
     ordered = subst (AreOrdered u.nodes.slots []) (sym order) (record { once = refl; node = node; node_is = found; parent = λ e is. absurd (none-some e (sym edge ∙ is)) }, tt);

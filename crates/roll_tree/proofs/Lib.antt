@@ -11,3 +11,7 @@ pub mod Rules
 pub mod Fronts
 pub mod Pruning
 pub mod Sorting
+pub mod Bytes
+pub mod Marking
+pub mod Right
+pub mod Least

@@ -1,6 +1,6 @@
 -- What `cut` and `settle` make of a tree.
-use Rattle.std.proofs.Common.{◌≡◌, ◌≢◌, ◌⊎◌, ℕ, ◌+◌, ◌-◌, ◌≤◌, List, [], ◌∷◌, ◌++◌, length, map, Option, Some, None, Bool, not, refl, sym, ap, subst, ◌∙◌, inl, inr, vec_capacity}
-use Rattle.std.specs.Prelude.{option_map, IsSomeAnd}
+use Rattle.std.proofs.Common.{◌≡◌, ◌≢◌, ◌⊎◌, ℕ, zero, suc, drop, arith, ◌+◌, ◌-◌, ◌≤◌, List, [], ◌∷◌, ◌++◌, length, map, Option, Some, None, Bool, not, refl, sym, ap, subst, ◌∙◌, inl, inr, vec_capacity}
+use Rattle.std.specs.Prelude.{option_map, slice_get, IsSomeAnd}
 use Rattle.std.specs.List.{filter}
 use Rattle.std.proofs.lemmas.Option.{none-some, same_Some}
 use Rattle.std.proofs.lemmas.Bool.{cases_eq}
@@ -22,6 +22,13 @@ use Rattle.roll_tree.proofs.Cuts.{detached}
 use Rattle.roll_tree.proofs.Rules.{live_by, is_live, left_states, left_tree}
 use Rattle.roll_tree.proofs.Fronts.{cut_rule, settle_rule}
 
+slice_get-drop : (n : ℕ) (rows : Rows) (k : ℕ) → slice_get (drop n rows) k ≡ slice_get rows (n + k)
+slice_get-drop zero rows k = let same : k ≡ 0 + k = omega arith in ap (slice_get rows) same
+slice_get-drop (suc n) [] k = refl
+slice_get-drop (suc n) (row ∷ rows) k =
+    let more : suc (n + k) ≡ suc n + k = omega arith in
+    slice_get-drop n rows k ∙ ap (slice_get (row ∷ rows)) more
+
 module _ {S : Type 0} where
   later_none : (states : List (Saved S)) → map (later 0) states ≡ states
   later_none [] = refl
@@ -38,7 +45,7 @@ module _ {S : Type 0} where
   root_stays : (t : Inside S) (tree : IsTree t) (first : Node S) → node_at t.nodes.slots t.root ≡ Some first → first.end ≡ t.base → node_at t.nodes.slots t.root ≡ Some (detached first)
   root_stays t tree first found end = found ∙ ap (λ o. Some (record first { edge = o })) (tree.links.top t.root first found end)
 
-  module _ (t : Inside S) (tree : IsTree t) (frame player place : ℕ) (cell : Cell) (low : t.base ≤ frame) (is : player ≡ place + 1) (u : Inside S) (base : u.base ≡ t.base) (root : u.root ≡ t.root) (pruned : (live : ℕ → Bool) → IsLive t.root (Agrees place frame cell) t.nodes.slots live → IsPruned live t.nodes u.nodes t.order.items u.order.items) where
+  module _ (t : Inside S) (tree : IsTree t) (frame player place : ℕ) (cell : Cell) (low : t.base ≤ frame) (is : player ≡ place + 1) (u : Inside S) (base : u.base ≡ t.base) (root : u.root ≡ t.root) (time : u.time.items ≡ t.time.items) (pruned : (live : ℕ → Bool) → IsLive t.root (Agrees place frame cell) t.nodes.slots live → IsPruned live t.nodes u.nodes t.order.items u.order.items) where
     abbrev passes : Saved S → Bool
     passes s = not (has_other player (frame - t.base) cell s.path)
 
@@ -49,7 +56,9 @@ module _ {S : Type 0} where
         let at_top = root_stays t tree first.0 first.1 first.2 in
         let live = is_live t t.root first.0 (Agrees place frame cell) passes t.nodes tree rule at_top (λ name differs. refl) in
         left_tree t t.root first.0 (Agrees place frame cell) passes t.nodes tree rule at_top (λ name differs. refl) u.nodes u.order.items (pruned (live_by t t.root first.0 (Agrees place frame cell) passes) live)
-        u (base ∙ sym first.2) root refl refl refl room space
+        u (base ∙ sym first.2) root refl refl
+        (λ k. let same : k ≡ first.0.end - t.base + k = omega (arith, first.2) in ap (λ (r : Rows). slice_get r k) time ∙ ap (slice_get t.time.items) same)
+        refl room space
 
     pub cut_view : (kept : Kept S) → kept_of t ≡ kept → kept_of u ≡ record kept { states = filter (λ s. not (has_other player (frame - kept.base) cell s.path)) kept.states }
     cut_view kept view =
@@ -64,7 +73,7 @@ module _ {S : Type 0} where
         ∙ left
         ∙ ap (λ (n : ℕ). map (later n) (filter passes (states_at t.base t.nodes.slots t.order.items))) none
         ∙ later_none (filter passes (states_at t.base t.nodes.slots t.order.items)) in
-        subst (λ (k : Kept S). kept_of u ≡ record k { states = filter (λ s. not (has_other player (frame - k.base) cell s.path)) k.states }) view (λ i. record { base = base i; root = root i; states = states i })
+        subst (λ (k : Kept S). kept_of u ≡ record k { states = filter (λ s. not (has_other player (frame - k.base) cell s.path)) k.states }) view (λ i. record { base = base i; root = root i; states = states i; time = time i })
 
 -- there is no player 0, so nothing differs there
 cut_all : {S : Type 0} (place : ℕ) (cell : Cell) (states : List (Saved S)) → states ≡ filter (λ s. not (has_other 0 place cell s.path)) states
@@ -74,7 +83,7 @@ cut_all place cell (s ∷ states) = ap (λ l. s ∷ l) (cut_all place cell state
 pub cut_nobody : {S : Type 0} (kept : Kept S) (place : ℕ) (cell : Cell) → kept ≡ record kept { states = filter (λ s. not (has_other 0 place cell s.path)) kept.states }
 cut_nobody kept place cell = ap (λ l. record kept { states = l }) (cut_all place cell kept.states)
 
-module _ {S : Type 0} (t : Inside S) (tree : IsTree t) (top : ℕ) (first : Node S) (first_is : node_at t.nodes.slots top ≡ Some first) (mid : Slab (Node S)) (at_top : get mid top ≡ Some (detached first)) (others : (name : ℕ) → name ≢ top → get mid name ≡ get t.nodes name) (len : slab_len mid ≡ slab_len t.nodes) (u : Inside S) (base : u.base ≡ first.end) (root : u.root ≡ top) (pruned : (live : ℕ → Bool) → IsLive top Any mid.slots live → IsPruned live mid u.nodes t.order.items u.order.items) where
+module _ {S : Type 0} (t : Inside S) (tree : IsTree t) (top : ℕ) (first : Node S) (first_is : node_at t.nodes.slots top ≡ Some first) (mid : Slab (Node S)) (at_top : get mid top ≡ Some (detached first)) (others : (name : ℕ) → name ≢ top → get mid name ≡ get t.nodes name) (len : slab_len mid ≡ slab_len t.nodes) (u : Inside S) (base : u.base ≡ first.end) (root : u.root ≡ top) (time : u.time.items ≡ drop (first.end - t.base) t.time.items) (pruned : (live : ℕ → Bool) → IsLive top Any mid.slots live → IsPruned live mid u.nodes t.order.items u.order.items) where
   abbrev begins_there : Saved S → Bool
   begins_there s = begins_with s.path (path_at t.base t.nodes.slots first)
 
@@ -83,7 +92,7 @@ module _ {S : Type 0} (t : Inside S) (tree : IsTree t) (top : ℕ) (first : Node
       let rule = settle_rule t tree top first first_is in
       let live = is_live t top first Any begins_there mid tree rule at_top others in
       left_tree t top first Any begins_there mid tree rule at_top others u.nodes u.order.items (pruned (live_by t top first Any begins_there) live)
-      u base root refl refl len room space
+      u base root refl refl (λ k. ap (λ (r : Rows). slice_get r k) time ∙ slice_get-drop (first.end - t.base) t.time.items k) len room space
 
   pub settle_view : (kept : Kept S) (to : Rows) → kept_of t ≡ kept → path_at t.base t.nodes.slots first ≡ to → (kept_of u).states ≡ map (later (length to)) (filter (λ s. begins_with s.path to) kept.states)
   settle_view kept to view path =

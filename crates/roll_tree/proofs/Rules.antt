@@ -1,6 +1,6 @@
 -- The tests by which a tree is pruned, and the tree afterwards.
-use Rattle.std.proofs.Common.{◌≡◌, ◌≢◌, ◌⊎◌, ◌||◌, ◌&&◌, not, ℕ, ◌≤◌, List, [], ◌∷◌, length, map, drop, Bool, true, false, cond, Option, Some, None, refl, sym, ap, subst, ◌∙◌, inl, inr, arith, eqb, vec_capacity}
-use Rattle.std.specs.Prelude.{option_map}
+use Rattle.std.proofs.Common.{◌≡◌, ◌≢◌, ◌⊎◌, ◌||◌, ◌&&◌, not, ℕ, ◌+◌, ◌-◌, ◌≤◌, List, [], ◌∷◌, length, map, drop, Bool, true, false, cond, Option, Some, None, refl, sym, ap, subst, ◌∙◌, inl, inr, arith, eqb, vec_capacity}
+use Rattle.std.specs.Prelude.{option_map, slice_get}
 use Rattle.std.specs.List.{filter}
 use Rattle.std.specs.Option.{option_map_or}
 use Rattle.std.proofs.Math.Seq.{drop-append_seam}
@@ -9,7 +9,7 @@ use Rattle.std.proofs.lemmas.Bool.{cases_eq, false≢true, or_left, eqb-true, eq
 use Rattle.slab.specs.Slab.{Slab, get, slab_len}
 use Rattle.roll_frame.specs.declared.limits.TheConstants.{TREE_LIMIT}
 use Rattle.roll_tree.specs.Kept.{Saved, later}
-use Rattle.roll_tree.specs.Layout.{has_name, node_at, saved_of, state_at, HasParent, AreLinked, AreDistinct, AreOrdered, IsTree}
+use Rattle.roll_tree.specs.Layout.{has_name, node_at, saved_of, state_at, HasParent, AreLinked, AreDistinct, AreOrdered, AreFresh, IsTree}
 use Rattle.roll_tree.specs.Rule.{allows, IsLive, IsPruned}
 use Rattle.roll_tree.specs.declared.node.Edge.{Edge}
 use Rattle.roll_tree.specs.declared.node.Node.{Node}
@@ -19,7 +19,7 @@ use Rattle.roll_tree.proofs.Names.{option_cases, has_name-filter}
 use Rattle.roll_tree.proofs.Nodes.{path_at, with_edge}
 use Rattle.roll_tree.proofs.Prunes.{named_node}
 use Rattle.roll_tree.proofs.States.{states_at}
-use Rattle.roll_tree.proofs.Cuts.{detached, IsCut, left_at, was_at, cut_links, cut_distinct, cut_ordered, filter_map-live}
+use Rattle.roll_tree.proofs.Cuts.{detached, IsCut, left_at, was_at, cut_links, cut_distinct, cut_fresh, cut_ordered, filter_map-live}
 
 length-filter : (live : ℕ → Bool) (names : List ℕ) → length (filter live names) ≤ length names
 length-filter live [] = omega arith
@@ -132,14 +132,15 @@ module _ {S : Type 0} (t : Inside S) (top : ℕ) (first : Node S) (rule : Rule) 
                     ap (option_map (saved_of first.end new.slots name)) left.now_is ∙ ap Some (λ i. record { name = name; path = path i; snapshot = left.snapshot_is i }),
               )
 
-      pub left_tree : (u : Inside S) → u.base ≡ first.end → u.root ≡ top → u.nodes ≡ new → u.order.items ≡ kept → slab_len mid ≡ slab_len t.nodes → TREE_LIMIT ≤ new.capacity → TREE_LIMIT ≤ vec_capacity u.order → IsTree u
-      left_tree u base root nodes order len room space =
+      pub left_tree : (u : Inside S) → u.base ≡ first.end → u.root ≡ top → u.nodes ≡ new → u.order.items ≡ kept → ((k : ℕ) → slice_get u.time.items k ≡ slice_get t.time.items (first.end - t.base + k)) → slab_len mid ≡ slab_len t.nodes → TREE_LIMIT ≤ new.capacity → TREE_LIMIT ≤ vec_capacity u.order → IsTree u
+      left_tree u base root nodes order time len room space =
           let slots : u.nodes.slots ≡ new.slots = ap (λ (s : Slab (Node S)). s.slots) nodes in
           let counted : length u.order.items ≡ slab_len u.nodes = omega (arith, ap (λ (l : List ℕ). length l) order, ap (λ (s : Slab (Node S)). slab_len s) nodes, pruned.counted, tree.counted, len) in
           let few : length u.order.items ≤ length t.order.items = omega (arith, ap (λ (l : List ℕ). length l) (order ∙ pruned.kept_is), length-filter live_by t.order.items) in
           record {
             links = subst (λ (b : ℕ). AreLinked b u.nodes.slots) (sym base) (subst (AreLinked first.end) (sym slots) (cut_links t.base top first live_by t.nodes.slots new.slots is_cut));
             distinct = subst (λ (b : ℕ). AreDistinct b u.nodes.slots) (sym base) (subst (AreDistinct first.end) (sym slots) (cut_distinct t.base top first live_by t.nodes.slots new.slots is_cut tree.distinct));
+            fresh = subst (λ (b : ℕ). AreFresh b u.time.items u.nodes.slots) (sym base) (subst (AreFresh first.end u.time.items) (sym slots) (cut_fresh t.base top first live_by t.nodes.slots new.slots is_cut t.time.items u.time.items tree.fresh time));
             rooted =
                 ap (λ (r : ℕ). option_map (λ (n : Node S). n.end) (node_at u.nodes.slots r)) root
                 ∙ ap (λ (l : List (Option (Node S))). option_map (λ (n : Node S). n.end) (node_at l top)) slots

@@ -1,5 +1,5 @@
 -- What a contract sees of a `Tree`.
-use Rattle.std.specs.Prelude.{◌≡◌, ℕ, ◌+◌, ◌-◌, ◌<◌, ◌^◌, ◌==◌, List, [], ◌∷◌, ◌++◌, length, map, take, drop, not, Bool, true, false, Option, Some, None, IsSome, if◌then◌else◌}
+use Rattle.std.specs.Prelude.{◌≡◌, ℕ, ◌+◌, ◌-◌, ◌≤◌, ◌<◌, ◌^◌, ◌==◌, List, [], ◌∷◌, ◌++◌, length, map, take, drop, not, Bool, true, false, Option, Some, None, IsSome, if◌then◌else◌}
 use Rattle.std.specs.List.{find}
 use Rattle.std.specs.Option.{option_map_or}
 use Rattle.roll_frame.specs.declared.row.Cell.{Cell}
@@ -8,6 +8,7 @@ use Rattle.roll_frame.specs.declared.path.Path.{Path}
 use Rattle.roll_frame.specs.Cells.{Rows, cell_eq}
 use Rattle.roll_frame.specs.Claims.{cell_in}
 use Rattle.roll_frame.specs.Paths.{contains}
+use Rattle.roll_tree.specs.Marks.{AreSameBut}
 
 -- a saved state: its name, the rows that lead to it from the base, and its snapshot
 pub record Saved (S : Type 0) : Type 0 where
@@ -15,11 +16,13 @@ pub record Saved (S : Type 0) : Type 0 where
   pub path : Rows
   pub snapshot : S
 
--- the frame of the root, the root's name, and the states in the order in which they came
+-- the frame of the root, the root's name, the states in the order in which they came, and the timeline's rows
+-- from the root's frame on, as they were last told
 pub record Kept (S : Type 0) : Type 0 where
   pub base : ℕ
   pub root : ℕ
   pub states : List (Saved S)
+  pub time : Rows
 
 module _ {S : Type 0} where
   -- the state of this name
@@ -39,6 +42,16 @@ module _ {S : Type 0} where
     pub short : (s : Saved S) → held t parent ≡ Some s → length s.path < PATH_LIMIT
     pub frames : (s : Saved S) → held t parent ≡ Some s → t.base + length s.path + 1 < 2 ^ 32
     pub fresh : (s : Saved S) → held t parent ≡ Some s → contains (paths_of t) (s.path ++ row ∷ []) ≡ false
+
+  -- the rows may become the timeline's: those that were known differ in a player's cells alone, from this frame on
+  pub record CanMark (t : Kept S) (player from : ℕ) (rows : Rows) : Type 0 where
+    pub short : length rows ≤ PATH_LIMIT
+    pub long : length t.time ≤ length rows
+    pub same : AreSameBut player from t.base t.time rows
+
+  -- the timeline's rows up to a frame
+  abbrev pub time_to : Kept S → ℕ → Rows
+  time_to t to = take (to - t.base) t.time
 
   -- the state as it is seen from so many frames later
   abbrev pub later : ℕ → Saved S → Saved S

@@ -1,5 +1,5 @@
 -- How a `Tree` lies in its slab. No public clause cites this module.
-use Rattle.std.specs.Prelude.{◌≡◌, ℕ, zero, suc, ◌+◌, ◌-◌, ◌<◌, ◌≤◌, List, length, [], ◌∷◌, ◌++◌, Bool, true, false, Option, Some, None, option_map, slice_index_or, vec_capacity, ◌==◌}
+use Rattle.std.specs.Prelude.{◌≡◌, ℕ, zero, suc, ◌+◌, ◌-◌, ◌<◌, ◌≤◌, List, length, [], ◌∷◌, ◌++◌, Bool, true, false, Option, Some, None, option_map, slice_get, slice_index_or, vec_capacity, ◌==◌}
 use Rattle.std.specs.List.{filter_map, list_any}
 use Rattle.std.specs.Option.{option_map_or, option_and_then}
 use Rattle.slab.specs.Slab.{slab_len}
@@ -7,6 +7,7 @@ use Rattle.roll_frame.specs.declared.row.Cell.{Cell}
 use Rattle.roll_frame.specs.declared.limits.TheConstants.{PATH_LIMIT, TREE_LIMIT}
 use Rattle.roll_frame.specs.Cells.{Rows}
 use Rattle.roll_tree.specs.Kept.{Saved, Kept}
+use Rattle.roll_tree.specs.Marks.{AreMarks}
 use Rattle.roll_tree.specs.declared.node.Edge.{Edge}
 use Rattle.roll_tree.specs.declared.node.Node.{Node}
 use Rattle.roll_tree.specs.declared.tree.Tree.TheInside.{Inside}
@@ -14,6 +15,9 @@ use Rattle.roll_tree.specs.declared.tree.Tree.TheInside.{Inside}
 -- whether a name is one of these
 abbrev pub has_name : List ℕ → ℕ → Bool
 has_name names name = list_any (λ n. n == name) names
+
+abbrev pub bare_edge : Edge → Edge
+bare_edge e = record e { marks = 0 }
 
 module _ {S : Type 0} where
   -- the node of this name
@@ -40,7 +44,7 @@ module _ {S : Type 0} where
   state_at base slots name = option_map (saved_of base slots name) (node_at slots name)
 
   abbrev pub kept_of : Inside S → Kept S
-  kept_of t = record { base = t.base; root = t.root; states = filter_map (state_at t.base t.nodes.slots) t.order.items }
+  kept_of t = record { base = t.base; root = t.root; states = filter_map (state_at t.base t.nodes.slots) t.order.items; time = t.time.items }
 
   -- an edge leads up from the node, one frame
   pub record HasParent (slots : List (Option (Node S))) (node : Node S) : Type 0 where
@@ -73,9 +77,23 @@ module _ {S : Type 0} where
   AreOrdered slots above [] = Unit {0}
   AreOrdered slots above (name ∷ names) = IsAfter slots above name × AreOrdered slots (above ++ name ∷ []) names
 
+  -- marks that were changed in place are the marks computed afresh: each edge's tell where its row differs from the
+  -- timeline's row of its frame
+  abbrev pub AreFresh : ℕ → Rows → List (Option (Node S)) → Type 0
+  AreFresh base time slots = (name : ℕ) (node : Node S) (e : Edge) → node_at slots name ≡ Some node → node.edge ≡ Some e → AreMarks (slice_get time (node.end - base - 1)) e.row e.marks
+
+  -- a node without its marks
+  abbrev pub bare : Node S → Node S
+  bare node = record node { edge = option_map bare_edge node.edge }
+
+  -- the nodes are the same but for their marks
+  pub record AreLike (old new : List (Option (Node S))) : Type 0 where
+    pub at : (name : ℕ) → option_map bare (node_at new name) ≡ option_map bare (node_at old name)
+
   pub record IsTree (t : Inside S) : Type 0 where
     pub links : AreLinked t.base t.nodes.slots
     pub distinct : AreDistinct t.base t.nodes.slots
+    pub fresh : AreFresh t.base t.time.items t.nodes.slots
     pub rooted : option_map (λ (n : Node S). n.end) (node_at t.nodes.slots t.root) ≡ Some t.base
     pub listed : (name : ℕ) (node : Node S) → node_at t.nodes.slots name ≡ Some node → has_name t.order.items name ≡ true
     pub ordered : AreOrdered t.nodes.slots [] t.order.items

@@ -1,3 +1,4 @@
+pub mod Marks
 pub mod Kept
 pub mod Layout
 pub mod Rule

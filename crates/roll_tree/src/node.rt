@@ -1,5 +1,6 @@
 //! The nodes of a tree.
-ghost use Rattle.std.specs.Prelude.{◌≡◌, ◌≢◌, ℕ, None, Some, IsSome, IsSomeAnd};
+ghost use Rattle.std.specs.Prelude.{◌≡◌, ◌≢◌, ◌==◌, ◌&&◌, ℕ, false, None, Some, IsSome, IsSomeAnd};
+ghost use Rattle.std.specs.Option.{option_map_or};
 ghost use Rattle.slab.specs.Slab.{get, slab_len};
 ghost use Rattle.roll_tree.specs.Node.{is_child_of};
 
@@ -11,6 +12,8 @@ use slab::Slab;
 pub struct Edge {
     pub parent: usize,
     pub row: Row,
+    /// Where the row differs from the timeline's.
+    pub marks: u8,
 }
 
 /// A saved state. The root has no edge.
@@ -32,15 +35,25 @@ impl<S> Node<S> {
             None => false,
         }
     }
+
+    /// Whether it is one row below another node, and that row is the timeline's.
+    pub fn is_right_child(&self, parent: usize) -> bool
+        ensures { result ≡ option_map_or (λ e. e.parent == parent && e.marks == 0) self.now.edge false }
+    {
+        match &self.edge {
+            Some(edge) => edge.parent == parent && edge.marks == 0,
+            None => false,
+        }
+    }
 }
 
-/// Makes a node a root.
-pub fn detach<S>(nodes: &mut Slab<Node<S>>, name: usize)
+/// Gives a node another edge, or makes it a root.
+pub fn set_edge<S>(nodes: &mut Slab<Node<S>>, name: usize, edge: Option<Edge>)
     requires { IsSome (get nodes.old name) }
-    ensures changed { IsSomeAnd (get nodes.old name) (λ was. get nodes.new name ≡ Some (record was { edge = None })) }
+    ensures changed { IsSomeAnd (get nodes.old name) (λ was. get nodes.new name ≡ Some (record was { edge = edge })) }
     ensures others { (other : ℕ) → other ≢ name → get nodes.new other ≡ get nodes.old other }
     ensures len { slab_len nodes.new ≡ slab_len nodes.old }
     ensures capacity { nodes.new.capacity ≡ nodes.old.capacity }
 {
-    nodes[name].edge = None;
+    nodes[name].edge = edge;
 }

@@ -1,16 +1,25 @@
 //! The tree.
-ghost use Rattle.std.specs.Prelude.{◌≡◌, ℕ, ◌+◌, ◌-◌, ◌≤◌, ◌<◌, ◌↔◌, [], ◌∷◌, ◌++◌, length, map, filter, take, not, true, false, is_some, IsSome, IsSomeAnd, IsTrue, IsErr, IfOk, IfErr, IfSome, OnErr, option_map, Some, None, All};
+ghost use Rattle.std.specs.Prelude.{◌≡◌, ℕ, ◌+◌, ◌-◌, ◌≤◌, ◌<◌, ◌↔◌, [], ◌∷◌, ◌++◌, length, map, filter, take, drop, not, true, false, is_some, IsSome, IsSomeAnd, IsTrue, IsErr, IfOk, IfErr, IfSome, OnErr, option_map, Some, None, All};
 ghost use Rattle.roll_frame.specs.Order.{frames_of, in_order};
 ghost use Rattle.roll_frame.specs.Paths.{begins_with, contains, longest as longest_of};
-ghost use Rattle.roll_tree.specs.Kept.{Saved, Kept, held, paths_of, with_state, CanGrow, later, has_other, IsClosed, IsDistinct, path_of};
+ghost use Rattle.roll_tree.specs.Kept.{Saved, Kept, held, paths_of, with_state, CanGrow, later, has_other, IsClosed, IsDistinct, path_of, CanMark, time_to};
+ghost use Rattle.roll_tree.specs.Marks.{least_mark};
 
-use crate::node::{Edge, Node, detach};
+use crate::marks::{Change, least_marked, marks_in};
+use crate::node::{Edge, Node, set_edge};
 use crate::prune::{Rule, prune};
 use arrayvec::ArrayVec;
 use roll_frame::{Cell, PATH_LIMIT, Path, Refusal, Row, TREE_LIMIT};
 use slab::Slab;
 use std::alloc::{AllocError, AllocFailed, Global};
 use std::marker::Model;
+
+// Takes rows off the front, all where there are fewer.
+fn drop_first(rows: &mut ArrayVec<Row, PATH_LIMIT>, count: usize)
+    ensures { rows.new.items ≡ drop count rows.old.items }
+{
+    rows.drain(..count.min(rows.len()));
+}
 
 /// The saved states that can still matter, each named by a key, below one root.
 #[derive(Drop)]
@@ -20,6 +29,7 @@ pub struct Tree<S> {
     nodes: Slab<Node<S>>,
     // The names of the nodes, each after its parent's.
     order: Vec<usize>,
+    time: ArrayVec<Row, PATH_LIMIT>,
 }
 
 /// 256 states are kept, and the tree doesn't take this one.
@@ -58,6 +68,7 @@ impl<S> Tree<S> {
         S: Drop,
         ensures base { IfOk result (λ t. t.base ≡ base) }
         ensures alone { IfOk result (λ t. t.states ≡ record { name = t.root; path = []; snapshot = root } ∷ []) }
+        ensures time { IfOk result (λ t. t.time ≡ []) }
         ensures returned { IfErr result (λ failed. failed.value ≡ root) }
     {
         let Ok(mut nodes) = Slab::with_capacity(alloc, TREE_LIMIT) else {
@@ -77,6 +88,7 @@ impl<S> Tree<S> {
             root,
             nodes,
             order,
+            time: ArrayVec::new(),
         })
     }
 
@@ -124,10 +136,11 @@ impl<S> Tree<S> {
         if self.order.len() == TREE_LIMIT {
             return Err(TreeFull { snapshot });
         }
-        let end = self.nodes[parent].end + 1;
+        let end = self.nodes[parent].end;
+        let marks = marks_in(&self.time, (end - self.base) as usize, &row);
         let name = self.nodes.insert_reserved(Node {
-            edge: Some(Edge { parent, row }),
-            end,
+            edge: Some(Edge { parent, row, marks }),
+            end: end + 1,
             snapshot,
         });
         self.order.push(name).unwrap();
@@ -180,6 +193,68 @@ impl<S> Tree<S> {
         (best, self.nodes[best].end)
     }
 
+    /// The timeline's rows from the base on, as they were last told.
+    pub fn time(&self) -> &[Row]
+        ensures { result.now ≡ self.now.time }
+    {
+        self.time.as_slice()
+    }
+
+    /// Tells the timeline's rows from the base on.
+    ///
+    /// Of those that were known, the cells of one player, from 1, may have changed, in this frame and later.
+    pub fn mark(&mut self, player: u8, from: u32, rows: &[Row])
+        requires { CanMark self.old player from rows.now }
+        ensures { self.new ≡ record self.old { time = rows.now } }
+    {
+        let change = Change {
+            base: self.base,
+            player,
+            from,
+        };
+        change.mark_all(&mut self.nodes, &self.order, &self.time, rows);
+        self.time.clear();
+        self.time.try_extend_from_slice(rows).unwrap();
+    }
+
+    /// The deepest kept state on the timeline's way to a frame, and its length, from frame 0.
+    pub fn deepest(&self, to: u32) -> (usize, u32)
+        requires from { self.now.base ≤ to }
+        requires known { to ≤ self.now.base + length self.now.time }
+        ensures node { IsSomeAnd (held self.now result.0) (λ s. s.path ≡ take (longest_of (paths_of self.now) (time_to self.now to)) (time_to self.now to)) }
+        ensures length { result.1 ≡ self.now.base + longest_of (paths_of self.now) (time_to self.now to) }
+    {
+        let mut best = self.root;
+        let mut end = self.base;
+        for name in &self.order {
+            if end == to {
+                break;
+            }
+            if self.nodes[*name].is_right_child(best) {
+                best = *name;
+                end += 1;
+            }
+        }
+        (best, end)
+    }
+
+    /// The least frame in which a kept path differs from the timeline, where both have a row, and the least player,
+    /// from 1, whose cells differ there.
+    pub fn first_mark(&self, node: usize) -> Option<(u32, u8)>
+        requires { IsSome (held self.now node) }
+        ensures { option_map (λ s. least_mark self.now.base s.path self.now.time) (held self.now node) ≡ Some result }
+    {
+        let mut first = None;
+        let mut at = node;
+        while let Some(edge) = self.nodes[at].edge {
+            if let Some(player) = least_marked(edge.marks) {
+                first = Some((self.nodes[at].end - 1, player));
+            }
+            at = edge.parent;
+        }
+        first
+    }
+
     /// The kept state of a path.
     pub fn find(&self, path: &Path) -> Option<usize>
         requires { path.now.base ≡ self.now.base }
@@ -202,6 +277,7 @@ impl<S> Tree<S> {
         requires kept { contains (paths_of self.old) to.now.rows.items ≡ true }
         ensures base { self.new.base ≡ frames_of to.now }
         ensures root { IsSomeAnd (held self.old self.new.root) (λ s. s.path ≡ to.now.rows.items) }
+        ensures time { self.new.time ≡ drop (length to.now.rows.items) self.old.time }
         ensures states { self.new.states ≡ map (later (length to.now.rows.items)) (filter (λ s. begins_with s.path to.now.rows.items) self.old.states) }
     {
         let Some(top) = self.find(to) else {
@@ -209,7 +285,8 @@ impl<S> Tree<S> {
         };
         self.base = self.nodes[top].end;
         self.root = top;
-        detach(&mut self.nodes, top);
+        drop_first(&mut self.time, to.rows.len());
+        set_edge(&mut self.nodes, top, None);
         prune(&mut self.nodes, &mut self.order, top, &Rule::Any);
     }
 

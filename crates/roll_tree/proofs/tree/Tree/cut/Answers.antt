@@ -18,10 +18,10 @@ returns-in_default g c =
 
 pub invariant_of-self : goal.invariant_of-self
 invariant_of-self g c =
-    let after : Inside g.row.S.Denot = record { base = c.self.inside.base; root = c.self.inside.root; nodes = c.prune.new.nodes; order = c.prune.new.order } in
-    cut_tree c.self.inside c.self.invariant c.args.frame c.args.player c.in-Some.place c.args.cell (omega (arith, base_is c.self.inside c.args.self.now c.self.view_is, c.requires)) (omega (arith, c.from.ensures, c.in-Some.ensures.0, c.in-Some.ensures.1)) after refl refl c.prune.ensures.pruned (omega (arith, c.prune.ensures.capacity, c.self.invariant.room)) (omega (arith, c.prune.ensures.space, c.self.invariant.space))
+    let after : Inside g.row.S.Denot = record { base = c.self.inside.base; root = c.self.inside.root; nodes = c.prune.new.nodes; order = c.prune.new.order; time = c.self.inside.time } in
+    cut_tree c.self.inside c.self.invariant c.args.frame c.args.player c.in-Some.place c.args.cell (omega (arith, base_is c.self.inside c.args.self.now c.self.view_is, c.requires)) (omega (arith, c.from.ensures, c.in-Some.ensures.0, c.in-Some.ensures.1)) after refl refl refl c.prune.ensures.pruned (omega (arith, c.prune.ensures.capacity, c.self.invariant.room)) (omega (arith, c.prune.ensures.space, c.self.invariant.space))
 
 pub returns : goal.returns
 returns g c =
-    let after : Inside g.row.S.Denot = record { base = c.self.inside.base; root = c.self.inside.root; nodes = c.prune.new.nodes; order = c.prune.new.order } in
-    cut_view c.self.inside c.self.invariant c.args.frame c.args.player c.in-Some.place c.args.cell (omega (arith, base_is c.self.inside c.args.self.now c.self.view_is, c.requires)) (omega (arith, c.from.ensures, c.in-Some.ensures.0, c.in-Some.ensures.1)) after refl refl c.prune.ensures.pruned c.args.self.now c.self.view_is
+    let after : Inside g.row.S.Denot = record { base = c.self.inside.base; root = c.self.inside.root; nodes = c.prune.new.nodes; order = c.prune.new.order; time = c.self.inside.time } in
+    cut_view c.self.inside c.self.invariant c.args.frame c.args.player c.in-Some.place c.args.cell (omega (arith, base_is c.self.inside c.args.self.now c.self.view_is, c.requires)) (omega (arith, c.from.ensures, c.in-Some.ensures.0, c.in-Some.ensures.1)) after refl refl refl c.prune.ensures.pruned c.args.self.now c.self.view_is

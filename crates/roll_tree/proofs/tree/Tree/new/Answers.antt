@@ -10,7 +10,7 @@ get_nothing n d = refl
 
 pub invariant_of-result : goal.invariant_of-result
 invariant_of-result g c =
-    let after : Inside g.row.S.Denot = record { base = c.args.base; root = c.insert_reserved-root.result; nodes = c.insert_reserved-root.new.self; order = c.push.new.self } in
+    let after : Inside g.row.S.Denot = record { base = c.args.base; root = c.insert_reserved-root.result; nodes = c.insert_reserved-root.new.self; order = c.push.new.self; time = c.new.result } in
     let node : Node g.row.S.Denot = record { edge = None; end = c.args.base; snapshot = c.args.root } in
     let pushed = rw c.unwrap.ensures at c.push.ensures.items in
     let empty = ap (λ (l : List (Option (Node g.row.S.Denot))). l) c.in-Ok.ensures.empty in
