@@ -13,5 +13,5 @@ pub mod Pruning
 pub mod Sorting
 pub mod Bytes
 pub mod Marking
-pub mod Right
+pub mod Deepest
 pub mod Least

@@ -191,9 +191,9 @@ module _ {S : Type 0} (base : ℕ) (time rows : Rows) (old : Slab (Node S)) (nam
     here = ordered_at old.slots [] names ordered place within
 
     -- the name's node is as it was
-    pub unmarked_node : get now name ≡ Some here.node
+    pub untouched_node : get now name ≡ Some here.node
     unfolding here
-    unmarked_node = marking.rest name here.once ∙ here.node_is
+    untouched_node = marking.rest name here.once ∙ here.node_is
 
     pub was_fresh : AreFresh base time old.slots → (node : Node S) (e : Edge) → get now name ≡ Some node → node.edge ≡ Some e → AreMarks (slice_get time (node.end - base - 1)) e.row e.marks
     unfolding here

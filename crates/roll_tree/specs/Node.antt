@@ -10,3 +10,7 @@ module _ {S : Type 0} where
   -- whether the node hangs by this row below the node of this name
   abbrev pub is_child_of : ℕ → Node S → List Cell → Bool
   is_child_of parent node row = option_map_or (λ (e : Edge). e.parent == parent && row_eq e.row row) node.edge false
+
+  -- whether it hangs there by an edge without marks
+  abbrev pub is_unmarked_of : ℕ → Node S → Bool
+  is_unmarked_of parent node = option_map_or (λ (e : Edge). e.parent == parent && e.marks == 0) node.edge false

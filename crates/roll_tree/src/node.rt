@@ -1,8 +1,7 @@
 //! The nodes of a tree.
-ghost use Rattle.std.specs.Prelude.{◌≡◌, ◌≢◌, ◌==◌, ◌&&◌, ℕ, false, None, Some, IsSome, IsSomeAnd};
-ghost use Rattle.std.specs.Option.{option_map_or};
+ghost use Rattle.std.specs.Prelude.{◌≡◌, ◌≢◌, ℕ, None, Some, IsSome, IsSomeAnd};
 ghost use Rattle.slab.specs.Slab.{get, slab_len};
-ghost use Rattle.roll_tree.specs.Node.{is_child_of};
+ghost use Rattle.roll_tree.specs.Node.{is_child_of, is_unmarked_of};
 
 use roll_frame::Row;
 use slab::Slab;
@@ -36,9 +35,9 @@ impl<S> Node<S> {
         }
     }
 
-    /// Whether it is one row below another node, and that row is the timeline's.
-    pub fn is_right_child(&self, parent: usize) -> bool
-        ensures { result ≡ option_map_or (λ e. e.parent == parent && e.marks == 0) self.now.edge false }
+    /// Whether it is one row below another node, and has no marks.
+    pub fn is_unmarked_child(&self, parent: usize) -> bool
+        ensures { result ≡ is_unmarked_of parent self.now }
     {
         match &self.edge {
             Some(edge) => edge.parent == parent && edge.marks == 0,

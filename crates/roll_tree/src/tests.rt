@@ -1,5 +1,8 @@
+ghost use Rattle.std.specs.Prelude.{◌≡◌, ◌+◌, ℕ, slice_get};
+ghost use Rattle.roll_tree.specs.Kept.{CanMark};
+
 use crate::{Tree, TreeFull};
-use roll_frame::{Cell, Path, Refusal, Row, TREE_LIMIT};
+use roll_frame::{Cell, PATH_LIMIT, Path, Refusal, Row, TREE_LIMIT};
 use std::alloc::Global;
 use std::mem;
 use std::process::Abort;
@@ -131,6 +134,129 @@ fn settle(tree: &mut Tree<u32>, to: &Path) {
     }
 }
 
+// Two rows have the same cells, but for this player's.
+fn agree(rt: &impl Abort, row: &Row, there: &Row, but: u8)
+    ensures { (k : ℕ) → (k + 1 ≡ but → ⊥) → slice_get row.now k ≡ slice_get there.now k }
+{
+    let players = row.count().max(there.count());
+    for place in 0..usize::from(players) {
+        if place + 1 == usize::from(but) {
+            continue;
+        }
+        assert_eq!(rt; row.get(place), there.get(place));
+    }
+}
+
+// The rows may become the timeline's.
+fn agree_all(rt: &impl Abort, tree: &Tree<u32>, player: u8, from: u32, rows: &[Row])
+    ensures { CanMark tree.now player from rows.now }
+{
+    let time = tree.time();
+    assert!(rt; rows.len() <= PATH_LIMIT && time.len() <= rows.len());
+    let first = tree.base();
+    for place in 0..time.len() {
+        let late = u64::from(from) <= u64::from(first) + place as u64;
+        let but = if late { player } else { 0 };
+        agree(rt, &rows[place], &time[place], but);
+    }
+}
+
+fn tell(rt: &impl Abort, tree: &mut Tree<u32>, player: u8, from: u32, rows: &[Row]) {
+    agree_all(rt, tree, player, from, rows);
+    tree.mark(player, from, rows);
+}
+
+fn deepest(rt: &impl Abort, tree: &Tree<u32>, to: u32) -> (usize, u32) {
+    let first = tree.base();
+    assert!(rt; first <= to);
+    assert!(rt; (to - first) as usize <= tree.time().len());
+    tree.deepest(to)
+}
+
+fn first_mark(rt: &impl Abort, tree: &Tree<u32>, node: usize) -> Option<(u32, u8)> {
+    assert!(rt; tree.contains(node));
+    tree.first_mark(node)
+}
+
+#[test]
+fn goes_with_the_timeline(rt: HostRuntime) -> Result<(), Fail> {
+    let mut tree = Tree::new(rt.alloc(), 0, 0)?;
+    let root = tree.root();
+    let a = grown(&rt, &mut tree, root, row(1, 0), 1);
+    let b = grown(&rt, &mut tree, a, row(1, 0), 2);
+    let e = grown(&rt, &mut tree, root, row(1, 3), 3);
+    tell(&rt, &mut tree, 2, 0, &[row(1, 0), row(1, 0)]);
+    assert_eq!(rt; deepest(&rt, &tree, 2), (b, 2));
+    tell(&rt, &mut tree, 2, 0, &[row(1, 3), row(1, 3)]);
+    for _ in 0..2 {
+        assert_eq!(rt; deepest(&rt, &tree, 2), (e, 1));
+        assert_eq!(rt; first_mark(&rt, &tree, b), Some((0, 2)));
+        assert_eq!(rt; first_mark(&rt, &tree, e), None);
+        tell(&rt, &mut tree, 2, 1, &[row(1, 3), row(1, 0)]);
+    }
+    Ok(())
+}
+
+// The row of so many players, all of whose words are 0, but for this player's, from 1.
+fn row_but(players: usize, player: usize, cell: Cell) -> Row {
+    let mut row = Row::new(if player == 1 { cell } else { Cell::Word(0) });
+    for next in 2..=8 {
+        if next <= players && row.count() < 8 {
+            row.push(if player == next { cell } else { Cell::Word(0) });
+        }
+    }
+    row
+}
+
+#[test]
+fn marks_eight_players(rt: HostRuntime) -> Result<(), Fail> {
+    let mut tree = Tree::new(rt.alloc(), 7, 0)?;
+    let root = tree.root();
+    let same = grown(&rt, &mut tree, root, row_but(8, 0, Cell::Gone), 0);
+    let last = grown(&rt, &mut tree, same, row_but(8, 8, Cell::Word(1)), 0);
+    let gone = grown(&rt, &mut tree, same, row_but(8, 1, Cell::Gone), 0);
+    let fewer = grown(&rt, &mut tree, same, row_but(7, 0, Cell::Gone), 0);
+    let zeros = row_but(8, 0, Cell::Gone);
+    tell(&rt, &mut tree, 0, 0, &[zeros, zeros]);
+    assert_eq!(rt; deepest(&rt, &tree, 9), (same, 8));
+    assert_eq!(rt; first_mark(&rt, &tree, same), None);
+    assert_eq!(rt; first_mark(&rt, &tree, last), Some((8, 8)));
+    assert_eq!(rt; first_mark(&rt, &tree, gone), Some((8, 1)));
+    assert_eq!(rt; first_mark(&rt, &tree, fewer), Some((8, 8)));
+    tell(
+        &rt,
+        &mut tree,
+        8,
+        8,
+        &[zeros, row_but(8, 8, Cell::Word(1)), zeros],
+    );
+    assert_eq!(rt; deepest(&rt, &tree, 10), (last, 9));
+    assert_eq!(rt; deepest(&rt, &tree, 8), (same, 8));
+    assert_eq!(rt; first_mark(&rt, &tree, gone), Some((8, 1)));
+    let next = grown(&rt, &mut tree, last, row_but(8, 5, Cell::Gone), 0);
+    assert_eq!(rt; first_mark(&rt, &tree, next), Some((9, 5)));
+    Ok(())
+}
+
+#[test]
+fn settles_past_the_end_of_the_timeline(rt: HostRuntime) -> Result<(), Fail> {
+    let mut tree = Tree::new(rt.alloc(), 2, 0)?;
+    assert!(rt; tree.time().is_empty());
+    let root = tree.root();
+    let one = grown(&rt, &mut tree, root, row(1, 0), 1);
+    let two = grown(&rt, &mut tree, one, row(2, 0), 2);
+    let three = grown(&rt, &mut tree, two, row(3, 0), 3);
+    tell(&rt, &mut tree, 1, 2, &[row(1, 0)]);
+    assert_eq!(rt; deepest(&rt, &tree, 3), (one, 3));
+    assert_eq!(rt; first_mark(&rt, &tree, three), None);
+    settle(&mut tree, &path(2, &[row(1, 0), row(2, 0)]));
+    assert!(rt; tree.time().is_empty());
+    assert_eq!(rt; deepest(&rt, &tree, 4), (two, 4));
+    tell(&rt, &mut tree, 1, 4, &[row(0, 1)]);
+    assert_eq!(rt; first_mark(&rt, &tree, three), Some((4, 1)));
+    Ok(())
+}
+
 // Of the three growths, that of the nodes, of their names and of the list of paths, any may be refused.
 #[test]
 fn stays_whole_where_growth_is_refused(rt: HostRuntime) {
@@ -195,6 +321,35 @@ fn has_other(path: &Path, player: u8, frame: u32, cell: Cell) -> bool {
     }
 }
 
+// The frame so many rows later.
+fn after(frame: u32, rows: usize) -> u32 {
+    frame.saturating_add(u32::try_from(rows).unwrap_or(0))
+}
+
+fn with_cell(row: &Row, player: u8, cell: Cell) -> Row {
+    let first = row.get(0).unwrap_or(cell);
+    let second = row.get(1).unwrap_or(cell);
+    match player {
+        1 => Row::from_cells(&[cell, second]),
+        2 => Row::from_cells(&[first, cell]),
+        _ => *row,
+    }
+}
+
+fn first_difference(path: &Path, time: &[Row]) -> Option<(u32, u8)> {
+    let mut frame = path.base;
+    for (row, there) in path.rows.iter().zip(time) {
+        if row.get(0) != there.get(0) {
+            return Some((frame, 1));
+        }
+        if row.get(1) != there.get(1) {
+            return Some((frame, 2));
+        }
+        frame = frame.wrapping_add(1);
+    }
+    None
+}
+
 fn settled(plain: Vec<Plain>, to: &Path, alloc: Global) -> Result<Vec<Plain>, Fail> {
     let mut left = Vec::new(alloc);
     for state in plain {
@@ -217,6 +372,7 @@ struct Both {
     alloc: Global,
     tree: Tree<u32>,
     plain: Vec<Plain>,
+    time: Vec<Row>,
     random: Random,
 }
 
@@ -278,6 +434,10 @@ impl Both {
         settle(&mut self.tree, &to);
         let plain = mem::replace(&mut self.plain, Vec::new(self.alloc));
         self.plain = settled(plain, &to, self.alloc)?;
+        let time = mem::replace(&mut self.time, Vec::new(self.alloc));
+        for row in time.iter().skip(to.rows.len()) {
+            self.time.push(*row)?;
+        }
         Ok(())
     }
 
@@ -308,13 +468,62 @@ impl Both {
         Ok(())
     }
 
+    // Changes a player's cells in a frame and later, and adds up to two rows.
+    fn mark(&mut self, rt: &impl Abort) -> Result<(), Fail> {
+        let player = u8::try_from(self.random.below(4)).unwrap_or(0);
+        let ahead = u32::try_from(self.random.below(6)).unwrap_or(0);
+        let from = self.tree.base().saturating_add(ahead).saturating_sub(1);
+        let mut frame = self.tree.base();
+        let mut rows = Vec::new(self.alloc);
+        for row in &self.time {
+            let late = from <= frame;
+            rows.push(if late {
+                with_cell(row, player, self.random.cell())
+            } else {
+                *row
+            })?;
+            frame = frame.wrapping_add(1);
+        }
+        for _ in 0..self.random.below(3) {
+            if rows.len() < PATH_LIMIT {
+                rows.push(self.random.row())?;
+            }
+        }
+        tell(rt, &mut self.tree, player, from, &rows);
+        self.time = rows;
+        Ok(())
+    }
+
+    // Asks how far the timeline's way goes to a frame, and gives the rows on it.
+    fn look(&mut self, rt: &impl Abort) -> usize {
+        let count = self.random.below(self.time.len().saturating_add(1));
+        let to = after(self.tree.base(), count);
+        let mut best = self.tree.root();
+        let mut length = 0;
+        for state in &self.plain {
+            let rows = state.path.rows.as_slice();
+            if rows.len() <= count && rows.len() >= length && self.time.starts_with(rows) {
+                best = state.name;
+                length = rows.len();
+            }
+        }
+        let end = after(self.tree.base(), length);
+        assert_eq!(rt; deepest(rt, &self.tree, to), (best, end));
+        length
+    }
+
     fn agree(&self, rt: &impl Abort) -> Result<(), Fail> {
         assert_eq!(rt; self.tree.len(), self.plain.len());
+        assert_eq!(rt; self.tree.time(), self.time.as_slice());
         let mut paths = Vec::new(self.alloc);
         for state in &self.plain {
             assert!(rt; self.tree.contains(state.name));
             assert_eq!(rt; *self.tree.get(state.name), state.snapshot);
             assert_eq!(rt; self.tree.path(state.name), state.path);
+            assert_eq!(rt;
+                first_mark(rt, &self.tree, state.name),
+                first_difference(&state.path, &self.time)
+            );
             paths.push(state.path.clone()?)?;
         }
         paths.sort()?;
@@ -336,14 +545,18 @@ fn goes_with_a_plain_list(rt: HostRuntime) -> Result<(), Fail> {
         alloc: rt.alloc(),
         tree,
         plain,
+        time: Vec::new(rt.alloc()),
         random: Random(1),
     };
     let mut most = 0;
+    let mut furthest = 0;
     for call in 0..10_000 {
         match both.random.below(100) {
             0 => both.cut(),
             1 => both.settle()?,
-            k if k < 30 => both.find(&rt)?,
+            k if k < 10 => both.mark(&rt)?,
+            k if k < 30 => furthest = furthest.max(both.look(&rt)),
+            k if k < 50 => both.find(&rt)?,
             _ => both.insert(&rt, call)?,
         }
         if call % 100 == 0 {
@@ -352,6 +565,7 @@ fn goes_with_a_plain_list(rt: HostRuntime) -> Result<(), Fail> {
         most = most.max(both.tree.len());
     }
     assert!(rt; most > 100, "at most {most} states");
+    assert!(rt; furthest > 2, "at most {furthest} rows of the timeline");
     Ok(())
 }
 

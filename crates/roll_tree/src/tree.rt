@@ -14,13 +14,6 @@ use slab::Slab;
 use std::alloc::{AllocError, AllocFailed, Global};
 use std::marker::Model;
 
-// Takes rows off the front, all where there are fewer.
-fn drop_first(rows: &mut ArrayVec<Row, PATH_LIMIT>, count: usize)
-    ensures { rows.new.items ≡ drop count rows.old.items }
-{
-    rows.drain(..count.min(rows.len()));
-}
-
 /// The saved states that can still matter, each named by a key, below one root.
 #[derive(Drop)]
 pub struct Tree<S> {
@@ -195,7 +188,8 @@ impl<S> Tree<S> {
 
     /// The timeline's rows from the base on, as they were last told.
     pub fn time(&self) -> &[Row]
-        ensures { result.now ≡ self.now.time }
+        ensures value { result.now ≡ self.now.time }
+        ensures few { length result.now ≤ PATH_LIMIT }
     {
         self.time.as_slice()
     }
@@ -230,7 +224,7 @@ impl<S> Tree<S> {
             if end == to {
                 break;
             }
-            if self.nodes[*name].is_right_child(best) {
+            if self.nodes[*name].is_unmarked_child(best) {
                 best = *name;
                 end += 1;
             }
@@ -325,4 +319,11 @@ impl<S> Tree<S> {
     {
         let _ = &self.base;
     }
+}
+
+// Takes rows off the front, all where there are fewer.
+fn drop_first(rows: &mut ArrayVec<Row, PATH_LIMIT>, count: usize)
+    ensures { rows.new.items ≡ drop count rows.old.items }
+{
+    rows.drain(..count.min(rows.len()));
 }

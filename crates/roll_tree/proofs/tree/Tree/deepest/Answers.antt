@@ -3,9 +3,9 @@ use Rattle.slab.specs.Slab.{get}
 use Rattle.roll_tree.proofs.Prunes.{ordered_at}
 use Rattle.roll_tree.proofs.States.{base_is}
 use Rattle.roll_tree.proofs.Way.{IsOnWay, way_start, way_past, way_on}
-use Rattle.roll_tree.proofs.Right.{known, right_child, right_node, right_length}
+use Rattle.roll_tree.proofs.Deepest.{known, unmarked_child, deepest_node, deepest_length}
 use Rattle.roll_tree.specs.Kept.{Kept}
-use Rattle.roll_tree.proofs.tree.Tree.deepest.Goals.{then-is_right_child, else-is_right_child}
+use Rattle.roll_tree.proofs.tree.Tree.deepest.Goals.{then-is_unmarked_child, else-is_unmarked_child}
 use Rattle.roll_tree.proofs.tree.Tree.deepest.Goals as goal
 
 pub loop-name-init : goal.loop-name-init
@@ -38,43 +38,43 @@ loop-name-preserved g c =
     let base = base_is t c.args.self.now c.self.view_is in
     let time = ap (λ (k : Kept g.row.S.Denot). length k.time) c.self.view_is in
     let room : depth < length rows = omega (arith, length-take (c.args.to - t.base) t.time.items, way.within, c.loop-name.invariant.low, c.if-end-to.false, base, time, c.requires.known) in
-    let says = sym (right_child t tree c.args.to place best depth way (get_or t.order.items place 0) node found room) ∙ sym c.is_right_child.ensures in
-    elim c.if-is_right_child.branch [
-      | then-is_right_child w ↦
+    let says = sym (unmarked_child t tree c.args.to place best depth way (get_or t.order.items place 0) node found room) ∙ sym c.is_unmarked_child.ensures in
+    elim c.if-is_unmarked_child.branch [
+      | then-is_unmarked_child w ↦
           let deep : depth + 1 ≡ c.loop-name.end + 1 - t.base = omega (arith, c.loop-name.invariant.low) in
           record {
             low = omega (arith, w.end-is, c.loop-name.invariant.low);
             way = rw (w.best-is, w.end-is, c.deref-name-items.ensures.value)
                 (subst (IsOnWay t.base t.nodes.slots t.order.items rows (place + 1) (get_or t.order.items place 0)) deep
-                (way_on t.base t.nodes.slots t.order.items rows tree.links tree.distinct tree.ordered place best depth within way node found room (says ∙ w.if-is_right_child.true)));
+                (way_on t.base t.nodes.slots t.order.items rows tree.links tree.distinct tree.ordered place best depth within way node found room (says ∙ w.if-is_unmarked_child.true)));
           }
-      | else-is_right_child w ↦ record {
+      | else-is_unmarked_child w ↦ record {
         low = omega (arith, w.end-is, c.loop-name.invariant.low);
         way = rw (w.best-is, w.end-is)
-            (way_past t.base t.nodes.slots t.order.items rows tree.links tree.distinct tree.ordered place best depth within way node found (says ∙ w.if-is_right_child.false));
+            (way_past t.base t.nodes.slots t.order.items rows tree.links tree.distinct tree.ordered place best depth within way node found (says ∙ w.if-is_unmarked_child.false));
       }
     ]
 
 pub returns-after-loop-name-clause-node : goal.returns-after-loop-name-clause-node
 returns-after-loop-name-clause-node g c =
     let over : length c.self.inside.order.items ≤ c.loop-name.name-index = rw c.deref-name-items.ensures.value at c.loop-name-test.false in
-    right_node c.self.inside c.self.invariant c.args.to c.loop-name.name-index c.loop-name.best (c.loop-name.end - c.self.inside.base) c.loop-name.invariant.way c.args.self.now c.self.view_is (inl over)
+    deepest_node c.self.inside c.self.invariant c.args.to c.loop-name.name-index c.loop-name.best (c.loop-name.end - c.self.inside.base) c.loop-name.invariant.way c.args.self.now c.self.view_is (inl over)
 
 pub returns-after-loop-name-clause-length : goal.returns-after-loop-name-clause-length
 returns-after-loop-name-clause-length g c =
     let over : length c.self.inside.order.items ≤ c.loop-name.name-index = rw c.deref-name-items.ensures.value at c.loop-name-test.false in
-    let far = right_length c.self.inside c.self.invariant c.args.to c.loop-name.name-index c.loop-name.best (c.loop-name.end - c.self.inside.base) c.loop-name.invariant.way c.args.self.now c.self.view_is (inl over) in
+    let far = deepest_length c.self.inside c.self.invariant c.args.to c.loop-name.name-index c.loop-name.best (c.loop-name.end - c.self.inside.base) c.loop-name.invariant.way c.args.self.now c.self.view_is (inl over) in
     omega (arith, far, c.loop-name.invariant.low)
 
 pub returns-then-end-to-clause-node : goal.returns-then-end-to-clause-node
 returns-then-end-to-clause-node g c =
     let t = c.self.inside in
     let over : length (known t c.self.invariant c.args.to) ≤ c.loop-name.end - t.base = omega (arith, length-take (c.args.to - t.base) t.time.items, c.if-end-to.true) in
-    right_node t c.self.invariant c.args.to c.loop-name.name-index c.loop-name.best (c.loop-name.end - t.base) c.loop-name.invariant.way c.args.self.now c.self.view_is (inr over)
+    deepest_node t c.self.invariant c.args.to c.loop-name.name-index c.loop-name.best (c.loop-name.end - t.base) c.loop-name.invariant.way c.args.self.now c.self.view_is (inr over)
 
 pub returns-then-end-to-clause-length : goal.returns-then-end-to-clause-length
 returns-then-end-to-clause-length g c =
     let t = c.self.inside in
     let over : length (known t c.self.invariant c.args.to) ≤ c.loop-name.end - t.base = omega (arith, length-take (c.args.to - t.base) t.time.items, c.if-end-to.true) in
-    let far = right_length t c.self.invariant c.args.to c.loop-name.name-index c.loop-name.best (c.loop-name.end - t.base) c.loop-name.invariant.way c.args.self.now c.self.view_is (inr over) in
+    let far = deepest_length t c.self.invariant c.args.to c.loop-name.name-index c.loop-name.best (c.loop-name.end - t.base) c.loop-name.invariant.way c.args.self.now c.self.view_is (inr over) in
     omega (arith, far, c.loop-name.invariant.low)
