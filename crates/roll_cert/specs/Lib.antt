@@ -1,1 +1,3 @@
+pub mod Checked
+pub mod Flaws
 pub mod Told
