@@ -2,7 +2,7 @@
 use Rattle.std.proofs.Common.{◌≡◌, ◌≢◌, ◌⊎◌, ◌||◌, ℕ, zero, suc, ◌+◌, ◌<◌, ◌≤◌, List, [], ◌∷◌, length, take, get_or, Bool, true, false, cond, Option, Some, None, nat_eq, refl, sym, ap, subst, ◌∙◌, inl, inr, arith, add-one}
 use Rattle.std.specs.Prelude.{slice_get, IsSomeAnd}
 use Rattle.std.specs.List.{list_any, count_by}
-use Rattle.std.proofs.lemmas.Bool.{cases_Bool, false≢true, eq-eqb}
+use Rattle.std.proofs.lemmas.Bool.{cases_Bool, cases_lt, false≢true, eq-eqb}
 use Rattle.std.proofs.lemmas.Bool.Decides.{eqb_tells}
 use Rattle.std.proofs.lemmas.List.Sums.{sum_by-cons, sum_by-take-le, count_by_more_yes, count_by_more_no}
 use Rattle.std.proofs.lemmas.Option.{same_Some, slice_get-get_or, slice_get_within, get_or_from_slice_get}
@@ -245,3 +245,54 @@ wrong claim (Missing i) (path, there, deeper, none) right =
     let one : count_by (is_for i) claim.differs ≡ 1 = right.once i path there deeper in
     let zero : count_by (is_for i) claim.differs ≡ 0 = count_none (is_for i) claim.differs none in
     omega arith
+
+-- a flaw is told by its stage, its place and its turn
+abbrev flaw_at : ℕ → ℕ → ℕ → Flaw
+flaw_at zero at turn = Shape
+flaw_at (suc zero) at turn = FromNotKept
+flaw_at (suc (suc zero)) at zero = Range at
+flaw_at (suc (suc zero)) at (suc zero) = Equal at
+flaw_at (suc (suc zero)) at (suc (suc turn)) = Twice at
+flaw_at (suc (suc (suc k))) at turn = Missing at
+
+is_flaw_at : (flaw : Flaw) → flaw_at (stage flaw) (place flaw) (turn flaw) ≡ flaw
+is_flaw_at Shape = refl
+is_flaw_at FromNotKept = refl
+is_flaw_at (Range j) = refl
+is_flaw_at (Equal j) = refl
+is_flaw_at (Twice j) = refl
+is_flaw_at (Missing i) = refl
+
+same_flaw : (flaw other : Flaw) → stage flaw ≡ stage other → place flaw ≡ place other → turn flaw ≡ turn other → flaw ≡ other
+same_flaw flaw other s p t = sym (is_flaw_at flaw) ∙ (cc) ∙ is_flaw_at other
+
+order_cases : (a b : ℕ) → (a < b) ⊎ ((b < a) ⊎ (a ≡ b))
+order_cases a b = elim (cases_lt a b) [
+  | inl below ↦ inl below
+  | inr above ↦ elim (cases_lt b a) [ inl below ↦ inr (inl below) | inr same ↦ inr (inr (omega arith)) ]
+]
+
+-- a claim has one first flaw
+pub only_first : (claim : Claim) (flaw other : Flaw) → IsFirst claim flaw → IsFirst claim other → flaw ≡ other
+only_first claim flaw other first second = by_stage (order_cases (stage flaw) (stage other))
+  where
+    earlier : ComesBefore flaw other → flaw ≡ other
+    earlier before = absurd (second.first flaw before first.has)
+
+    later : ComesBefore other flaw → flaw ≡ other
+    later before = absurd (first.first other before second.has)
+
+    by_turn : stage flaw ≡ stage other → place flaw ≡ place other → (turn flaw < turn other) ⊎ ((turn other < turn flaw) ⊎ (turn flaw ≡ turn other)) → flaw ≡ other
+    by_turn s p (inl t) = earlier (inr (s, inr (p, t)))
+    by_turn s p (inr (inl t)) = later (inr (sym s, inr (sym p, t)))
+    by_turn s p (inr (inr t)) = same_flaw flaw other s p t
+
+    by_place : stage flaw ≡ stage other → (place flaw < place other) ⊎ ((place other < place flaw) ⊎ (place flaw ≡ place other)) → flaw ≡ other
+    by_place s (inl p) = earlier (inr (s, inl p))
+    by_place s (inr (inl p)) = later (inr (sym s, inl p))
+    by_place s (inr (inr p)) = by_turn s p (order_cases (turn flaw) (turn other))
+
+    by_stage : (stage flaw < stage other) ⊎ ((stage other < stage flaw) ⊎ (stage flaw ≡ stage other)) → flaw ≡ other
+    by_stage (inl s) = earlier (inl s)
+    by_stage (inr (inl s)) = later (inl s)
+    by_stage (inr (inr s)) = by_place s (order_cases (place flaw) (place other))

@@ -1,7 +1,8 @@
 //! Whether a claim is right, and what is wrong with it.
-ghost use Rattle.std.specs.Prelude.{◌≡◌, ◌<◌, ◌≤◌, ◌+◌, ◌-◌, ◌↔◌, ℕ, All, [], ◌∷◌, ◌++◌, List, length, map, take, nat_eq, Some, None, option_map, slice_get, IsTrue, OnOk, OnErr, IfOk, IfErr, IfSome};
+ghost use Rattle.std.specs.Prelude.{◌≡◌, ◌<◌, ◌≤◌, ◌+◌, ◌-◌, ◌↔◌, ℕ, All, [], ◌∷◌, ◌++◌, List, length, map, take, nat_eq, Some, None, Err, option_map, slice_get, IsTrue, OnOk, OnErr, IfOk, IfErr, IfSome};
 ghost use Rattle.std.specs.List.{list_any};
 ghost use Rattle.roll_frame.specs.Claims.{Differ as Entry, IsDeeper, IsShaped, IsRight, AreRowsOf, is_start, is_for, target_of};
+ghost use Rattle.roll_cert.specs.declared.check.Flaw.{Flaw};
 ghost use Rattle.roll_cert.specs.declared.check.Flaw.TheVariants.{Missing};
 ghost use Rattle.roll_cert.specs.Told.{told, entry_of};
 ghost use Rattle.roll_cert.specs.Flaws.{IsOnPath, IsSame, HasFlaw, IsFirst};
@@ -237,6 +238,7 @@ pub fn check(claim: &Claim) -> Result<(), Flaw>
     ensures right { OnOk result (IsRight (told claim.now)) }
     ensures wrong { OnErr result (IsRight (told claim.now) → ⊥) }
     ensures first { IfErr result (IsFirst (told claim.now)) }
+    ensures only { (flaw : Flaw) → IsFirst (told claim.now) flaw → result ≡ Err flaw }
 {
     if !is_shaped(claim) {
         return Err(Flaw::Shape);
@@ -253,3 +255,6 @@ pub fn check(claim: &Claim) -> Result<(), Flaw>
         None => Ok(()),
     }
 }
+
+#[cfg(test)]
+mod tests;
