@@ -1,8 +1,7 @@
-use Rattle.std.proofs.Common.{◌≡◌, ◌∙◌, ℕ, length, false, Result, Err, sym, ap, subst, refl}
-use Rattle.std.specs.List.{list_any}
+use Rattle.std.proofs.Common.{◌≡◌, ◌∙◌, ℕ, length, Result, Err, sym, ap, subst, refl}
 use Rattle.std.proofs.lemmas.Bool.{false≢true}
 use Rattle.std.proofs.lemmas.List.{length-map}
-use Rattle.roll_frame.specs.Claims.{Claim as Told, IsShaped, is_start}
+use Rattle.roll_frame.specs.Claims.{Claim as Told}
 use Rattle.roll_cert.specs.declared.check.Flaw.{Flaw}
 use Rattle.roll_cert.specs.declared.check.Flaw.TheVariants.{Missing, Shape, FromNotKept}
 use Rattle.roll_cert.specs.declared.claim.Claim.{Claim}
