@@ -7,8 +7,8 @@ use Rattle.std.proofs.lemmas.Option.{same_Some, slice_get_within, get_or_from_sl
 use Rattle.std.proofs.Math.Seq.{take-suc}
 use Rattle.roll_frame.specs.declared.path.Path.{Path}
 use Rattle.roll_frame.specs.Claims.{Claim, Differ, IsDeeper, is_for}
-use Rattle.roll_cert.specs.declared.check.Flaw.{Flaw}
-use Rattle.roll_cert.specs.declared.check.Flaw.TheVariants.{Shape, FromNotKept, Range, Equal, Twice, Missing}
+use Rattle.roll_cert.specs.declared.checking.Flaw.{Flaw}
+use Rattle.roll_cert.specs.declared.checking.Flaw.TheVariants.{Shape, FromNotKept, Range, Equal, Twice, Missing}
 use Rattle.roll_cert.specs.Flaws.{IsInRange, IsSame, HasEntry, HasFlaw, stage, place, turn}
 use Rattle.roll_cert.specs.Checked.{IsGood, AreGood, AreNamed, IsFlawOf}
 

@@ -8,8 +8,8 @@ use Rattle.std.proofs.lemmas.List.Sums.{sum_by-cons, sum_by-take-le, count_by_mo
 use Rattle.std.proofs.lemmas.Option.{same_Some, slice_get-get_or, slice_get_within, get_or_from_slice_get}
 use Rattle.roll_frame.specs.declared.path.Path.{Path}
 use Rattle.roll_frame.specs.Claims.{Claim, Differ, IsShaped, IsRight, IsTrueEntry, is_start, is_for}
-use Rattle.roll_cert.specs.declared.check.Flaw.{Flaw}
-use Rattle.roll_cert.specs.declared.check.Flaw.TheVariants.{Shape, FromNotKept, Range, Equal, Twice, Missing}
+use Rattle.roll_cert.specs.declared.checking.Flaw.{Flaw}
+use Rattle.roll_cert.specs.declared.checking.Flaw.TheVariants.{Shape, FromNotKept, Range, Equal, Twice, Missing}
 use Rattle.roll_cert.specs.Flaws.{IsInRange, IsSame, HasFlaw, IsFirst, ComesBefore, stage, place, turn}
 use Rattle.roll_cert.specs.Checked.{IsGood, AreGood, AreNamed, IsFlawOf}
 use Rattle.roll_cert.proofs.Entries.{only}

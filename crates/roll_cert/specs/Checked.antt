@@ -4,7 +4,7 @@ use Rattle.std.specs.List.{list_any}
 use Rattle.roll_frame.specs.declared.limits.TheConstants.{TREE_LIMIT}
 use Rattle.roll_frame.specs.declared.path.Path.{Path}
 use Rattle.roll_frame.specs.Claims.{Claim, Differ, IsDeeper, is_for}
-use Rattle.roll_cert.specs.declared.check.Flaw.{Flaw}
+use Rattle.roll_cert.specs.declared.checking.Flaw.{Flaw}
 use Rattle.roll_cert.specs.Flaws.{IsInRange, IsSame, HasFlaw, stage, place, turn}
 
 -- the flags tell which of the first states the entries name

@@ -4,8 +4,8 @@ use Rattle.std.specs.List.{list_any}
 use Rattle.roll_frame.specs.declared.path.Path.{Path}
 use Rattle.roll_frame.specs.Order.{frames_of}
 use Rattle.roll_frame.specs.Claims.{Claim, Differ, IsDeeper, IsShaped, is_start, is_for, cell_in}
-use Rattle.roll_cert.specs.declared.check.Flaw.{Flaw}
-use Rattle.roll_cert.specs.declared.check.Flaw.TheVariants.{Shape, FromNotKept, Range, Equal, Twice, Missing}
+use Rattle.roll_cert.specs.declared.checking.Flaw.{Flaw}
+use Rattle.roll_cert.specs.declared.checking.Flaw.TheVariants.{Shape, FromNotKept, Range, Equal, Twice, Missing}
 
 -- the path is deeper than the start, and the entry has a frame of the path's rows, and a player
 pub record IsOnPath (claim : Claim) (entry : Differ) (path : Path) : Type 0 where

@@ -1,8 +1,8 @@
 //! Claims of rolls: what a roll says of itself, and whether it is right.
 #![tactic(auto)]
 
-mod check;
+mod checking;
 mod claim;
 
-pub use check::Flaw;
+pub use checking::{Flaw, check};
 pub use claim::{Claim, Differ, Items};

@@ -2,14 +2,14 @@ use Rattle.std.proofs.Common.{◌≡◌, ◌∙◌, ℕ, length, Result, Err, sy
 use Rattle.std.proofs.lemmas.Bool.{false≢true}
 use Rattle.std.proofs.lemmas.List.{length-map}
 use Rattle.roll_frame.specs.Claims.{Claim as Told}
-use Rattle.roll_cert.specs.declared.check.Flaw.{Flaw}
-use Rattle.roll_cert.specs.declared.check.Flaw.TheVariants.{Missing, Shape, FromNotKept}
+use Rattle.roll_cert.specs.declared.checking.Flaw.{Flaw}
+use Rattle.roll_cert.specs.declared.checking.Flaw.TheVariants.{Missing, Shape, FromNotKept}
 use Rattle.roll_cert.specs.declared.claim.Claim.{Claim}
 use Rattle.roll_cert.specs.Told.{told, entry_of}
 use Rattle.roll_cert.specs.Checked.{AreGood}
 use Rattle.roll_cert.specs.Flaws.{IsFirst}
 use Rattle.roll_cert.proofs.Rights.{right, wrong, first_shape, first_start, first_entry, first_missing, only_first}
-use Rattle.roll_cert.proofs.check.check.Goals as goal
+use Rattle.roll_cert.proofs.checking.check.Goals as goal
 
 all_good : (claim : Claim) → AreGood (told claim) (length claim.differs) → AreGood (told claim) (length (told claim).differs)
 all_good claim good = subst (λ (n : ℕ). AreGood (told claim) n) (sym (length-map claim.differs entry_of)) good

@@ -6,7 +6,7 @@ use Rattle.roll_frame.specs.declared.path.Path.{Path}
 use Rattle.roll_cert.specs.Told.{told, entry_of}
 use Rattle.roll_cert.specs.Flaws.{IsOnPath}
 use Rattle.roll_cert.proofs.Entries.{flaw_range, flaw_equal, flaw_twice, good_entry}
-use Rattle.roll_cert.proofs.check.check_entry.Goals as goal
+use Rattle.roll_cert.proofs.checking.check_entry.Goals as goal
 
 pub returns-in_default-clause-flaw : goal.returns-in_default-clause-flaw
 returns-in_default-clause-flaw c = flaw_range (told c.args.claim.now) c.args.j (entry_of c.entry_at-entry.result) c.entry_at-entry.ensures (λ path range. none-some path (sym c.in_default.ensures ∙ range.0))

@@ -3,7 +3,7 @@ use Rattle.roll_frame.specs.Claims.{Differ as Entry}
 use Rattle.roll_cert.specs.Told.{told, entry_of}
 use Rattle.roll_cert.specs.Checked.{IsNoted}
 use Rattle.roll_cert.proofs.Entries.{AreGood-more, take-more}
-use Rattle.roll_cert.proofs.check.check_entries.Goals as goal
+use Rattle.roll_cert.proofs.checking.check_entries.Goals as goal
 
 pub loop-j-preserved : goal.loop-j-preserved
 loop-j-preserved c = record {

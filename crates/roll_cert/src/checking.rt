@@ -2,8 +2,8 @@
 ghost use Rattle.std.specs.Prelude.{◌≡◌, ◌<◌, ◌≤◌, ◌+◌, ◌-◌, ◌↔◌, ℕ, All, [], ◌∷◌, ◌++◌, List, length, map, take, nat_eq, Some, None, Err, option_map, slice_get, IsTrue, OnOk, OnErr, IfOk, IfErr, IfSome};
 ghost use Rattle.std.specs.List.{list_any};
 ghost use Rattle.roll_frame.specs.Claims.{Differ as Entry, IsDeeper, IsShaped, IsRight, AreRowsOf, is_start, is_for, target_of};
-ghost use Rattle.roll_cert.specs.declared.check.Flaw.{Flaw};
-ghost use Rattle.roll_cert.specs.declared.check.Flaw.TheVariants.{Missing};
+ghost use Rattle.roll_cert.specs.declared.checking.Flaw.{Flaw};
+ghost use Rattle.roll_cert.specs.declared.checking.Flaw.TheVariants.{Missing};
 ghost use Rattle.roll_cert.specs.Told.{told, entry_of};
 ghost use Rattle.roll_cert.specs.Flaws.{IsOnPath, IsSame, HasFlaw, IsFirst};
 ghost use Rattle.roll_cert.specs.Checked.{IsNoted, IsGood, AreGood, AreNamed, IsFlawOf};

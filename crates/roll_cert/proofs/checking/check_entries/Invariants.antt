@@ -1,7 +1,7 @@
 use Rattle.std.proofs.Common.{take}
 use Rattle.roll_cert.specs.Told.{told}
 use Rattle.roll_cert.specs.Checked.{IsNoted, AreGood}
-use Rattle.roll_cert.proofs.check.check_entries.Given as goal
+use Rattle.roll_cert.proofs.checking.check_entries.Given as goal
 
 abbrev pub invariant-loop-j : goal.invariant-loop-j
 invariant-loop-j l = record {
