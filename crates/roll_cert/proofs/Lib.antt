@@ -1,3 +1,9 @@
-pub mod Entries
-pub mod Noted
-pub mod Rights
+pub mod Values
+pub mod Spelled
+pub mod Wrong
+pub mod Laid
+pub mod Remains
+pub mod Begun
+pub mod Once
+pub mod Short
+pub mod Whole

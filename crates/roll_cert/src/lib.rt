@@ -3,6 +3,17 @@
 
 mod checking;
 mod claim;
+mod laws;
+mod lines;
+mod parts;
+mod reading;
+mod writing;
 
 pub use checking::{Flaw, check};
 pub use claim::{Claim, Differ, Items};
+pub use laws::{one_claim_a_text, texts_are_short};
+pub use reading::read;
+pub use writing::write;
+
+#[cfg(test)]
+mod text_tests;
