@@ -6,3 +6,4 @@ pub mod Unplayed
 pub mod Asked
 pub mod Written
 pub mod Played
+pub mod Starts

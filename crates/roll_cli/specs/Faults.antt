@@ -1,6 +1,8 @@
 -- Where a text can't be played.
 use Rattle.std.specs.Prelude.{◌≤◌, ℕ, List, length, Option}
 use Rattle.std.specs.Io.KnownBytes.{Consumes}
+use Rattle.roll_frame.specs.declared.refusal.Refusal.{Refusal}
+use Rattle.roll_frame.specs.declared.refusal.Refusal.TheVariants.{Unreadable as UnreadableClaim}
 use Rattle.roll_text.specs.declared.streams.ReadFault.{ReadFault}
 use Rattle.roll_text.specs.declared.streams.ReadFault.TheVariants.{TooLong, NoMemory as NoMemoryToRead, Read as ReadFails}
 use Rattle.roll_cli.specs.declared.engine.PlayFault.{PlayFault}
@@ -16,6 +18,11 @@ fault_of_read ReadFails = Read
 abbrev pub fault_of_script : ScriptFault → PlayFault
 fault_of_script (UnreadableScript line) = Unreadable line
 fault_of_script NoMemoryForScript = NoMemory
+
+-- what a claim that wasn't read is to the program
+abbrev pub fault_of_claim : Refusal → PlayFault
+fault_of_claim (UnreadableClaim line) = Unreadable line
+fault_of_claim why = NoMemory
 
 -- no more bytes than this are gone from a reader
 abbrev pub TakesAtMost : ℕ → Option (List ℕ) → Option (List ℕ) → Type 0

@@ -5,3 +5,4 @@ pub mod Shown
 pub mod Output
 pub mod Calls
 pub mod Faults
+pub mod Certified

@@ -1,6 +1,7 @@
-//! The engines behind the program: scripts that are played, and what is written of them.
+//! The engines behind the program: scripts that are played, claims that are checked, and what is written of them.
 #![tactic(auto)]
 
+mod certificate;
 mod command;
 mod engine;
 mod header;
@@ -10,6 +11,7 @@ mod shown;
 #[cfg(test)]
 mod tests;
 
+pub use certificate::certify;
 pub use command::Command;
 pub use engine::{PlayFault, play, play_duel};
 pub use header::{Header, Version};

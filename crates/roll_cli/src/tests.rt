@@ -1,7 +1,4 @@
-use crate::command::Command;
-use crate::engine::push_output;
-use crate::{PlayFault, play, play_duel};
-use roll_frame::{LOG_LIMIT, PLAYER_LIMIT, Profile, Settings};
+use crate::{PlayFault, certify, play, play_duel};
 use roll_game::Tally;
 use roll_text::TEXT_LIMIT;
 use std::alloc::Global;
@@ -37,10 +34,11 @@ impl Read for FakeReader<'_> {
     }
 }
 
-// Takes at most 50 bytes at a time; the write of this number takes nothing, or fails.
+// Takes at most so many bytes at a time; the write of this number takes nothing, or fails.
 #[derive(Drop)]
 struct FakeWriter {
     held: Vec<u8>,
+    most: usize,
     stops_at: usize,
     fails: bool,
     writes: usize,
@@ -56,7 +54,7 @@ impl Write for FakeWriter {
             };
         }
         self.writes = self.writes.saturating_add(1);
-        let count = buf.len().min(50);
+        let count = buf.len().min(self.most);
         self.held.extend_from_slice(&buf[..count])?;
         Ok(count)
     }
@@ -377,6 +375,7 @@ fn tells_each_failed_write(rt: HostRuntime) -> Result<(), Fail> {
         for stops_at in 0..5 {
             let mut writer = FakeWriter {
                 held: Vec::new(rt.alloc()),
+                most: 50,
                 stops_at,
                 fails,
                 writes: 0,
@@ -412,39 +411,177 @@ fn takes_a_refused_growth(rt: HostRuntime) -> Result<(), Fail> {
     Ok(())
 }
 
-// A script has no word for the frame limit, and is too short to get to the one that it has.
-#[test]
-fn stops_at_the_frame_limit(rt: HostRuntime) -> Result<(), Fail> {
-    let settings = Settings {
-        profile: Profile::Ggpo,
-        players: 1,
-        local: 1,
-        delays: [0; PLAYER_LIMIT],
-        masks: [u32::MAX; PLAYER_LIMIT],
-        threshold: 8,
-        limit: 2,
-        log: LOG_LIMIT,
-    };
-    let commands = [
-        Command::Local { player: 1, word: 0 },
-        Command::Advance,
-        Command::Local { player: 1, word: 0 },
-        Command::Advance,
-        Command::Local { player: 1, word: 0 },
-    ];
-    let mut out = Vec::new(rt.alloc());
-    let answer = push_output(
-        rt.alloc(),
-        &mut out,
-        settings,
-        &commands,
-        Tally::new(),
-        Tally::opening(),
-    );
-    assert_eq!(rt; answer, Ok(1));
-    assert_eq!(rt;
-        out.as_slice(),
-        b"ok\nframe 1 from 0 rerun 1 settled 1 state 0\nok\nframe 2 from 1 rerun 1 settled 2 state 0\nrefused 106\n".as_slice()
-    );
+// The claim of a roll for two players that started from frame 2 and ran it again.
+const AHEAD: &[u8] =
+    b"rollcert 1\nplayers 2\nbase 2\nfrom 2\ntime 1\n1,3\nkept 2\n-\n1,0\ndiffers 1\n1 2 2\n";
+
+const FIVE: &[u8] =
+    b"rollcert 2\nplayers 5\nbase 0\nfrom 0\ntime 1\n1,0,0,0,2\nkept 1\n-\ndiffers 0\n";
+
+// The text of these two parts is a claim's, which is answered so.
+fn certifies(
+    rt: &(impl Abort + AllocGlobal),
+    start: &[u8],
+    end: &[u8],
+    answer: &[u8],
+    right: bool,
+) -> Result<(), Fail> {
+    let mut text = Vec::from_slice(rt.alloc(), start)?;
+    text.extend_from_slice(end)?;
+    let mut out: Vec<u8> = Vec::new(rt.alloc());
+    let found = certify(rt.alloc(), &mut text.as_slice(), &mut out);
+    assert_eq!(rt; found, Ok(right));
+    assert_eq!(rt; out.as_slice(), answer);
     Ok(())
+}
+
+#[test]
+fn certifies_right_claims(rt: HostRuntime) -> Result<(), Fail> {
+    certifies(&rt, AHEAD, b"", b"yes: from 2 to 3 rerun 1\n", true)?;
+    certifies(&rt, FIVE, b"", b"yes: from 0 to 1 rerun 1\n", true)?;
+    certifies(
+        &rt,
+        b"rollcert 1\nplayers 2\nbase 0\nfrom 0\ntime 2\n1,3\n1,3\n",
+        b"kept 1\n-\ndiffers 0\n",
+        b"yes: from 0 to 2 rerun 2\n",
+        true,
+    )?;
+    certifies(
+        &rt,
+        b"rollcert 1\nplayers 2\nbase 1\nfrom 2\ntime 1\n1,3\n",
+        b"kept 2\n-\n1,3\ndiffers 0\n",
+        b"yes: from 2 to 2 rerun 0\n",
+        true,
+    )
+}
+
+#[test]
+fn certifies_wrong_claims(rt: HostRuntime) -> Result<(), Fail> {
+    let start = &AHEAD[..AHEAD.len() - 8];
+    certifies(&rt, start, b"0\n", b"no: missing 1\n", false)?;
+    certifies(&rt, start, b"1\n1 2 1\n", b"no: equal 0\n", false)?;
+    certifies(&rt, start, b"1\n1 1 2\n", b"no: range 0\n", false)?;
+    certifies(&rt, start, b"1\n4294967295 2 2\n", b"no: range 0\n", false)?;
+    certifies(&rt, start, b"2\n1 2 2\n1 2 2\n", b"no: twice 1\n", false)?;
+    certifies(
+        &rt,
+        b"rollcert 1\nplayers 2\nbase 2\nfrom 3\ntime 1\n1,3\nkept 2\n-\n1,0\n",
+        b"differs 1\n1 2 2\n",
+        b"no: from not kept\n",
+        false,
+    )
+}
+
+// The text of these two parts can't be read from this line on, and nothing is written.
+fn is_bad_claim(
+    rt: &(impl Abort + AllocGlobal),
+    start: &[u8],
+    end: &[u8],
+    line: u64,
+) -> Result<(), Fail> {
+    let mut text = Vec::from_slice(rt.alloc(), start)?;
+    text.extend_from_slice(end)?;
+    let mut out: Vec<u8> = Vec::new(rt.alloc());
+    let found = certify(rt.alloc(), &mut text.as_slice(), &mut out);
+    assert_eq!(rt; found, Err(PlayFault::Unreadable(line)));
+    assert!(rt; out.is_empty());
+    Ok(())
+}
+
+#[test]
+fn names_the_bad_line_of_a_claim(rt: HostRuntime) -> Result<(), Fail> {
+    is_bad_claim(&rt, b"", b"", 1)?;
+    let start = &AHEAD[..AHEAD.len() - 6];
+    is_bad_claim(&rt, start, b"", 11)?;
+    is_bad_claim(&rt, start, b"1 2 2", 11)?;
+    is_bad_claim(&rt, start, b"1 02 2\n", 11)?;
+    is_bad_claim(&rt, AHEAD, b"\n", 12)?;
+    is_bad_claim(&rt, AHEAD, b"1 2 2\n", 12)?;
+    let rest = b"from 2\ntime 1\n1,3\nkept 2\n-\n1,0\ndiffers 1\n1 2 2\n";
+    is_bad_claim(&rt, b"rollcert 1\nplayers 5\nbase 2\n", rest, 2)?;
+    is_bad_claim(&rt, b"rollcert 2\nplayers 2\nbase 2\n", rest, 2)?;
+    is_bad_claim(&rt, b"rollcert 1\nplayers 2\nbase 1048577\n", rest, 3)?;
+    is_bad_claim(&rt, b"rollcert 1\nplayers 2\nbase 02\n", rest, 3)?;
+    is_bad_claim(
+        &rt,
+        b"rollcert 1\nplayers 2\nbase 2\nfrom 2\ntime 1\n1,3\nkept 257\n-\n1,0\n",
+        b"differs 1\n1 2 2\n",
+        7,
+    )?;
+    is_bad_claim(
+        &rt,
+        b"rollcert 1\nplayers 5\nbase 0\nfrom 0\ntime 1\n1,0,0,0,2\nkept 1\n-\n",
+        b"differs 0\n",
+        2,
+    )?;
+    is_bad_claim(&rt, FIVE, b"\n", 10)?;
+    let long = vec![in rt.alloc(); b'-'; TEXT_LIMIT]?;
+    is_bad_claim(&rt, b"-", &long, 0)
+}
+
+#[test]
+fn tells_each_failed_read_of_a_claim(rt: HostRuntime) -> Result<(), Fail> {
+    for fails_at in 0..4 {
+        let mut reader = FakeReader {
+            left: AHEAD,
+            fails_at,
+            reads: 0,
+        };
+        let mut out: Vec<u8> = Vec::new(rt.alloc());
+        let found = certify(rt.alloc(), &mut reader, &mut out);
+        if fails_at < 3 {
+            assert_eq!(rt; found, Err(PlayFault::Read), "at {fails_at}");
+            assert!(rt; out.is_empty());
+        } else {
+            assert_eq!(rt; found, Ok(true));
+            assert_eq!(rt; out.as_slice(), b"yes: from 2 to 3 rerun 1\n".as_slice());
+        }
+    }
+    Ok(())
+}
+
+#[test]
+fn tells_each_failed_write_of_an_answer(rt: HostRuntime) -> Result<(), Fail> {
+    let answer = b"yes: from 2 to 3 rerun 1\n".as_slice();
+    for fails in [false, true] {
+        for stops_at in 0..4 {
+            let mut writer = FakeWriter {
+                held: Vec::new(rt.alloc()),
+                most: 10,
+                stops_at,
+                fails,
+                writes: 0,
+            };
+            let mut text: &[u8] = AHEAD;
+            let found = certify(rt.alloc(), &mut text, &mut writer);
+            let whole = stops_at == 3;
+            let want = if whole {
+                Ok(true)
+            } else {
+                Err(PlayFault::Write)
+            };
+            assert_eq!(rt; found, want, "at {stops_at}");
+            assert!(rt; answer.starts_with(&writer.held));
+            assert_eq!(rt; writer.held.len() == answer.len(), whole);
+        }
+    }
+    Ok(())
+}
+
+// With ample memory the whole answer is written; with any one growth refused, that, or nothing.
+#[test]
+fn takes_a_refused_growth_of_a_claim(rt: HostRuntime) {
+    let mut text: &[u8] = AHEAD;
+    let mut out = [0u8; 50];
+    let mut left = out.as_mut_slice();
+    match certify(rt.alloc(), &mut text, &mut left) {
+        Ok(right) => {
+            assert!(rt; right);
+            assert!(rt; out.starts_with(b"yes: from 2 to 3 rerun 1\n"));
+        }
+        Err(fault) => {
+            assert_eq!(rt; fault, PlayFault::NoMemory);
+            assert_eq!(rt; out[0], 0);
+        }
+    }
 }

@@ -1,7 +1,9 @@
--- What the arguments of `play` ask for, each given as its value, if it has one.
+-- What the words ask for: a command's name, and its arguments, each given as its value, if it has one.
 use Rattle.std.specs.Prelude.{◌≡◌, ◌≢◌, ◌⊎◌, ◌↔◌, ℕ, List, Option, None, Some, codes}
 use Rattle.rollduel.specs.declared.command_line.Game.{Game}
 use Rattle.rollduel.specs.declared.command_line.Game.TheVariants.{Duel}
+use Rattle.rollduel.specs.declared.command_line.Task.{Task}
+use Rattle.rollduel.specs.declared.command_line.Task.TheVariants.{Play, Certify}
 use Rattle.rollduel.specs.declared.command_line.Input.{Input}
 use Rattle.rollduel.specs.declared.command_line.Input.TheVariants.{Standard, File}
 
@@ -13,3 +15,8 @@ IsInput value (File path) = (value ≡ Some path.now) × (path.now ≢ codes "-"
 -- --game
 abbrev pub IsGame : Option (List ℕ) → Game → Type 0
 IsGame value game = (game ≡ Duel) ↔ (value ≡ Some (codes "duel"))
+
+-- the command, with the value of --game
+abbrev pub IsTask : List ℕ → Option (List ℕ) → Task → Type 0
+IsTask name value Certify = name ≡ codes "certify"
+IsTask name value (Play game) = (name ≢ codes "certify") × IsGame value game

@@ -1,20 +1,28 @@
 //! What the words of the command line ask for.
 ghost use Rattle.std.specs.Prelude.{codes};
 ghost use Rattle.clap.specs.Words.{first_value, found_of};
-ghost use Rattle.rollduel.specs.Requests.{IsGame, IsInput};
+ghost use Rattle.rollduel.specs.Requests.{IsGame, IsInput, IsTask};
 
 use crate::help;
 use clap::{Arg, ArgMatches, Command, Error};
 use std::alloc::{AllocError, Global};
 
-/// A script to play, and the game that it is played with.
+/// What is to be done with a text.
 #[derive(Clone, Copy, Debug, PartialEq, Eq)]
 pub struct Request<'a> {
     pub input: Input<'a>,
-    pub game: Game,
+    pub task: Task,
 }
 
-/// Where a script is.
+#[derive(Clone, Copy, Debug, PartialEq, Eq)]
+pub enum Task {
+    /// The text is a script, to be played with this game.
+    Play(Game),
+    /// The text is a claim, to be checked.
+    Certify,
+}
+
+/// Where the text is.
 #[derive(Clone, Copy, Debug, PartialEq, Eq)]
 pub enum Input<'a> {
     Standard,
@@ -33,21 +41,31 @@ pub enum Game {
 pub fn read<'a>(alloc: Global, words: &'a [String]) -> Result<Request<'a>, Error> {
     let matches = program_command(alloc)?.try_get_matches_from(words)?;
     match matches.subcommand() {
-        Some((_, found)) => Ok(request_of(found)),
+        Some((name, found)) => Ok(request_of(name, found)),
         None => Ok(Request {
             input: Input::Standard,
-            game: Game::Tally,
+            task: Task::Play(Game::Tally),
         }),
     }
 }
 
-fn request_of<'a>(found: &ArgMatches<'a>) -> Request<'a>
+/// The request of the command of this name.
+fn request_of<'a>(name: &str, found: &ArgMatches<'a>) -> Request<'a>
     ensures input { IsInput (first_value (found_of found.now) (codes "FILE")) result.input }
-    ensures game { IsGame (first_value (found_of found.now) (codes "game")) result.game }
+    ensures task { IsTask name.now (first_value (found_of found.now) (codes "game")) result.task }
 {
     Request {
         input: input_of(found),
-        game: game_of(found),
+        task: task_of(name, found),
+    }
+}
+
+fn task_of(name: &str, found: &ArgMatches<'_>) -> Task
+    ensures { IsTask name.now (first_value (found_of found.now) (codes "game")) result }
+{
+    match name {
+        "certify" => Task::Certify,
+        _ => Task::Play(game_of(found)),
     }
 }
 
@@ -77,21 +95,27 @@ fn program_command<'a>(alloc: Global) -> Result<Command<'a>, AllocError> {
     Command::new(alloc, "rollduel")
         .about(help::PROGRAM)
         .after_help(help::SCRIPT)
-        .subcommand(play_command(alloc)?)
+        .subcommand(play_command(alloc)?)?
+        .subcommand(certify_command(alloc)?)
 }
 
 fn play_command<'a>(alloc: Global) -> Result<Command<'a>, AllocError> {
     Command::new(alloc, "play")
         .about(help::PLAY)
         .after_help(help::SCRIPT)
-        .arg(file_arg(alloc))?
+        .arg(file_arg(alloc).help("The script; - is standard input"))?
         .arg(game_arg(alloc))
 }
 
+fn certify_command<'a>(alloc: Global) -> Result<Command<'a>, AllocError> {
+    Command::new(alloc, "certify")
+        .about(help::CERTIFY)
+        .after_help(help::CLAIM)
+        .arg(file_arg(alloc).help("The claim; - is standard input"))
+}
+
 fn file_arg<'a>(alloc: Global) -> Arg<'a> {
-    Arg::new(alloc, FILE)
-        .required(true)
-        .help("The script; - is standard input")
+    Arg::new(alloc, FILE).required(true)
 }
 
 fn game_arg<'a>(alloc: Global) -> Arg<'a> {

@@ -1,12 +1,15 @@
 //! Texts of `--help`.
 
 pub const PROGRAM: &str = "\
-Plays a script of a rollback session, and prints what the session answers to each line.
+Plays scripts of rollback sessions, and checks the claims of rollbacks.
 
 A rollback session keeps a game for several players going while inputs of remote players are
 under way: it predicts them, and where a prediction turns out wrong, it goes back and runs those
 frames again. A script stands for the players and the network, so that this can be followed line
-by line. Without a command the script is read from standard input, and the game is tally.";
+by line. Without a command a script is read from standard input, and the game is tally.
+
+A claim says of one rollback that none could have run fewer frames. It can be checked without
+the session that made it: `rollduel certify --help` tells how.";
 
 pub const PLAY: &str = "Plays a script, and prints what the session answers to each line";
 
@@ -50,3 +53,54 @@ It prints:
 
 Exit status: 0; 1 where an answer was `refused N`; 2 where the script can't be read, a line of it
 is unreadable, memory runs out, or the answers can't be written.";
+
+pub const CERTIFY: &str = "Checks the claim of a rollback, and prints whether it is right";
+
+pub const CLAIM: &str = "\
+A rollback starts from a saved state and runs frames up to some frame. The fewer frames it runs the
+better, so it should start from the longest saved path that agrees with the inputs by now. A claim
+is the proof that it did: it lists the inputs, all paths of saved states, and for each longer path
+a place where it differs from the inputs. Its lines are:
+
+  rollcert 1         2 where there are 5 to 8 players
+  players P
+  base B             frames below B are final, and every path here begins at frame B
+  from F             the frame of the state that the rollback started from
+  time N             the inputs: N lines follow, a row for each frame from B on; a row is a word
+  1,3                for each player, or x for one who is gone
+  kept K             the paths: K lines follow, the rows of a path each; - for none
+  -
+  1,0
+  differs D          the differences: D lines follow
+  1 2 2              path 1, the first being path 0, differs in frame 2 at player 2
+
+It is answered by `yes: from F to T rerun R`: the rollback started from frame F and ran R frames,
+up to frame T, and no listed state would have done with fewer. Or by `no:` and what is wrong first:
+
+  shape              a number is too great, or the rows and paths don't fit together
+  from not kept      no listed path of F frames agrees with the inputs
+  range J            entry J names no path that had to differ, or no place on it
+  equal J            at the place of entry J, path and inputs are the same
+  twice J            an earlier entry names the same path as entry J
+  missing I          no entry names path I, which had to differ
+
+Example (the file examples/branch-ahead.claim):
+
+  rollcert 1
+  players 2
+  base 2
+  from 2
+  time 1
+  1,3
+  kept 2
+  -
+  1,0
+  differs 1
+  1 2 2
+
+It prints:
+
+  yes: from 2 to 3 rerun 1
+
+Exit status: 0 for yes; 1 for no; 2 where the claim can't be read, a line of it is unreadable,
+memory runs out, or the answer can't be written.";

@@ -1,9 +1,9 @@
-//! The program `rollduel`: plays a script and prints what the session shows.
+//! The program `rollduel`: plays scripts and prints what the session shows, and checks claims.
 //!
 //! The work is done in `roll_cli`. Here are the command line, the streams and the exit status.
 #![tactic(auto)]
 
-ghost use Rattle.std.specs.Prelude.{◌≡◌, ◌≢◌};
+ghost use Rattle.std.specs.Prelude.{◌≡◌, ◌≢◌, IsTrue, IsFalse};
 
 mod command_line;
 mod help;
@@ -12,7 +12,7 @@ mod tests;
 
 use clap::Error;
 use clap::error::ErrorKind;
-use command_line::{Game, Input, Request};
+use command_line::{Game, Input, Request, Task};
 use roll_cli::PlayFault;
 use roll_game::Tally;
 use std::alloc::AllocGlobal;
@@ -39,7 +39,7 @@ fn main(rt: HostRuntime) -> ExitCode {
 fn run<R: Runtime + AllocGlobal>(rt: &R) -> Result<u8, PlayFault> {
     let words = words(rt)?;
     match command_line::read(rt.alloc(), &words) {
-        Ok(asked) => Ok(status(play(rt, &asked)?)),
+        Ok(asked) => answer(rt, &asked),
         Err(error) => print(rt, &error),
     }
 }
@@ -67,6 +67,31 @@ fn print<R: Runtime + AllocGlobal>(rt: &R, error: &Error) -> Result<u8, PlayFaul
     }
 }
 
+/// Does what is asked for. It answers the exit status.
+fn answer<R: Runtime + AllocGlobal>(rt: &R, asked: &Request<'_>) -> Result<u8, PlayFault> {
+    match asked.input {
+        Input::Standard => answer_from(rt, &mut rt.reader(), asked.task),
+        Input::File(path) => match fs::open(rt, path) {
+            Ok(mut file) => answer_from(rt, &mut file, asked.task),
+            Err(_) => Err(PlayFault::Read),
+        },
+    }
+}
+
+fn answer_from<R: Runtime + AllocGlobal, I: Read>(
+    rt: &R,
+    reader: &mut I,
+    task: Task,
+) -> Result<u8, PlayFault> {
+    match task {
+        Task::Play(game) => Ok(status(play(rt, reader, game)?)),
+        Task::Certify => {
+            let right = roll_cli::certify(rt.alloc(), reader, &mut io::writer(rt))?;
+            Ok(status_of_claim(right))
+        }
+    }
+}
+
 /// The exit status of a script of which so many commands were refused.
 fn status(refused: u32) -> u8
     ensures none { refused ≡ 0 → result ≡ 0 }
@@ -75,18 +100,16 @@ fn status(refused: u32) -> u8
     if refused == 0 { 0 } else { 1 }
 }
 
-/// Plays a script. It answers how many of its commands were refused.
-fn play<R: Runtime + AllocGlobal>(rt: &R, asked: &Request<'_>) -> Result<u32, PlayFault> {
-    match asked.input {
-        Input::Standard => play_from(rt, &mut rt.reader(), asked.game),
-        Input::File(path) => match fs::open(rt, path) {
-            Ok(mut file) => play_from(rt, &mut file, asked.game),
-            Err(_) => Err(PlayFault::Read),
-        },
-    }
+/// The exit status of a claim that is right, or isn't.
+fn status_of_claim(right: bool) -> u8
+    ensures right { IsTrue right → result ≡ 0 }
+    ensures wrong { IsFalse right → result ≡ 1 }
+{
+    if right { 0 } else { 1 }
 }
 
-fn play_from<R: Runtime + AllocGlobal, I: Read>(
+/// Plays a script. It answers how many of its commands were refused.
+fn play<R: Runtime + AllocGlobal, I: Read>(
     rt: &R,
     reader: &mut I,
     game: Game,

@@ -1,4 +1,4 @@
-use crate::command_line::{self, Game, Input, Request};
+use crate::command_line::{self, Game, Input, Request, Task};
 use clap::error::ErrorKind;
 use std::alloc::{AllocError, Global};
 use std::test::Fail;
@@ -16,21 +16,25 @@ fn words(alloc: Global, line: &str) -> Result<Vec<String>, AllocError> {
 fn reads_requests(rt: HostRuntime) -> Result<(), Fail> {
     let alloc = rt.alloc();
     let file = Input::File("a.roll");
+    let tally = Task::Play(Game::Tally);
+    let duel = Task::Play(Game::Duel);
     let lines = [
-        ("rollduel", Input::Standard, Game::Tally),
-        ("rollduel play a.roll", file, Game::Tally),
-        ("rollduel play -", Input::Standard, Game::Tally),
-        ("rollduel play - --game duel", Input::Standard, Game::Duel),
-        ("rollduel play --game=duel a.roll", file, Game::Duel),
-        ("rollduel play a.roll --game tally", file, Game::Tally),
+        ("rollduel", Input::Standard, tally),
+        ("rollduel play a.roll", file, tally),
+        ("rollduel play -", Input::Standard, tally),
+        ("rollduel play - --game duel", Input::Standard, duel),
+        ("rollduel play --game=duel a.roll", file, duel),
+        ("rollduel play a.roll --game tally", file, tally),
+        ("rollduel certify a.roll", file, Task::Certify),
+        ("rollduel certify -", Input::Standard, Task::Certify),
     ];
-    for (line, input, game) in lines {
+    for (line, input, task) in lines {
         let words = words(alloc, line)?;
         let Ok(request) = command_line::read(alloc, &words) else {
             assert!(rt; false, "{line}");
             continue;
         };
-        assert_eq!(rt; request, Request { input, game }, "{line}");
+        assert_eq!(rt; request, Request { input, task }, "{line}");
     }
     Ok(())
 }
@@ -53,6 +57,16 @@ fn refuses_other_words(rt: HostRuntime) -> Result<(), Fail> {
             "rollduel play a.roll --game chess",
             ErrorKind::InvalidValue,
             "error: invalid value 'chess' for '--game <GAME>'\n  [possible values: tally, duel]\n",
+        ),
+        (
+            "rollduel certify",
+            ErrorKind::MissingRequiredArgument,
+            "error: the following required arguments were not provided:\n  <FILE>\n\nUsage: rollduel certify <FILE>\n",
+        ),
+        (
+            "rollduel certify a.claim --game duel",
+            ErrorKind::UnknownArgument,
+            "error: unexpected argument '--game' found\n",
         ),
         (
             "rollduel a.roll",
@@ -97,6 +111,32 @@ fn shows_help_at_each_level(rt: HostRuntime) -> Result<(), Fail> {
         ] {
             assert!(rt; shown.contains(part), "{line}: {part}");
         }
+    }
+    Ok(())
+}
+
+#[test]
+fn shows_help_of_claims(rt: HostRuntime) -> Result<(), Fail> {
+    let alloc = rt.alloc();
+    let words = words(alloc, "rollduel certify --help")?;
+    let Err(error) = command_line::read(alloc, &words) else {
+        assert!(rt; false);
+        return Ok(());
+    };
+    assert_eq!(rt; error.kind(), ErrorKind::DisplayHelp);
+    assert_eq!(rt; error.exit_code(), 0);
+    let shown = format!(in alloc; "{error}")?;
+    for part in [
+        "\n  rollcert 1\n  players 2\n  base 2\n  from 2\n  time 1\n  1,3\n  kept 2\n  -\n  1,0\n  differs 1\n  1 2 2\n",
+        "\n  yes: from 2 to 3 rerun 1\n",
+        "\n  shape ",
+        "\n  from not kept ",
+        "\n  range J ",
+        "\n  equal J ",
+        "\n  twice J ",
+        "\n  missing I ",
+    ] {
+        assert!(rt; shown.contains(part), "{part}");
     }
     Ok(())
 }

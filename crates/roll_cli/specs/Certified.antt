@@ -1,0 +1,36 @@
+-- What is written of a claim.
+use Rattle.std.specs.Prelude.{◌≡◌, ◌-◌, ◌++◌, List, ℕ, Bool, true, false, codes}
+use Rattle.std.specs.Fmt.{decimal}
+use Rattle.roll_frame.specs.Claims.{Claim, IsRight, target_of}
+use Rattle.roll_cert.specs.Flaws.{IsFirst}
+use Rattle.roll_cert.specs.Texts.{IsSized, claim_lines}
+use Rattle.roll_cert.specs.declared.checking.Flaw.{Flaw}
+use Rattle.roll_cert.specs.declared.checking.Flaw.TheVariants.{Shape, FromNotKept, Range, Equal, Twice, Missing}
+use Rattle.roll_text.specs.Lines.{ended, text_of}
+
+-- where the roll started, where it ended, and how many frames it ran
+abbrev pub right_line : Claim → List ℕ
+right_line claim =
+    codes "yes: from " ++ (decimal claim.from ++ (codes " to " ++ (decimal (target_of claim) ++ (codes " rerun " ++ decimal (target_of claim - claim.from)))))
+
+abbrev pub wrong_line : Flaw → List ℕ
+wrong_line Shape = codes "no: shape"
+wrong_line FromNotKept = codes "no: from not kept"
+wrong_line (Range entry) = codes "no: range " ++ decimal entry
+wrong_line (Equal entry) = codes "no: equal " ++ decimal entry
+wrong_line (Twice entry) = codes "no: twice " ++ decimal entry
+wrong_line (Missing state) = codes "no: missing " ++ decimal state
+
+-- whether a claim is right, and the line that says so: of a wrong one it names the first flaw
+abbrev pub IsAnswer : Claim → Bool → List ℕ → Type 0
+IsAnswer claim true line = IsRight claim × (line ≡ right_line claim)
+IsAnswer claim false line = (IsRight claim → ⊥) × ((flaw : Flaw) × IsFirst claim flaw × (line ≡ wrong_line flaw))
+
+-- the text is a claim's, of which this is written
+pub record IsCertified (text written : List ℕ) (right : Bool) : Type 0 where
+  pub claim : Claim
+  pub fits : IsSized claim
+  pub spelled : text ≡ text_of (claim_lines claim)
+  pub line : List ℕ
+  pub answer : IsAnswer claim right line
+  pub whole : written ≡ ended line
