@@ -77,7 +77,6 @@ a place where it differs from the inputs. Its lines are:
 It is answered by `yes: from F to T rerun R`: the rollback started from frame F and ran R frames,
 up to frame T, and no listed state would have done with fewer. Or by `no:` and what is wrong first:
 
-  shape              a number is too great, or the rows and paths don't fit together
   from not kept      no listed path of F frames agrees with the inputs
   range J            entry J names no path that had to differ, or no place on it
   equal J            at the place of entry J, path and inputs are the same

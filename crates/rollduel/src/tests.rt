@@ -129,7 +129,6 @@ fn shows_help_of_claims(rt: HostRuntime) -> Result<(), Fail> {
     for part in [
         "\n  rollcert 1\n  players 2\n  base 2\n  from 2\n  time 1\n  1,3\n  kept 2\n  -\n  1,0\n  differs 1\n  1 2 2\n",
         "\n  yes: from 2 to 3 rerun 1\n",
-        "\n  shape ",
         "\n  from not kept ",
         "\n  range J ",
         "\n  equal J ",
