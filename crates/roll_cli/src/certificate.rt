@@ -2,11 +2,10 @@
 ghost use Rattle.std.specs.Prelude.{◌≡◌, ◌≢◌, ◌⊎◌, ◌+◌, ◌++◌, ℕ, List, Err, IfErr, IfOk, IfSome, OnOk, string_bytes};
 ghost use Rattle.std.specs.Io.KnownBytes.{Appends};
 ghost use Rattle.roll_frame.specs.Claims.{IsRight};
-ghost use Rattle.roll_frame.specs.declared.refusal.Refusal.TheVariants.{NoMemory as RefusedMemory, Unreadable as UnreadableClaim};
 ghost use Rattle.roll_text.specs.Lines.{ended, text_of};
 ghost use Rattle.roll_text.specs.Streams.{IsBadAt};
 ghost use Rattle.roll_text.specs.declared.streams.TheConstants.{TEXT_LIMIT};
-ghost use Rattle.roll_cert.specs.Texts.{IsClaimText, IsSized, IsUnreadable, claim_lines};
+ghost use Rattle.roll_cert.specs.Texts.{IsClaimText, IsSized, claim_lines};
 ghost use Rattle.roll_cert.specs.Told.{told};
 ghost use Rattle.roll_cli.specs.Certified.{IsAnswer, IsCertified, right_line, wrong_line};
 ghost use Rattle.roll_cli.specs.Faults.{TakesAtMost, fault_of_claim};
