@@ -1,3 +1,6 @@
+pub mod Entries
+pub mod Noted
+pub mod Rights
 pub mod Values
 pub mod Spelled
 pub mod Wrong

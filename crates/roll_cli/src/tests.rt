@@ -1,4 +1,7 @@
+use crate::command::Command;
+use crate::engine::push_output;
 use crate::{PlayFault, certify, play, play_duel};
+use roll_frame::{LOG_LIMIT, PLAYER_LIMIT, Profile, Settings};
 use roll_game::Tally;
 use roll_text::TEXT_LIMIT;
 use std::alloc::Global;
@@ -408,6 +411,43 @@ fn takes_a_refused_growth(rt: HostRuntime) -> Result<(), Fail> {
             assert_eq!(rt; out[0], 0);
         }
     }
+    Ok(())
+}
+
+// A script has no word for the frame limit, and is too short to get to the one that it has.
+#[test]
+fn stops_at_the_frame_limit(rt: HostRuntime) -> Result<(), Fail> {
+    let settings = Settings {
+        profile: Profile::Ggpo,
+        players: 1,
+        local: 1,
+        delays: [0; PLAYER_LIMIT],
+        masks: [u32::MAX; PLAYER_LIMIT],
+        threshold: 8,
+        limit: 2,
+        log: LOG_LIMIT,
+    };
+    let commands = [
+        Command::Local { player: 1, word: 0 },
+        Command::Advance,
+        Command::Local { player: 1, word: 0 },
+        Command::Advance,
+        Command::Local { player: 1, word: 0 },
+    ];
+    let mut out = Vec::new(rt.alloc());
+    let answer = push_output(
+        rt.alloc(),
+        &mut out,
+        settings,
+        &commands,
+        Tally::new(),
+        Tally::opening(),
+    );
+    assert_eq!(rt; answer, Ok(1));
+    assert_eq!(rt;
+        out.as_slice(),
+        b"ok\nframe 1 from 0 rerun 1 settled 1 state 0\nok\nframe 2 from 1 rerun 1 settled 2 state 0\nrefused 106\n".as_slice()
+    );
     Ok(())
 }
 

@@ -10,6 +10,7 @@ use Rattle.roll_frame.specs.Claims.{Differ, IsDeeper, IsTrueEntry, IsRight, AreR
 use Rattle.roll_frame.specs.Core.{Roll}
 use Rattle.roll_frame.specs.Order.{frames_of, rows_cmp, placed, in_order}
 use Rattle.roll_frame.specs.Paths.{begins_with}
+use Rattle.roll_frame.specs.declared.limits.TheConstants.{PATH_LIMIT}
 use Rattle.roll_frame.specs.declared.path.Path.{Path}
 use Rattle.roll_frame.specs.declared.row.Cell.{Cell}
 use Rattle.roll_laws.specs.Laws.{IsLeastEntry}
@@ -26,7 +27,7 @@ pub record IsFair (n : ℕ) (roll : Roll) : Type 0 where
   pub to_is : length roll.time ≡ roll.to
   pub low : roll.settled ≤ roll.from
   pub top : roll.from ≤ roll.to
-  pub lag : roll.to ≤ roll.settled + 16
+  pub lag : roll.to ≤ roll.settled + PATH_LIMIT
   pub base : roll.settled ≤ 1048576
   pub rows : Wide n roll.time
   pub start : In (take roll.from roll.time) roll.kept

@@ -118,7 +118,7 @@ placed_ascends p (x ∷ xs) a = go (is_lt (rows_cmp p x)) refl (placed_ascends p
         ((before, at_least_after rows_cmp rows_cmp_total p x xs before a.0), a)
     go false e rest = (at_placed x p xs (not_after (rows_cmp p x) (rows_cmp x p) (rows_cmp_total.antisymm x p) e) a.0, rest)
 
-order_ascends : (ps : List Rows) → Ascends rows_cmp (in_order ps)
+pub order_ascends : (ps : List Rows) → Ascends rows_cmp (in_order ps)
 order_ascends [] = tt
 order_ascends (p ∷ ps) = placed_ascends p (in_order ps) (order_ascends ps)
 
@@ -135,7 +135,7 @@ module _ (base : ℕ) where
   alone = grind (arith, nat_tests)
 
   -- paths from one base are in the order of their rows
-  path_rows : (p q : Rows) → path_cmp (path_of base p) (path_of base q) ≡ rows_cmp p q
+  pub path_rows : (p q : Rows) → path_cmp (path_of base p) (path_of base q) ≡ rows_cmp p q
   path_rows p q =
       ap (λ (r : Ordering). ordering_then r (slice_cmp row_cmp p q))
       (then_equal (nat_cmp (base + length p) (base + length q)) (nat_cmp base base) alone ∙ ahead (length p) (length q))
@@ -160,7 +160,7 @@ module _ (base : ℕ) where
   order_sum f [] = refl
   order_sum f (p ∷ ps) = omega (arith, order_sum f ps, placed_sum f p (in_order ps), sum_by-cons f (path_of base p) (map (path_of base) ps))
 
-  same_path : (p q : Path) → is_eq (path_cmp p q) ≡ true → p ≡ q
+  pub same_path : (p q : Path) → is_eq (path_cmp p q) ≡ true → p ≡ q
   same_path p q e = (path_eq-Decides p q).0 (path_cmp_ties p q ∙ e)
 
   pub sorted_is : (ps : List Rows) (ys : List Path) → IsPermutation (map (path_of base) ps) ys → IsSorted path_cmp ys → ys ≡ map (path_of base) (in_order ps)

@@ -195,6 +195,13 @@ module _ {S : Type 0} where
   length-states t kept view tree =
       ap (λ (k : Kept S). length k.states) (sym view) ∙ states_length t.base t.nodes.slots [] t.order.items tree.ordered
 
+  -- the names of the states are those in the order
+  pub names_are : (base : ℕ) (slots : List (Option (Node S))) (above names : List ℕ) → AreOrdered slots above names → map (λ (s : Saved S). s.name) (filter_map (state_at base slots) names) ≡ names
+  names_are base slots above [] ordered = refl
+  names_are base slots above (n ∷ names) ordered =
+      ap (map (λ (s : Saved S). s.name)) (states-some base slots n names ordered.0.node ordered.0.node_is)
+      ∙ ap (λ (l : List ℕ). n ∷ l) (names_are base slots (above ++ n ∷ []) names ordered.1)
+
   -- the root's path has no rows
   pub root_held : (t : Inside S) (kept : Kept S) → kept_of t ≡ kept → IsTree t → IsSomeAnd (held kept t.root) (λ s. s.path ≡ [])
   root_held t kept view tree = go (option_cases (node_at t.nodes.slots t.root))

@@ -93,6 +93,13 @@ impl<S> Tree<S> {
         self.order.len()
     }
 
+    /// The names of the kept states, each after the one above it.
+    pub fn names(&self) -> &[usize]
+        ensures { result.now ≡ map (λ s. s.name) self.now.states }
+    {
+        &self.order
+    }
+
     /// Whether a state of this name is kept.
     pub fn contains(&self, node: usize) -> bool
         ensures { IsTrue result ↔ IsSome (held self.now node) }
@@ -316,6 +323,7 @@ impl<S> Tree<S> {
         ensures distinct { IsDistinct self.now }
         ensures short { All (λ s. length s.path ≤ PATH_LIMIT) self.now.states }
         ensures named { All (λ s. held self.now s.name ≡ Some s) self.now.states }
+        ensures few { length self.now.states ≤ TREE_LIMIT }
     {
         let _ = &self.base;
     }

@@ -1,4 +1,5 @@
-use Rattle.roll_tree.proofs.States.{is_closed, is_distinct, are_short, are_named}
+use Rattle.std.proofs.Common.{arith}
+use Rattle.roll_tree.proofs.States.{is_closed, is_distinct, are_short, are_named, length-states}
 use Rattle.roll_tree.proofs.tree.Tree.laws.Goals as goal
 
 pub returns-clause-closed : goal.returns-clause-closed
@@ -12,3 +13,6 @@ returns-clause-short g c = are_short c.self.inside c.args.self.now c.self.view_i
 
 pub returns-clause-named : goal.returns-clause-named
 returns-clause-named g c = are_named c.self.inside c.args.self.now c.self.view_is c.self.invariant
+
+pub returns-clause-few : goal.returns-clause-few
+returns-clause-few g c = omega (arith, length-states c.self.inside c.args.self.now c.self.view_is c.self.invariant, c.self.invariant.counted, c.self.invariant.few)

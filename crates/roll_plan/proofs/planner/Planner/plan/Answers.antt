@@ -1,0 +1,67 @@
+use Rattle.std.proofs.Common.{◌≡◌, ◌∙◌, ◌+◌, ◌-◌, ◌++◌, ap, arith, refl, true, Some}
+use Rattle.roll_frame.specs.Cells.{Rows}
+use Rattle.roll_frame.specs.Paths.{longest}
+use Rattle.roll_tree.specs.Kept.{paths_of}
+use Rattle.roll_tree.proofs.Lists.{longest_within}
+use Rattle.roll_plan.specs.Plans.{CanPlan, Planned}
+use Rattle.roll_plan.specs.Ranks.{entries_by, marked_for}
+use Rattle.roll_plan.specs.declared.planner.Planner.TheInside.{Inside}
+use Rattle.roll_plan.proofs.Making.{IsDone, done_last, made_is, root_of, told_to}
+use Rattle.roll_plan.proofs.planner.Planner.plan.Given.{Over}
+use Rattle.roll_plan.proofs.planner.Planner.plan.Goals as goal
+
+pub overflow_sub-self : goal.overflow_sub-self
+overflow_sub-self g c =
+    let t = c.args.tree.now in
+    let can : CanPlan c.args.self.now.players t c.args.to c.args.rows.now = c.requires in
+    let rows = told_to c.args.self.now.players c.args.to t c.args.rows.now can in
+    let from : c.deepest-from.result.1 ≡ t.base + longest (paths_of t) c.args.rows.now = c.deepest-from.ensures.length ∙ ap (λ (r : Rows). t.base + longest (paths_of t) r) rows in
+    omega (arith, from, longest_within (paths_of t) c.args.rows.now, can.end)
+
+-- the fields at the end
+abbrev inside : (g : Over) (c : goal.After-self-5-1 g) → Inside
+inside g c =
+    record {
+      players = c.self.inside.players;
+      base = c.base-self-inside.result;
+      time = c.try_extend_from_slice.new.self;
+      kept = c.rank.new.kept;
+      plan = record { to = c.args.to; from = c.deepest-from.result.1; rerun = c.args.to - c.deepest-from.result.1; differs = c.name_differs.new.differs };
+      is_made = true;
+    }
+
+can_plan : (g : Over) (c : goal.After-self-5-1 g) → CanPlan c.args.self.now.players c.args.tree.now c.args.to c.args.rows.now
+can_plan g c = c.requires
+
+is_done : (g : Over) (c : goal.After-self-5-1 g) → IsDone c.args.self.now.players c.args.to c.args.tree.now c.args.rows.now (can_plan g c) (inside g c)
+is_done g c =
+    let rows = c.args.rows.now in
+    let extended = rw c.unwrap.ensures at c.try_extend_from_slice.ensures.ok in
+    record {
+      some = c.self.invariant.some;
+      few = c.self.invariant.few;
+      players_are = ap (λ (s : Planned). s.players) c.self.view_is;
+      root = root_of c.args.tree.now c.deepest-from.result.0 _ c.laws.ensures.closed c.deepest-from.ensures.node;
+      base = c.base-self-inside.ensures;
+      time = extended ∙ ap (λ (l : Rows). l ++ rows) c.clear.ensures;
+      taken = c.rank.ensures.paths;
+      to_is = refl;
+      from = c.deepest-from.ensures.length;
+      rerun = refl;
+      differs = c.name_differs.ensures.entries ∙ ap (entries_by (marked_for c.args.tree.now c.deepest-from.result.1 c.args.to) 0) c.deref.ensures.value;
+    }
+
+pub invariant_of-self : goal.invariant_of-self
+invariant_of-self g c =
+    record {
+      some = c.self.invariant.some;
+      few = c.self.invariant.few;
+      room = c.rank.ensures.room;
+      space = c.name_differs.ensures.room;
+      last = λ _. done_last c.args.self.now.players c.args.to c.args.tree.now c.args.rows.now (can_plan g c) (inside g c) (is_done g c);
+    }
+
+pub returns : goal.returns
+returns g c =
+    let made = made_is c.args.self.now.players c.args.to c.args.tree.now c.args.rows.now (can_plan g c) (inside g c) (is_done g c) in
+    λ i. record { players = (c.self.view_is i).players; last = Some (made i) }

@@ -1,0 +1,31 @@
+use Rattle.std.proofs.Common.{◌≡◌, ◌∙◌, ◌++◌, ◌∷◌, [], List, Option, Some, None, ap, sym, arith, map, length, append-nil, length-append}
+use Rattle.std.specs.Prelude.{option_map, ◌+◌, take}
+use Rattle.std.specs.List.{cons_option}
+use Rattle.roll_cert.specs.Told.{entry_of}
+use Rattle.roll_cert.specs.declared.claim.Differ.{Differ}
+use Rattle.roll_plan.specs.Ranks.{entries_by, marked_for}
+use Rattle.roll_plan.proofs.Entries.{with_entry}
+use Rattle.roll_plan.proofs.planner.name_differs.Goals as goal
+use Rattle.roll_plan.proofs.planner.name_differs.Goals.{in-Some, in_default}
+
+pub loop-state-preserved : goal.loop-state-preserved
+loop-state-preserved g c =
+    let entry = marked_for c.args.tree.now c.args.from c.args.to in
+    let old = c.loop-state.differs.items in
+    let more : (o : Option Differ) → option_map entry_of o ≡ entry c.loop-state.state c.index-kept-state.result → map entry_of (old ++ cons_option o []) ≡ entries_by entry 0 (take (c.loop-state.state + 1) c.args.kept.now) = λ o h. with_entry entry c.args.kept.now c.loop-state.state c.index-kept-state.result old o c.loop-state-test.true c.index-kept-state.is c.loop-state.invariant.entries h in
+    elim c.match-entry.branch [
+      | in-Some w ↦
+          let pushed = rw w.unwrap.ensures at w.push.ensures.items in
+          let longer = ap (λ (l : List Differ). length l) pushed in
+          rw w.differs-is (record {
+            entries = ap (map entry_of) pushed ∙ more (Some w.in-Some.entry) (ap (option_map entry_of) (sym w.in-Some.is) ∙ c.entry.ensures);
+            few = omega (arith, longer, length-append old (w.in-Some.entry ∷ []), c.loop-state.invariant.few);
+            room = omega (arith, w.push.ensures.capacity, c.loop-state.invariant.room);
+          })
+      | in_default w ↦
+          rw w.differs-is (record {
+            entries = ap (map entry_of) (sym (append-nil old)) ∙ more None (ap (option_map entry_of) (sym w.in_default.is) ∙ c.entry.ensures);
+            few = omega (arith, c.loop-state.invariant.few);
+            room = c.loop-state.invariant.room;
+          })
+    ]

@@ -1,0 +1,59 @@
+-- Plans as they were made, and what they claim.
+use Rattle.std.specs.Prelude.{◌≡◌, ℕ, ◌+◌, ◌-◌, ◌≤◌, List, ◌++◌, length, map, take, All, Option}
+use Rattle.roll_frame.specs.declared.limits.TheConstants.{FRAME_LIMIT, PATH_LIMIT}
+use Rattle.roll_frame.specs.Cells.{Rows}
+use Rattle.roll_frame.specs.Claims.{Claim, AreRowsOf, claim_of}
+use Rattle.roll_frame.specs.Core.{Roll}
+use Rattle.roll_frame.specs.Order.{in_order}
+use Rattle.roll_frame.specs.Paths.{longest}
+use Rattle.roll_cert.specs.Told.{entry_of}
+use Rattle.roll_tree.specs.Kept.{Kept, paths_of}
+use Rattle.roll_plan.specs.declared.plan.Plan.{Plan}
+
+-- the settled frame, and from there on the kept paths, in their order, and the timeline's rows; and the length, from
+-- frame 0, of the longest kept path that begins these
+pub record Made : Type 0 where
+  pub base : ℕ
+  pub kept : List Rows
+  pub time : Rows
+  pub from : ℕ
+
+-- the number of players, and the last plan
+pub record Planned : Type 0 where
+  pub players : ℕ
+  pub last : Option Made
+
+-- the plan along these rows, from what a tree keeps
+abbrev pub made_of : {S : Type 0} → Kept S → Rows → Made
+made_of t rows = record { base = t.base; kept = in_order (paths_of t); time = rows; from = t.base + longest (paths_of t) rows }
+
+-- the roll of a plan, on these settled rows
+abbrev pub roll_of : Rows → Made → Roll
+roll_of settled made =
+    record {
+      to = made.base + length made.time;
+      from = made.from;
+      time = settled ++ made.time;
+      settled = made.base;
+      kept = map (λ q. settled ++ q) made.kept;
+    }
+
+-- the claim of a plan's roll, whatever the settled rows
+abbrev pub IsClaimOf : ℕ → Made → Claim → Type 0
+IsClaimOf players made claim = (settled : Rows) → length settled ≡ made.base → claim ≡ claim_of players (roll_of settled made)
+
+-- the numbers of a plan, and its entries: those of its claim
+pub record IsPlanOf (players : ℕ) (made : Made) (plan : Plan) : Type 0 where
+  pub to : plan.to ≡ made.base + length made.time
+  pub from : plan.from ≡ made.from
+  pub rerun : plan.rerun ≡ plan.to - plan.from
+  pub differs : (settled : Rows) → length settled ≡ made.base → map entry_of plan.differs.items ≡ (claim_of players (roll_of settled made)).differs
+
+-- a tree and the timeline's rows to a frame, of which a claim can be made
+pub record CanPlan {S : Type 0} (players : ℕ) (t : Kept S) (to : ℕ) (rows : Rows) : Type 0 where
+  pub base : t.base ≤ FRAME_LIMIT
+  pub few : length rows ≤ PATH_LIMIT
+  pub end : to ≡ t.base + length rows
+  pub told : rows ≡ take (length rows) t.time
+  pub time : AreRowsOf players rows
+  pub paths : All (AreRowsOf players) (paths_of t)

@@ -1,0 +1,11 @@
+//! Plans of rolls: where a roll starts, and what it claims of itself.
+#![tactic(auto)]
+
+mod plan;
+mod planner;
+
+pub use plan::Plan;
+pub use planner::Planner;
+
+#[cfg(test)]
+mod tests;

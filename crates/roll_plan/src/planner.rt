@@ -1,0 +1,222 @@
+//! The planner.
+ghost use Rattle.std.specs.Prelude.{◌≡◌, ◌≤◌, ◌<◌, None, Some, IfOk, IfErr, IfSome, OnOk, All, is_none, length, map, option_map, vec_capacity, false, if◌then◌else◌};
+ghost use Rattle.roll_frame.specs.Claims.{IsRight};
+ghost use Rattle.roll_frame.specs.Order.{in_order};
+ghost use Rattle.roll_tree.specs.Kept.{path_of, paths_of as kept_paths};
+ghost use Rattle.roll_plan.specs.Ranks.{HasNode, entries_by, marked_for, ranked_of};
+ghost use Rattle.roll_cert.specs.Told.{entry_of, told};
+ghost use Rattle.roll_plan.specs.Plans.{CanPlan, IsClaimOf, IsPlanOf, made_of};
+
+use crate::plan::Plan;
+use arrayvec::ArrayVec;
+use roll_cert::{Claim, Differ, Items};
+use roll_frame::{PATH_LIMIT, PLAYER_LIMIT, Path, Refusal, Row, TREE_LIMIT};
+use roll_tree::Tree;
+use std::alloc::{AllocError, Global};
+use std::marker::Model;
+
+/// A kept path, and its state's name.
+#[derive(Debug, Drop, PartialEq, Eq, PartialOrd, Ord)]
+pub struct Ranked {
+    pub path: Path,
+    pub node: usize,
+}
+
+/// Makes plans, and the claim of the last one.
+///
+/// Only `new` and `claim` take memory.
+#[derive(Drop)]
+pub struct Planner {
+    players: u8,
+    base: u32,
+    time: ArrayVec<Row, PATH_LIMIT>,
+    // The kept paths, in their order.
+    kept: Vec<Ranked>,
+    plan: Plan,
+    // Whether there is a last plan.
+    is_made: bool,
+}
+
+impl Model for Planner {
+    ghost use Rattle.roll_plan.specs.Plans.{Planned};
+    ghost use Rattle.roll_plan.specs.Fields.{planned_of, IsPlanner};
+
+    ghost Value = { Planned };
+
+    ghost view = { planned_of };
+
+    ghost invariant = { IsPlanner };
+}
+
+impl Planner {
+    /// A planner for so many players, which has made no plan.
+    pub fn new(alloc: Global, players: u8) -> Result<Planner, AllocError>
+        requires some { 1 ≤ players }
+        requires few { players ≤ PLAYER_LIMIT }
+        ensures { IfOk result (λ planner. planner ≡ record { players = players; last = None }) }
+    {
+        let kept = Vec::with_capacity(alloc, TREE_LIMIT)?;
+        let differs = Vec::with_capacity(alloc, TREE_LIMIT)?;
+        Ok(Planner {
+            players,
+            base: 0,
+            time: ArrayVec::new(),
+            kept,
+            plan: Plan {
+                to: 0,
+                from: 0,
+                rerun: 0,
+                differs,
+            },
+            is_made: false,
+        })
+    }
+
+    /// Plans a roll to a frame, along the timeline's rows from the tree's base on.
+    pub fn plan<S>(&mut self, tree: &Tree<S>, to: u32, rows: &[Row])
+        requires { CanPlan self.old.players tree.now to rows.now }
+        ensures { self.new ≡ record self.old { last = Some (made_of tree.now rows.now) } }
+    {
+        tree.laws();
+        let (_, from) = tree.deepest(to);
+        rank(&mut self.kept, tree);
+        name_differs(&mut self.plan.differs, tree, &self.kept, from, to);
+        self.base = tree.base();
+        self.time.clear();
+        self.time.try_extend_from_slice(rows).unwrap();
+        self.plan.to = to;
+        self.plan.from = from;
+        self.plan.rerun = to - from;
+        self.is_made = true;
+    }
+
+    /// The last plan. None at first, and after `forget`.
+    pub fn last(&self) -> Option<&Plan>
+        ensures when { is_none result ≡ is_none self.now.last }
+        ensures plan { IfSome self.now.last (λ made. IfSome result (λ plan. IsPlanOf self.now.players made plan.now)) }
+    {
+        if self.is_made { Some(&self.plan) } else { None }
+    }
+
+    /// Forgets the last plan.
+    pub fn forget(&mut self)
+        ensures { self.new ≡ record self.old { last = None } }
+    {
+        self.is_made = false;
+    }
+
+    /// The claim of the last plan, with the paths as they were kept then.
+    ///
+    /// # Errors
+    ///
+    /// `NoPlan` where there is no last plan, else `NoMemory` where the allocator has no room.
+    pub fn claim(&self, alloc: Global) -> Result<Claim, Refusal>
+        ensures claim { IfOk result (λ claim. IfSome self.now.last (λ made. IsClaimOf self.now.players made (told claim))) }
+        ensures right { IfOk result (λ claim. IsRight (told claim)) }
+        ensures made { OnOk result (is_none self.now.last ≡ false) }
+        ensures refused { IfErr result (λ why. why ≡ (if is_none self.now.last then Refusal.NoPlan else Refusal.NoMemory)) }
+    {
+        if !self.is_made {
+            return Err(Refusal::NoPlan);
+        }
+        match self.copied(alloc) {
+            Ok(claim) => Ok(claim),
+            Err(_) => Err(Refusal::NoMemory),
+        }
+    }
+
+    /// The claim of the last plan.
+    fn copied(&self, alloc: Global) -> Result<Claim, AllocError>
+        requires { is_none self.now.last ≡ false }
+        ensures { IfOk result (λ claim. IfSome self.now.last (λ made. IsClaimOf self.now.players made (told claim))) }
+    {
+        let time = Items::from(Vec::from_slice(alloc, self.time.as_slice())?);
+        let kept = Items::from(paths_of(alloc, &self.kept)?);
+        let differs = Items::from(Vec::from_slice(alloc, &self.plan.differs)?);
+        Ok(Claim {
+            players: self.players,
+            base: self.base,
+            time,
+            kept,
+            from: self.plan.from,
+            differs,
+        })
+    }
+}
+
+/// Takes down the kept paths of a tree, in their order.
+fn rank<S>(kept: &mut Vec<Ranked>, tree: &Tree<S>)
+    requires room { TREE_LIMIT ≤ vec_capacity kept.old }
+    ensures paths { map (λ k. k.path) kept.new.items ≡ map (path_of tree.now.base) (in_order (kept_paths tree.now)) }
+    ensures nodes { All (HasNode tree.now) kept.new.items }
+    ensures few { length kept.new.items ≤ TREE_LIMIT }
+    ensures room { TREE_LIMIT ≤ vec_capacity kept.new }
+{
+    tree.laws();
+    take_down(kept, tree);
+    kept.sort_unstable();
+}
+
+/// Takes down the kept paths of a tree, in the order of its states.
+fn take_down<S>(kept: &mut Vec<Ranked>, tree: &Tree<S>)
+    requires room { TREE_LIMIT ≤ vec_capacity kept.old }
+    ensures ranked { kept.new.items ≡ map (ranked_of tree.now.base) tree.now.states }
+    ensures room { TREE_LIMIT ≤ vec_capacity kept.new }
+{
+    tree.laws();
+    kept.clear();
+    for node in tree.names() {
+        kept.push(Ranked {
+            path: tree.path(*node),
+            node: *node,
+        })
+        .unwrap();
+    }
+}
+
+/// Makes an entry for each path that a plan passes over.
+fn name_differs<S>(differs: &mut Vec<Differ>, tree: &Tree<S>, kept: &[Ranked], from: u32, to: u32)
+    requires nodes { All (HasNode tree.now) kept.now }
+    requires few { length kept.now ≤ TREE_LIMIT }
+    requires room { TREE_LIMIT ≤ vec_capacity differs.old }
+    ensures entries { map entry_of differs.new.items ≡ entries_by (marked_for tree.now from to) 0 kept.now }
+    ensures room { TREE_LIMIT ≤ vec_capacity differs.new }
+{
+    differs.clear();
+    for (state, ranked) in kept.iter().enumerate() {
+        if let Some(entry) = entry(tree, state, ranked, from, to) {
+            differs.push(entry).unwrap();
+        }
+    }
+}
+
+/// The entry of a path, where a plan passes over it.
+fn entry<S>(tree: &Tree<S>, state: usize, ranked: &Ranked, from: u32, to: u32) -> Option<Differ>
+    requires node { HasNode tree.now ranked.now }
+    requires few { state < TREE_LIMIT }
+    ensures { option_map entry_of result ≡ marked_for tree.now from to state ranked.now }
+{
+    let end = ranked.path.frames();
+    if end <= u64::from(from) || u64::from(to) < end {
+        return None;
+    }
+    match tree.first_mark(ranked.node) {
+        Some((frame, player)) => Some(Differ {
+            state: state as u32,
+            frame,
+            player,
+        }),
+        None => None,
+    }
+}
+
+/// The paths, in the same order.
+fn paths_of(alloc: Global, kept: &[Ranked]) -> Result<Vec<Path>, AllocError>
+    ensures { IfOk result (λ paths. paths.items ≡ map (λ k. k.path) kept.now) }
+{
+    let mut paths = Vec::with_capacity(alloc, kept.len())?;
+    for ranked in kept {
+        paths.push(ranked.path.clone()?)?;
+    }
+    Ok(paths)
+}
