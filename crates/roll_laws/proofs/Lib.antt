@@ -26,3 +26,4 @@ pub mod Saved
 pub mod Scripts
 pub mod Sound
 pub mod Starts
+pub mod Ruled

@@ -1,15 +1,17 @@
 -- Laws over any events of any session that starts.
-use Rattle.std.specs.Prelude.{min, filter, drop, ◌≡◌, ℕ, ◌+◌, ◌-◌, ◌<◌, ◌≤◌, List, ◌++◌, length, take, true, false, Option, Some, None, if◌then◌else◌, slice_get, slice_index, nat_lt, bit_and, option_and_then, All, IsSomeAnd, ◌⊎◌}
+use Rattle.std.specs.Prelude.{min, filter, drop, ◌≡◌, ℕ, ◌+◌, ◌-◌, ◌<◌, ◌≤◌, List, ◌++◌, length, take, true, false, Option, Some, None, if◌then◌else◌, slice_get, slice_index, nat_lt, nat_le, bit_and, option_and_then, slice_set, ◌&&◌, ◌∷◌, [], Bool, All, IsSomeAnd, ◌⊎◌}
+use Rattle.std.specs.List.{list_all}
+use Rattle.std.specs.Option.{option_map_or}
 use Rattle.std.specs.List.Sorted.{IsPermutation, IsSorted}
 use Rattle.roll_frame.specs.declared.limits.TheConstants.{FRAME_LIMIT, LOG_LIMIT, TREE_LIMIT, BRANCH_LIMIT, PATH_LIMIT, QUEUE_LIMIT, DELAY_LIMIT}
 use Rattle.roll_frame.specs.declared.row.Cell.{Cell}
-use Rattle.roll_frame.specs.declared.row.Cell.TheVariants.{Word}
+use Rattle.roll_frame.specs.declared.row.Cell.TheVariants.{Word, Gone}
 use Rattle.roll_frame.specs.declared.path.Path.{Path}
 use Rattle.roll_frame.specs.declared.profile.Profile.{Profile}
 use Rattle.roll_frame.specs.declared.profile.Profile.TheVariants.{Ggpo, Wide}
 use Rattle.roll_frame.specs.declared.settings.Settings.{Settings}
 use Rattle.roll_frame.specs.Refusals.{first_refusal}
-use Rattle.roll_frame.specs.Cells.{Rows, rows_eq}
+use Rattle.roll_frame.specs.Cells.{Rows, cell_eq, rows_eq}
 use Rattle.roll_frame.specs.Timeline.{Player, last_word, cell_at, front, timeline}
 use Rattle.roll_frame.specs.Paths.{begins_with, contains, longest, run}
 use Rattle.roll_frame.specs.Games.{Game}
@@ -62,6 +64,32 @@ SettledNeverFalls = EverAfter (λ core later. settled core ≤ settled later)
 
 abbrev pub ImpossibleStays : Type 0
 ImpossibleStays = EverAfter (λ core later. (path : Rows) → is_possible core.players path ≡ false → is_possible later.players path ≡ false)
+
+-- whether the player's cell, at a place from 0, of a row is this one, or there is none
+abbrev pub has_no_other : ℕ → Cell → List Cell → Bool
+has_no_other place cell row = option_map_or (λ c. cell_eq c cell) (slice_get row place) true
+
+-- the same of a path's row t, where there is one
+abbrev pub has_no_other_in : ℕ → ℕ → Cell → Rows → Bool
+has_no_other_in place t cell path = option_map_or (has_no_other place cell) (slice_get path t) true
+
+-- of the possible paths, a player's next word leaves those without another cell in its frame
+abbrev pub WordsRuleOut : Type 0
+WordsRuleOut =
+    (players : List Player) (place : ℕ) (player later : Player) (word : ℕ) (path : Rows)
+    → slice_get players place ≡ Some player → player.gone ≡ false → later.words ≡ player.words ++ word ∷ [] → later.gone ≡ false
+    → is_possible (slice_set players place later) path ≡ (is_possible players path && has_no_other_in place (length player.words) (Word word) path)
+
+-- of the possible paths, a player who leaves leaves those without another cell than a gone one from its next word's frame on
+abbrev pub LeavingRulesOut : Type 0
+LeavingRulesOut =
+    (players : List Player) (place : ℕ) (player later : Player) (path : Rows)
+    → slice_get players place ≡ Some player → player.gone ≡ false → later.words ≡ player.words → later.gone ≡ true
+    → is_possible (slice_set players place later) path ≡ (is_possible players path && list_all (has_no_other place Gone) (drop (length player.words) path))
+
+-- the possible paths that are no shorter than the settled frame are those that begin with the settled rows
+abbrev pub LongBeginSettled : Type 0
+LongBeginSettled = Always (λ settings core. (path : Rows) → is_possible core.players path ≡ true → nat_le (settled core) (length path) ≡ begins_with path (timeline core.players (settled core)))
 
 abbrev pub PrefixesAreSaved : Type 0
 PrefixesAreSaved = Always (λ settings core. (path : Rows) (k : ℕ) → contains core.ever path ≡ true → contains core.ever (take k path) ≡ true)

@@ -2,7 +2,7 @@
 //! that makes no call: a crate cites a law by calling its function, or by the lemma of its name.
 #![tactic(auto)]
 
-ghost use Rattle.roll_laws.specs.Laws.{StartsAreSmall, KnownCellsStay, SettledNeverFalls, ImpossibleStays, PrefixesAreSaved, SavedOnce, KeptBeginSettled, KeptArePrefixed, StartIsKept, RolledIsTimeOrDead, WindowIsBounded, CostIsSmall, FewAreKept, RollsFit, PeersAgree, RollIsPlan, RollsAreLeast, ClaimsAreRight, OrderKeepsAll, ClaimsNameLeast, DeeperDiffer, PruningLosesNothing, KeptAfter, SettledAfter, GuessedCells, JobsStartKept, LogReplays, LogIsCounted, KeptAreShort, QueuesAreShort, FramesEnd, LogEnds, PlayersStay};
+ghost use Rattle.roll_laws.specs.Laws.{StartsAreSmall, KnownCellsStay, SettledNeverFalls, ImpossibleStays, WordsRuleOut, LeavingRulesOut, LongBeginSettled, PrefixesAreSaved, SavedOnce, KeptBeginSettled, KeptArePrefixed, StartIsKept, RolledIsTimeOrDead, WindowIsBounded, CostIsSmall, FewAreKept, RollsFit, PeersAgree, RollIsPlan, RollsAreLeast, ClaimsAreRight, OrderKeepsAll, ClaimsNameLeast, DeeperDiffer, PruningLosesNothing, KeptAfter, SettledAfter, GuessedCells, JobsStartKept, LogReplays, LogIsCounted, KeptAreShort, QueuesAreShort, FramesEnd, LogEnds, PlayersStay};
 
 /// A session that starts has sizes within the profile's limits.
 pub fn starts_are_small()
@@ -22,6 +22,21 @@ pub fn settled_never_falls()
 /// A path that is not possible never becomes possible.
 pub fn impossible_stays()
     ensures { ImpossibleStays }
+{}
+
+/// A player's next word leaves, of the possible paths, those without another cell in its frame.
+pub fn words_rule_out()
+    ensures { WordsRuleOut }
+{}
+
+/// A player who leaves leaves, of the possible paths, those without another cell than a gone one from there on.
+pub fn leaving_rules_out()
+    ensures { LeavingRulesOut }
+{}
+
+/// The possible paths no shorter than the settled frame are those that begin with the settled rows.
+pub fn long_begin_settled()
+    ensures { LongBeginSettled }
 {}
 
 /// Each prefix of a saved path is saved.
