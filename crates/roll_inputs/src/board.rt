@@ -1,8 +1,10 @@
 //! The inputs of all players.
-ghost use Rattle.std.specs.Prelude.{◌≡◌, ◌≢◌, ◌+◌, ◌≤◌, [], ◌∷◌, length, map, min, Some, None, false, IsTrue, IfOk, IfErr, OnOk, OnErr, unwrap_or, if◌then◌else◌};
+ghost use Rattle.std.specs.Prelude.{◌≡◌, ◌≢◌, ◌+◌, ◌≤◌, [], ◌∷◌, length, map, min, Some, None, true, false, All, IsTrue, IfOk, IfErr, OnOk, OnErr, unwrap_or, if◌then◌else◌};
 ghost use Rattle.roll_frame.specs.Events.{all_given};
 ghost use Rattle.roll_frame.specs.Inputs.{is_repeated, with_words, with_given, with_gone, with_none_given};
-ghost use Rattle.roll_frame.specs.Settings.{start_refusal};
+ghost use Rattle.roll_frame.specs.Settings.{most_threshold, start_refusal};
+ghost use Rattle.roll_frame.specs.declared.limits.TheConstants.{FRAME_LIMIT, PLAYER_LIMIT};
+ghost use Rattle.roll_frame.specs.declared.profile.Profile.TheVariants.{Wide};
 ghost use Rattle.roll_frame.specs.Timeline.{timeline, front as front_of, row_at as row_of};
 ghost use Rattle.roll_inputs.specs.Boards.{first_inputs, with_player, local_refusal, remote_refusal, disconnect_refusal, count_of, KeepsCells};
 
@@ -239,5 +241,19 @@ impl Board {
     {
         settle_all(&mut self.queues, to);
         self.settled = to;
+    }
+
+    /// What holds of every board. It does nothing.
+    pub fn laws(&self)
+        ensures some { 1 ≤ length self.now.players }
+        ensures few { length self.now.players ≤ PLAYER_LIMIT }
+        ensures reached { self.now.settled ≤ self.now.frame }
+        ensures window { self.now.frame ≤ self.now.settled + self.now.threshold + 1 }
+        ensures narrow { self.now.threshold ≤ most_threshold Wide }
+        ensures short { self.now.frame ≤ FRAME_LIMIT }
+        ensures stays { All (λ p. p.local ≡ true → p.gone ≡ false) self.now.players }
+        ensures ahead { All (λ p. p.gone ≡ false → self.now.settled ≤ length p.words) self.now.players }
+    {
+        let _ = &self.queues;
     }
 }

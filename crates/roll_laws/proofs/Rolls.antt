@@ -11,7 +11,7 @@ use Rattle.roll_frame.specs.Timeline.{Player, timeline}
 use Rattle.roll_frame.specs.declared.entry.Entry.{Entry}
 use Rattle.roll_frame.specs.declared.row.Cell.{Cell}
 use Rattle.roll_frame.specs.declared.settings.Settings.{Settings}
-use Rattle.roll_laws.specs.Laws.{ClaimsAreRight, ClaimsNameLeast}
+use Rattle.roll_laws.specs.Laws.{Always, ClaimsAreRight, ClaimsNameLeast}
 use Rattle.roll_frame.specs.declared.entry.Entry.TheVariants.{Local, Remote, Disconnect, Sync, Advance, Graft, Partial}
 use Rattle.roll_laws.proofs.Known.{RowFits, Fits, fits, on_time_fits}
 use Rattle.roll_laws.proofs.Saved.{In, has_in, in_has, length_timeline, take_timeline, timeline_on_time}
@@ -34,7 +34,8 @@ fits_wide : (t : ℕ) (ps : List Player) (q : Rows) → Fits t ps q → Wide (le
 fits_wide t ps [] h = tt
 fits_wide t ps (row ∷ rows) h = (row_wide t ps row h.0, fits_wide (suc t) ps rows h.1)
 
-abbrev roll_of : Core → ℕ → Roll
+-- the roll to m
+abbrev pub roll_of : Core → ℕ → Roll
 roll_of core m = record { to = m; from = depth core m; time = timeline core.players m; settled = settled core; kept = kept core }
 
 abbrev Small : Settings → Core → Type 0
@@ -111,13 +112,28 @@ fine_steps : (settings : Settings) (game : Game) (core : Core) (events : List Co
 fine_steps settings game core [] h f = f
 fine_steps settings game core (event ∷ events) h f = fine_steps settings game (after settings game core event) events h (fine_any settings game core event h f)
 
-last_fair : (settings : Settings) (game : Game) (events : List CoreEvent) → start_refusal settings ≡ None → (roll : Roll) → (played settings game events).last ≡ Some roll → IsFair settings.players roll
-last_fair settings game events h roll e =
-    ((fine_steps settings game (first_core settings) events h
-    (record { sound = first_sound settings h; bounded = first_bounded settings h; players = players_first settings; rolls = λ r n. absurd (no_roll r n) })).rolls roll e)
+fine_played : (settings : Settings) (game : Game) (events : List CoreEvent) → start_refusal settings ≡ None → Fine settings (played settings game events)
+fine_played settings game events h =
+    fine_steps settings game (first_core settings) events h
+    (record { sound = first_sound settings h; bounded = first_bounded settings h; players = players_first settings; rolls = λ r n. absurd (no_roll r n) })
+
+-- the last roll is fair
+pub last_is_fair : Always (λ settings core. (roll : Roll) → core.last ≡ Some roll → IsFair settings.players roll)
+last_is_fair settings game events h = (fine_played settings game events h).rolls
+
+-- so is the next one
+pub next_is_fair : Always (λ settings core. (m : ℕ) → core.frame ≤ m → m ≤ core.frame + 1 → IsFair settings.players (roll_of core m))
+next_is_fair settings game events h m low high =
+    let core = played settings game events in
+    let f = fine_played settings game events h in
+    let small = starts_are_small settings h in
+    let few : settings.players ≤ 8 = few_players settings h in
+    let near : settings.threshold ≤ 15 = small_threshold settings h in
+    subst (λ (n : ℕ). IsFair n (roll_of core m)) f.players
+    (roll_fair settings core m f.sound f.bounded (omega (arith, f.players, small.some_players), omega (arith, f.players), near, omega (arith, small.few_frames)) low high)
 
 pub claims_are_right : ClaimsAreRight
-claims_are_right settings game events h roll e = fair_is_right settings.players roll (last_fair settings game events h roll e)
+claims_are_right settings game events h roll e = fair_is_right settings.players roll (last_is_fair settings game events h roll e)
 
 pub claims_name_least : ClaimsNameLeast
-claims_name_least settings game events h roll e = fair_is_least settings.players roll (last_fair settings game events h roll e)
+claims_name_least settings game events h roll e = fair_is_least settings.players roll (last_is_fair settings game events h roll e)

@@ -1,12 +1,44 @@
 -- What the fields keep, from event to event.
 use Rattle.std.proofs.Common.{◌≡◌, ◌%◌, ◌^◌, ℕ, suc, ◌+◌, ◌-◌, ◌≤◌, List, [], ◌∷◌, ◌++◌, length, refl, ap, sym, ◌∙◌, subst, arith, Option, Some, None, ◌<◌, map, set, take, get_or, eqb, false, true, Bool, cond, min}
+use Rattle.roll_frame.specs.Inputs.{disconnect_tests, local_tests, remote_tests, with_given, with_gone, with_words}
+use Rattle.roll_frame.specs.declared.entry.Entry.TheVariants.{Disconnect, Local, Remote}
+use Rattle.roll_frame.specs.declared.refusal.Refusal.TheVariants.{LogFull}
+use Rattle.roll_frame.specs.declared.row.Cell.TheVariants.{Word}
+use Rattle.roll_inputs.specs.Boards.{Inputs, disconnect_refusal, local_refusal, remote_refusal, with_player}
+use Rattle.roll_session.proofs.Between.{between_leaving, between_local, between_remote}
+use Rattle.roll_session.proofs.Playing.{count_reached, leaving_plays, local_plays, remote_plays}
+use Rattle.roll_session.specs.Saves.{with_gone_only, without_other}
+use Rattle.roll_inputs.specs.declared.heard.Heard.{Heard}
+use Rattle.roll_inputs.specs.declared.heard.Heard.TheVariants.{Repeated, Taken}
+use Rattle.std.specs.Prelude.{◌==◌, All, Result, Ok, Err, IfOk, IfSome, IsSomeAnd, drop, option_map}
+use Rattle.std.specs.List.{AllByRecursion, find}
+use Rattle.std.proofs.lemmas.List.Elements.{recursion_from_All}
+use Rattle.std.proofs.Math.Seq.{drop-append_seam}
+use Rattle.roll_cert.specs.Told.{told}
+use Rattle.roll_cert.specs.declared.claim.Claim.{Claim}
+use Rattle.roll_frame.specs.Claims.{claim_of, path_from}
+use Rattle.roll_frame.specs.Core.{Roll, kept}
+use Rattle.roll_frame.specs.Order.{in_order}
+use Rattle.roll_frame.specs.declared.path.Path.{Path}
+use Rattle.roll_laws.proofs.Fair.{IsFair}
+use Rattle.roll_laws.proofs.Rolls.{last_is_fair}
+use Rattle.roll_laws.proofs.Saved.{length_timeline}
+use Rattle.roll_plan.proofs.Settled.{on, order_on}
+use Rattle.roll_plan.specs.Plans.{IsClaimOf, IsPlanOf, Made}
+use Rattle.roll_plan.specs.declared.plan.Plan.{Plan}
+use Rattle.roll_tree.specs.Kept.{Kept, held, path_of}
+use Rattle.roll_session.specs.Planned.{IsPlanOfRoll}
+use Rattle.roll_session.specs.Saves.{settled_by, settling}
+use Rattle.roll_session.specs.Standing.{from_start, made_from, settled_rows}
+use Rattle.roll_session.proofs.Between.{IsBetween, settled_kept}
+use Rattle.roll_session.proofs.Planning.{plan_is, seen_claim}
 use Rattle.std.specs.Prelude.{nat_le, nat_lt, not, ◌&&◌, ◌||◌, ◌==◌, slice_get}
 use Rattle.std.proofs.lemmas.Bool.{and_parts, not-false, leb-true, le-leb}
 use Rattle.std.proofs.lemmas.Bool.Decides.{nat_tests}
 use Rattle.std.proofs.lemmas.Option.{slice_get-get_or}
 use Rattle.std.proofs.lemmas.List.Elements.{All-cons, All-nil}
 use Rattle.std.proofs.Math.Seq.{take-append_seam}
-use Rattle.std.proofs.lemmas.List.{take_more, map-append}
+use Rattle.std.proofs.lemmas.List.{append-nil}
 use Rattle.std.proofs.lemmas.List.Sums.{fold_push}
 use Rattle.roll_frame.specs.Cells.{Rows}
 use Rattle.roll_frame.specs.Core.{Core, first_core, rolled, depth, cost, settled, IsPlan}
@@ -29,11 +61,12 @@ use Rattle.roll_laws.proofs.Accepted.{all_fail}
 use Rattle.roll_laws.proofs.Bounds.{players_stay, frames_end, log_ends}
 use Rattle.roll_laws.proofs.Least.{rolls_are_least}
 use Rattle.roll_laws.proofs.Logs.{log_is_counted}
-use Rattle.roll_session.specs.declared.saved.Saved.{Saved}
-use Rattle.roll_session.specs.declared.event.Plan.{Plan}
-use Rattle.roll_session.specs.Saved.{paths, HaveValues, BeginsAtZero, opening_of}
-use Rattle.roll_session.specs.Seen.{Step, Seen, core_of, game_of, refusal_of, with_entry, plain, IsLeast}
-use Rattle.roll_session.specs.Held.{Shows, IsHeld, IsSmall, IsSession}
+use Rattle.roll_inputs.specs.Boards.{first_inputs}
+use Rattle.roll_plan.specs.Plans.{Planned}
+use Rattle.roll_tree.specs.Kept.{Saved, paths_of}
+use Rattle.roll_session.specs.Saves.{Standing, HaveValues}
+use Rattle.roll_session.specs.Seen.{Step, plain, IsLeast}
+use Rattle.roll_session.specs.Held.{Shows, IsKept, IsSession, IsSmall, planned_of}
 
 pub replay-nil : (settings : Settings) → replay settings [] ≡ first_core settings
 unfolding replay
@@ -95,108 +128,191 @@ can_be_partial_advance core made g h =
     let same : eqb (core.frame + 1) (core.frame + 1) ≡ true = grind (arith, nat_tests) in
     rw (other, same, g, le-leb made (cost core (core.frame + 1)) h) refl
 
--- a slice that was written whole
-pub written_whole : (new rest : List Player) (n : ℕ) → length new ≡ n → take n (new ++ rest) ≡ new
-written_whole new rest n e = subst (λ (k : ℕ). take k (new ++ rest) ≡ new) e (take-append_seam new rest)
+-- tests of which none fails, and one more
+pub first_refusal-none : (tests : List (Bool × Refusal)) (b : Bool) (why : Refusal) → first_refusal tests ≡ None → first_refusal (tests ++ (b, why) ∷ []) ≡ cond b (Some why) None
+first_refusal-none [] b why h = refl
+first_refusal-none (test ∷ tests) b why h = passed test.0 test.1 (first_refusal-none tests b why) h
+  where
+    passed : (t : Bool) (first : Refusal) → (first_refusal tests ≡ None → first_refusal (tests ++ (b, why) ∷ []) ≡ cond b (Some why) None) → cond t (Some first) (first_refusal tests) ≡ None → cond t (Some first) (first_refusal (tests ++ (b, why) ∷ [])) ≡ cond b (Some why) None
+    passed true first rest h = cc
+    passed false first rest h = rest h
 
--- the players after one of them changed
-changed_at : (change : Player → Player) (ps : List Player) (p place : ℕ) (x : Player) → place + 1 ≡ p → place < length ps → x ≡ get_or ps place x → changed change ps p ≡ set ps place (change x)
-changed_at change ps p place x e h i =
-    let q : p - 1 ≡ place = omega arith in
-    let z : eqb p 0 ≡ false = grind (arith, nat_tests) in
-    rw (z, q, slice_get-get_or ps place x h, ← i) refl
+-- a word that is taken was not taken before
+pub not_repeated : (b : Bool) (heard : Heard) → heard ≡ cond b Repeated Taken → heard ≡ Taken → b ≡ false
+not_repeated true heard e taken = absurd (other (sym e ∙ taken))
+  where
+    other : Repeated ≡ Taken → ⊥
+    other e = cc e
+not_repeated false heard e taken = refl
 
-abbrev pub plan_at : ℕ → ℕ → Plan
-plan_at m from = record { to = m; from = from; rerun = m - from }
+-- tests of which none fails, of which these are the first
+pub first_refusal-front : (tests more : List (Bool × Refusal)) → first_refusal (tests ++ more) ≡ None → first_refusal tests ≡ None
+first_refusal-front [] more h = refl
+first_refusal-front (test ∷ tests) more h = passed test.0 test.1 (first_refusal-front tests more) h
+  where
+    passed : (t : Bool) (first : Refusal) → (first_refusal (tests ++ more) ≡ None → first_refusal tests ≡ None) → cond t (Some first) (first_refusal (tests ++ more)) ≡ None → cond t (Some first) (first_refusal tests) ≡ None
+    passed true first rest h = h
+    passed false first rest h = rest h
 
-module _ {S N : Type 0} (state_value : S → List ℕ) (snapshot_value : N → List ℕ) (step : List ℕ → List Cell → List ℕ) where
-  -- what a roll to m did, which started at this length: what it saved, and the state that it led to
-  pub record RollsTo (ps : List Player) (sv sv' : List (Saved N)) (m from : ℕ) (state : S) : Type 0 where
-    pub from_is : from ≡ longest (paths sv) (timeline ps m)
-    pub paths_are : paths sv' ≡ paths sv ++ prefixes (timeline ps m) from (m - from)
-    pub values : HaveValues snapshot_value step (opening_of snapshot_value sv) sv'
-    pub first : BeginsAtZero sv'
-    pub opening : opening_of snapshot_value sv' ≡ opening_of snapshot_value sv
-    pub state_is : state_value state ≡ run step (opening_of snapshot_value sv) (timeline ps m)
+if_ok : {A E : Type 0} (r : Result A E) (P Q : A → Type 0) → ((x : A) → P x → Q x) → IfOk r P → IfOk r Q
+if_ok (Ok x) P Q f h = f x h
+if_ok (Err e) P Q f h = h
 
-  -- after a roll, whatever becomes of the frame and of what was given
-  pub held_rolled : (core new : Core) (ps ps' : List Player) (frame frame' : ℕ) (sv : List (Saved N)) (current : Option S) (plan : Option Plan) (m from : ℕ) (sv' : List (Saved N)) (state : S) → IsHeld state_value snapshot_value step core ps frame sv current plan → RollsTo ps sv sv' m from state
-      → ps' ≡ new.players → frame' ≡ new.frame → new.ever ≡ (rolled core m).ever → new.shown ≡ (rolled core m).shown → new.last ≡ (rolled core m).last
-      → IsHeld state_value snapshot_value step new ps' frame' sv' (Some state) (Some (plan_at m from))
-  held_rolled core new ps ps' frame frame' sv current plan m from sv' state h r players frame_is ever shown last =
-      let at : from ≡ depth core m = r.from_is ∙ rw (h.ever, h.players) refl in
-      record {
-        players = players;
-        frame = frame_is;
-        ever = r.paths_are ∙ rw (h.ever, h.players, at) (sym ever);
-        first = r.first;
-        values = rw r.opening r.values;
-        current_shows = rw (shown, r.opening) (rw h.players at r.state_is);
-        plan_is = rw last (ap (λ d. Some (plan_at m d)) at);
-      }
+-- what holds of all states, of one that is held
+pub of_held : {N : Type 0} (P : Saved N → Type 0) (t : Kept N) (name : ℕ) (s : Saved N) → All P t.states → held t name ≡ Some s → P s
+of_held {N = N} P t name s all e = go t.states (recursion_from_All P t.states all) e
+  where
+    go : (states : List (Saved N)) → AllByRecursion P states → find (λ u. u.name == name) states ≡ Some s → P s
+    go [] all e = absurd (cc e)
+    go (u ∷ states) all e = at (u.name == name) all e (go states all.1)
+      where
+        at : (b : Bool) → AllByRecursion P (u ∷ states) → cond b (Some u) (find (λ v. v.name == name) states) ≡ Some s → (find (λ v. v.name == name) states ≡ Some s → P s) → P s
+        at true all e rest = let same : u ≡ s = cc e in subst P same all.0
+        at false all e rest = rest e
 
-  -- after a roll that ended early
-  pub held_partial : (core : Core) (ps : List Player) (frame : ℕ) (sv : List (Saved N)) (current : Option S) (plan : Option Plan) (to from made : ℕ) (sv' : List (Saved N)) → IsHeld state_value snapshot_value step core ps frame sv current plan
-      → from ≡ longest (paths sv) (timeline ps to) → paths sv' ≡ paths sv ++ prefixes (timeline ps to) from made → HaveValues snapshot_value step (opening_of snapshot_value sv) sv' → BeginsAtZero sv' → opening_of snapshot_value sv' ≡ opening_of snapshot_value sv
-      → IsHeld state_value snapshot_value step (applied core (Partial to made)) ps frame sv' None None
-  held_partial core ps frame sv current plan to from made sv' h f p v z o =
-      record {
-        players = h.players;
-        frame = h.frame;
-        ever = rw (← h.players, ← h.ever) (rw f at p);
-        first = z;
-        values = rw o v;
-        current_shows = tt;
-        plan_is = refl;
-      }
+-- kept paths, as a tree gives them
+pub paths_are : (settled : Rows) (base : ℕ) (ps : List Rows) → length settled ≡ base → map (path_of base) (in_order ps) ≡ map (path_from base) (in_order (from_start settled ps))
+paths_are settled base ps e = sym (ap (map (path_from base)) (order_on settled ps) ∙ each (in_order ps))
+  where
+    each : (qs : List Rows) → map (path_from base) (map (on settled) qs) ≡ map (path_of base) qs
+    each [] = refl
+    each (q ∷ qs) = ap (λ (r : Rows). path_of base r ∷ map (path_from base) (map (on settled) qs)) (subst (λ n. drop n (settled ++ q) ≡ q) e (drop-append_seam settled q)) ∙ ap (λ (l : List Path). path_of base q ∷ l) (each qs)
 
-  -- after an event of one player
-  pub held_changed : (core new : Core) (ps : List Player) (frame : ℕ) (sv : List (Saved N)) (current : Option S) (plan : Option Plan) (change : Player → Player) (p place : ℕ) (x y : Player) → IsHeld state_value snapshot_value step core ps frame sv current plan
-      → place + 1 ≡ p → place < length ps → x ≡ get_or ps place x → y ≡ change x
-      → new.players ≡ changed change core.players p → new.frame ≡ core.frame → new.ever ≡ core.ever → new.shown ≡ core.shown → new.last ≡ core.last
-      → IsHeld state_value snapshot_value step new (set ps place y) frame sv current plan
-  held_changed core new ps frame sv current plan change p place x y h e l i w n f v s a =
-      record {
-        players = rw (n, w, ← h.players) (sym (changed_at change ps p place x e l i));
-        frame = h.frame ∙ sym f;
-        ever = h.ever ∙ sym v;
-        first = h.first;
-        values = h.values;
-        current_shows = rw s h.current_shows;
-        plan_is = rw a h.plan_is;
-      }
-
+module _ {S N : Type 0} (state_value : S → List ℕ) (snapshot_value : N → List ℕ) (step : Step) (opening : List ℕ) (settings : Settings) where
   -- the session after one more entry
-  pub session_next : (settings : Settings) (log : List Entry) (entry : Entry) (x : List ℕ) (ps : List Player) (frame : ℕ) (sv : List (Saved N)) (current : Option S) (plan : Option Plan) → IsLog settings (record { opening = x; step = step }) log → opening_of snapshot_value sv ≡ x
-      → is_accepted settings (record { opening = x; step = step }) (replay settings log) (plain entry) ≡ true
-      → IsHeld state_value snapshot_value step (applied (replay settings log) entry) ps frame sv current plan
-      → IsSession state_value snapshot_value step settings (log ++ entry ∷ []) ps frame sv current plan
-  session_next settings log entry x ps frame sv current plan l o a h =
-      let more = log_more settings (record { opening = x; step = step }) log (plain entry) l a in
+  pub session_next : (log : List Entry) (entry : Entry) (saves : Standing N) (planner : Planned) (current : Option S) → IsLog settings (record { opening = opening; step = step }) log
+      → is_accepted settings (record { opening = opening; step = step }) (replay settings log) (plain entry) ≡ true
+      → IsKept snapshot_value step opening settings (applied (replay settings log) entry) saves
+      → Shows state_value step opening (applied (replay settings log) entry).shown current
+      → planner ≡ planned_of settings (applied (replay settings log) entry)
+      → IsSession state_value snapshot_value step opening settings (log ++ entry ∷ []) saves planner current
+  session_next log entry saves planner current l a kept shows plan =
+      let game : Game = record { opening = opening; step = step } in
+      let more = log_more settings game log (plain entry) l a in
+      let next = replay-push settings log entry in
       record {
-        is_log = rw o more;
-        held = rw (replay-push settings log entry) h;
-        small = is_small settings (record { opening = x; step = step }) (log ++ entry ∷ []) more;
+        is_log = more;
+        kept = rw next kept;
+        shows = rw next shows;
+        plan = rw next plan;
+        small = is_small settings game (log ++ entry ∷ []) more;
       }
+
+  -- the session after a player's input
+  pub session_input : (log : List Entry) (entry : Entry) (saves cut after : Standing N) (planner : Planned) (current : Option S)
+      → IsSession state_value snapshot_value step opening settings log saves planner current
+      → (a : is_accepted settings (record { opening = opening; step = step }) (replay settings log) (plain entry) ≡ true)
+      → IsBetween snapshot_value step opening settings (replay settings log) entry cut
+      → after.inputs ≡ record cut.inputs { settled = cut.inputs.settled + settling cut } → after.tree.states ≡ settled_by cut (settling cut)
+      → (applied (replay settings log) entry).shown ≡ (replay settings log).shown → (applied (replay settings log) entry).last ≡ (replay settings log).last
+      → IsSession state_value snapshot_value step opening settings (log ++ entry ∷ []) after planner current
+  session_input log entry saves cut after planner current s a between inputs states shown last =
+      let game : Game = record { opening = opening; step = step } in
+      session_next log entry after planner current s.is_log a (settled_kept snapshot_value step opening settings game log s.is_log entry a cut after between inputs states)
+      (rw shown s.shows) (rw last s.plan)
+
+  module _ (log : List Entry) (saves : Standing N) (planner : Planned) (current : Option S) (s : IsSession state_value snapshot_value step opening settings log saves planner current) where
+    local_tested : (p : ℕ) → local_refusal saves.inputs p ≡ first_refusal (local_tests (replay settings log).players (replay settings log).frame settings.threshold settings.limit p)
+    local_tested p = ap (λ (i : Inputs). local_refusal i p) s.kept.inputs
+
+    -- a local word that is taken
+    pub local_between : (p word : ℕ) (cut : Standing N) → All (λ (q : Player). q.local ≡ true → q.gone ≡ false) saves.inputs.players → All (λ (q : Player). q.gone ≡ false → saves.inputs.settled ≤ length q.words) saves.inputs.players
+        → refusal settings (record { opening = opening; step = step }) (replay settings log) (plain (Local p word)) ≡ None
+        → cut.inputs ≡ with_player (with_given word) saves.inputs p → cut.tree.states ≡ without_other saves.inputs p (Word word) saves.tree.states → timeline cut.inputs.players saves.inputs.settled ≡ timeline saves.inputs.players saves.inputs.settled
+        → IsBetween snapshot_value step opening settings (replay settings log) (Local p word) cut
+    local_between p word cut stays ahead fine inputs states rows =
+        let core = replay settings log in
+        let free = local_tested p ∙ first_refusal-front (local_tests core.players core.frame settings.threshold settings.limit p) ((nat_le settings.log core.logged, LogFull) ∷ []) fine in
+        let it = local_plays saves.inputs p stays free in
+        between_local snapshot_value step opening settings core p word saves cut s.kept it (count_reached saves.inputs p it ahead) inputs states rows
+
+    -- a remote word's tests
+    pub remote_free : (p f word : ℕ) → refusal settings (record { opening = opening; step = step }) (replay settings log) (plain (Remote p f word)) ≡ None → remote_refusal saves.inputs p f ≡ None
+    remote_free p f word fine =
+        let core = replay settings log in
+        ap (λ (i : Inputs). remote_refusal i p f) s.kept.inputs ∙ first_refusal-front (remote_tests core.players (settled core) p f) ((nat_le settings.log core.logged, LogFull) ∷ []) fine
+
+    pub remote_refused : (p f word : ℕ) (why : Refusal) → remote_refusal saves.inputs p f ≡ Some why → refusal settings (record { opening = opening; step = step }) (replay settings log) (plain (Remote p f word)) ≡ Some why
+    remote_refused p f word why h =
+        let core = replay settings log in
+        first_refusal-some (remote_tests core.players (settled core) p f) ((nat_le settings.log core.logged, LogFull) ∷ []) why (sym (ap (λ (i : Inputs). remote_refusal i p f) s.kept.inputs) ∙ h)
+
+    -- a remote word that is taken
+    pub remote_between : (p f word : ℕ) (cut : Standing N) → All (λ (q : Player). q.gone ≡ false → saves.inputs.settled ≤ length q.words) saves.inputs.players
+        → refusal settings (record { opening = opening; step = step }) (replay settings log) (plain (Remote p f word)) ≡ None
+        → cut.inputs ≡ with_player (with_words (word ∷ [])) saves.inputs p → cut.tree.states ≡ without_other saves.inputs p (Word word) saves.tree.states → timeline cut.inputs.players saves.inputs.settled ≡ timeline saves.inputs.players saves.inputs.settled
+        → IsBetween snapshot_value step opening settings (replay settings log) (Remote p f word) cut
+    remote_between p f word cut ahead fine inputs states rows =
+        let it = remote_plays saves.inputs p f (remote_free p f word fine) in
+        between_remote snapshot_value step opening settings (replay settings log) p f word saves cut s.kept it (count_reached saves.inputs p it ahead) inputs states rows
+
+    -- a player who leaves
+    pub leaving_between : (p : ℕ) (cut : Standing N) → All (λ (q : Player). q.gone ≡ false → saves.inputs.settled ≤ length q.words) saves.inputs.players
+        → refusal settings (record { opening = opening; step = step }) (replay settings log) (plain (Disconnect p)) ≡ None
+        → cut.inputs ≡ with_player with_gone saves.inputs p → cut.tree.states ≡ with_gone_only saves.inputs p saves.tree.states → timeline cut.inputs.players saves.inputs.settled ≡ timeline saves.inputs.players saves.inputs.settled
+        → IsBetween snapshot_value step opening settings (replay settings log) (Disconnect p) cut
+    leaving_between p cut ahead fine inputs states rows =
+        let core = replay settings log in
+        let free = ap (λ (i : Inputs). disconnect_refusal i p) s.kept.inputs ∙ first_refusal-front (disconnect_tests core.players p) ((nat_le settings.log core.logged, LogFull) ∷ []) fine in
+        let it = leaving_plays saves.inputs p free in
+        between_leaving snapshot_value step opening settings core p saves cut s.kept it (count_reached saves.inputs p it ahead) inputs states rows
+
+    fair : (roll : Roll) → (replay settings log).last ≡ Some roll → IsFair settings.players roll
+    fair = always_holds (λ st core. (roll : Roll) → core.last ≡ Some roll → IsFair st.players roll) last_is_fair settings (record { opening = opening; step = step }) log s.is_log
+
+    -- the last claim
+    pub session_claim : (result : Result Claim Refusal) → IfOk result (λ claim. IfSome planner.last (λ made. IsClaimOf planner.players made (told claim)))
+        → IfOk result (λ claim. IfSome (replay settings log).last (λ roll. told claim ≡ claim_of settings.players roll))
+    session_claim result h =
+        if_ok result (λ claim. IfSome planner.last (λ made. IsClaimOf planner.players made (told claim))) (λ claim. IfSome (replay settings log).last (λ roll. told claim ≡ claim_of settings.players roll))
+        (λ claim made. seen_claim settings.players (replay settings log).last planner.last (told claim) (ap (λ (p : Planned). p.last) s.plan) fair
+        (subst (λ n. IfSome planner.last (λ made. IsClaimOf n made (told claim))) (ap (λ (p : Planned). p.players) s.plan) made)) h
+
+    -- the last plan
+    pub session_plan : {A : Type 0} (now : A → Plan) (result : Option A) → IfSome planner.last (λ made. IfSome result (λ a. IsPlanOf planner.players made (now a))) → IfSome (replay settings log).last (λ roll. IfSome result (λ a. IsPlanOfRoll settings.players roll (now a)))
+    session_plan now result h = go planner.last (replay settings log).last (ap (λ (p : Planned). p.last) s.plan) fair h
+      where
+        some : {A : Type 0} (a : Option A) (roll : Roll) (now : A → Plan) → IsFair settings.players roll → IfSome a (λ x. IsPlanOf planner.players (made_from roll) (now x)) → IfSome a (λ x. IsPlanOfRoll settings.players roll (now x))
+        some None roll now f h = tt
+        some (Some x) roll now f h = plan_is settings.players roll f (now x) (subst (λ n. IsPlanOf n (made_from roll) (now x)) (ap (λ (p : Planned). p.players) s.plan) h)
+
+        go : (m : Option Made) (o : Option Roll) → m ≡ option_map made_from o → ((roll : Roll) → o ≡ Some roll → IsFair settings.players roll) → IfSome m (λ made. IfSome result (λ a. IsPlanOf planner.players made (now a))) → IfSome o (λ roll. IfSome result (λ a. IsPlanOfRoll settings.players roll (now a)))
+        go m None e f h = tt
+        go m (Some roll) e f h = some result roll now (f roll refl) (subst (λ (n : Option Made). IfSome n (λ made. IfSome result (λ a. IsPlanOf planner.players made (now a)))) e h)
+
+    -- the snapshot of the settled state
+    pub session_root : (first : N) → IsSomeAnd (held saves.tree saves.tree.root) (λ u. (u.path ≡ []) × (u.snapshot ≡ first)) → snapshot_value first ≡ run step opening (settled_rows (replay settings log))
+    session_root first h = go (held saves.tree saves.tree.root) refl h
+      where
+        go : (o : Option (Saved N)) → held saves.tree saves.tree.root ≡ o → IsSomeAnd o (λ u. (u.path ≡ []) × (u.snapshot ≡ first)) → snapshot_value first ≡ run step opening (settled_rows (replay settings log))
+        go None e h = absurd h
+        go (Some u) e h =
+            let value = of_held (λ (v : Saved N). snapshot_value v.snapshot ≡ run step opening (settled_rows (replay settings log) ++ v.path)) saves.tree saves.tree.root u s.kept.values e in
+            ap snapshot_value (sym h.1) ∙ (value ∙ ap (run step opening) (ap (λ (q : Rows). settled_rows (replay settings log) ++ q) h.0 ∙ append-nil (settled_rows (replay settings log))))
+
+    -- where a roll goes, and what it costs
+    pub session_players : planner.players ≡ settings.players
+    session_players = ap (λ (p : Planned). p.players) s.plan
+
+    -- the kept paths, as the tree gives them
+    pub session_kept : map (path_of saves.inputs.settled) (in_order (paths_of saves.tree)) ≡ map (path_from (settled (replay settings log))) (in_order (kept (replay settings log)))
+    session_kept =
+        let core = replay settings log in
+        rw s.kept.inputs (paths_are (settled_rows core) (settled core) (paths_of saves.tree) (length_timeline core.players (settled core)) ∙ ap (λ (ps : List Rows). map (path_from (settled core)) (in_order ps)) s.kept.kept_is)
 
   -- the session at the start
-  pub session_first : (settings : Settings) (ps : List Player) (first : Saved N) (sv : List (Saved N)) (state : S) → start_refusal settings ≡ None → ps ≡ first_players settings → sv ≡ first ∷ [] → first.rows.items ≡ [] → state_value state ≡ snapshot_value first.snapshot → IsSession state_value snapshot_value step settings [] ps 0 sv (Some state) None
-  session_first settings ps first sv state h p v z e =
-      let game : Game = record { opening = opening_of snapshot_value sv; step = step } in
+  pub session_first : (saves : Standing N) (state : S) (name : ℕ) (first : N) → start_refusal settings ≡ None → saves.inputs ≡ first_inputs settings → saves.tree.states ≡ record { name = name; path = []; snapshot = first } ∷ []
+      → snapshot_value first ≡ opening → state_value state ≡ opening → IsSession state_value snapshot_value step opening settings [] saves (record { players = settings.players; last = None }) (Some state)
+  session_first saves state name first h inputs states value shown =
+      let game : Game = record { opening = opening; step = step } in
       record {
         is_log = log_first settings game h;
-        held = rw (replay-nil settings, v) (record {
-          players = p;
-          frame = refl;
-          ever = ap (λ (q : Rows). q ∷ []) z;
-          first = z;
-          values = All-cons (λ y. snapshot_value y.snapshot ≡ run step (snapshot_value first.snapshot) y.rows.items) first [] (rw z refl) (All-nil (λ y. snapshot_value y.snapshot ≡ run step (snapshot_value first.snapshot) y.rows.items));
-          current_shows = e;
-          plan_is = refl;
+        kept = rw (replay-nil settings) (record {
+          inputs = inputs;
+          kept_is = rw states refl;
+          values = rw states (All-cons (λ (s : Saved N). snapshot_value s.snapshot ≡ run step opening s.path) (record { name = name; path = []; snapshot = first }) [] value (All-nil (λ (s : Saved N). snapshot_value s.snapshot ≡ run step opening s.path)));
         });
+        shows = rw (replay-nil settings) shown;
+        plan = rw (replay-nil settings) refl;
         small = is_small settings game [] (log_first settings game h);
       }
-
-  -- the settled frame
-  pub held_settled : (core : Core) (ps : List Player) (frame : ℕ) (sv : List (Saved N)) (current : Option S) (plan : Option Plan) (k : ℕ) → IsHeld state_value snapshot_value step core ps frame sv current plan → k ≡ longest (paths sv) (timeline ps (min (front ps) frame)) → k ≡ settled core
-  held_settled core ps frame sv current plan k h e = e ∙ rw (h.players, h.frame, h.ever) refl

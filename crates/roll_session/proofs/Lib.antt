@@ -1,5 +1,15 @@
 pub mod Holding
+pub mod Between
+pub mod Cuts
+pub mod Filters
+pub mod Grows
+pub mod Leaving
 pub mod Performing
+pub mod Planning
+pub mod Playing
+pub mod Retold
+pub mod Rows
+pub mod Settles
+pub mod Steps
 pub mod Rolling
-pub mod Rolls
-pub mod Timelines
+pub mod Rolled

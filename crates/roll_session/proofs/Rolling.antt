@@ -1,117 +1,216 @@
--- A roll, one frame at a time.
-use Rattle.std.proofs.Common.{◌≡◌, ℕ, zero, suc, ◌+◌, ◌-◌, ◌%◌, ◌^◌, ◌<◌, ◌≤◌, List, [], ◌∷◌, ◌++◌, length, take, map, refl, ap, sym, ◌∙◌, subst, arith, add-one, append-nil, append_assoc, Contains, drop, inl, inr}
-use Rattle.std.specs.Prelude.{◌⊎◌}
+-- A roll, one frame at a time, and what is taken down of it.
+use Rattle.std.proofs.Common.{◌≡◌, ℕ, zero, suc, ◌+◌, ◌-◌, ◌%◌, ◌^◌, ◌<◌, ◌≤◌, List, [], ◌∷◌, ◌++◌, length, take, refl, ap, sym, subst, ◌∙◌, arith, inl, inr, Bor, get_or, option_copied, is_some, Bool, true, false, cond, Option, Some, None, add-one, append-nil, append_assoc}
+use Rattle.std.specs.Prelude.{option_map, ◌⊎◌, ◌==◌, All, IfSome, IsSome, IsSomeAnd, nat_lt, if◌then◌else◌}
+use Rattle.std.specs.List.{find}
+use Rattle.std.specs.Slice.{IsItemAt}
+use Rattle.std.proofs.Math.Seq.{get_or-append_seam}
 use Rattle.std.proofs.lemmas.Bool.{cases_lt}
-use Rattle.std.proofs.lemmas.List.{map-append}
-use Rattle.std.proofs.lemmas.List.Elements.{All-contains, All-push}
+use Rattle.std.proofs.lemmas.Bool.Decides.{nat_tests}
+use Rattle.std.proofs.lemmas.List.{get_or_append_left, length-append, length-map, map-append}
+use Rattle.std.proofs.lemmas.List.Elements.{All-push, All-head, All-tail}
 use Rattle.std.proofs.lemmas.List.Sums.{fold_push}
-use Rattle.roll_frame.specs.Cells.{Rows}
-use Rattle.roll_frame.specs.Paths.{longest, prefixes, run}
-use Rattle.roll_frame.specs.Timeline.{Player, row_at, timeline}
+use Rattle.roll_frame.specs.declared.limits.TheConstants.{FRAME_LIMIT, PATH_LIMIT}
 use Rattle.roll_frame.specs.declared.row.Cell.{Cell}
-use Rattle.roll_session.specs.declared.saved.Saved.{Saved}
-use Rattle.roll_session.specs.Saved.{paths, HaveValues, BeginsAtZero, opening_of}
-use Rattle.roll_laws.proofs.Saved.{length_timeline, take_timeline}
+use Rattle.roll_frame.specs.Cells.{Rows}
+use Rattle.roll_frame.specs.Claims.{AreRowsOf}
+use Rattle.roll_frame.specs.Games.{Value}
+use Rattle.roll_frame.specs.Paths.{contains, prefixes, run}
+use Rattle.roll_frame.specs.Timeline.{Player, row_at, timeline}
+use Rattle.roll_laws.proofs.Saved.{length_timeline}
+use Rattle.roll_plan.specs.Plans.{CanPlan}
+use Rattle.roll_tree.specs.Kept.{CanGrow, Kept, Saved, held, paths_of, with_state}
+use Rattle.roll_session.specs.Saves.{HaveValues, Standing, rows_to, way_to}
+use Rattle.roll_session.specs.Standing.{rows_from}
+use Rattle.roll_session.proofs.Grows.{fresh}
+use Rattle.roll_session.proofs.Rows.{length-rows_from, rows_from-more, settled-rows_from, take-rows_from}
 
--- one more prefix of the timeline, at the end
-pub prefixes_push : (ps : List Player) (to from frame : ℕ) → from ≤ frame → frame < to → prefixes (timeline ps to) from (frame + 1 - from) ≡ prefixes (timeline ps to) from (frame - from) ++ timeline ps (frame + 1) ∷ []
-prefixes_push ps to from frame low high =
-    let more : frame + 1 - from ≡ suc (frame - from) = omega arith in
-    let end : from + suc (frame - from) ≡ frame + 1 = omega arith in
-    ap (prefixes (timeline ps to) from) more
-    ∙ ap (λ (q : Rows). prefixes (timeline ps to) from (frame - from) ++ q ∷ []) (ap (λ k. take k (timeline ps to)) end ∙ take_timeline ps (frame + 1) to (omega arith))
-
--- the first of them in front
-prefixes_cons : (q : Rows) (d k : ℕ) → prefixes q d (suc k) ≡ take (d + 1) q ∷ prefixes q (d + 1) k
-prefixes_cons q d zero = refl
-prefixes_cons q d (suc k) =
-    let place : d + suc (suc k) ≡ d + 1 + suc k = omega arith in
-    ap (λ (qs : List Rows). qs ++ take (d + suc (suc k)) q ∷ []) (prefixes_cons q d k) ∙ ap (λ n. take (d + 1) q ∷ prefixes q (d + 1) k ++ take n q ∷ []) place
-
--- the next prefix of the timeline, and those after it
-pub prefixes_next : (ps : List Player) (to frame : ℕ) → frame < to → prefixes (timeline ps to) frame (to - frame) ≡ timeline ps (frame + 1) ∷ prefixes (timeline ps to) (frame + 1) (to - (frame + 1))
-prefixes_next ps to frame high =
-    let more : to - frame ≡ suc (to - (frame + 1)) = omega arith in
-    ap (prefixes (timeline ps to) frame) more ∙ prefixes_cons (timeline ps to) frame (to - (frame + 1))
-    ∙ ap (λ (q : Rows). q ∷ prefixes (timeline ps to) (frame + 1) (to - (frame + 1))) (take_timeline ps (frame + 1) to (omega arith))
-
--- where none is left the roll has come to its end
-pub prefixes_done : (q : Rows) (to frame : ℕ) → frame ≤ to → prefixes q frame (to - frame) ≡ [] → frame ≡ to
-prefixes_done q to frame high e = go (to - frame) refl
+-- a row of the timeline, read by its place
+row_read : (players : List Player) (m t : ℕ) (d : List Cell) → t < m → get_or (timeline players m) t d ≡ row_at players t
+row_read players zero t d h = absurd (omega arith)
+row_read players (suc m) t d h = by_place (cases_lt t m) (row_read players m t d)
   where
-    none : (x : Rows) (qs : List Rows) → ◌≡◌ {A = List Rows} (qs ++ x ∷ []) [] → ⊥
-    none x [] f = cc
-    none x (y ∷ qs) f = cc
+    long : length (timeline players m) ≡ m
+    long = length_timeline players m
 
-    go : (k : ℕ) → to - frame ≡ k → frame ≡ to
-    go zero f = omega arith
-    go (suc k) f = absurd (none (take (frame + suc k) q) (prefixes q frame k) (sym (ap (prefixes q frame) f) ∙ e))
+    by_place : (t < m) ⊎ (m ≤ t) → (t < m → get_or (timeline players m) t d ≡ row_at players t) → get_or (timeline players m ++ row_at players m ∷ []) t d ≡ row_at players t
+    by_place (inl before) rest = get_or_append_left (timeline players m) (row_at players m ∷ []) d t (omega (arith, long)) ∙ rest before
+    by_place (inr last) rest =
+        let t_is : t ≡ length (timeline players m) = omega (arith, long) in
+        let m_is : t ≡ m = omega arith in
+        ap (λ (k : ℕ). get_or (timeline players m ++ row_at players m ∷ []) k d) t_is ∙ (get_or-append_seam (timeline players m) (row_at players m) [] d ∙ ap (row_at players) (sym m_is))
 
--- the state, and what is saved, when the roll has come to this frame
-pub record Rolling {N : Type 0} (value : N → List ℕ) (step : List ℕ → List Cell → List ℕ) (x : List ℕ) (ps : List Player) (to from frame : ℕ) (old sv : List (Saved N)) (state : List ℕ) : Type 0 where
-  pub state_is : state ≡ run step x (timeline ps frame)
-  pub paths_are : paths sv ≡ paths old ++ prefixes (timeline ps to) from (frame - from)
-  pub values : HaveValues value step x sv
-  pub first : BeginsAtZero sv
-  pub opening : opening_of value sv ≡ opening_of value old
+-- a settled row, where there is one
+pub settled_read : (players : List Player) (settled frame : ℕ) (past : Rows) (o : Option (Bor (List Cell))) → past ≡ timeline players settled → IsItemAt past frame o → option_copied o ≡ (if nat_lt frame settled then Some (row_at players frame) else None)
+settled_read players settled frame past o is read = go o read.0 read.1
+  where
+    long : length past ≡ settled
+    long = ap length is ∙ length_timeline players settled
 
-first_stays : {N : Type 0} (sv : List (Saved N)) (new : Saved N) → BeginsAtZero sv → BeginsAtZero (sv ++ new ∷ [])
-first_stays [] new h = absurd h
-first_stays (s ∷ sv) new h = h
+    go : (r : Option (Bor (List Cell))) → is_some r ≡ nat_lt frame (length past) → IfSome r (λ x. x.now ≡ get_or past frame x.now) → option_copied r ≡ (if nat_lt frame settled then Some (row_at players frame) else None)
+    go None e h = let no : nat_lt frame settled ≡ false = ap (nat_lt frame) (sym long) ∙ sym e in rw no refl
+    go (Some x) e h =
+        let yes : nat_lt frame settled ≡ true = ap (nat_lt frame) (sym long) ∙ sym e in
+        let below : frame < settled = grind (arith, nat_tests, yes) in
+        rw yes (ap Some (h ∙ (ap (λ (rows : Rows). get_or rows frame x.now) is ∙ row_read players settled frame x.now below)))
 
-opening_stays : {N : Type 0} (value : N → List ℕ) (sv : List (Saved N)) (new : Saved N) → BeginsAtZero sv → opening_of value (sv ++ new ∷ []) ≡ opening_of value sv
-opening_stays {N} value [] new h = absurd h
-opening_stays {N} value (s ∷ sv) new h = refl
+module _ {S : Type 0} where
+  -- the rows that a tree was told of, up to a frame
+  pub told_rows : (t : Kept S) (players : List Player) (settled to : ℕ) → t.time ≡ rows_from players settled (length t.time) → settled ≤ to → to ≤ settled + length t.time → take (to - settled) t.time ≡ rows_from players settled (to - settled)
+  told_rows t players settled to told from far = ap (take (to - settled)) told ∙ take-rows_from players settled (length t.time) (to - settled) (omega (arith, far))
 
-module _ {N : Type 0} (value : N → List ℕ) (step : List ℕ → List Cell → List ℕ) (x : List ℕ) (ps : List Player) (to : ℕ) (old : List (Saved N)) where
-  pub rolling_start : (from : ℕ) (start : Saved N) (state : List ℕ) → HaveValues value step x old → BeginsAtZero old → Contains old start → start.rows.items ≡ timeline ps from → state ≡ value start.snapshot → Rolling value step x ps to from from old old state
-  rolling_start from start state h z m e s =
-      let none : from - from ≡ 0 = omega arith in
+  -- the plan of a roll to there can be made
+  pub plan_fits : (t : Kept S) (players : List Player) (settled to count frame : ℕ) → t.base ≡ settled → t.time ≡ rows_from players settled (length t.time) → settled ≤ to → to ≤ settled + PATH_LIMIT → to ≤ settled + length t.time
+      → settled ≤ frame → frame ≤ FRAME_LIMIT → AreRowsOf count (rows_from players settled (to - settled)) → All (AreRowsOf count) (paths_of t) → CanPlan count t to (take (to - settled) t.time)
+  plan_fits t players settled to count frame base told from near far reached short time paths =
+      let rows = told_rows t players settled to told from far in
+      let long : length (take (to - settled) t.time) ≡ to - settled = ap length rows ∙ length-rows_from players settled (to - settled) in
       record {
-        state_is = s ∙ (All-contains (λ y. value y.snapshot ≡ run step x y.rows.items) old start h m ∙ ap (run step x) e);
-        paths_are = rw none (sym (append-nil (paths old)));
-        values = h;
-        first = z;
-        opening = refl;
+        base = omega (arith, base, reached, short);
+        few = omega (arith, long, near);
+        end = omega (arith, long, base, from);
+        told = ap (λ n. take n t.time) (sym long);
+        time = subst (AreRowsOf count) (sym rows) time;
+        paths = paths;
       }
 
-  -- one frame more
-  pub rolling_step : (from frame : ℕ) (sv : List (Saved N)) (state : List ℕ) (row : List Cell) (new : Saved N) (sv' : List (Saved N)) (state' : List ℕ) → Rolling value step x ps to from frame old sv state → from ≤ frame → frame < to
-      → row ≡ row_at ps frame → state' ≡ step state row → new.rows.items ≡ timeline ps (frame + 1) → value new.snapshot ≡ state' → sv' ≡ sv ++ new ∷ [] → Rolling value step x ps to from (frame + 1) old sv' state'
-  rolling_step from frame sv state row new sv' state' r low high row_is s path snap pushed =
-      let state_is : state' ≡ run step x (timeline ps (frame + 1)) = rw (s, r.state_is, row_is, add-one) (sym (fold_push step x (timeline ps frame) (row_at ps frame))) in
-      record {
-        state_is = state_is;
-        paths_are = rw (pushed, map-append, r.paths_are, path, prefixes_push ps to from frame low high) (append_assoc (paths old) (prefixes (timeline ps to) from (frame - from)) (timeline ps (frame + 1) ∷ []));
-        values = rw pushed (All-push (λ y. value y.snapshot ≡ run step x y.rows.items) sv new r.values (snap ∙ (state_is ∙ ap (run step x) (sym path))));
-        first = rw pushed (first_stays sv new r.first);
-        opening = rw pushed (opening_stays value sv new r.first) ∙ r.opening;
-      }
+  -- what holds of all states holds of one that is held
+  all_held : (P : Saved S → Type 0) (f : Saved S → Bool) (states : List (Saved S)) (u : Saved S) → All P states → find f states ≡ Some u → P u
+  all_held P f [] u all e = absurd cc
+  all_held P f (v ∷ states) u all e = go (f v) e (All-head P v states all) (all_held P f states u (All-tail P v states all))
+    where
+      go : (b : Bool) → cond b (Some v) (find f states) ≡ Some u → P v → (find f states ≡ Some u → P u) → P u
+      go true e h rest = let same : v ≡ u = cc in subst P same h
+      go false e h rest = rest e
 
--- a roll that ended early: one state more was begun, or it failed at once
-pub one_more : (old new next from frame : ℕ) → from ≤ frame → new % 2 ^ 64 ≡ (old + (frame - from)) % 2 ^ 64 → next ≡ (new + 1) % 2 ^ 64 → next % 2 ^ 64 ≡ (old + (frame - from + 1)) % 2 ^ 64
-one_more old new next from frame low h e = omega arith
+  -- a state is found at the end, where no other has its name
+  find_last : (f : Saved S → Bool) (states : List (Saved S)) (u : Saved S) → find f states ≡ None → f u ≡ true → find f (states ++ u ∷ []) ≡ Some u
+  find_last f [] u e is = rw is refl
+  find_last f (v ∷ states) u e is = go (f v) e (λ none. find_last f states u none is)
+    where
+      go : (b : Bool) → cond b (Some v) (find f states) ≡ None → (find f states ≡ None → find f (states ++ u ∷ []) ≡ Some u) → cond b (Some v) (find f (states ++ u ∷ [])) ≡ Some u
+      go true e rest = absurd cc
+      go false e rest = rest e
+
+  -- the new state is held by its name
+  pub held_last : (t : Kept S) (u : Saved S) → held t u.name ≡ None → held (with_state t u) u.name ≡ Some u
+  held_last t u vacant = find_last (λ (s : Saved S). s.name == u.name) t.states u vacant (grind (arith, nat_tests))
+
+length_prefixes : (q : Rows) (d k : ℕ) → length (prefixes q d k) ≡ k
+length_prefixes q d zero = refl
+length_prefixes q d (suc k) = length-append (prefixes q d k) (take (d + suc k) q ∷ []) ∙ rw (length_prefixes q d k) (add-one k)
+
+-- one more of the timeline's prefixes
+prefixes_more : (players : List Player) (settled to d from frame : ℕ) → from ≡ settled + d → from ≤ frame → frame < to
+    → prefixes (rows_from players settled (to - settled)) d (frame + 1 - from) ≡ prefixes (rows_from players settled (to - settled)) d (frame - from) ++ rows_from players settled (frame + 1 - settled) ∷ []
+prefixes_more players settled to d from frame start low high =
+    let R : Rows = rows_from players settled (to - settled) in
+    let more : frame + 1 - from ≡ suc (frame - from) = omega arith in
+    let place : d + suc (frame - from) ≡ frame + 1 - settled = omega arith in
+    ap (prefixes R d) more
+    ∙ ap (λ (q : Rows). prefixes R d (frame - from) ++ q ∷ []) (ap (λ k. take k R) place ∙ take-rows_from players settled (to - settled) (frame + 1 - settled) (omega arith))
+
+-- the rows of the next state
+next_rows : (players : List Player) (settled frame : ℕ) → settled ≤ frame → rows_from players settled (frame - settled) ++ row_at players frame ∷ [] ≡ rows_from players settled (frame + 1 - settled)
+next_rows players settled frame low =
+    let here : settled + (frame - settled) ≡ frame = omega arith in
+    let more : frame - settled + 1 ≡ frame + 1 - settled = omega arith in
+    ap (λ k. rows_from players settled (frame - settled) ++ row_at players k ∷ []) (sym here) ∙ sym (rows_from-more players settled (frame - settled)) ∙ ap (rows_from players settled) more
+
+-- the timeline up to a frame past the settled rows
+whole : (players : List Player) (settled frame : ℕ) → settled ≤ frame → timeline players settled ++ rows_from players settled (frame - settled) ≡ timeline players frame
+whole players settled frame low = let here : settled + (frame - settled) ≡ frame = omega arith in settled-rows_from players settled (frame - settled) ∙ ap (timeline players) here
+
+-- what is saved, and the state, when a roll has come to this frame
+pub record IsOnWay {S : Type 0} (value : S → Value) (step : Value → List Cell → Value) (old now : Standing S) (from to frame at : ℕ) (state : Value) : Type 0 where
+  pub inputs : now.inputs ≡ old.inputs
+  pub room : now.room ≡ old.room
+  pub base : now.tree.base ≡ old.inputs.settled
+  pub low : from ≤ frame
+  pub high : frame ≤ to
+  pub paths : paths_of now.tree ≡ paths_of old.tree ++ prefixes (rows_to old.inputs to) (way_to old to) (frame - from)
+  pub here : IsSomeAnd (held now.tree at) (λ u. u.path ≡ rows_from old.inputs.players old.inputs.settled (frame - old.inputs.settled))
+  pub values : (opening : Value) → HaveValues value step opening (timeline old.inputs.players old.inputs.settled) old.tree.states → HaveValues value step opening (timeline old.inputs.players old.inputs.settled) now.tree.states
+  pub reached : (opening : Value) → HaveValues value step opening (timeline old.inputs.players old.inputs.settled) old.tree.states → state ≡ run step opening (timeline old.inputs.players frame)
+
+some_is : {A : Type 0} (o : Option A) (P : A → Type 0) → IsSomeAnd o P → (u : A) × (o ≡ Some u) × P u
+some_is None P h = absurd h
+some_is (Some u) P h = (u, refl, h)
+
+some_there : {A : Type 0} (o : Option A) (u : A) → o ≡ Some u → IsSome o
+some_there o u e = rw e refl
+
+held_same : {A : Type 0} (o : Option A) (u v : A) → o ≡ Some u → o ≡ Some v → u ≡ v
+held_same o u v e h = cc (e, h)
+
+if_some : {A : Type 0} (o : Option A) (u : A) (P : A → Type 0) → o ≡ Some u → IfSome o P → P u
+if_some o u P e h = rw e at h
+
+snapshot_is : {S : Type 0} (o : Option (Saved S)) (u : Saved S) (snapshot : S) → option_map (λ (v : Saved S). v.snapshot) o ≡ Some snapshot → o ≡ Some u → u.snapshot ≡ snapshot
+snapshot_is o u snapshot h e = let same = rw e at h in cc same
 
 -- one more turn, modulo 2^64
 pub one_turn : (old new next from frame : ℕ) → from ≤ frame → new % 2 ^ 64 ≡ (old + (frame - from)) % 2 ^ 64 → next ≡ (new + 1) % 2 ^ 64 → next % 2 ^ 64 ≡ (old + (frame + 1 - from)) % 2 ^ 64
 one_turn old new next from frame low h e = omega arith
 
--- a list that loses nothing by losing its first is empty
-pub empty_from_drop : {X : Type 0} (xs : List X) → xs ≡ drop 1 xs → xs ≡ []
-empty_from_drop [] e = refl
-empty_from_drop (x ∷ xs) e = absurd (omega (arith, ap length e))
+module _ {S : Type 0} (value : S → Value) (step : Value → List Cell → Value) (old : Standing S) (from to : ℕ) (start : from ≡ old.inputs.settled + way_to old to) where
+  -- the state that the roll starts from
+  pub way_start : (at : ℕ) (snapshot : S) (state : Value) → from ≤ to → old.tree.base ≡ old.inputs.settled → IsSomeAnd (held old.tree at) (λ u. u.path ≡ rows_from old.inputs.players old.inputs.settled (way_to old to))
+      → option_map (λ u. u.snapshot) (held old.tree at) ≡ Some snapshot → state ≡ value snapshot → IsOnWay value step old old from to from at state
+  way_start at snapshot state within base here found loaded =
+      let none : from - from ≡ 0 = omega arith in
+      let place : way_to old to ≡ from - old.inputs.settled = omega (arith, start) in
+      let s = some_is (held old.tree at) (λ u. u.path ≡ rows_from old.inputs.players old.inputs.settled (way_to old to)) here in
+      record {
+        inputs = refl;
+        room = refl;
+        base = base;
+        low = omega arith;
+        high = within;
+        paths = rw none (sym (append-nil (paths_of old.tree)));
+        here = rw (sym place) here;
+        values = λ opening h. h;
+        reached = λ opening h. loaded ∙ ap value (sym (snapshot_is (held old.tree at) s.0 snapshot found s.1)) ∙ (all_held (λ u. value u.snapshot ≡ run step opening (timeline old.inputs.players old.inputs.settled ++ u.path)) (λ u. u.name == at) old.tree.states s.0 h s.1 ∙ ap (run step opening) (ap (λ (q : Rows). timeline old.inputs.players old.inputs.settled ++ q) (s.2 ∙ ap (rows_from old.inputs.players old.inputs.settled) place) ∙ whole old.inputs.players old.inputs.settled from (omega (arith, start))));
+      }
 
--- the first of the prefixes that are left, and the others
-pub prefixes_first : (ps : List Player) (to frame : ℕ) (first : Rows) (others : List Rows) → frame ≤ to → first ∷ others ≡ prefixes (timeline ps to) frame (to - frame)
-    → (frame < to) × (first ≡ timeline ps (frame + 1)) × (others ≡ prefixes (timeline ps to) (frame + 1) (to - (frame + 1)))
-prefixes_first ps to frame first others high e = go (cases_lt frame to)
-  where
-    none : (x : Rows) (xs : List Rows) → x ∷ xs ≡ [] → ⊥
-    none x xs f = cc
+  -- the next state fits
+  pub can_grow : (now : Standing S) (frame at : ℕ) (state : Value) → IsOnWay value step old now from to frame at state → frame < to → to < 2 ^ 32 → to ≤ old.inputs.settled + PATH_LIMIT → CanGrow now.tree at (row_at now.inputs.players frame)
+  can_grow now frame at state w high wide near =
+      let s = some_is (held now.tree at) (λ u. u.path ≡ rows_from old.inputs.players old.inputs.settled (frame - old.inputs.settled)) w.here in
+      let place : way_to old to + (frame - from) + 1 ≡ frame + 1 - old.inputs.settled = omega (arith, start, w.low) in
+      let path_is : (u : Saved S) → held now.tree at ≡ Some u → u.path ≡ rows_from old.inputs.players old.inputs.settled (frame - old.inputs.settled) = λ u e. ap (λ (v : Saved S). v.path) (held_same (held now.tree at) u s.0 e s.1) ∙ s.2 in
+      record {
+        kept = some_there (held now.tree at) s.0 s.1;
+        short = λ u e. omega (arith, ap length (path_is u e), length-rows_from old.inputs.players old.inputs.settled (frame - old.inputs.settled), near, start, w.low);
+        frames = λ u e. omega (arith, ap length (path_is u e), length-rows_from old.inputs.players old.inputs.settled (frame - old.inputs.settled), w.base, wide, start, w.low);
+        fresh = λ u e. rw (w.paths, w.inputs, path_is u e, next_rows old.inputs.players old.inputs.settled frame (omega (arith, start, w.low))) (subst (λ k. contains (paths_of old.tree ++ prefixes (rows_to old.inputs to) (way_to old to) (frame - from)) (rows_from old.inputs.players old.inputs.settled k) ≡ false) place (fresh old.inputs.players old.inputs.settled to (paths_of old.tree) (frame - from) (omega (arith, start, high, w.low))));
+      }
 
-    head : (x y : Rows) (xs ys : List Rows) → x ∷ xs ≡ y ∷ ys → (x ≡ y) × (xs ≡ ys)
-    head x y xs ys f = (cc, cc)
+  -- there is room for the next state
+  pub still_few : (now : Standing S) (frame at limit : ℕ) (state : Value) → IsOnWay value step old now from to frame at state → frame < to → length old.tree.states + (to - from) ≤ limit → length now.tree.states < limit
+  still_few now frame at limit state w high fits =
+      let long = ap length w.paths ∙ length-append (paths_of old.tree) (prefixes (rows_to old.inputs to) (way_to old to) (frame - from)) in
+      omega (arith, long, length-map now.tree.states (λ (u : Saved S). u.path), length-map old.tree.states (λ (u : Saved S). u.path), length_prefixes (rows_to old.inputs to) (way_to old to) (frame - from), fits, w.low)
 
-    go : (frame < to) ⊎ (to ≤ frame) → (frame < to) × (first ≡ timeline ps (frame + 1)) × (others ≡ prefixes (timeline ps to) (frame + 1) (to - (frame + 1)))
-    go (inl l) = let h = head first (timeline ps (frame + 1)) others (prefixes (timeline ps to) (frame + 1) (to - (frame + 1))) (e ∙ prefixes_next ps to frame l) in (l, h.0, h.1)
-    go (inr l) = let z : to - frame ≡ 0 = omega arith in absurd (none first others (e ∙ ap (prefixes (timeline ps to) frame) z))
+  -- one frame more
+  pub way_more : (now new : Standing S) (frame at name : ℕ) (state state' : Value) (snapshot : S) (row : List Cell) → IsOnWay value step old now from to frame at state → frame < to → row ≡ row_at now.inputs.players frame → state' ≡ step state row → value snapshot ≡ step state row
+      → new.inputs ≡ now.inputs → new.room ≡ now.room → held now.tree name ≡ None → IfSome (held now.tree at) (λ u. new.tree ≡ with_state now.tree (record { name = name; path = u.path ++ row_at now.inputs.players frame ∷ []; snapshot = snapshot }))
+      → IsOnWay value step old new from to (frame + 1) name state'
+  way_more now new frame at name state state' snapshot row w high row_is state_is snap inputs room vacant added =
+      let s = some_is (held now.tree at) (λ u. u.path ≡ rows_from old.inputs.players old.inputs.settled (frame - old.inputs.settled)) w.here in
+      let u : Saved S = record { name = name; path = s.0.path ++ row_at now.inputs.players frame ∷ []; snapshot = snapshot } in
+      let tree : new.tree ≡ with_state now.tree u = if_some (held now.tree at) s.0 (λ v. new.tree ≡ with_state now.tree (record { name = name; path = v.path ++ row_at now.inputs.players frame ∷ []; snapshot = snapshot })) s.1 added in
+      let low : old.inputs.settled ≤ frame = omega (arith, start, w.low) in
+      let path : u.path ≡ rows_from old.inputs.players old.inputs.settled (frame + 1 - old.inputs.settled) = rw (w.inputs, s.2) (next_rows old.inputs.players old.inputs.settled frame low) in
+      let led : (opening : Value) → HaveValues value step opening (timeline old.inputs.players old.inputs.settled) old.tree.states → step state row ≡ run step opening (timeline old.inputs.players (frame + 1)) =
+      λ opening h. rw (w.reached opening h, row_is, w.inputs, add-one) (sym (fold_push step opening (timeline old.inputs.players frame) (row_at old.inputs.players frame))) in
+      record {
+        inputs = inputs ∙ w.inputs;
+        room = room ∙ w.room;
+        base = ap (λ (t : Kept S). t.base) tree ∙ w.base;
+        low = omega (arith, w.low);
+        high = omega (arith, high);
+        paths = ap paths_of tree ∙ map-append (λ (v : Saved S). v.path) now.tree.states (u ∷ []) ∙ rw (w.paths, path, prefixes_more old.inputs.players old.inputs.settled to (way_to old to) from frame start w.low high) (append_assoc (paths_of old.tree) (prefixes (rows_to old.inputs to) (way_to old to) (frame - from)) (rows_from old.inputs.players old.inputs.settled (frame + 1 - old.inputs.settled) ∷ []));
+        here = rw (tree, held_last now.tree u vacant) path;
+        values = λ opening h. rw tree (All-push (λ v. value v.snapshot ≡ run step opening (timeline old.inputs.players old.inputs.settled ++ v.path)) now.tree.states u (w.values opening h) (snap ∙ led opening h ∙ ap (run step opening) (sym (ap (λ (q : Rows). timeline old.inputs.players old.inputs.settled ++ q) path ∙ whole old.inputs.players old.inputs.settled (frame + 1) (omega (arith, low))))));
+        reached = λ opening h. state_is ∙ led opening h;
+      }

@@ -1,4 +1,6 @@
-pub mod Saved
+pub mod Standing
+pub mod Saves
+pub mod Planned
 pub mod Seen
 pub mod Held
 pub mod Calls

@@ -7,10 +7,9 @@ use Rattle.roll_frame.specs.declared.entry.Entry.TheVariants.{Partial}
 use Rattle.roll_frame.specs.declared.settings.Settings.{Settings}
 use Rattle.roll_frame.specs.Cells.{Rows}
 use Rattle.roll_frame.specs.Games.{Value, Game}
-use Rattle.roll_frame.specs.Core.{Core, Roll, IsPlan, cost}
+use Rattle.roll_frame.specs.Core.{Core, IsPlan, cost}
 use Rattle.roll_frame.specs.Events.{CoreEvent, refusal, replay}
 use Rattle.roll_game.specs.Counts.{next_count}
-use Rattle.roll_session.specs.declared.event.Plan.{Plan}
 
 pub record Seen : Type 0 where
   pub settings : Settings
@@ -44,10 +43,6 @@ with_entry s entry = record s { log = s.log ++ entry ∷ [] }
 -- no plan to m, from whichever state was ever saved, runs fewer rows than the roll does
 abbrev pub IsLeast : Core → ℕ → Type 0
 IsLeast core m = (path rows : Rows) → IsPlan core m path rows → cost core m ≤ length rows
-
--- the numbers of a roll
-abbrev pub plan_of : Roll → Plan
-plan_of roll = record { to = roll.to; from = roll.from; rerun = roll.to - roll.from }
 
 -- the game refused in a roll of this event to m: what was saved by then stays, and no finished row is forgotten
 pub record IsPartial (step : Step) (old new : Seen) (entry : Entry) (m : ℕ) : Type 0 where

@@ -17,29 +17,11 @@ pub enum Call {
     Advance,
 }
 
-/// What became of a remote word.
-#[derive(Clone, Copy, Debug, PartialEq, Eq)]
-pub enum Heard {
-    /// It counts now.
-    Taken,
-    /// The same word counted already, and nothing changed.
-    Repeated,
-}
-
 /// Where a step to the next frame led: the new frame, the length of the path that its roll started from, and how many
 /// frames the game was advanced.
 #[derive(Clone, Copy, Debug, PartialEq, Eq)]
 pub struct Reached {
     pub frame: u32,
-    pub from: u32,
-    pub rerun: u32,
-}
-
-/// The numbers of a roll: the frame that it went to, the length of the path that it started from, and how many frames
-/// it advanced the game.
-#[derive(Clone, Copy, Debug, PartialEq, Eq)]
-pub struct Plan {
-    pub to: u32,
     pub from: u32,
     pub rerun: u32,
 }

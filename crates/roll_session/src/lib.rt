@@ -2,12 +2,14 @@
 #![tactic(auto)]
 
 mod event;
-mod player;
+mod roll;
 mod run;
-mod saved;
+mod saves;
 mod session;
 
-pub use event::{Call, Heard, Plan, Reached, StartFault};
+pub use event::{Call, Reached, StartFault};
+pub use roll_inputs::Heard;
+pub use roll_plan::Plan;
 pub use run::{Played, play};
 pub use session::{Parts, Session};
 

@@ -7,10 +7,11 @@ ghost use Rattle.roll_session.specs.Calls.{event_of, events_of, turns_of, turns_
 ghost use Rattle.roll_session.specs.Held.{Shows};
 ghost use Rattle.roll_session.specs.Seen.{core_of, game_of};
 
-use crate::event::{Call, Heard, Reached, StartFault};
+use crate::event::{Call, Reached, StartFault};
 use crate::session::Session;
 use roll_frame::{Refusal, Reply, Settings};
 use roll_game::{Game, NoMemory};
+use roll_inputs::Heard;
 use std::alloc::Global;
 
 impl<G: Game> Session<G> {

@@ -1,51 +1,52 @@
 //! The session.
 ghost use Rattle.std.specs.Prelude.{◌≡◌, ◌≢◌, ◌≤◌, ◌<◌, ◌+◌, ◌-◌, ◌%◌, ◌^◌, ◌⊎◌, ◌∷◌, [], ◌++◌, true, false, not, map, length, nat_le, nat_lt, IfOk, OnOk, IfErr, OnErr, IfSome, is_none, OnSome, option_map, unwrap_or, option_copied, None, Some, if◌then◌else◌};
-ghost use Rattle.roll_frame.specs.Core.{cost, depth, settled as settled_frame};
+ghost use Rattle.roll_cert.specs.Told.{told};
+ghost use Rattle.roll_frame.specs.Claims.{claim_of, path_from};
+ghost use Rattle.roll_frame.specs.Core.{cost, depth, kept as kept_of, settled as settled_frame};
 ghost use Rattle.roll_frame.specs.Events.{all_given as are_all_given};
 ghost use Rattle.roll_frame.specs.Inputs.{is_repeated};
+ghost use Rattle.roll_frame.specs.Order.{in_order};
 ghost use Rattle.roll_frame.specs.Paths.{run as run_of};
 ghost use Rattle.roll_frame.specs.Settings.{start_refusal};
 ghost use Rattle.roll_frame.specs.Timeline.{row_at as row_of, timeline};
 ghost use Rattle.roll_frame.specs.declared.entry.Entry.TheVariants.{Local as Gives, Remote as Tells, Disconnect as Leaves, Sync as Syncs, Advance as Advances};
 ghost use Rattle.roll_game.specs.Counts.{next_count};
 ghost use Rattle.roll_session.specs.Held.{Shows};
-ghost use Rattle.roll_session.specs.Seen.{core_of, refusal_of, with_entry, plan_of, IsLeast, IsPartial};
+ghost use Rattle.roll_session.specs.Planned.{IsPlanOfRoll};
+ghost use Rattle.roll_session.specs.Seen.{core_of, refusal_of, with_entry, IsLeast, IsPartial};
 
-use crate::event::{Heard, Plan, Reached, StartFault};
-use crate::player::{
-    Player, all_given, first_players, front, leaving_place, local_place, remote_place, row_at,
-    start_frames,
-};
-use crate::saved::{Saved, longest, prepare, roll, settled};
-use roll_frame::{Entry, Event, Refusal, Row, Settings};
+use crate::event::{Reached, StartFault};
+use crate::roll::{Rolled, roll};
+use crate::saves::Saves;
+use roll_cert::Claim;
+use roll_frame::{Entry, Event, Path, Refusal, Row, Settings};
 use roll_game::Game;
-use std::alloc::Global;
+use roll_inputs::{Board, Heard};
+use roll_plan::{Plan, Planner};
+use std::alloc::{AllocError, Global};
 use std::marker::Model;
 
 /// A game that is run ahead on predicted inputs, and again where they were wrong.
 #[derive(Drop)]
 pub struct Session<G: Game> {
-    alloc: Global,
     game: G,
     settings: Settings,
-    players: Vec<Player>,
-    frame: u32,
-    saved: Vec<Saved<G::Snapshot>>,
+    opening: G::Snapshot,
+    saves: Saves<G::Snapshot>,
+    planner: Planner,
     current: Option<G::State>,
-    plan: Option<Plan>,
     log: Vec<Entry>,
 }
 
 impl<G: Game> Model for Session<G> {
     ghost use Rattle.roll_session.specs.Seen.{Seen};
-    ghost use Rattle.roll_session.specs.Saved.{opening_of};
     ghost use Rattle.roll_session.specs.Held.{IsSession};
 
     ghost Value = { Seen };
 
-    ghost view = { λ s. record { settings = s.settings; opening = opening_of G.snapshot_value s.saved.items; log = s.log.items; turns = G.turn_count s.game; refused = G.refusal_count s.game } };
+    ghost view = { λ s. record { settings = s.settings; opening = G.snapshot_value s.opening; log = s.log.items; turns = G.turn_count s.game; refused = G.refusal_count s.game } };
 
-    ghost invariant = { λ s. IsSession G.state_value G.snapshot_value G.step s.settings s.log.items s.players.items s.frame s.saved.items s.current s.plan };
+    ghost invariant = { λ s. IsSession G.state_value G.snapshot_value G.step (G.snapshot_value s.opening) s.settings s.log.items s.saves s.planner s.current };
 }
 
 impl<G: Game> Session<G> {
@@ -63,39 +64,32 @@ impl<G: Game> Session<G> {
         ensures turns_back { IfErr result (λ fault. G.turn_count fault.game ≡ G.turn_count game) }
         ensures refused_back { IfErr result (λ fault. (G.refusal_count fault.game ≡ G.refusal_count game) ⊎ ((start_refusal settings ≡ None) × (G.refusal_count fault.game ≡ next_count (G.refusal_count game)))) }
     {
-        if let Some(why) = settings.refusal() {
-            return Err(StartFault { why, game, opening });
-        }
+        let board = match Board::new(alloc, &settings) {
+            Ok(board) => board,
+            Err(why) => return Err(StartFault { why, game, opening }),
+        };
         let mut game = game;
         let why = Refusal::NoMemory;
-        let Ok(log) = Vec::with_capacity(alloc, 1) else {
+        let Ok(planner) = Planner::new(alloc, settings.players) else {
             return Err(StartFault { why, game, opening });
         };
-        let Ok(players) = first_players(alloc, &settings) else {
+        let Ok(first) = game.copy(&opening) else {
             return Err(StartFault { why, game, opening });
         };
-        let Ok(mut saved) = Vec::with_capacity(alloc, 1) else {
+        let Ok(saves) = Saves::new(alloc, board, first) else {
             return Err(StartFault { why, game, opening });
         };
         let Ok(state) = game.load(&opening) else {
             return Err(StartFault { why, game, opening });
         };
-        saved
-            .push(Saved {
-                rows: Vec::new(alloc),
-                snapshot: opening,
-            })
-            .unwrap();
         Ok(Session {
-            alloc,
             game,
             settings,
-            players,
-            frame: 0,
-            saved,
+            opening,
+            saves,
+            planner,
             current: Some(state),
-            plan: None,
-            log,
+            log: Vec::new(alloc),
         })
     }
 
@@ -113,29 +107,23 @@ impl<G: Game> Session<G> {
             return Err(Refusal::LogFull);
         }
         self.log.reserve(1)?;
-        let frame = self.frame;
-        let prepared = prepare(self.alloc, &self.players, &mut self.saved, frame as usize)?;
-        let plan = planned(frame, prepared.from);
-        match roll(
-            &mut self.game,
-            &self.players,
-            &mut self.saved,
-            prepared,
-            frame as usize,
-        ) {
-            Ok(state) => {
+        self.saves.laws();
+        let frame = self.saves.frame();
+        let row = self.saves.row(frame);
+        match roll(&mut self.game, &mut self.saves, &mut self.planner, frame) {
+            Ok(Rolled { state, .. }) => {
+                self.saves.settle();
                 self.current = Some(state);
-                self.plan = Some(plan);
                 self.log.push(Entry::Sync).unwrap();
-                Ok(row_at(&self.players, frame as usize))
+                Ok(row)
             }
-            Err(kept) => {
+            Err(made) => {
+                self.saves.settle();
                 self.current = None;
-                self.plan = None;
                 self.log
                     .push(Entry::Partial {
                         to: frame,
-                        kept: kept as u32,
+                        kept: made,
                     })
                     .unwrap();
                 Err(Refusal::NoMemory)
@@ -153,42 +141,35 @@ impl<G: Game> Session<G> {
         ensures refused { IfErr result (λ why. why ≡ unwrap_or (refusal_of G.step self.old Advances) Refusal.NoMemory) }
         ensures left { OnErr result ((self.new ≡ self.old) ⊎ IsPartial G.step self.old self.new Advances ((core_of self.old).frame + 1)) }
     {
-        if self.is_waiting() {
+        if !self.saves.ready() {
             return Err(Refusal::LocalInputMissing);
         }
         if self.is_full() {
             return Err(Refusal::LogFull);
         }
         self.log.reserve(1)?;
-        let next = self.frame + 1;
-        let prepared = prepare(self.alloc, &self.players, &mut self.saved, next as usize)?;
-        let plan = planned(next, prepared.from);
-        match roll(
-            &mut self.game,
-            &self.players,
-            &mut self.saved,
-            prepared,
-            next as usize,
-        ) {
-            Ok(state) => {
+        self.saves.laws();
+        let next = self.saves.frame() + 1;
+        self.saves.reserve(next as usize)?;
+        match roll(&mut self.game, &mut self.saves, &mut self.planner, next) {
+            Ok(Rolled { state, from }) => {
+                self.saves.next();
+                self.saves.settle();
                 self.current = Some(state);
-                self.plan = Some(plan);
-                self.frame = next;
-                start_frames(&mut self.players);
                 self.log.push(Entry::Advance).unwrap();
                 Ok(Reached {
                     frame: next,
-                    from: plan.from,
-                    rerun: plan.rerun,
+                    from,
+                    rerun: next - from,
                 })
             }
-            Err(kept) => {
+            Err(made) => {
+                self.saves.settle();
                 self.current = None;
-                self.plan = None;
                 self.log
                     .push(Entry::Partial {
                         to: next,
-                        kept: kept as u32,
+                        kept: made,
                     })
                     .unwrap();
                 Err(Refusal::NoMemory)
@@ -203,9 +184,11 @@ impl<G: Game> Session<G> {
         ensures refused { IfErr result (λ why. why ≡ unwrap_or (refusal_of G.step self.old (Gives player word)) Refusal.NoMemory) }
         ensures unchanged { OnErr result (self.new ≡ self.old) }
     {
-        let place = self.judge_local(player, word)?;
+        self.judge_local(player, word)?;
         self.log.reserve(1)?;
-        self.players[place].give(word)?;
+        self.saves.laws();
+        self.saves.give(player, word);
+        self.saves.settle();
         self.log.push(Entry::Local { player, word }).unwrap();
         Ok(())
     }
@@ -219,11 +202,13 @@ impl<G: Game> Session<G> {
         ensures new { OnErr result (is_repeated (core_of self.old).players player frame word ≡ false) }
         ensures unchanged { OnErr result (self.new ≡ self.old) }
     {
-        let Some(place) = self.judge_remote(player, frame, word)? else {
+        let Heard::Taken = self.judge_remote(player, frame, word)? else {
             return Ok(Heard::Repeated);
         };
         self.log.reserve(1)?;
-        self.players[place].hear(word)?;
+        self.saves.laws();
+        self.saves.hear(player, frame, word);
+        self.saves.settle();
         self.log
             .push(Entry::Remote {
                 player,
@@ -242,43 +227,62 @@ impl<G: Game> Session<G> {
         ensures refused { IfErr result (λ why. why ≡ unwrap_or (refusal_of G.step self.old (Leaves player)) Refusal.NoMemory) }
         ensures unchanged { OnErr result (self.new ≡ self.old) }
     {
-        let place = self.judge_leaving(player)?;
+        self.judge_leaving(player)?;
         self.log.reserve(1)?;
-        self.players[place].leave();
+        self.saves.laws();
+        self.saves.leave(player);
+        self.saves.settle();
         self.log.push(Entry::Disconnect { player }).unwrap();
         Ok(Event::DisconnectedFromPeer { player })
     }
 
-    /// The place of a remote player whose next word this is, or none where it was taken before.
-    fn judge_remote(&self, player: u8, frame: u32, word: u32) -> Result<Option<usize>, Refusal>
-        ensures place { IfOk result (λ place. IfSome place (λ i. (i + 1 ≡ player) × (i < length (core_of self.now).players))) }
-        ensures repeated { IfOk result (λ place. is_none place ≡ is_repeated (core_of self.now).players player frame word) }
-        ensures accepted { IfOk result (λ place. OnSome place (refusal_of G.step self.now (Tells player frame word) ≡ None)) }
+    /// What a remote word is answered, unless it is refused.
+    fn judge_remote(&self, player: u8, frame: u32, word: u32) -> Result<Heard, Refusal>
+        ensures heard { IfOk result (λ heard. heard ≡ (if is_repeated (core_of self.now).players player frame word then Heard.Repeated else Heard.Taken)) }
+        ensures accepted { IfOk result (λ heard. heard ≡ Heard.Taken → refusal_of G.step self.now (Tells player frame word) ≡ None) }
         ensures new { OnErr result (is_repeated (core_of self.now).players player frame word ≡ false) }
         ensures refused { IfErr result (λ why. refusal_of G.step self.now (Tells player frame word) ≡ Some why) }
     {
-        let settled = self.settled();
-        let Some(place) = remote_place(&self.players, settled, player, frame as usize, word)? else {
-            return Ok(None);
-        };
-        if self.is_full() {
-            Err(Refusal::LogFull)
-        } else {
-            Ok(Some(place))
+        match self.saves.remote_reply(player, frame, word) {
+            Ok(Heard::Repeated) => Ok(Heard::Repeated),
+            Ok(Heard::Taken) if self.is_full() => Err(Refusal::LogFull),
+            Ok(Heard::Taken) => Ok(Heard::Taken),
+            Err(why) => Err(why),
         }
     }
 
-    /// The place of a remote player who may leave.
-    fn judge_leaving(&self, player: u8) -> Result<usize, Refusal>
-        ensures place { IfOk result (λ place. (place + 1 ≡ player) × (place < length (core_of self.now).players)) }
+    /// Whether a remote player may leave.
+    fn judge_leaving(&self, player: u8) -> Result<(), Refusal>
         ensures accepted { OnOk result (refusal_of G.step self.now (Leaves player) ≡ None) }
         ensures refused { IfErr result (λ why. refusal_of G.step self.now (Leaves player) ≡ Some why) }
     {
-        let place = leaving_place(&self.players, player)?;
+        match self.saves.disconnect_refusal(player) {
+            Some(why) => Err(why),
+            None => self.judge_log(),
+        }
+    }
+
+    /// Whether a local player may give a word now.
+    fn judge_local(&self, player: u8, word: u32) -> Result<(), Refusal>
+        ensures accepted { OnOk result (refusal_of G.step self.now (Gives player word) ≡ None) }
+        ensures refused { IfErr result (λ why. refusal_of G.step self.now (Gives player word) ≡ Some why) }
+    {
+        match self.saves.local_refusal(player) {
+            Some(why) => Err(why),
+            None => self.judge_log(),
+        }
+    }
+
+    /// Whether the log has room for an event.
+    fn judge_log(&self) -> Result<(), Refusal>
+        ensures room { OnOk result (nat_le self.now.settings.log (core_of self.now).logged ≡ false) }
+        ensures full { OnErr result (nat_le self.now.settings.log (core_of self.now).logged ≡ true) }
+        ensures why { IfErr result (λ why. why ≡ Refusal.LogFull) }
+    {
         if self.is_full() {
             Err(Refusal::LogFull)
         } else {
-            Ok(place)
+            Ok(())
         }
     }
 
@@ -287,33 +291,6 @@ impl<G: Game> Session<G> {
         ensures { result ≡ nat_le self.now.settings.log (core_of self.now).logged }
     {
         self.log.len() >= self.settings.log as usize
-    }
-
-    /// Whether a local player has not given its word.
-    fn is_waiting(&self) -> bool
-        ensures { result ≡ not (are_all_given (core_of self.now).players) }
-    {
-        !all_given(&self.players)
-    }
-
-    /// The place of a local player who may give a word now.
-    fn judge_local(&self, player: u8, word: u32) -> Result<usize, Refusal>
-        ensures place { IfOk result (λ place. (place + 1 ≡ player) × (place < length (core_of self.now).players)) }
-        ensures accepted { OnOk result (refusal_of G.step self.now (Gives player word) ≡ None) }
-        ensures refused { IfErr result (λ why. refusal_of G.step self.now (Gives player word) ≡ Some why) }
-    {
-        let place = local_place(
-            &self.players,
-            self.frame as usize,
-            self.settings.threshold as usize,
-            self.settings.limit as usize,
-            player,
-        )?;
-        if self.is_full() {
-            Err(Refusal::LogFull)
-        } else {
-            Ok(place)
-        }
     }
 
     /// The accepted events.
@@ -327,7 +304,7 @@ impl<G: Game> Session<G> {
     pub fn frame(&self) -> u32
         ensures { result ≡ (core_of self.now).frame }
     {
-        self.frame
+        self.saves.frame()
     }
 
     /// The state that is shown.
@@ -341,33 +318,49 @@ impl<G: Game> Session<G> {
     pub fn settled(&self) -> usize
         ensures { result ≡ settled_frame (core_of self.now) }
     {
-        settled(&self.players, &self.saved, self.frame as usize)
+        self.saves.settled() as usize
     }
 
     /// A settled row: it never changes. None from the settled frame on.
     pub fn settled_row(&self, frame: usize) -> Option<Row>
         ensures { result ≡ (if nat_lt frame (settled_frame (core_of self.now)) then Some (row_of (core_of self.now).players frame) else None) }
     {
-        if frame < self.settled() {
-            Some(row_at(&self.players, frame))
-        } else {
-            None
-        }
+        self.saves.settled_row(frame)
     }
 
     /// The state after the settled rows.
     pub fn settled_state(&self) -> &G::Snapshot
         ensures { G.snapshot_value result.now ≡ run_of G.step self.now.opening (timeline (core_of self.now).players (settled_frame (core_of self.now))) }
     {
-        let to = front(&self.players).min(self.frame as usize);
-        &longest(&self.players, &self.saved, to).snapshot
+        self.saves.root()
     }
 
-    /// The numbers of the last roll. None at first, and after a roll that the game refused, until one succeeds.
+    /// The plan of the last roll. None at first, and after a roll that the game refused, until one succeeds.
     pub fn last_plan(&self) -> Option<&Plan>
-        ensures { option_copied result ≡ option_map plan_of (core_of self.now).last }
+        ensures when { is_none result ≡ is_none (core_of self.now).last }
+        ensures plan { IfSome (core_of self.now).last (λ roll. IfSome result (λ plan. IsPlanOfRoll self.now.settings.players roll plan.now)) }
     {
-        self.plan.as_ref()
+        self.planner.last()
+    }
+
+    /// The claim of the last roll: what was kept before it, and why it started where it did.
+    ///
+    /// # Errors
+    ///
+    /// `NoPlan` where there is no last plan, else `NoMemory` where the allocator has no room.
+    pub fn claim(&self, alloc: Global) -> Result<Claim, Refusal>
+        ensures claim { IfOk result (λ claim. IfSome (core_of self.now).last (λ roll. told claim ≡ claim_of self.now.settings.players roll)) }
+        ensures made { OnOk result (is_none (core_of self.now).last ≡ false) }
+        ensures refused { IfErr result (λ why. why ≡ (if is_none (core_of self.now).last then Refusal.NoPlan else Refusal.NoMemory)) }
+    {
+        self.planner.claim(alloc)
+    }
+
+    /// The paths of all kept states, in their order: those that can still matter.
+    pub fn kept(&self, alloc: Global) -> Result<Vec<Path>, AllocError>
+        ensures { IfOk result (λ paths. paths.items ≡ map (path_from (settled_frame (core_of self.now))) (in_order (kept_of (core_of self.now)))) }
+    {
+        self.saves.kept(alloc)
     }
 
     /// Takes the session apart.
@@ -377,11 +370,9 @@ impl<G: Game> Session<G> {
         ensures turns { G.turn_count result.game ≡ self.turns }
         ensures refused { G.refusal_count result.game ≡ self.refused }
     {
-        let mut saved = self.saved;
-        let first = saved.swap_remove(0);
         Parts {
             game: self.game,
-            opening: first.snapshot,
+            opening: self.opening,
             shown: self.current,
         }
     }
@@ -403,17 +394,4 @@ pub struct Parts<G: Game> {
     pub opening: G::Snapshot,
     /// The state that was shown, if there was one.
     pub shown: Option<G::State>,
-}
-
-/// The numbers of a roll.
-fn planned(to: u32, from: usize) -> Plan
-    requires { from ≤ to }
-    ensures { result ≡ record { to = to; from = from; rerun = to - from } }
-{
-    let from = from as u32;
-    Plan {
-        to,
-        from,
-        rerun: to - from,
-    }
 }

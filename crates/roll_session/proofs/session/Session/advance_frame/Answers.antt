@@ -1,96 +1,204 @@
-use Rattle.std.proofs.Common.{◌≡◌, ◌≤◌, ◌-◌, ◌+◌, ◌%◌, ◌^◌, ◌∙◌, ◌++◌, ◌∷◌, [], ap, sym, refl, subst, arith, ℕ, List, map, length, drop, Some, None, false, true, inr}
+use Rattle.std.proofs.Common.{◌≡◌, ◌≤◌, ◌-◌, ◌+◌, ◌%◌, ◌^◌, ◌∙◌, ◌++◌, ◌∷◌, [], ap, sym, refl, subst, arith, ℕ, List, Some, None, false, true, inr}
 use Rattle.std.specs.Prelude.{nat_le}
-use Rattle.std.proofs.lemmas.Bool.{not-false}
-use Rattle.std.proofs.lemmas.List.{length-map}
-use Rattle.roll_frame.specs.Core.{Core, cost}
-use Rattle.roll_frame.specs.Events.{replay, can_be_partial, all_given, applied}
-use Rattle.roll_frame.specs.Games.{Game}
-use Rattle.roll_frame.specs.Inputs.{with_none_given}
-use Rattle.roll_frame.specs.declared.entry.Entry.TheVariants.{Advance, Partial}
-use Rattle.roll_session.specs.declared.saved.Saved.{Saved}
-use Rattle.roll_session.specs.Held.{IsSession}
-use Rattle.roll_session.specs.Saved.{opening_of}
+use Rattle.roll_inputs.specs.Boards.{Inputs}
+use Rattle.roll_frame.specs.Core.{Core, cost, depth}
+use Rattle.roll_frame.specs.Events.{all_given, can_be_partial, is_accepted, replay}
+use Rattle.roll_frame.specs.Games.{Game, Value}
+use Rattle.roll_frame.specs.Paths.{run}
+use Rattle.roll_frame.specs.Timeline.{timeline}
+use Rattle.roll_frame.specs.declared.entry.Entry.TheVariants.{Sync, Advance, Partial}
+use Rattle.roll_laws.proofs.Rolls.{roll_of}
+use Rattle.roll_plan.specs.Plans.{Planned}
 use Rattle.roll_session.specs.Seen.{Seen, core_of, plain, IsLeast}
-use Rattle.roll_session.proofs.Holding.{RollsTo, plan_at, session_next, held_rolled, held_partial, written_whole, accepted, sync_accepted, advance_accepted, partial_accepted, can_be_partial_sync, can_be_partial_advance, least_of}
+use Rattle.roll_session.specs.Standing.{made_from}
+use Rattle.roll_session.specs.Saves.{way_to}
+use Rattle.roll_session.proofs.Between.{can_settle}
+use Rattle.roll_session.proofs.Holding.{accepted, sync_accepted, advance_accepted, partial_accepted, can_be_partial_sync, can_be_partial_advance, least_of}
+use Rattle.roll_session.proofs.Rolled.{Added, near, session_reserved, between_after_sync, between_after_advance, between_after_partial, cost_is, depth_is, frame_is, paths_fit, roll_fits, roll_plan, session_rolled, shown_value, time_fits}
 use Rattle.roll_session.proofs.session.Session.advance_frame.Goals as goal
+
+pub roll-requires-clause-fits : goal.roll-requires-clause-fits
+roll-requires-clause-fits g c =
+    let s = c.self.inside in
+    let x : Value = g.G.RawGame.snapshot_value s.opening in
+    let game : Game = record { opening = x; step = g.G.Game.step } in
+    let core : Core = replay s.settings s.log.items in
+    let m : ℕ = c.frame-next.result + 1 in
+    let e : m ≡ (core.frame + 1) = ap (λ (n : ℕ). n + 1) (c.frame-next.ensures ∙ frame_is g.G.RawGame.state_value g.G.RawGame.snapshot_value g.G.Game.step x s.settings s.log.items s.saves s.planner s.current c.self.invariant) in
+    let r = c.reserve-2.new.self in
+    let inv = session_reserved g.G.RawGame.state_value g.G.RawGame.snapshot_value g.G.Game.step x s.settings s.log.items s.saves r s.planner s.current c.self.invariant c.reserve-2.ensures.inputs c.reserve-2.ensures.tree in
+    roll_fits g.G.RawGame.state_value g.G.RawGame.snapshot_value g.G.Game.step x s.settings s.log.items r s.planner s.current inv m (omega (arith, e)) (omega (arith, e))
+
+pub roll-requires-clause-time : goal.roll-requires-clause-time
+roll-requires-clause-time g c =
+    let s = c.self.inside in
+    let x : Value = g.G.RawGame.snapshot_value s.opening in
+    let game : Game = record { opening = x; step = g.G.Game.step } in
+    let core : Core = replay s.settings s.log.items in
+    let m : ℕ = c.frame-next.result + 1 in
+    let e : m ≡ (core.frame + 1) = ap (λ (n : ℕ). n + 1) (c.frame-next.ensures ∙ frame_is g.G.RawGame.state_value g.G.RawGame.snapshot_value g.G.Game.step x s.settings s.log.items s.saves s.planner s.current c.self.invariant) in
+    let r = c.reserve-2.new.self in
+    let inv = session_reserved g.G.RawGame.state_value g.G.RawGame.snapshot_value g.G.Game.step x s.settings s.log.items s.saves r s.planner s.current c.self.invariant c.reserve-2.ensures.inputs c.reserve-2.ensures.tree in
+    time_fits g.G.RawGame.state_value g.G.RawGame.snapshot_value g.G.Game.step x s.settings s.log.items r s.planner s.current inv m (omega (arith, e)) (omega (arith, e))
+
+pub roll-requires-clause-widths : goal.roll-requires-clause-widths
+roll-requires-clause-widths g c =
+    let s = c.self.inside in
+    let x : Value = g.G.RawGame.snapshot_value s.opening in
+    let game : Game = record { opening = x; step = g.G.Game.step } in
+    let core : Core = replay s.settings s.log.items in
+    let m : ℕ = c.frame-next.result + 1 in
+    let e : m ≡ (core.frame + 1) = ap (λ (n : ℕ). n + 1) (c.frame-next.ensures ∙ frame_is g.G.RawGame.state_value g.G.RawGame.snapshot_value g.G.Game.step x s.settings s.log.items s.saves s.planner s.current c.self.invariant) in
+    let r = c.reserve-2.new.self in
+    let inv = session_reserved g.G.RawGame.state_value g.G.RawGame.snapshot_value g.G.Game.step x s.settings s.log.items s.saves r s.planner s.current c.self.invariant c.reserve-2.ensures.inputs c.reserve-2.ensures.tree in
+    paths_fit g.G.RawGame.state_value g.G.RawGame.snapshot_value g.G.Game.step x s.settings s.log.items r s.planner s.current inv m (omega (arith, e)) (omega (arith, e))
+
+pub settle-requires : goal.settle-requires
+settle-requires g c =
+    let s = c.self.inside in
+    let x : Value = g.G.RawGame.snapshot_value s.opening in
+    let game : Game = record { opening = x; step = g.G.Game.step } in
+    let core : Core = replay s.settings s.log.items in
+    let m : ℕ = c.frame-next.result + 1 in
+    let e : m ≡ (core.frame + 1) = ap (λ (n : ℕ). n + 1) (c.frame-next.ensures ∙ frame_is g.G.RawGame.state_value g.G.RawGame.snapshot_value g.G.Game.step x s.settings s.log.items s.saves s.planner s.current c.self.invariant) in
+    let r = c.reserve-2.new.self in
+    let inv = session_reserved g.G.RawGame.state_value g.G.RawGame.snapshot_value g.G.Game.step x s.settings s.log.items s.saves r s.planner s.current c.self.invariant c.reserve-2.ensures.inputs c.reserve-2.ensures.tree in
+    let full : nat_le s.settings.log core.logged ≡ false = sym (rw (← c.self.view_is) at c.is_full.ensures) ∙ c.if-is_full.false in
+    let ready : all_given core.players ≡ true = sym (c.ready.ensures ∙ ap (λ (i : Inputs). all_given i.players) c.self.invariant.kept.inputs) ∙ c.if-not-ready.false in
+    let added : Added g.G.RawGame.state_value g.G.RawGame.snapshot_value g.G.Game.step x s.settings s.log.items r s.planner s.current inv m (m - r.inputs.settled - way_to r m) c.roll.new.saves = record { inputs = c.in-Ok.ensures.inputs; paths = c.in-Ok.ensures.paths; values = c.in-Ok.ensures.values } in
+    let between = between_after_advance g.G.RawGame.state_value g.G.RawGame.snapshot_value g.G.Game.step x s.settings s.log.items r s.planner s.current inv m c.roll.new.saves c.next.new.self (e ∙ sym (ap (λ (n : ℕ). n + 1) (frame_is g.G.RawGame.state_value g.G.RawGame.snapshot_value g.G.Game.step x s.settings s.log.items r s.planner s.current inv))) added c.next.ensures.inputs c.next.ensures.tree in
+    can_settle g.G.RawGame.snapshot_value g.G.Game.step x s.settings game s.log.items c.self.invariant.is_log Advance (accepted s.settings game core (plain Advance) refl (advance_accepted s.settings game core ready full)) c.next.new.self between
 
 pub invariant_of-self-in-Ok : goal.invariant_of-self-in-Ok
 invariant_of-self-in-Ok g c =
     let s = c.self.inside in
-    let sv = c.prepare.new.saved.items in
-    let inv = subst (λ (v : List (Saved g.row.G-Snapshot.Denot)). IsSession g.G.RawGame.state_value g.G.RawGame.snapshot_value g.G.Game.step s.settings s.log.items s.players.items s.frame v s.current s.plan) (sym c.in_ok-prepared.ensures.same) c.self.invariant in
+    let x : Value = g.G.RawGame.snapshot_value s.opening in
+    let game : Game = record { opening = x; step = g.G.Game.step } in
     let core : Core = replay s.settings s.log.items in
-    let game : Game = record { opening = opening_of g.G.RawGame.snapshot_value sv; step = g.G.Game.step } in
+    let m : ℕ = c.frame-next.result + 1 in
+    let e : m ≡ (core.frame + 1) = ap (λ (n : ℕ). n + 1) (c.frame-next.ensures ∙ frame_is g.G.RawGame.state_value g.G.RawGame.snapshot_value g.G.Game.step x s.settings s.log.items s.saves s.planner s.current c.self.invariant) in
+    let r = c.reserve-2.new.self in
+    let inv = session_reserved g.G.RawGame.state_value g.G.RawGame.snapshot_value g.G.Game.step x s.settings s.log.items s.saves r s.planner s.current c.self.invariant c.reserve-2.ensures.inputs c.reserve-2.ensures.tree in
     let full : nat_le s.settings.log core.logged ≡ false = sym (rw (← c.self.view_is) at c.is_full.ensures) ∙ c.if-is_full.false in
-    let from = rw (c.deref.ensures.value, ← c.in_ok-prepared.ensures.same) at c.in_ok-prepared.ensures.from in
-    let given : all_given core.players ≡ true = not-false (all_given core.players) (sym (rw (← c.self.view_is) at c.is_waiting.ensures) ∙ c.if-is_waiting.false) in
-    let rolls : RollsTo g.G.RawGame.state_value g.G.RawGame.snapshot_value g.G.Game.step s.players.items sv c.roll.new.saved.items (s.frame + 1) c.in_ok-prepared.prepared.from c.in-Ok.state =
-    record {
-      from_is = from;
-      paths_are = rw c.deref-2.ensures.value at c.in-Ok.ensures.paths;
-      values = c.in-Ok.ensures.values;
-      first = c.in-Ok.ensures.first;
-      opening = c.in-Ok.ensures.opening;
-      state_is = rw c.deref-2.ensures.value at c.in-Ok.ensures.value;
-    } in
+    let ready : all_given core.players ≡ true = sym (c.ready.ensures ∙ ap (λ (i : Inputs). all_given i.players) c.self.invariant.kept.inputs) ∙ c.if-not-ready.false in
+    let added : Added g.G.RawGame.state_value g.G.RawGame.snapshot_value g.G.Game.step x s.settings s.log.items r s.planner s.current inv m (m - r.inputs.settled - way_to r m) c.roll.new.saves = record { inputs = c.in-Ok.ensures.inputs; paths = c.in-Ok.ensures.paths; values = c.in-Ok.ensures.values } in
+    let between = between_after_advance g.G.RawGame.state_value g.G.RawGame.snapshot_value g.G.Game.step x s.settings s.log.items r s.planner s.current inv m c.roll.new.saves c.next.new.self (e ∙ sym (ap (λ (n : ℕ). n + 1) (frame_is g.G.RawGame.state_value g.G.RawGame.snapshot_value g.G.Game.step x s.settings s.log.items r s.planner s.current inv))) added c.next.ensures.inputs c.next.ensures.tree in
     let pushed : c.push.new.self.items ≡ s.log.items ++ Advance ∷ [] = (rw c.unwrap.ensures at c.push.ensures.items) ∙ ap (λ xs. xs ++ Advance ∷ []) c.in_ok-reserve.ensures.items in
-    let plan = c.planned-plan.ensures in
-    let started : c.start_frames.new.players ≡ map with_none_given s.players.items = c.start_frames.ensures ∙ ap (map with_none_given) c.deref_mut.ensures.value in
-    let long : length c.start_frames.new.players ≡ s.players.len = ap length c.start_frames.ensures ∙ (rw length-map c.deref_mut.ensures.len) in
-    rw (pushed, written_whole c.start_frames.new.players (drop (length c.start_frames.new.players) s.players.items) s.players.len long)
-    (session_next g.G.RawGame.state_value g.G.RawGame.snapshot_value g.G.Game.step s.settings s.log.items Advance game.opening c.start_frames.new.players (s.frame + 1) c.roll.new.saved.items (Some c.in-Ok.state) (Some c.planned-plan.result) inv.is_log c.in-Ok.ensures.opening
-    (accepted s.settings game core (plain Advance) refl (advance_accepted s.settings game core given full))
-    (rw plan (held_rolled g.G.RawGame.state_value g.G.RawGame.snapshot_value g.G.Game.step core (applied core Advance) s.players.items c.start_frames.new.players s.frame (s.frame + 1) sv s.current s.plan (s.frame + 1) c.in_ok-prepared.prepared.from c.roll.new.saved.items c.in-Ok.state inv.held rolls
-    (started ∙ ap (map with_none_given) inv.held.players) (ap (λ n. n + 1) inv.held.frame) (rw inv.held.frame refl) (rw inv.held.frame refl) (rw inv.held.frame refl))))
+    let plan = c.in-Ok.ensures.plan ∙ (roll_plan g.G.RawGame.state_value g.G.RawGame.snapshot_value g.G.Game.step x s.settings s.log.items r s.planner s.current inv m (omega (arith, e)) (omega (arith, e)) (rw (c.reserve-2.ensures.tree, c.reserve-2.ensures.inputs) c.laws.ensures.base) ∙ ap (λ (n : ℕ). record { players = s.settings.players; last = Some (made_from (roll_of core n)) }) e) in
+    let shows = shown_value g.G.RawGame.state_value g.G.RawGame.snapshot_value g.G.Game.step x s.settings s.log.items r s.planner s.current inv m c.in-Ok.field-0.state c.in-Ok.ensures.state ∙ ap (λ (n : ℕ). run g.G.Game.step x (timeline core.players n)) e in
+    rw pushed
+    (session_rolled g.G.RawGame.state_value g.G.RawGame.snapshot_value g.G.Game.step x s.settings s.log.items r s.planner s.current inv Advance c.next.new.self c.settle.new.self c.roll.new.planner (Some c.in-Ok.field-0.state) (accepted s.settings game core (plain Advance) refl (advance_accepted s.settings game core ready full)) between c.settle.ensures.inputs c.settle.ensures.states shows plan)
+
+pub settle-requires-in-Err : goal.settle-requires-in-Err
+settle-requires-in-Err g c =
+    let s = c.self.inside in
+    let x : Value = g.G.RawGame.snapshot_value s.opening in
+    let game : Game = record { opening = x; step = g.G.Game.step } in
+    let core : Core = replay s.settings s.log.items in
+    let m : ℕ = c.frame-next.result + 1 in
+    let e : m ≡ (core.frame + 1) = ap (λ (n : ℕ). n + 1) (c.frame-next.ensures ∙ frame_is g.G.RawGame.state_value g.G.RawGame.snapshot_value g.G.Game.step x s.settings s.log.items s.saves s.planner s.current c.self.invariant) in
+    let r = c.reserve-2.new.self in
+    let inv = session_reserved g.G.RawGame.state_value g.G.RawGame.snapshot_value g.G.Game.step x s.settings s.log.items s.saves r s.planner s.current c.self.invariant c.reserve-2.ensures.inputs c.reserve-2.ensures.tree in
+    let full : nat_le s.settings.log core.logged ≡ false = sym (rw (← c.self.view_is) at c.is_full.ensures) ∙ c.if-is_full.false in
+    let ready : all_given core.players ≡ true = sym (c.ready.ensures ∙ ap (λ (i : Inputs). all_given i.players) c.self.invariant.kept.inputs) ∙ c.if-not-ready.false in
+    let few : c.in-Err.made ≤ cost core (core.frame + 1) = subst (λ n. c.in-Err.made ≤ cost core n) e (omega (arith, c.in-Err.ensures.made, cost_is g.G.RawGame.state_value g.G.RawGame.snapshot_value g.G.Game.step x s.settings s.log.items r s.planner s.current inv m (omega (arith, e)))) in
+    let can : can_be_partial core m c.in-Err.made ≡ true = subst (λ n. can_be_partial core n c.in-Err.made ≡ true) (sym e) ((λ (made : ℕ). can_be_partial_advance core made ready) c.in-Err.made few) in
+    let between = between_after_partial g.G.RawGame.state_value g.G.RawGame.snapshot_value g.G.Game.step x s.settings s.log.items r s.planner s.current inv m c.in-Err.made c.roll.new.saves (omega (arith, e)) (record { inputs = c.in-Err.ensures.inputs; paths = c.in-Err.ensures.partial; values = c.in-Err.ensures.values }) in
+    can_settle g.G.RawGame.snapshot_value g.G.Game.step x s.settings game s.log.items c.self.invariant.is_log (Partial m c.in-Err.made) (accepted s.settings game core (plain (Partial m c.in-Err.made)) refl (partial_accepted s.settings game core m c.in-Err.made can full)) c.roll.new.saves between
 
 pub invariant_of-self-in-Err : goal.invariant_of-self-in-Err
 invariant_of-self-in-Err g c =
     let s = c.self.inside in
-    let sv = c.prepare.new.saved.items in
-    let inv = subst (λ (v : List (Saved g.row.G-Snapshot.Denot)). IsSession g.G.RawGame.state_value g.G.RawGame.snapshot_value g.G.Game.step s.settings s.log.items s.players.items s.frame v s.current s.plan) (sym c.in_ok-prepared.ensures.same) c.self.invariant in
+    let x : Value = g.G.RawGame.snapshot_value s.opening in
+    let game : Game = record { opening = x; step = g.G.Game.step } in
     let core : Core = replay s.settings s.log.items in
-    let game : Game = record { opening = opening_of g.G.RawGame.snapshot_value sv; step = g.G.Game.step } in
+    let m : ℕ = c.frame-next.result + 1 in
+    let e : m ≡ (core.frame + 1) = ap (λ (n : ℕ). n + 1) (c.frame-next.ensures ∙ frame_is g.G.RawGame.state_value g.G.RawGame.snapshot_value g.G.Game.step x s.settings s.log.items s.saves s.planner s.current c.self.invariant) in
+    let r = c.reserve-2.new.self in
+    let inv = session_reserved g.G.RawGame.state_value g.G.RawGame.snapshot_value g.G.Game.step x s.settings s.log.items s.saves r s.planner s.current c.self.invariant c.reserve-2.ensures.inputs c.reserve-2.ensures.tree in
     let full : nat_le s.settings.log core.logged ≡ false = sym (rw (← c.self.view_is) at c.is_full.ensures) ∙ c.if-is_full.false in
-    let from = rw (c.deref.ensures.value, ← c.in_ok-prepared.ensures.same) at c.in_ok-prepared.ensures.from in
-    let given : all_given core.players ≡ true = not-false (all_given core.players) (sym (rw (← c.self.view_is) at c.is_waiting.ensures) ∙ c.if-is_waiting.false) in
-    let few : c.in-Err.kept ≤ cost core (s.frame + 1) = rw (from, inv.held.players, inv.held.ever) at c.in-Err.ensures.kept in
-    let can : can_be_partial core (s.frame + 1) c.in-Err.kept ≡ true = subst (λ (m : ℕ). c.in-Err.kept ≤ cost core m → can_be_partial core m c.in-Err.kept ≡ true) (ap (λ n. n + 1) (sym inv.held.frame)) (can_be_partial_advance core c.in-Err.kept given) few in
-    let pushed : c.push-in-Err.new.self.items ≡ s.log.items ++ Partial (s.frame + 1) c.in-Err.kept ∷ [] = (rw c.unwrap-in-Err.ensures at c.push-in-Err.ensures.items) ∙ ap (λ xs. xs ++ Partial (s.frame + 1) c.in-Err.kept ∷ []) c.in_ok-reserve.ensures.items in
+    let ready : all_given core.players ≡ true = sym (c.ready.ensures ∙ ap (λ (i : Inputs). all_given i.players) c.self.invariant.kept.inputs) ∙ c.if-not-ready.false in
+    let few : c.in-Err.made ≤ cost core (core.frame + 1) = subst (λ n. c.in-Err.made ≤ cost core n) e (omega (arith, c.in-Err.ensures.made, cost_is g.G.RawGame.state_value g.G.RawGame.snapshot_value g.G.Game.step x s.settings s.log.items r s.planner s.current inv m (omega (arith, e)))) in
+    let can : can_be_partial core m c.in-Err.made ≡ true = subst (λ n. can_be_partial core n c.in-Err.made ≡ true) (sym e) ((λ (made : ℕ). can_be_partial_advance core made ready) c.in-Err.made few) in
+    let between = between_after_partial g.G.RawGame.state_value g.G.RawGame.snapshot_value g.G.Game.step x s.settings s.log.items r s.planner s.current inv m c.in-Err.made c.roll.new.saves (omega (arith, e)) (record { inputs = c.in-Err.ensures.inputs; paths = c.in-Err.ensures.partial; values = c.in-Err.ensures.values }) in
+    let pushed : c.push-in-Err.new.self.items ≡ s.log.items ++ Partial m c.in-Err.made ∷ [] = (rw c.unwrap-in-Err.ensures at c.push-in-Err.ensures.items) ∙ ap (λ xs. xs ++ Partial m c.in-Err.made ∷ []) c.in_ok-reserve.ensures.items in
+    let plan = c.in-Err.ensures.no_plan ∙ ap (λ (n : ℕ). record { players = n; last = None }) (ap (λ (p : Planned). p.players) c.self.invariant.plan) in
     rw pushed
-    (session_next g.G.RawGame.state_value g.G.RawGame.snapshot_value g.G.Game.step s.settings s.log.items (Partial (s.frame + 1) c.in-Err.kept) game.opening s.players.items s.frame c.roll.new.saved.items None None inv.is_log c.in-Err.ensures.opening
-    (accepted s.settings game core (plain (Partial (s.frame + 1) c.in-Err.kept)) refl (partial_accepted s.settings game core (s.frame + 1) c.in-Err.kept can full))
-    (held_partial g.G.RawGame.state_value g.G.RawGame.snapshot_value g.G.Game.step core s.players.items s.frame sv s.current s.plan (s.frame + 1) c.in_ok-prepared.prepared.from c.in-Err.kept c.roll.new.saved.items inv.held from
-    (rw c.deref-2.ensures.value at c.in-Err.ensures.partial) c.in-Err.ensures.values c.in-Err.ensures.first c.in-Err.ensures.opening))
+    (session_rolled g.G.RawGame.state_value g.G.RawGame.snapshot_value g.G.Game.step x s.settings s.log.items r s.planner s.current inv (Partial m c.in-Err.made) c.roll.new.saves c.settle-in-Err.new.self c.roll.new.planner None (accepted s.settings game core (plain (Partial m c.in-Err.made)) refl (partial_accepted s.settings game core m c.in-Err.made can full)) between c.settle-in-Err.ensures.inputs c.settle-in-Err.ensures.states tt plan)
+
+pub returns-in-Ok-clause-turns : goal.returns-in-Ok-clause-turns
+returns-in-Ok-clause-turns g c =
+    let s = c.self.inside in
+    let x : Value = g.G.RawGame.snapshot_value s.opening in
+    let game : Game = record { opening = x; step = g.G.Game.step } in
+    let core : Core = replay s.settings s.log.items in
+    let m : ℕ = c.frame-next.result + 1 in
+    let e : m ≡ (core.frame + 1) = ap (λ (n : ℕ). n + 1) (c.frame-next.ensures ∙ frame_is g.G.RawGame.state_value g.G.RawGame.snapshot_value g.G.Game.step x s.settings s.log.items s.saves s.planner s.current c.self.invariant) in
+    let r = c.reserve-2.new.self in
+    let inv = session_reserved g.G.RawGame.state_value g.G.RawGame.snapshot_value g.G.Game.step x s.settings s.log.items s.saves r s.planner s.current c.self.invariant c.reserve-2.ensures.inputs c.reserve-2.ensures.tree in
+    rw (← c.self.view_is) (c.in-Ok.ensures.turns ∙ ap (λ (n : ℕ). (g.G.RawGame.turn_count s.game + n) % 2 ^ 64) (cost_is g.G.RawGame.state_value g.G.RawGame.snapshot_value g.G.Game.step x s.settings s.log.items r s.planner s.current inv m (omega (arith, e)) ∙ ap (cost core) e))
 
 pub returns-in-Ok-clause-least : goal.returns-in-Ok-clause-least
 returns-in-Ok-clause-least g c =
     let s = c.self.inside in
-    let least = least_of s.settings (record { opening = opening_of g.G.RawGame.snapshot_value s.saved.items; step = g.G.Game.step }) s.log.items c.self.invariant.is_log in
-    subst (λ (v : Seen). IsLeast (core_of v) ((core_of v).frame + 1)) c.self.view_is (least ((replay s.settings s.log.items).frame + 1))
-
-pub returns-in-Ok-clause-log : goal.returns-in-Ok-clause-log
-returns-in-Ok-clause-log g c =
-    let pushed : c.push.new.self.items ≡ c.self.inside.log.items ++ Advance ∷ [] = (rw c.unwrap.ensures at c.push.ensures.items) ∙ ap (λ xs. xs ++ Advance ∷ []) c.in_ok-reserve.ensures.items in
-    rw (← c.self.view_is, pushed, c.in-Ok.ensures.opening, c.in_ok-prepared.ensures.same, c.in-Ok.ensures.refused) refl
+    let x : Value = g.G.RawGame.snapshot_value s.opening in
+    let game : Game = record { opening = x; step = g.G.Game.step } in
+    let core : Core = replay s.settings s.log.items in
+    let m : ℕ = c.frame-next.result + 1 in
+    let e : m ≡ (core.frame + 1) = ap (λ (n : ℕ). n + 1) (c.frame-next.ensures ∙ frame_is g.G.RawGame.state_value g.G.RawGame.snapshot_value g.G.Game.step x s.settings s.log.items s.saves s.planner s.current c.self.invariant) in
+    let r = c.reserve-2.new.self in
+    let inv = session_reserved g.G.RawGame.state_value g.G.RawGame.snapshot_value g.G.Game.step x s.settings s.log.items s.saves r s.planner s.current c.self.invariant c.reserve-2.ensures.inputs c.reserve-2.ensures.tree in
+    rw (← c.self.view_is) (least_of s.settings game s.log.items c.self.invariant.is_log (core.frame + 1))
 
 pub returns-in-Err-clause-left : goal.returns-in-Err-clause-left
 returns-in-Err-clause-left g c =
     let s = c.self.inside in
-    let sv = c.prepare.new.saved.items in
-    let inv = subst (λ (v : List (Saved g.row.G-Snapshot.Denot)). IsSession g.G.RawGame.state_value g.G.RawGame.snapshot_value g.G.Game.step s.settings s.log.items s.players.items s.frame v s.current s.plan) (sym c.in_ok-prepared.ensures.same) c.self.invariant in
+    let x : Value = g.G.RawGame.snapshot_value s.opening in
+    let game : Game = record { opening = x; step = g.G.Game.step } in
     let core : Core = replay s.settings s.log.items in
-    let game : Game = record { opening = opening_of g.G.RawGame.snapshot_value sv; step = g.G.Game.step } in
+    let m : ℕ = c.frame-next.result + 1 in
+    let e : m ≡ (core.frame + 1) = ap (λ (n : ℕ). n + 1) (c.frame-next.ensures ∙ frame_is g.G.RawGame.state_value g.G.RawGame.snapshot_value g.G.Game.step x s.settings s.log.items s.saves s.planner s.current c.self.invariant) in
+    let r = c.reserve-2.new.self in
+    let inv = session_reserved g.G.RawGame.state_value g.G.RawGame.snapshot_value g.G.Game.step x s.settings s.log.items s.saves r s.planner s.current c.self.invariant c.reserve-2.ensures.inputs c.reserve-2.ensures.tree in
     let full : nat_le s.settings.log core.logged ≡ false = sym (rw (← c.self.view_is) at c.is_full.ensures) ∙ c.if-is_full.false in
-    let from = rw (c.deref.ensures.value, ← c.in_ok-prepared.ensures.same) at c.in_ok-prepared.ensures.from in
-    let given : all_given core.players ≡ true = not-false (all_given core.players) (sym (rw (← c.self.view_is) at c.is_waiting.ensures) ∙ c.if-is_waiting.false) in
-    let few : c.in-Err.kept ≤ cost core (s.frame + 1) = rw (from, inv.held.players, inv.held.ever) at c.in-Err.ensures.kept in
-    let end : s.frame + 1 ≡ core.frame + 1 = ap (λ n. n + 1) inv.held.frame in
-    let pushed : c.push-in-Err.new.self.items ≡ s.log.items ++ Partial (core.frame + 1) c.in-Err.kept ∷ [] = (rw c.unwrap-in-Err.ensures at c.push-in-Err.ensures.items) ∙ (ap (λ xs. xs ++ Partial (s.frame + 1) c.in-Err.kept ∷ []) c.in_ok-reserve.ensures.items ∙ ap (λ n. s.log.items ++ Partial n c.in-Err.kept ∷ []) end) in
+    let ready : all_given core.players ≡ true = sym (c.ready.ensures ∙ ap (λ (i : Inputs). all_given i.players) c.self.invariant.kept.inputs) ∙ c.if-not-ready.false in
+    let few : c.in-Err.made ≤ cost core (core.frame + 1) = subst (λ n. c.in-Err.made ≤ cost core n) e (omega (arith, c.in-Err.ensures.made, cost_is g.G.RawGame.state_value g.G.RawGame.snapshot_value g.G.Game.step x s.settings s.log.items r s.planner s.current inv m (omega (arith, e)))) in
+    let can : can_be_partial core m c.in-Err.made ≡ true = subst (λ n. can_be_partial core n c.in-Err.made ≡ true) (sym e) ((λ (made : ℕ). can_be_partial_advance core made ready) c.in-Err.made few) in
+    let between = between_after_partial g.G.RawGame.state_value g.G.RawGame.snapshot_value g.G.Game.step x s.settings s.log.items r s.planner s.current inv m c.in-Err.made c.roll.new.saves (omega (arith, e)) (record { inputs = c.in-Err.ensures.inputs; paths = c.in-Err.ensures.partial; values = c.in-Err.ensures.values }) in
+    let pushed : c.push-in-Err.new.self.items ≡ s.log.items ++ Partial (core.frame + 1) c.in-Err.made ∷ [] = (rw c.unwrap-in-Err.ensures at c.push-in-Err.ensures.items) ∙ (ap (λ xs. xs ++ Partial m c.in-Err.made ∷ []) c.in_ok-reserve.ensures.items ∙ ap (λ n. s.log.items ++ Partial n c.in-Err.made ∷ []) e) in
     rw (← c.self.view_is)
     (inr (record {
-      accepted = advance_accepted s.settings game core given full;
-      made = c.in-Err.kept;
-      few = subst (λ (n : ℕ). c.in-Err.kept ≤ cost core n) end few;
-      logged = rw (pushed, c.in-Err.ensures.opening, c.in_ok-prepared.ensures.same, c.in-Err.ensures.refused) refl;
+      accepted = advance_accepted s.settings game core ready full;
+      made = c.in-Err.made;
+      few = few;
+      logged = rw (pushed, c.in-Err.ensures.refused) refl;
       turns = c.in-Err.ensures.none_forgotten;
     }))
+
+pub next-requires-clause-near : goal.next-requires-clause-near
+next-requires-clause-near g c =
+    let s = c.self.inside in
+    let x : Value = g.G.RawGame.snapshot_value s.opening in
+    let game : Game = record { opening = x; step = g.G.Game.step } in
+    let core : Core = replay s.settings s.log.items in
+    let m : ℕ = c.frame-next.result + 1 in
+    let e : m ≡ (core.frame + 1) = ap (λ (n : ℕ). n + 1) (c.frame-next.ensures ∙ frame_is g.G.RawGame.state_value g.G.RawGame.snapshot_value g.G.Game.step x s.settings s.log.items s.saves s.planner s.current c.self.invariant) in
+    let r = c.reserve-2.new.self in
+    let inv = session_reserved g.G.RawGame.state_value g.G.RawGame.snapshot_value g.G.Game.step x s.settings s.log.items s.saves r s.planner s.current c.self.invariant c.reserve-2.ensures.inputs c.reserve-2.ensures.tree in
+    rw c.in-Ok.ensures.inputs (near g.G.RawGame.state_value g.G.RawGame.snapshot_value g.G.Game.step x s.settings s.log.items r s.planner s.current inv)
+
+pub overflow_sub-result : goal.overflow_sub-result
+overflow_sub-result g c = c.in-Ok.ensures.within
+
+pub returns-in-Ok-clause-reached : goal.returns-in-Ok-clause-reached
+returns-in-Ok-clause-reached g c =
+    let s = c.self.inside in
+    let x : Value = g.G.RawGame.snapshot_value s.opening in
+    let game : Game = record { opening = x; step = g.G.Game.step } in
+    let core : Core = replay s.settings s.log.items in
+    let m : ℕ = c.frame-next.result + 1 in
+    let e : m ≡ (core.frame + 1) = ap (λ (n : ℕ). n + 1) (c.frame-next.ensures ∙ frame_is g.G.RawGame.state_value g.G.RawGame.snapshot_value g.G.Game.step x s.settings s.log.items s.saves s.planner s.current c.self.invariant) in
+    let r = c.reserve-2.new.self in
+    let inv = session_reserved g.G.RawGame.state_value g.G.RawGame.snapshot_value g.G.Game.step x s.settings s.log.items s.saves r s.planner s.current c.self.invariant c.reserve-2.ensures.inputs c.reserve-2.ensures.tree in
+    let from : c.in-Ok.field-0.from ≡ depth core (core.frame + 1) = c.in-Ok.ensures.from ∙ (depth_is g.G.RawGame.state_value g.G.RawGame.snapshot_value g.G.Game.step x s.settings s.log.items r s.planner s.current inv m (omega (arith, e)) ∙ ap (depth core) e) in
+    rw (← c.self.view_is) (λ i. record { frame = e i; from = from i; rerun = e i - from i })

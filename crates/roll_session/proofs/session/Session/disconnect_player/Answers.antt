@@ -1,25 +1,35 @@
-use Rattle.std.proofs.Common.{◌≡◌, ◌<◌, ◌∙◌, ◌++◌, ◌∷◌, [], ap, refl, ℕ, None, length, ◌+◌, set}
+use Rattle.std.proofs.Common.{◌≡◌, ◌++◌, ◌∷◌, [], None, ◌∙◌, ap, sym, refl, false}
 use Rattle.roll_frame.specs.Core.{Core}
-use Rattle.roll_frame.specs.Events.{replay, applied, refusal}
+use Rattle.roll_frame.specs.Events.{is_accepted, refusal, replay}
 use Rattle.roll_frame.specs.Games.{Game}
-use Rattle.roll_frame.specs.Inputs.{with_gone}
+use Rattle.roll_frame.specs.Inputs.{is_repeated}
 use Rattle.roll_frame.specs.declared.entry.Entry.TheVariants.{Disconnect}
-use Rattle.roll_session.specs.Saved.{opening_of}
 use Rattle.roll_session.specs.Seen.{plain}
-use Rattle.roll_session.proofs.Holding.{session_next, held_changed, accepted}
+use Rattle.roll_session.proofs.Between.{can_settle}
+use Rattle.roll_session.proofs.Holding.{accepted, leaving_between, session_input}
 use Rattle.roll_session.proofs.session.Session.disconnect_player.Goals as goal
+
+pub settle-requires : goal.settle-requires
+settle-requires g c =
+    let s = c.self.inside in
+    let x = g.G.RawGame.snapshot_value s.opening in
+    let game : Game = record { opening = x; step = g.G.Game.step } in
+    let core : Core = replay s.settings s.log.items in
+    let entry = Disconnect c.args.player in
+    let fine : refusal s.settings game core (plain entry) ≡ None = rw (← c.self.view_is) at c.in_ok-judge_leaving.ensures.accepted in
+    let between = leaving_between g.G.RawGame.state_value g.G.RawGame.snapshot_value g.G.Game.step x s.settings s.log.items s.saves s.planner s.current c.self.invariant c.args.player c.leave.new.self c.laws.ensures.ahead fine c.leave.ensures.inputs c.leave.ensures.states c.leave.ensures.rows in
+    can_settle g.G.RawGame.snapshot_value g.G.Game.step x s.settings game s.log.items c.self.invariant.is_log entry (accepted s.settings game core (plain entry) refl fine) c.leave.new.self between
 
 pub invariant_of-self-2 : goal.invariant_of-self-2
 invariant_of-self-2 g c =
     let s = c.self.inside in
-    let inv = c.self.invariant in
+    let x = g.G.RawGame.snapshot_value s.opening in
+    let game : Game = record { opening = x; step = g.G.Game.step } in
     let core : Core = replay s.settings s.log.items in
-    let game : Game = record { opening = opening_of g.G.RawGame.snapshot_value s.saved.items; step = g.G.Game.step } in
-    let pushed : c.push.new.self.items ≡ s.log.items ++ Disconnect c.args.player ∷ [] = (rw c.unwrap.ensures at c.push.ensures.items) ∙ ap (λ xs. xs ++ Disconnect c.args.player ∷ []) c.in_ok-reserve.ensures.items in
-    let fine : refusal s.settings game core (plain (Disconnect c.args.player)) ≡ None = rw (← c.self.view_is) at c.in_ok-place.ensures.accepted in
-    let within : c.in_ok-place.place < length s.players.items = rw inv.held.players (rw (← c.self.view_is) at c.in_ok-place.ensures.place.1) in
+    let entry = Disconnect c.args.player in
+    let fine : refusal s.settings game core (plain entry) ≡ None = rw (← c.self.view_is) at c.in_ok-judge_leaving.ensures.accepted in
+    let between = leaving_between g.G.RawGame.state_value g.G.RawGame.snapshot_value g.G.Game.step x s.settings s.log.items s.saves s.planner s.current c.self.invariant c.args.player c.leave.new.self c.laws.ensures.ahead fine c.leave.ensures.inputs c.leave.ensures.states c.leave.ensures.rows in
+    let pushed : c.push.new.self.items ≡ s.log.items ++ entry ∷ [] = (rw c.unwrap.ensures at c.push.ensures.items) ∙ ap (λ xs. xs ++ entry ∷ []) c.in_ok-reserve.ensures.items in
     rw pushed
-    (session_next g.G.RawGame.state_value g.G.RawGame.snapshot_value g.G.Game.step s.settings s.log.items (Disconnect c.args.player) game.opening (set s.players.items c.in_ok-place.place c.leave.new.self) s.frame s.saved.items s.current s.plan inv.is_log refl
-    (accepted s.settings game core (plain (Disconnect c.args.player)) refl fine)
-    (held_changed g.G.RawGame.state_value g.G.RawGame.snapshot_value g.G.Game.step core (applied core (Disconnect c.args.player)) s.players.items s.frame s.saved.items s.current s.plan with_gone c.args.player c.in_ok-place.place c.index_mut.result.now c.leave.new.self inv.held
-    c.in_ok-place.ensures.place.0 within c.index_mut.ensures.value c.leave.ensures refl refl refl refl refl))
+    (session_input g.G.RawGame.state_value g.G.RawGame.snapshot_value g.G.Game.step x s.settings s.log.items entry s.saves c.leave.new.self c.settle.new.self s.planner s.current c.self.invariant
+    (accepted s.settings game core (plain entry) refl fine) between c.settle.ensures.inputs c.settle.ensures.states refl refl)

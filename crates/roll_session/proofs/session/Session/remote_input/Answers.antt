@@ -1,26 +1,43 @@
-use Rattle.std.proofs.Common.{◌≡◌, ◌<◌, ◌∙◌, ◌++◌, ◌∷◌, [], ap, refl, sym, ℕ, false, None, length, ◌+◌, set}
+use Rattle.std.proofs.Common.{◌≡◌, ◌++◌, ◌∷◌, [], None, ◌∙◌, ap, sym, refl, false}
 use Rattle.roll_frame.specs.Core.{Core}
-use Rattle.roll_frame.specs.Events.{replay, applied, refusal}
+use Rattle.roll_frame.specs.Events.{is_accepted, refusal, replay}
 use Rattle.roll_frame.specs.Games.{Game}
-use Rattle.roll_frame.specs.Inputs.{with_words, is_repeated}
+use Rattle.roll_frame.specs.Inputs.{is_repeated}
 use Rattle.roll_frame.specs.declared.entry.Entry.TheVariants.{Remote}
-use Rattle.roll_session.specs.Saved.{opening_of}
 use Rattle.roll_session.specs.Seen.{plain}
-use Rattle.roll_session.proofs.Holding.{session_next, held_changed, accepted}
+use Rattle.roll_session.proofs.Between.{can_settle}
+use Rattle.roll_session.proofs.Holding.{accepted, not_repeated, remote_between, remote_free, session_input}
 use Rattle.roll_session.proofs.session.Session.remote_input.Goals as goal
+
+pub hear-requires-clause-accepted : goal.hear-requires-clause-accepted
+hear-requires-clause-accepted g c =
+    let s = c.self.inside in
+    remote_free g.G.RawGame.state_value g.G.RawGame.snapshot_value g.G.Game.step (g.G.RawGame.snapshot_value s.opening) s.settings s.log.items s.saves s.planner s.current c.self.invariant c.args.player c.args.frame c.args.word
+    (rw (← c.self.view_is) at (c.in_ok-judge_remote.ensures.accepted c.in-Taken.is))
+
+pub settle-requires : goal.settle-requires
+settle-requires g c =
+    let s = c.self.inside in
+    let x = g.G.RawGame.snapshot_value s.opening in
+    let game : Game = record { opening = x; step = g.G.Game.step } in
+    let core : Core = replay s.settings s.log.items in
+    let entry = Remote c.args.player c.args.frame c.args.word in
+    let fine : refusal s.settings game core (plain entry) ≡ None = rw (← c.self.view_is) at (c.in_ok-judge_remote.ensures.accepted c.in-Taken.is) in
+    let new = rw (← c.self.view_is) at (not_repeated _ c.in_ok-judge_remote.field-0 c.in_ok-judge_remote.ensures.heard c.in-Taken.is) in
+    let between = remote_between g.G.RawGame.state_value g.G.RawGame.snapshot_value g.G.Game.step x s.settings s.log.items s.saves s.planner s.current c.self.invariant c.args.player c.args.frame c.args.word c.hear.new.self c.laws.ensures.ahead fine c.hear.ensures.inputs c.hear.ensures.states c.hear.ensures.rows in
+    can_settle g.G.RawGame.snapshot_value g.G.Game.step x s.settings game s.log.items c.self.invariant.is_log entry (accepted s.settings game core (plain entry) new fine) c.hear.new.self between
 
 pub invariant_of-self-2 : goal.invariant_of-self-2
 invariant_of-self-2 g c =
     let s = c.self.inside in
-    let inv = c.self.invariant in
+    let x = g.G.RawGame.snapshot_value s.opening in
+    let game : Game = record { opening = x; step = g.G.Game.step } in
     let core : Core = replay s.settings s.log.items in
-    let game : Game = record { opening = opening_of g.G.RawGame.snapshot_value s.saved.items; step = g.G.Game.step } in
-    let pushed : c.push.new.self.items ≡ s.log.items ++ Remote c.args.player c.args.frame c.args.word ∷ [] = (rw c.unwrap.ensures at c.push.ensures.items) ∙ ap (λ xs. xs ++ Remote c.args.player c.args.frame c.args.word ∷ []) c.in_ok-reserve.ensures.items in
-    let fine : refusal s.settings game core (plain (Remote c.args.player c.args.frame c.args.word)) ≡ None = rw (← c.self.view_is) at (rw c.in-Some.is at c.in_ok-place.ensures.accepted) in
-    let new : is_repeated core.players c.args.player c.args.frame c.args.word ≡ false = rw (← c.self.view_is) at (sym (rw c.in-Some.is at c.in_ok-place.ensures.repeated)) in
-    let within : c.in-Some.place < length s.players.items = rw inv.held.players (rw (← c.self.view_is) at (rw c.in-Some.is at c.in_ok-place.ensures.place).1) in
+    let entry = Remote c.args.player c.args.frame c.args.word in
+    let fine : refusal s.settings game core (plain entry) ≡ None = rw (← c.self.view_is) at (c.in_ok-judge_remote.ensures.accepted c.in-Taken.is) in
+    let new = rw (← c.self.view_is) at (not_repeated _ c.in_ok-judge_remote.field-0 c.in_ok-judge_remote.ensures.heard c.in-Taken.is) in
+    let between = remote_between g.G.RawGame.state_value g.G.RawGame.snapshot_value g.G.Game.step x s.settings s.log.items s.saves s.planner s.current c.self.invariant c.args.player c.args.frame c.args.word c.hear.new.self c.laws.ensures.ahead fine c.hear.ensures.inputs c.hear.ensures.states c.hear.ensures.rows in
+    let pushed : c.push.new.self.items ≡ s.log.items ++ entry ∷ [] = (rw c.unwrap.ensures at c.push.ensures.items) ∙ ap (λ xs. xs ++ entry ∷ []) c.in_ok-reserve.ensures.items in
     rw pushed
-    (session_next g.G.RawGame.state_value g.G.RawGame.snapshot_value g.G.Game.step s.settings s.log.items (Remote c.args.player c.args.frame c.args.word) game.opening (set s.players.items c.in-Some.place c.hear.new.self) s.frame s.saved.items s.current s.plan inv.is_log refl
-    (accepted s.settings game core (plain (Remote c.args.player c.args.frame c.args.word)) new fine)
-    (held_changed g.G.RawGame.state_value g.G.RawGame.snapshot_value g.G.Game.step core (applied core (Remote c.args.player c.args.frame c.args.word)) s.players.items s.frame s.saved.items s.current s.plan (with_words (c.args.word ∷ [])) c.args.player c.in-Some.place c.index_mut.result.now c.hear.new.self inv.held
-    (rw c.in-Some.is at c.in_ok-place.ensures.place).0 within c.index_mut.ensures.value c.in_ok-hear.ensures.ok refl refl refl refl refl))
+    (session_input g.G.RawGame.state_value g.G.RawGame.snapshot_value g.G.Game.step x s.settings s.log.items entry s.saves c.hear.new.self c.settle.new.self s.planner s.current c.self.invariant
+    (accepted s.settings game core (plain entry) new fine) between c.settle.ensures.inputs c.settle.ensures.states refl refl)

@@ -1,91 +1,150 @@
-use Rattle.std.proofs.Common.{◌≡◌, ◌≤◌, ◌-◌, ◌+◌, ◌%◌, ◌^◌, ◌∙◌, ◌++◌, ◌∷◌, [], ap, sym, refl, subst, arith, ℕ, List, map, length, drop, Some, None, false, true, inr}
+use Rattle.std.proofs.Common.{◌≡◌, ◌≤◌, ◌-◌, ◌+◌, ◌%◌, ◌^◌, ◌∙◌, ◌++◌, ◌∷◌, [], ap, sym, refl, subst, arith, ℕ, List, Some, None, false, true, inr}
 use Rattle.std.specs.Prelude.{nat_le}
-use Rattle.std.proofs.lemmas.Bool.{not-false}
-use Rattle.std.proofs.lemmas.List.{length-map}
 use Rattle.roll_frame.specs.Core.{Core, cost}
-use Rattle.roll_frame.specs.Events.{replay, can_be_partial, all_given, applied}
-use Rattle.roll_frame.specs.Games.{Game}
-use Rattle.roll_frame.specs.Inputs.{with_none_given}
+use Rattle.roll_frame.specs.Events.{all_given, can_be_partial, is_accepted, replay}
+use Rattle.roll_frame.specs.Games.{Game, Value}
+use Rattle.roll_frame.specs.Paths.{run}
+use Rattle.roll_frame.specs.Timeline.{timeline}
 use Rattle.roll_frame.specs.declared.entry.Entry.TheVariants.{Sync, Advance, Partial}
-use Rattle.roll_session.specs.declared.saved.Saved.{Saved}
-use Rattle.roll_session.specs.Held.{IsSession}
-use Rattle.roll_session.specs.Saved.{opening_of}
+use Rattle.roll_laws.proofs.Rolls.{roll_of}
+use Rattle.roll_plan.specs.Plans.{Planned}
 use Rattle.roll_session.specs.Seen.{Seen, core_of, plain, IsLeast}
-use Rattle.roll_session.proofs.Holding.{RollsTo, plan_at, session_next, held_rolled, held_partial, written_whole, accepted, sync_accepted, advance_accepted, partial_accepted, can_be_partial_sync, can_be_partial_advance, least_of}
+use Rattle.roll_session.specs.Standing.{made_from}
+use Rattle.roll_session.specs.Saves.{way_to}
+use Rattle.roll_session.proofs.Between.{can_settle}
+use Rattle.roll_session.proofs.Holding.{accepted, sync_accepted, advance_accepted, partial_accepted, can_be_partial_sync, can_be_partial_advance, least_of}
+use Rattle.roll_session.proofs.Rolled.{Added, between_after_sync, between_after_advance, between_after_partial, cost_is, depth_is, frame_is, paths_fit, roll_fits, roll_plan, session_rolled, shown_value, time_fits}
 use Rattle.roll_session.proofs.session.Session.synchronize_input.Goals as goal
+
+pub roll-requires-clause-fits : goal.roll-requires-clause-fits
+roll-requires-clause-fits g c =
+    let s = c.self.inside in
+    let x : Value = g.G.RawGame.snapshot_value s.opening in
+    let game : Game = record { opening = x; step = g.G.Game.step } in
+    let core : Core = replay s.settings s.log.items in
+    let m : ℕ = c.frame-frame.result in
+    let e : m ≡ core.frame = c.frame-frame.ensures ∙ frame_is g.G.RawGame.state_value g.G.RawGame.snapshot_value g.G.Game.step x s.settings s.log.items s.saves s.planner s.current c.self.invariant in
+    roll_fits g.G.RawGame.state_value g.G.RawGame.snapshot_value g.G.Game.step x s.settings s.log.items s.saves s.planner s.current c.self.invariant m (omega (arith, e)) (omega (arith, e))
+
+pub roll-requires-clause-time : goal.roll-requires-clause-time
+roll-requires-clause-time g c =
+    let s = c.self.inside in
+    let x : Value = g.G.RawGame.snapshot_value s.opening in
+    let game : Game = record { opening = x; step = g.G.Game.step } in
+    let core : Core = replay s.settings s.log.items in
+    let m : ℕ = c.frame-frame.result in
+    let e : m ≡ core.frame = c.frame-frame.ensures ∙ frame_is g.G.RawGame.state_value g.G.RawGame.snapshot_value g.G.Game.step x s.settings s.log.items s.saves s.planner s.current c.self.invariant in
+    time_fits g.G.RawGame.state_value g.G.RawGame.snapshot_value g.G.Game.step x s.settings s.log.items s.saves s.planner s.current c.self.invariant m (omega (arith, e)) (omega (arith, e))
+
+pub roll-requires-clause-widths : goal.roll-requires-clause-widths
+roll-requires-clause-widths g c =
+    let s = c.self.inside in
+    let x : Value = g.G.RawGame.snapshot_value s.opening in
+    let game : Game = record { opening = x; step = g.G.Game.step } in
+    let core : Core = replay s.settings s.log.items in
+    let m : ℕ = c.frame-frame.result in
+    let e : m ≡ core.frame = c.frame-frame.ensures ∙ frame_is g.G.RawGame.state_value g.G.RawGame.snapshot_value g.G.Game.step x s.settings s.log.items s.saves s.planner s.current c.self.invariant in
+    paths_fit g.G.RawGame.state_value g.G.RawGame.snapshot_value g.G.Game.step x s.settings s.log.items s.saves s.planner s.current c.self.invariant m (omega (arith, e)) (omega (arith, e))
+
+pub settle-requires : goal.settle-requires
+settle-requires g c =
+    let s = c.self.inside in
+    let x : Value = g.G.RawGame.snapshot_value s.opening in
+    let game : Game = record { opening = x; step = g.G.Game.step } in
+    let core : Core = replay s.settings s.log.items in
+    let m : ℕ = c.frame-frame.result in
+    let e : m ≡ core.frame = c.frame-frame.ensures ∙ frame_is g.G.RawGame.state_value g.G.RawGame.snapshot_value g.G.Game.step x s.settings s.log.items s.saves s.planner s.current c.self.invariant in
+    let full : nat_le s.settings.log core.logged ≡ false = sym (rw (← c.self.view_is) at c.is_full.ensures) ∙ c.if-is_full.false in
+    let added : Added g.G.RawGame.state_value g.G.RawGame.snapshot_value g.G.Game.step x s.settings s.log.items s.saves s.planner s.current c.self.invariant m (m - s.saves.inputs.settled - way_to s.saves m) c.roll.new.saves = record { inputs = c.in-Ok.ensures.inputs; paths = c.in-Ok.ensures.paths; values = c.in-Ok.ensures.values } in
+    let between = between_after_sync g.G.RawGame.state_value g.G.RawGame.snapshot_value g.G.Game.step x s.settings s.log.items s.saves s.planner s.current c.self.invariant m c.roll.new.saves c.frame-frame.ensures added in
+    can_settle g.G.RawGame.snapshot_value g.G.Game.step x s.settings game s.log.items c.self.invariant.is_log Sync (accepted s.settings game core (plain Sync) refl (sync_accepted s.settings game core full)) c.roll.new.saves between
 
 pub invariant_of-self-in-Ok : goal.invariant_of-self-in-Ok
 invariant_of-self-in-Ok g c =
     let s = c.self.inside in
-    let sv = c.prepare.new.saved.items in
-    let inv = subst (λ (v : List (Saved g.row.G-Snapshot.Denot)). IsSession g.G.RawGame.state_value g.G.RawGame.snapshot_value g.G.Game.step s.settings s.log.items s.players.items s.frame v s.current s.plan) (sym c.in_ok-prepared.ensures.same) c.self.invariant in
+    let x : Value = g.G.RawGame.snapshot_value s.opening in
+    let game : Game = record { opening = x; step = g.G.Game.step } in
     let core : Core = replay s.settings s.log.items in
-    let game : Game = record { opening = opening_of g.G.RawGame.snapshot_value sv; step = g.G.Game.step } in
+    let m : ℕ = c.frame-frame.result in
+    let e : m ≡ core.frame = c.frame-frame.ensures ∙ frame_is g.G.RawGame.state_value g.G.RawGame.snapshot_value g.G.Game.step x s.settings s.log.items s.saves s.planner s.current c.self.invariant in
     let full : nat_le s.settings.log core.logged ≡ false = sym (rw (← c.self.view_is) at c.is_full.ensures) ∙ c.if-is_full.false in
-    let from = rw (c.deref.ensures.value, ← c.in_ok-prepared.ensures.same) at c.in_ok-prepared.ensures.from in
-    let rolls : RollsTo g.G.RawGame.state_value g.G.RawGame.snapshot_value g.G.Game.step s.players.items sv c.roll.new.saved.items s.frame c.in_ok-prepared.prepared.from c.in-Ok.state =
-    record {
-      from_is = from;
-      paths_are = rw c.deref-2.ensures.value at c.in-Ok.ensures.paths;
-      values = c.in-Ok.ensures.values;
-      first = c.in-Ok.ensures.first;
-      opening = c.in-Ok.ensures.opening;
-      state_is = rw c.deref-2.ensures.value at c.in-Ok.ensures.value;
-    } in
+    let added : Added g.G.RawGame.state_value g.G.RawGame.snapshot_value g.G.Game.step x s.settings s.log.items s.saves s.planner s.current c.self.invariant m (m - s.saves.inputs.settled - way_to s.saves m) c.roll.new.saves = record { inputs = c.in-Ok.ensures.inputs; paths = c.in-Ok.ensures.paths; values = c.in-Ok.ensures.values } in
+    let between = between_after_sync g.G.RawGame.state_value g.G.RawGame.snapshot_value g.G.Game.step x s.settings s.log.items s.saves s.planner s.current c.self.invariant m c.roll.new.saves c.frame-frame.ensures added in
     let pushed : c.push.new.self.items ≡ s.log.items ++ Sync ∷ [] = (rw c.unwrap.ensures at c.push.ensures.items) ∙ ap (λ xs. xs ++ Sync ∷ []) c.in_ok-reserve.ensures.items in
-    let plan = c.planned-plan.ensures in
+    let plan = c.in-Ok.ensures.plan ∙ (roll_plan g.G.RawGame.state_value g.G.RawGame.snapshot_value g.G.Game.step x s.settings s.log.items s.saves s.planner s.current c.self.invariant m (omega (arith, e)) (omega (arith, e)) c.laws.ensures.base ∙ ap (λ (n : ℕ). record { players = s.settings.players; last = Some (made_from (roll_of core n)) }) e) in
+    let shows = shown_value g.G.RawGame.state_value g.G.RawGame.snapshot_value g.G.Game.step x s.settings s.log.items s.saves s.planner s.current c.self.invariant m c.in-Ok.field-0.state c.in-Ok.ensures.state ∙ ap (λ (n : ℕ). run g.G.Game.step x (timeline core.players n)) e in
     rw pushed
-    (session_next g.G.RawGame.state_value g.G.RawGame.snapshot_value g.G.Game.step s.settings s.log.items Sync game.opening s.players.items s.frame c.roll.new.saved.items (Some c.in-Ok.state) (Some c.planned-plan.result) inv.is_log c.in-Ok.ensures.opening
-    (accepted s.settings game core (plain Sync) refl (sync_accepted s.settings game core full))
-    (rw plan (held_rolled g.G.RawGame.state_value g.G.RawGame.snapshot_value g.G.Game.step core (applied core Sync) s.players.items s.players.items s.frame (s.frame) sv s.current s.plan (s.frame) c.in_ok-prepared.prepared.from c.roll.new.saved.items c.in-Ok.state inv.held rolls
-    inv.held.players inv.held.frame (rw inv.held.frame refl) (rw inv.held.frame refl) (rw inv.held.frame refl))))
+    (session_rolled g.G.RawGame.state_value g.G.RawGame.snapshot_value g.G.Game.step x s.settings s.log.items s.saves s.planner s.current c.self.invariant Sync c.roll.new.saves c.settle.new.self c.roll.new.planner (Some c.in-Ok.field-0.state) (accepted s.settings game core (plain Sync) refl (sync_accepted s.settings game core full)) between c.settle.ensures.inputs c.settle.ensures.states shows plan)
+
+pub settle-requires-in-Err : goal.settle-requires-in-Err
+settle-requires-in-Err g c =
+    let s = c.self.inside in
+    let x : Value = g.G.RawGame.snapshot_value s.opening in
+    let game : Game = record { opening = x; step = g.G.Game.step } in
+    let core : Core = replay s.settings s.log.items in
+    let m : ℕ = c.frame-frame.result in
+    let e : m ≡ core.frame = c.frame-frame.ensures ∙ frame_is g.G.RawGame.state_value g.G.RawGame.snapshot_value g.G.Game.step x s.settings s.log.items s.saves s.planner s.current c.self.invariant in
+    let full : nat_le s.settings.log core.logged ≡ false = sym (rw (← c.self.view_is) at c.is_full.ensures) ∙ c.if-is_full.false in
+    let few : c.in-Err.made ≤ cost core core.frame = subst (λ n. c.in-Err.made ≤ cost core n) e (omega (arith, c.in-Err.ensures.made, cost_is g.G.RawGame.state_value g.G.RawGame.snapshot_value g.G.Game.step x s.settings s.log.items s.saves s.planner s.current c.self.invariant m (omega (arith, e)))) in
+    let can : can_be_partial core m c.in-Err.made ≡ true = subst (λ n. can_be_partial core n c.in-Err.made ≡ true) (sym e) (can_be_partial_sync core c.in-Err.made few) in
+    let between = between_after_partial g.G.RawGame.state_value g.G.RawGame.snapshot_value g.G.Game.step x s.settings s.log.items s.saves s.planner s.current c.self.invariant m c.in-Err.made c.roll.new.saves (omega (arith, e)) (record { inputs = c.in-Err.ensures.inputs; paths = c.in-Err.ensures.partial; values = c.in-Err.ensures.values }) in
+    can_settle g.G.RawGame.snapshot_value g.G.Game.step x s.settings game s.log.items c.self.invariant.is_log (Partial m c.in-Err.made) (accepted s.settings game core (plain (Partial m c.in-Err.made)) refl (partial_accepted s.settings game core m c.in-Err.made can full)) c.roll.new.saves between
 
 pub invariant_of-self-in-Err : goal.invariant_of-self-in-Err
 invariant_of-self-in-Err g c =
     let s = c.self.inside in
-    let sv = c.prepare.new.saved.items in
-    let inv = subst (λ (v : List (Saved g.row.G-Snapshot.Denot)). IsSession g.G.RawGame.state_value g.G.RawGame.snapshot_value g.G.Game.step s.settings s.log.items s.players.items s.frame v s.current s.plan) (sym c.in_ok-prepared.ensures.same) c.self.invariant in
+    let x : Value = g.G.RawGame.snapshot_value s.opening in
+    let game : Game = record { opening = x; step = g.G.Game.step } in
     let core : Core = replay s.settings s.log.items in
-    let game : Game = record { opening = opening_of g.G.RawGame.snapshot_value sv; step = g.G.Game.step } in
+    let m : ℕ = c.frame-frame.result in
+    let e : m ≡ core.frame = c.frame-frame.ensures ∙ frame_is g.G.RawGame.state_value g.G.RawGame.snapshot_value g.G.Game.step x s.settings s.log.items s.saves s.planner s.current c.self.invariant in
     let full : nat_le s.settings.log core.logged ≡ false = sym (rw (← c.self.view_is) at c.is_full.ensures) ∙ c.if-is_full.false in
-    let from = rw (c.deref.ensures.value, ← c.in_ok-prepared.ensures.same) at c.in_ok-prepared.ensures.from in
-    let few : c.in-Err.kept ≤ cost core (s.frame) = rw (from, inv.held.players, inv.held.ever) at c.in-Err.ensures.kept in
-    let can : can_be_partial core (s.frame) c.in-Err.kept ≡ true = subst (λ (m : ℕ). c.in-Err.kept ≤ cost core m → can_be_partial core m c.in-Err.kept ≡ true) (sym inv.held.frame) (can_be_partial_sync core c.in-Err.kept) few in
-    let pushed : c.push-in-Err.new.self.items ≡ s.log.items ++ Partial (s.frame) c.in-Err.kept ∷ [] = (rw c.unwrap-in-Err.ensures at c.push-in-Err.ensures.items) ∙ ap (λ xs. xs ++ Partial (s.frame) c.in-Err.kept ∷ []) c.in_ok-reserve.ensures.items in
+    let few : c.in-Err.made ≤ cost core core.frame = subst (λ n. c.in-Err.made ≤ cost core n) e (omega (arith, c.in-Err.ensures.made, cost_is g.G.RawGame.state_value g.G.RawGame.snapshot_value g.G.Game.step x s.settings s.log.items s.saves s.planner s.current c.self.invariant m (omega (arith, e)))) in
+    let can : can_be_partial core m c.in-Err.made ≡ true = subst (λ n. can_be_partial core n c.in-Err.made ≡ true) (sym e) (can_be_partial_sync core c.in-Err.made few) in
+    let between = between_after_partial g.G.RawGame.state_value g.G.RawGame.snapshot_value g.G.Game.step x s.settings s.log.items s.saves s.planner s.current c.self.invariant m c.in-Err.made c.roll.new.saves (omega (arith, e)) (record { inputs = c.in-Err.ensures.inputs; paths = c.in-Err.ensures.partial; values = c.in-Err.ensures.values }) in
+    let pushed : c.push-in-Err.new.self.items ≡ s.log.items ++ Partial m c.in-Err.made ∷ [] = (rw c.unwrap-in-Err.ensures at c.push-in-Err.ensures.items) ∙ ap (λ xs. xs ++ Partial m c.in-Err.made ∷ []) c.in_ok-reserve.ensures.items in
+    let plan = c.in-Err.ensures.no_plan ∙ ap (λ (n : ℕ). record { players = n; last = None }) (ap (λ (p : Planned). p.players) c.self.invariant.plan) in
     rw pushed
-    (session_next g.G.RawGame.state_value g.G.RawGame.snapshot_value g.G.Game.step s.settings s.log.items (Partial (s.frame) c.in-Err.kept) game.opening s.players.items s.frame c.roll.new.saved.items None None inv.is_log c.in-Err.ensures.opening
-    (accepted s.settings game core (plain (Partial (s.frame) c.in-Err.kept)) refl (partial_accepted s.settings game core (s.frame) c.in-Err.kept can full))
-    (held_partial g.G.RawGame.state_value g.G.RawGame.snapshot_value g.G.Game.step core s.players.items s.frame sv s.current s.plan (s.frame) c.in_ok-prepared.prepared.from c.in-Err.kept c.roll.new.saved.items inv.held from
-    (rw c.deref-2.ensures.value at c.in-Err.ensures.partial) c.in-Err.ensures.values c.in-Err.ensures.first c.in-Err.ensures.opening))
+    (session_rolled g.G.RawGame.state_value g.G.RawGame.snapshot_value g.G.Game.step x s.settings s.log.items s.saves s.planner s.current c.self.invariant (Partial m c.in-Err.made) c.roll.new.saves c.settle-in-Err.new.self c.roll.new.planner None (accepted s.settings game core (plain (Partial m c.in-Err.made)) refl (partial_accepted s.settings game core m c.in-Err.made can full)) between c.settle-in-Err.ensures.inputs c.settle-in-Err.ensures.states tt plan)
+
+pub returns-in-Ok-clause-turns : goal.returns-in-Ok-clause-turns
+returns-in-Ok-clause-turns g c =
+    let s = c.self.inside in
+    let x : Value = g.G.RawGame.snapshot_value s.opening in
+    let game : Game = record { opening = x; step = g.G.Game.step } in
+    let core : Core = replay s.settings s.log.items in
+    let m : ℕ = c.frame-frame.result in
+    let e : m ≡ core.frame = c.frame-frame.ensures ∙ frame_is g.G.RawGame.state_value g.G.RawGame.snapshot_value g.G.Game.step x s.settings s.log.items s.saves s.planner s.current c.self.invariant in
+    rw (← c.self.view_is) (c.in-Ok.ensures.turns ∙ ap (λ (n : ℕ). (g.G.RawGame.turn_count s.game + n) % 2 ^ 64) (cost_is g.G.RawGame.state_value g.G.RawGame.snapshot_value g.G.Game.step x s.settings s.log.items s.saves s.planner s.current c.self.invariant m (omega (arith, e)) ∙ ap (cost core) e))
 
 pub returns-in-Ok-clause-least : goal.returns-in-Ok-clause-least
 returns-in-Ok-clause-least g c =
     let s = c.self.inside in
-    let least = least_of s.settings (record { opening = opening_of g.G.RawGame.snapshot_value s.saved.items; step = g.G.Game.step }) s.log.items c.self.invariant.is_log in
-    subst (λ (v : Seen). IsLeast (core_of v) ((core_of v).frame)) c.self.view_is (least ((replay s.settings s.log.items).frame))
-
-pub returns-in-Ok-clause-log : goal.returns-in-Ok-clause-log
-returns-in-Ok-clause-log g c =
-    let pushed : c.push.new.self.items ≡ c.self.inside.log.items ++ Sync ∷ [] = (rw c.unwrap.ensures at c.push.ensures.items) ∙ ap (λ xs. xs ++ Sync ∷ []) c.in_ok-reserve.ensures.items in
-    rw (← c.self.view_is, pushed, c.in-Ok.ensures.opening, c.in_ok-prepared.ensures.same, c.in-Ok.ensures.refused) refl
+    let x : Value = g.G.RawGame.snapshot_value s.opening in
+    let game : Game = record { opening = x; step = g.G.Game.step } in
+    let core : Core = replay s.settings s.log.items in
+    let m : ℕ = c.frame-frame.result in
+    let e : m ≡ core.frame = c.frame-frame.ensures ∙ frame_is g.G.RawGame.state_value g.G.RawGame.snapshot_value g.G.Game.step x s.settings s.log.items s.saves s.planner s.current c.self.invariant in
+    rw (← c.self.view_is) (least_of s.settings game s.log.items c.self.invariant.is_log core.frame)
 
 pub returns-in-Err-clause-left : goal.returns-in-Err-clause-left
 returns-in-Err-clause-left g c =
     let s = c.self.inside in
-    let sv = c.prepare.new.saved.items in
-    let inv = subst (λ (v : List (Saved g.row.G-Snapshot.Denot)). IsSession g.G.RawGame.state_value g.G.RawGame.snapshot_value g.G.Game.step s.settings s.log.items s.players.items s.frame v s.current s.plan) (sym c.in_ok-prepared.ensures.same) c.self.invariant in
+    let x : Value = g.G.RawGame.snapshot_value s.opening in
+    let game : Game = record { opening = x; step = g.G.Game.step } in
     let core : Core = replay s.settings s.log.items in
-    let game : Game = record { opening = opening_of g.G.RawGame.snapshot_value sv; step = g.G.Game.step } in
+    let m : ℕ = c.frame-frame.result in
+    let e : m ≡ core.frame = c.frame-frame.ensures ∙ frame_is g.G.RawGame.state_value g.G.RawGame.snapshot_value g.G.Game.step x s.settings s.log.items s.saves s.planner s.current c.self.invariant in
     let full : nat_le s.settings.log core.logged ≡ false = sym (rw (← c.self.view_is) at c.is_full.ensures) ∙ c.if-is_full.false in
-    let from = rw (c.deref.ensures.value, ← c.in_ok-prepared.ensures.same) at c.in_ok-prepared.ensures.from in
-    let few : c.in-Err.kept ≤ cost core (s.frame) = rw (from, inv.held.players, inv.held.ever) at c.in-Err.ensures.kept in
-    let end : s.frame ≡ core.frame = ap (λ n. n) inv.held.frame in
-    let pushed : c.push-in-Err.new.self.items ≡ s.log.items ++ Partial (core.frame) c.in-Err.kept ∷ [] = (rw c.unwrap-in-Err.ensures at c.push-in-Err.ensures.items) ∙ (ap (λ xs. xs ++ Partial (s.frame) c.in-Err.kept ∷ []) c.in_ok-reserve.ensures.items ∙ ap (λ n. s.log.items ++ Partial n c.in-Err.kept ∷ []) end) in
+    let few : c.in-Err.made ≤ cost core core.frame = subst (λ n. c.in-Err.made ≤ cost core n) e (omega (arith, c.in-Err.ensures.made, cost_is g.G.RawGame.state_value g.G.RawGame.snapshot_value g.G.Game.step x s.settings s.log.items s.saves s.planner s.current c.self.invariant m (omega (arith, e)))) in
+    let can : can_be_partial core m c.in-Err.made ≡ true = subst (λ n. can_be_partial core n c.in-Err.made ≡ true) (sym e) (can_be_partial_sync core c.in-Err.made few) in
+    let between = between_after_partial g.G.RawGame.state_value g.G.RawGame.snapshot_value g.G.Game.step x s.settings s.log.items s.saves s.planner s.current c.self.invariant m c.in-Err.made c.roll.new.saves (omega (arith, e)) (record { inputs = c.in-Err.ensures.inputs; paths = c.in-Err.ensures.partial; values = c.in-Err.ensures.values }) in
+    let pushed : c.push-in-Err.new.self.items ≡ s.log.items ++ Partial core.frame c.in-Err.made ∷ [] = (rw c.unwrap-in-Err.ensures at c.push-in-Err.ensures.items) ∙ (ap (λ xs. xs ++ Partial m c.in-Err.made ∷ []) c.in_ok-reserve.ensures.items ∙ ap (λ n. s.log.items ++ Partial n c.in-Err.made ∷ []) e) in
     rw (← c.self.view_is)
     (inr (record {
       accepted = sync_accepted s.settings game core full;
-      made = c.in-Err.kept;
-      few = subst (λ (n : ℕ). c.in-Err.kept ≤ cost core n) end few;
-      logged = rw (pushed, c.in-Err.ensures.opening, c.in_ok-prepared.ensures.same, c.in-Err.ensures.refused) refl;
+      made = c.in-Err.made;
+      few = few;
+      logged = rw (pushed, c.in-Err.ensures.refused) refl;
       turns = c.in-Err.ensures.none_forgotten;
     }))

@@ -1,0 +1,272 @@
+-- The saved states between an entry and what settles after it.
+use Rattle.std.proofs.Common.{◌≡◌, ℕ, ◌+◌, ◌-◌, ◌≤◌, List, [], ◌∷◌, ◌++◌, length, refl, ap, sym, subst, ◌∙◌, arith, Bool, true, false, eqb, drop, map, min, Some}
+use Rattle.std.specs.List.{list_all}
+use Rattle.std.specs.Prelude.{All, filter, not, slice_get, slice_index_or, slice_set}
+use Rattle.std.proofs.lemmas.Bool.Decides.{nat_tests}
+use Rattle.std.proofs.lemmas.List.{append-nil, append_assoc, take-append-drop}
+use Rattle.std.proofs.lemmas.List.Elements.{All-filter, All-map, filter_passes}
+use Rattle.roll_frame.specs.Cells.{Rows}
+use Rattle.roll_frame.specs.Core.{Core, cost, depth, is_possible, kept, rolled_paths, settled}
+use Rattle.roll_frame.specs.Events.{added_by, applied, is_accepted, replay}
+use Rattle.roll_frame.specs.Games.{Game, Value}
+use Rattle.roll_frame.specs.Inputs.{changed, with_given, with_gone, with_none_given, with_words}
+use Rattle.roll_frame.specs.Paths.{begins_with, longest, prefixes, run}
+use Rattle.roll_frame.specs.Timeline.{Player, front, timeline}
+use Rattle.roll_frame.specs.declared.entry.Entry.{Entry}
+use Rattle.roll_frame.specs.declared.entry.Entry.TheVariants.{Local, Remote, Disconnect, Sync, Advance, Partial}
+use Rattle.roll_frame.specs.declared.row.Cell.{Cell}
+use Rattle.roll_frame.specs.declared.row.Cell.TheVariants.{Word, Gone}
+use Rattle.roll_frame.specs.declared.settings.Settings.{Settings}
+use Rattle.roll_inputs.specs.Boards.{Inputs, count_of, with_player}
+use Rattle.roll_tree.specs.Kept.{Saved, has_other, later, paths_of}
+use Rattle.roll_laws.specs.Laws.{has_no_other}
+use Rattle.roll_laws.specs.Sessions.{IsLog}
+use Rattle.roll_laws.proofs.Accepted.{timeline_none_given}
+use Rattle.roll_laws.proofs.Saved.{begins_is}
+use Rattle.roll_session.specs.Held.{IsKept, inputs_of}
+use Rattle.roll_session.specs.Saves.{Standing, rows_to, settled_by, settling, with_gone_only, without_other}
+use Rattle.roll_session.specs.Standing.{from_start, rows_from, settled_rows}
+use Rattle.roll_session.proofs.Cuts.{leaving_cut, word_cut}
+use Rattle.roll_session.proofs.Filters.{filter_same, filter_states}
+use Rattle.roll_session.proofs.Grows.{grown, start_is, all_possible, possible_none_given}
+use Rattle.roll_session.proofs.Playing.{IsPlaying}
+use Rattle.roll_session.proofs.Rows.{length-rows_from, settled-rows_from}
+use Rattle.roll_session.proofs.Settles.{Settles, newly, settles}
+
+-- the saved states after an entry, before anything is settled
+pub record IsBetween {N : Type 0} (value : N → Value) (step : Value → List Cell → Value) (opening : Value) (settings : Settings) (core : Core) (entry : Entry) (st : Standing N) : Type 0 where
+  pub inputs : st.inputs ≡ record (inputs_of settings (applied core entry)) { settled = settled core }
+  pub rows : timeline (applied core entry).players (settled core) ≡ timeline core.players (settled core)
+  pub paths : from_start (timeline (applied core entry).players (settled core)) (paths_of st.tree) ≡ filter (is_possible (applied core entry).players) (kept core ++ added_by core entry)
+  pub values : All (λ s. value s.snapshot ≡ run step opening (timeline (applied core entry).players (settled core) ++ s.path)) st.tree.states
+
+-- the player of this number, changed
+changed_is : (change : Player → Player) (players : List Player) (place : ℕ) (player : Player) → slice_get players place ≡ Some player → changed change players (place + 1) ≡ slice_set players place (change player)
+changed_is change players place player e =
+    let z : eqb (place + 1) 0 ≡ false = grind (arith, nat_tests) in
+    let y : place + 1 - 1 ≡ place = omega arith in
+    rw (z, y, e) refl
+
+count_at : (players : List Player) (place : ℕ) (player : Player) → slice_get players place ≡ Some player → count_of players (place + 1) ≡ length player.words
+count_at players place player e =
+    let z : eqb (place + 1) 0 ≡ false = grind (arith, nat_tests) in
+    let y : place + 1 - 1 ≡ place = omega arith in
+    rw (z, y, e) refl
+
+module _ {N : Type 0} (value : N → Value) (step : Value → List Cell → Value) (opening : Value) (settings : Settings) (core : Core) where
+  -- a player changed, and the paths that it rules out are gone
+  between_change : (entry : Entry) (players : List Player) (test : Rows → Bool) (st st' : Standing N)
+      → IsKept value step opening settings core st
+      → (applied core entry).players ≡ players → (applied core entry).frame ≡ core.frame → added_by core entry ≡ []
+      → st'.inputs ≡ record st.inputs { players = players }
+      → st'.tree.states ≡ filter (λ s. test s.path) st.tree.states
+      → timeline players (settled core) ≡ settled_rows core
+      → from_start (settled_rows core) (filter test (paths_of st.tree)) ≡ filter (is_possible players) (kept core)
+      → IsBetween value step opening settings core entry st'
+  between_change entry players test st st' k is_players is_frame is_added inputs states rows cut =
+      record {
+        inputs = inputs ∙ rw (is_players, is_frame) (ap (λ (i : Inputs). record i { players = players }) k.inputs);
+        rows = rw is_players rows;
+        paths = rw (is_players, is_added) (rw (rows) (ap (from_start (settled_rows core)) (ap (map (λ (s : Saved N). s.path)) states ∙ filter_states test st.tree.states) ∙ cut ∙ ap (filter (is_possible players)) (sym (append-nil (kept core)))));
+        values = rw is_players (rw rows (rw states (All-filter (λ s. test s.path) (λ s. value s.snapshot ≡ run step opening (settled_rows core ++ s.path)) st.tree.states k.values)));
+      }
+
+  -- a word of a player who is there
+  between_word : (entry : Entry) (change : Player → Player) (p word : ℕ) (st st' : Standing N)
+      → ((player : Player) → (change player).words ≡ player.words ++ word ∷ []) → ((player : Player) → (change player).gone ≡ player.gone)
+      → (applied core entry).players ≡ changed change core.players p → (applied core entry).frame ≡ core.frame → added_by core entry ≡ []
+      → IsKept value step opening settings core st → IsPlaying st.inputs.players p → st.inputs.settled ≤ count_of st.inputs.players p
+      → st'.inputs ≡ with_player change st.inputs p
+      → st'.tree.states ≡ without_other st.inputs p (Word word) st.tree.states
+      → timeline st'.inputs.players st.inputs.settled ≡ timeline st.inputs.players st.inputs.settled
+      → IsBetween value step opening settings core entry st'
+  between_word entry change p word st st' words gone is_players is_frame is_added k is low inputs states rows =
+      let ip : st.inputs.players ≡ core.players = ap (λ (i : Inputs). i.players) k.inputs in
+      let is_settled : st.inputs.settled ≡ settled core = ap (λ (i : Inputs). i.settled) k.inputs in
+      let at : slice_get core.players is.place ≡ Some is.player = ap (λ ps. slice_get ps is.place) (sym ip) ∙ is.is_there in
+      let count : count_of st.inputs.players p ≡ length is.player.words = ap (count_of st.inputs.players) is.number ∙ count_at st.inputs.players is.place is.player is.is_there in
+      let changed_to : changed change st.inputs.players p ≡ slice_set core.players is.place (change is.player) = ap (λ ps. changed change ps p) ip ∙ ap (changed change core.players) is.number ∙ changed_is change core.players is.place is.player at in
+      let changed_too : changed change core.players p ≡ slice_set core.players is.place (change is.player) = ap (changed change core.players) is.number ∙ changed_is change core.players is.place is.player at in
+      let low_too : settled core ≤ length is.player.words = rw (count, is_settled) at low in
+      let cut = word_cut core is.place is.player (change is.player) word (paths_of st.tree) k.kept_is at is.here (words is.player) (gone is.player ∙ is.here) low_too in
+      between_change entry (slice_set core.players is.place (change is.player)) (λ q. not (has_other (is.place + 1) (length is.player.words - settled core) (Word word) q)) st st' k
+      (is_players ∙ changed_too) is_frame is_added
+      (inputs ∙ ap (λ ps. record st.inputs { players = ps }) changed_to)
+      (states ∙ rw (sym count, sym is_settled, sym is.number) refl)
+      (ap (λ ps. timeline ps (settled core)) (sym (ap (λ (i : Inputs). i.players) inputs ∙ changed_to)) ∙ ap (timeline st'.inputs.players) (sym is_settled) ∙ rows ∙ rw (ip, is_settled) refl)
+      cut
+
+  -- a local word
+  pub between_local : (p word : ℕ) (st st' : Standing N) → IsKept value step opening settings core st → IsPlaying st.inputs.players p → st.inputs.settled ≤ count_of st.inputs.players p
+      → st'.inputs ≡ with_player (with_given word) st.inputs p
+      → st'.tree.states ≡ without_other st.inputs p (Word word) st.tree.states
+      → timeline st'.inputs.players st.inputs.settled ≡ timeline st.inputs.players st.inputs.settled
+      → IsBetween value step opening settings core (Local p word) st'
+  between_local p word st st' = between_word (Local p word) (with_given word) p word st st' (λ player. refl) (λ player. refl) refl refl refl
+
+  -- a remote word
+  pub between_remote : (p f word : ℕ) (st st' : Standing N) → IsKept value step opening settings core st → IsPlaying st.inputs.players p → st.inputs.settled ≤ count_of st.inputs.players p
+      → st'.inputs ≡ with_player (with_words (word ∷ [])) st.inputs p
+      → st'.tree.states ≡ without_other st.inputs p (Word word) st.tree.states
+      → timeline st'.inputs.players st.inputs.settled ≡ timeline st.inputs.players st.inputs.settled
+      → IsBetween value step opening settings core (Remote p f word) st'
+  between_remote p f word st st' = between_word (Remote p f word) (with_words (word ∷ [])) p word st st' (λ player. refl) (λ player. refl) refl refl refl
+
+  -- a player who leaves
+  pub between_leaving : (p : ℕ) (st st' : Standing N) → IsKept value step opening settings core st → IsPlaying st.inputs.players p → st.inputs.settled ≤ count_of st.inputs.players p
+      → st'.inputs ≡ with_player with_gone st.inputs p
+      → st'.tree.states ≡ with_gone_only st.inputs p st.tree.states
+      → timeline st'.inputs.players st.inputs.settled ≡ timeline st.inputs.players st.inputs.settled
+      → IsBetween value step opening settings core (Disconnect p) st'
+  between_leaving p st st' k is low inputs states rows =
+      let ip : st.inputs.players ≡ core.players = ap (λ (i : Inputs). i.players) k.inputs in
+      let is_settled : st.inputs.settled ≡ settled core = ap (λ (i : Inputs). i.settled) k.inputs in
+      let at : slice_get core.players is.place ≡ Some is.player = ap (λ ps. slice_get ps is.place) (sym ip) ∙ is.is_there in
+      let count : count_of st.inputs.players p ≡ length is.player.words = ap (count_of st.inputs.players) is.number ∙ count_at st.inputs.players is.place is.player is.is_there in
+      let changed_to : changed with_gone st.inputs.players p ≡ slice_set core.players is.place (with_gone is.player) = ap (λ ps. changed with_gone ps p) ip ∙ ap (changed with_gone core.players) is.number ∙ changed_is with_gone core.players is.place is.player at in
+      let changed_too : changed with_gone core.players p ≡ slice_set core.players is.place (with_gone is.player) = ap (changed with_gone core.players) is.number ∙ changed_is with_gone core.players is.place is.player at in
+      let low_too : settled core ≤ length is.player.words = rw (count, is_settled) at low in
+      let back : p - 1 ≡ is.place = omega (arith, is.number) in
+      let cut = leaving_cut core is.place is.player (with_gone is.player) (paths_of st.tree) k.kept_is at is.here refl refl low_too in
+      between_change (Disconnect p) (slice_set core.players is.place (with_gone is.player)) (λ q. list_all (has_no_other is.place Gone) (drop (length is.player.words - settled core) q)) st st' k
+      changed_too refl refl
+      (inputs ∙ ap (λ ps. record st.inputs { players = ps }) changed_to)
+      (states ∙ rw (sym count, sym is_settled, sym back) refl)
+      (ap (λ ps. timeline ps (settled core)) (sym (ap (λ (i : Inputs). i.players) inputs ∙ changed_to)) ∙ ap (timeline st'.inputs.players) (sym is_settled) ∙ rows ∙ rw (ip, is_settled) refl)
+      cut
+
+module _ {N : Type 0} (value : N → Value) (step : Value → List Cell → Value) (opening : Value) (settings : Settings) (game : Game) (log : List Entry) (is_log : IsLog settings game log) where
+  -- what is held after the first j states of a roll, all of it possible
+  held_rolled : (m j : ℕ) (st st' : Standing N) → IsKept value step opening settings (replay settings log) st → (replay settings log).frame ≤ m
+      → paths_of st'.tree ≡ paths_of st.tree ++ prefixes (rows_to st.inputs m) (longest (paths_of st.tree) (rows_to st.inputs m)) j
+      → from_start (settled_rows (replay settings log)) (paths_of st'.tree) ≡ filter (is_possible (replay settings log).players) (kept (replay settings log) ++ rolled_paths (replay settings log) m j)
+  held_rolled m j st st' k l paths =
+      let core : Core = replay settings log in
+      let rows : rows_to st.inputs m ≡ rows_from core.players (settled core) (m - settled core) = ap (λ (i : Inputs). rows_to i m) k.inputs in
+      ap (from_start (settled_rows core)) (paths ∙ ap (λ (r : Rows). paths_of st.tree ++ prefixes r (longest (paths_of st.tree) r) j) rows)
+      ∙ grown settings game log is_log (paths_of st.tree) k.kept_is m l j
+      ∙ sym (all_possible core m j)
+
+  -- a roll adds as many states as it costs
+  cost_is : (m : ℕ) (st : Standing N) → IsKept value step opening settings (replay settings log) st → (replay settings log).frame ≤ m
+      → m - settled (replay settings log) - longest (paths_of st.tree) (rows_to st.inputs m) ≡ cost (replay settings log) m
+  cost_is m st k l =
+      let core : Core = replay settings log in
+      let rows : rows_to st.inputs m ≡ rows_from core.players (settled core) (m - settled core) = ap (λ (i : Inputs). rows_to i m) k.inputs in
+      let far : longest (paths_of st.tree) (rows_to st.inputs m) ≡ longest (paths_of st.tree) (rows_from core.players (settled core) (m - settled core)) = ap (longest (paths_of st.tree)) rows in
+      let start : depth core m ≡ settled core + longest (paths_of st.tree) (rows_from core.players (settled core) (m - settled core)) = start_is settings game log is_log (paths_of st.tree) k.kept_is m l in
+      omega (arith, far, start)
+
+  -- the states of a roll to the frame
+  pub between_sync : (st st' : Standing N) → IsKept value step opening settings (replay settings log) st
+      → st'.inputs ≡ st.inputs
+      → paths_of st'.tree ≡ paths_of st.tree ++ prefixes (rows_to st.inputs (replay settings log).frame) (longest (paths_of st.tree) (rows_to st.inputs (replay settings log).frame)) ((replay settings log).frame - settled (replay settings log) - longest (paths_of st.tree) (rows_to st.inputs (replay settings log).frame))
+      → All (λ s. value s.snapshot ≡ run step opening (settled_rows (replay settings log) ++ s.path)) st'.tree.states
+      → IsBetween value step opening settings (replay settings log) Sync st'
+  between_sync st st' k inputs paths values =
+      let m : ℕ = (replay settings log).frame in
+      let reached : (replay settings log).frame ≤ m = omega arith in
+      record {
+        inputs = inputs ∙ k.inputs;
+        rows = refl;
+        paths = held_rolled m (cost (replay settings log) m) st st' k reached (paths ∙ ap (λ j. paths_of st.tree ++ prefixes (rows_to st.inputs m) (longest (paths_of st.tree) (rows_to st.inputs m)) j) (cost_is m st k reached));
+        values = values;
+      }
+
+  -- the first states of a roll
+  pub between_partial : (to made : ℕ) (st st' : Standing N) → IsKept value step opening settings (replay settings log) st → (replay settings log).frame ≤ to
+      → st'.inputs ≡ st.inputs
+      → paths_of st'.tree ≡ paths_of st.tree ++ prefixes (rows_to st.inputs to) (longest (paths_of st.tree) (rows_to st.inputs to)) made
+      → All (λ s. value s.snapshot ≡ run step opening (settled_rows (replay settings log) ++ s.path)) st'.tree.states
+      → IsBetween value step opening settings (replay settings log) (Partial to made) st'
+  between_partial to made st st' k l inputs paths values =
+      record { inputs = inputs ∙ k.inputs; rows = refl; paths = held_rolled to made st st' k l paths; values = values }
+
+  -- the states of a roll to the next frame
+  pub between_advance : (st st' : Standing N) → IsKept value step opening settings (replay settings log) st
+      → st'.inputs ≡ record st.inputs { frame = st.inputs.frame + 1; players = map with_none_given st.inputs.players }
+      → paths_of st'.tree ≡ paths_of st.tree ++ prefixes (rows_to st.inputs ((replay settings log).frame + 1)) (longest (paths_of st.tree) (rows_to st.inputs ((replay settings log).frame + 1))) ((replay settings log).frame + 1 - settled (replay settings log) - longest (paths_of st.tree) (rows_to st.inputs ((replay settings log).frame + 1)))
+      → All (λ s. value s.snapshot ≡ run step opening (settled_rows (replay settings log) ++ s.path)) st'.tree.states
+      → IsBetween value step opening settings (replay settings log) Advance st'
+  between_advance st st' k inputs paths values =
+      let core : Core = replay settings log in
+      let m : ℕ = core.frame + 1 in
+      let reached : core.frame ≤ m = omega arith in
+      let same : timeline (map with_none_given core.players) (settled core) ≡ settled_rows core = timeline_none_given core.players (settled core) in
+      let all : List Rows = kept core ++ rolled_paths core m (cost core m) in
+      record {
+        inputs = inputs ∙ ap (λ (i : Inputs). record i { frame = i.frame + 1; players = map with_none_given i.players }) k.inputs;
+        rows = same;
+        paths =
+          ap (λ (T : Rows). from_start T (paths_of st'.tree)) same
+          ∙ held_rolled m (cost core m) st st' k reached (paths ∙ ap (λ j. paths_of st.tree ++ prefixes (rows_to st.inputs m) (longest (paths_of st.tree) (rows_to st.inputs m)) j) (cost_is m st k reached))
+          ∙ sym (filter_same (is_possible (map with_none_given core.players)) (is_possible core.players) all (λ q i. possible_none_given core.players q));
+        values = rw same values;
+      }
+
+-- the paths as they are seen from n rows later
+later_paths : {N : Type 0} (n : ℕ) (xs : List (Saved N)) → map (λ (s : Saved N). s.path) (map (later n) xs) ≡ map (drop n) (map (λ (s : Saved N). s.path) xs)
+later_paths n [] = refl
+later_paths n (x ∷ xs) = ap (λ (l : List Rows). drop n x.path ∷ l) (later_paths n xs)
+
+-- a path that begins with the rows, and what follows them
+split_path : (T R q : Rows) → begins_with q R ≡ true → T ++ q ≡ (T ++ R) ++ drop (length R) q
+split_path T R q h =
+    let parts : R ++ drop (length R) q ≡ q = ap (λ (p : Rows). p ++ drop (length R) q) (begins_is q R h) ∙ take-append-drop (length R) q in
+    ap (λ (p : Rows). T ++ p) (sym parts) ∙ sym (append_assoc T R (drop (length R) q))
+
+module _ {N : Type 0} (value : N → Value) (step : Value → List Cell → Value) (opening : Value) where
+  -- the states keep their values where more rows settle
+  values_settle : (T R : Rows) (xs : List (Saved N)) → All (λ s. value s.snapshot ≡ run step opening (T ++ s.path)) xs
+      → All (λ s. value s.snapshot ≡ run step opening ((T ++ R) ++ s.path)) (map (later (length R)) (filter (λ u. begins_with u.path R) xs))
+  values_settle T R xs h =
+      let held = All-filter (λ u. begins_with u.path R) (λ s. value s.snapshot ≡ run step opening (T ++ s.path)) xs h in
+      let begun = filter_passes (λ (u : Saved N). begins_with u.path R) xs in
+      All-map (λ s. value s.snapshot ≡ run step opening ((T ++ R) ++ s.path)) (later (length R)) (filter (λ u. begins_with u.path R) xs)
+      (λ k d lt. held k d lt ∙ ap (run step opening) (split_path T R (slice_index_or (filter (λ (u : Saved N). begins_with u.path R) xs) k d).path (begun k d lt)))
+
+module _ {N : Type 0} (value : N → Value) (step : Value → List Cell → Value) (opening : Value) (settings : Settings) (game : Game) (log : List Entry) (is_log : IsLog settings game log) (entry : Entry) (accepted : is_accepted settings game (replay settings log) (record { entry = entry; value = [] }) ≡ true) where
+  between_settles : (st : Standing N) → IsBetween value step opening settings (replay settings log) entry st → Settles (replay settings log) (applied (replay settings log) entry) (paths_of st.tree)
+  between_settles st b = settles settings game log entry is_log accepted (paths_of st.tree) b.paths b.rows
+
+  -- what is settled was confirmed by all
+  pub can_settle : (st : Standing N) → IsBetween value step opening settings (replay settings log) entry st → st.inputs.settled ≤ front st.inputs.players
+  can_settle st b =
+      let is_settled : st.inputs.settled ≡ settled (replay settings log) = ap (λ (i : Inputs). i.settled) b.inputs in
+      let is_front : front st.inputs.players ≡ front (applied (replay settings log) entry).players = ap (λ (i : Inputs). front i.players) b.inputs in
+      let reached = (between_settles st b).reached in
+      omega (arith, is_settled, is_front, reached)
+
+  -- the saved states after an entry are those kept
+  pub settled_kept : (st st' : Standing N) → IsBetween value step opening settings (replay settings log) entry st
+      → st'.inputs ≡ record st.inputs { settled = st.inputs.settled + settling st }
+      → st'.tree.states ≡ settled_by st (settling st)
+      → IsKept value step opening settings (applied (replay settings log) entry) st'
+  settled_kept st st' b inputs states =
+      let core : Core = replay settings log in
+      let next : Core = applied core entry in
+      let s : ℕ = settled core in
+      let ps : List Rows = paths_of st.tree in
+      let n : ℕ = newly next s ps in
+      let R : Rows = rows_from next.players s n in
+      let it = between_settles st b in
+      let many : settling st ≡ n = ap (λ (i : Inputs). longest ps (rows_to i (min (front i.players) i.frame))) b.inputs in
+      let far : s + settling st ≡ settled next = ap (λ k. s + k) many ∙ sym it.settled_is in
+      let are : st'.tree.states ≡ map (later n) (filter (λ u. begins_with u.path R) st.tree.states) =
+          states
+          ∙ ap (λ k. map (later k) (filter (λ u. begins_with u.path (rows_from st.inputs.players st.inputs.settled k)) st.tree.states)) many
+          ∙ ap (λ (i : Inputs). map (later n) (filter (λ u. begins_with u.path (rows_from i.players i.settled n)) st.tree.states)) b.inputs in
+      let paths : paths_of st'.tree ≡ map (drop n) (filter (λ q. begins_with q R) ps) =
+          ap (map (λ (u : Saved N). u.path)) are
+          ∙ later_paths n (filter (λ u. begins_with u.path R) st.tree.states)
+          ∙ ap (map (drop n)) (filter_states (λ q. begins_with q R) st.tree.states) in
+      let long : length R ≡ n = length-rows_from next.players s n in
+      let rows : timeline next.players s ++ R ≡ settled_rows next = settled-rows_from next.players s n ∙ ap (timeline next.players) (sym it.settled_is) in
+      record {
+        inputs = inputs ∙ ap (λ (i : Inputs). record i { settled = i.settled + settling st }) b.inputs ∙ ap (λ k. record (inputs_of settings next) { settled = k }) far;
+        kept_is = ap (from_start (settled_rows next)) paths ∙ ap (λ k. from_start (timeline next.players k) (map (drop n) (filter (λ q. begins_with q R) ps))) it.settled_is ∙ it.kept_is;
+        values =
+          subst (λ (l : List (Saved N)). All (λ u. value u.snapshot ≡ run step opening (settled_rows next ++ u.path)) l) (ap (λ k. map (later k) (filter (λ u. begins_with u.path R) st.tree.states)) long ∙ sym are)
+          (subst (λ (T : Rows). All (λ u. value u.snapshot ≡ run step opening (T ++ u.path)) (map (later (length R)) (filter (λ u. begins_with u.path R) st.tree.states))) rows
+          (values_settle value step opening (timeline next.players s) R st.tree.states b.values));
+      }

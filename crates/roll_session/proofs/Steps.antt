@@ -1,0 +1,91 @@
+-- The timeline and the saved states after each step.
+use Rattle.std.proofs.Common.{◌≡◌, ℕ, ◌+◌, ◌-◌, ◌≤◌, List, [], ◌∷◌, ◌++◌, length, map, take, drop, refl, ap, sym, subst, ◌∙◌, arith, inl, inr, Bool, true, false, cond, Option, Some, None}
+use Rattle.std.specs.Prelude.{◌==◌, IsSomeAnd, option_map, vec_capacity}
+use Rattle.std.specs.List.{find}
+use Rattle.roll_frame.specs.Cells.{Rows}
+use Rattle.roll_frame.specs.Paths.{contains, longest}
+use Rattle.roll_frame.specs.Timeline.{Player, timeline}
+use Rattle.roll_inputs.specs.Boards.{Inputs, KeepsCells, count_of}
+use Rattle.roll_laws.proofs.Saved.{In, in_has, longest_is}
+use Rattle.roll_tree.specs.Kept.{Kept, Saved, held, paths_of, time_to}
+use Rattle.roll_tree.specs.Marks.{AreSameBut}
+use Rattle.roll_session.specs.Saves.{IsInStep}
+use Rattle.roll_session.specs.Standing.{rows_from}
+use Rattle.roll_session.specs.declared.saves.Saves.TheInside.{Inside}
+use Rattle.roll_session.proofs.Retold.{same_but}
+use Rattle.roll_session.proofs.Rows.{drop-rows_from, length-rows_from, settled-rows_from, take-rows_from}
+
+-- the longest is no longer than the rows
+pub longest_short : (ps : List Rows) (q : Rows) → longest ps q ≤ length q
+longest_short ps q = elim (longest_is ps q) [ inl z ↦ omega (arith, z) | inr h ↦ h.1 ]
+
+some_and : {A : Type 0} (o : Option A) (P Q : A → Type 0) → ((x : A) → P x → Q x) → IsSomeAnd o P → IsSomeAnd o Q
+some_and None P Q f h = h
+some_and (Some x) P Q f h = f x h
+
+module _ {S : Type 0} where
+  -- what a tree was told but for one player's later cells
+  pub still_told : (s : Inside S) (new : Inputs) (p : ℕ) → IsInStep s → KeepsCells s.board.players new.players p → AreSameBut p (count_of s.board.players p) s.board.settled s.tree.time (rows_from new.players s.board.settled (length s.tree.time))
+  still_told s new p i keeps =
+      subst (λ (time : Rows). AreSameBut p (count_of s.board.players p) s.board.settled time (rows_from new.players s.board.settled (length s.tree.time))) (sym i.told)
+      (same_but s.board.players new.players p s.board.settled (length s.tree.time) keeps)
+
+  -- after an input, where the tree was told the timeline again
+  pub retold : (s : Inside S) (new : Inputs) (t : Kept S) → IsInStep s → new.settled ≡ s.board.settled → new.frame ≡ s.board.frame → timeline new.players s.board.settled ≡ timeline s.board.players s.board.settled
+      → t.base ≡ s.tree.base → t.time ≡ rows_from new.players new.settled (length s.tree.time) → IsInStep (record { board = new; past = s.past; tree = t })
+  retold s new t i settled frame rows base time =
+      record {
+        past = rw settled (i.past ∙ sym rows);
+        base = base ∙ i.base ∙ sym settled;
+        told = let long = ap length time ∙ length-rows_from new.players new.settled (length s.tree.time) in rw long time;
+        room = rw frame i.room;
+      }
+
+  held_in : (f : Saved S → Bool) (states : List (Saved S)) (s : Saved S) → find f states ≡ Some s → In s.path (map (λ (u : Saved S). u.path) states)
+  held_in f [] s e = absurd (cc e)
+  held_in f (u ∷ states) s e = go (f u) e (held_in f states s)
+    where
+      go : (b : Bool) → cond b (Some u) (find f states) ≡ Some s → (find f states ≡ Some s → In s.path (map (λ (v : Saved S). v.path) states)) → In s.path (u.path ∷ map (λ (v : Saved S). v.path) states)
+      go true e rest = inl (cc e)
+      go false e rest = inr (rest e)
+
+  module _ (t : Kept S) (players : List Player) (s to : ℕ) (base : t.base ≡ s) (told : t.time ≡ rows_from players s (length t.time)) (from : s ≤ to) (far : to ≤ s + length t.time) where
+    -- the rows that a tree was told, up to a frame
+    pub time_is : time_to t to ≡ rows_from players s (to - s)
+    time_is = rw base (ap (take (to - s)) told ∙ take-rows_from players s (length t.time) (to - s) (omega (arith, far)))
+
+    -- how far its paths begin them
+    pub longest_there : s + longest (paths_of t) (time_to t to) ≤ to
+    longest_there =
+        let short = longest_short (paths_of t) (time_to t to) in
+        omega (arith, short, ap length time_is, length-rows_from players s (to - s), from)
+
+    first_rows : take (longest (paths_of t) (time_to t to)) (time_to t to) ≡ rows_from players s (longest (paths_of t) (rows_from players s (to - s)))
+    first_rows = rw time_is (take-rows_from players s (to - s) (longest (paths_of t) (rows_from players s (to - s))) (omega (arith, longest_short (paths_of t) (rows_from players s (to - s)), length-rows_from players s (to - s))))
+
+    -- the rows of the deepest state on the timeline
+    pub deepest_is : (node : ℕ) → IsSomeAnd (held t node) (λ u. u.path ≡ take (longest (paths_of t) (time_to t to)) (time_to t to)) → IsSomeAnd (held t node) (λ u. u.path ≡ rows_from players s (longest (paths_of t) (rows_from players s (to - s))))
+    deepest_is node h = some_and (held t node) (λ u. u.path ≡ take (longest (paths_of t) (time_to t to)) (time_to t to)) (λ u. u.path ≡ rows_from players s (longest (paths_of t) (rows_from players s (to - s)))) (λ u e. e ∙ first_rows) h
+
+  -- a path that a tree gave
+  pub path_is : (t : Kept S) (node : ℕ) (rows q : Rows) → IsSomeAnd (held t node) (λ u. u.path ≡ q) → option_map (λ (u : Saved S). u.path) (held t node) ≡ Some rows → (rows ≡ q) × (contains (paths_of t) rows ≡ true)
+  path_is t node rows q h e = go (held t node) refl h e
+    where
+      go : (o : Option (Saved S)) → held t node ≡ o → IsSomeAnd o (λ u. u.path ≡ q) → option_map (λ (u : Saved S). u.path) o ≡ Some rows → (rows ≡ q) × (contains (paths_of t) rows ≡ true)
+      go None is h e = absurd h
+      go (Some u) is h e =
+          let same : u.path ≡ rows = cc e in
+          (sym same ∙ h, subst (λ (r : Rows). contains (paths_of t) r ≡ true) same (in_has (paths_of t) u.path (held_in (λ v. v.name == node) t.states u is)))
+
+  -- after some rows were settled
+  pub settled_step : (s new : Inside S) (n k : ℕ) → IsInStep s → new.board ≡ record s.board { settled = s.board.settled + n } → new.past.items ≡ s.past.items ++ rows_from s.board.players s.board.settled n → vec_capacity s.past ≤ vec_capacity new.past
+      → new.tree.base ≡ s.board.settled + n → new.tree.time ≡ drop n (rows_from s.board.players s.board.settled k) → IsInStep new
+  settled_step s new n k i board items room base time =
+      let rest = time ∙ drop-rows_from s.board.players s.board.settled k n in
+      let long = ap length rest ∙ length-rows_from s.board.players (s.board.settled + n) (k - n) in
+      record {
+        past = rw board (items ∙ (ap (λ (q : Rows). q ++ rows_from s.board.players s.board.settled n) i.past ∙ settled-rows_from s.board.players s.board.settled n));
+        base = rw board base;
+        told = rw (board, long) rest;
+        room = rw board (omega (arith, room, i.room));
+      }

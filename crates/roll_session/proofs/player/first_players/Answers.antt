@@ -1,9 +1,0 @@
-use Rattle.std.proofs.Common.{◌≡◌, ◌+◌, ◌∙◌, sym, arith}
-use Rattle.std.proofs.lemmas.List.FromFn.{map-range_with_len_more}
-use Rattle.roll_frame.specs.Settings.{first_player}
-use Rattle.roll_session.proofs.player.first_players.Goals as goal
-
-pub loop-place-preserved : goal.loop-place-preserved
-loop-place-preserved c =
-    let place : 0 + c.loop-place.place ≡ c.loop-place.place = omega arith in
-    c.in_ok-push.ensures.items ∙ rw (c.loop-place.invariant, c.in_ok-new.ensures) (sym (map-range_with_len_more (first_player c.args.settings.now) 0 c.loop-place.place c.loop-place.place place))

@@ -1,0 +1,32 @@
+use Rattle.std.proofs.Common.{◌≡◌, ◌-◌, ◌%◌, ◌^◌, ◌∙◌, ℕ, ap, arith}
+use Rattle.roll_frame.specs.declared.limits.TheConstants.{TREE_LIMIT}
+use Rattle.roll_session.proofs.Rolling.{can_grow, one_turn, still_few, way_more, way_start}
+use Rattle.roll_session.proofs.roll.run_on.Goals as goal
+
+pub loop-frame-init : goal.loop-frame-init
+loop-frame-init g c =
+    let none : c.args.from - c.args.from ≡ 0 = omega arith in
+    record {
+      way = way_start g.G.RawGame.snapshot_value g.G.Game.step c.args.saves.now c.args.from c.args.to c.requires.from c.args.start c.snapshot.result.now (g.G.RawGame.state_value c.in-Ok.loaded) c.requires.within c.requires.base c.requires.start c.snapshot.ensures c.in-Ok.ensures.value;
+      turns = rw (none, c.in-Ok.ensures.turns) (ap (λ (n : ℕ). n % 2 ^ 64) (omega arith));
+      refused = c.in-Ok.ensures.refused;
+    }
+
+pub grow-at-requires-clause-fits : goal.grow-at-requires-clause-fits
+grow-at-requires-clause-fits g c =
+    can_grow g.G.RawGame.snapshot_value g.G.Game.step c.args.saves.now c.args.from c.args.to c.requires.from c.loop-frame.saves c.loop-frame.frame c.loop-frame.at (g.G.RawGame.state_value c.loop-frame.state) c.loop-frame.invariant.way (omega (arith, c.loop-frame-test.true)) (omega (arith, c.ranges.to.fits)) c.requires.near
+
+pub grow-at-requires-clause-few : goal.grow-at-requires-clause-few
+grow-at-requires-clause-few g c =
+    still_few g.G.RawGame.snapshot_value g.G.Game.step c.args.saves.now c.args.from c.args.to c.requires.from c.loop-frame.saves c.loop-frame.frame c.loop-frame.at TREE_LIMIT (g.G.RawGame.state_value c.loop-frame.state) c.loop-frame.invariant.way (omega (arith, c.loop-frame-test.true)) c.requires.fits
+
+pub loop-frame-preserved : goal.loop-frame-preserved
+loop-frame-preserved g c =
+    let now = c.loop-frame.invariant in
+    record {
+      way =
+          way_more g.G.RawGame.snapshot_value g.G.Game.step c.args.saves.now c.args.from c.args.to c.requires.from c.loop-frame.saves c.grow-at.new.self c.loop-frame.frame c.loop-frame.at c.grow-at.result (g.G.RawGame.state_value c.loop-frame.state) (g.G.RawGame.state_value c.advance_and_save.new.state)
+          c.in-Ok-advance_and_save.snapshot c.row-row.result now.way (omega (arith, c.loop-frame-test.true)) c.row-row.ensures c.in-Ok-advance_and_save.ensures.state c.in-Ok-advance_and_save.ensures.snapshot c.grow-at.ensures.inputs c.grow-at.ensures.room c.grow-at.ensures.vacant c.grow-at.ensures.added;
+      turns = one_turn _ (g.G.RawGame.turn_count c.loop-frame.game) _ c.args.from c.loop-frame.frame now.way.low now.turns c.advance_and_save.ensures.turns;
+      refused = c.in-Ok-advance_and_save.ensures.refused ∙ now.refused;
+    }

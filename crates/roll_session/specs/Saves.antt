@@ -1,0 +1,56 @@
+-- The timeline and the saved states as a session sees them, and what their fields keep.
+use Rattle.std.specs.Prelude.{◌≡◌, ℕ, ◌-◌, ◌≤◌, List, ◌++◌, length, filter, map, drop, min, not, vec_capacity, All}
+use Rattle.std.specs.List.{list_all}
+use Rattle.roll_frame.specs.declared.row.Cell.{Cell}
+use Rattle.roll_frame.specs.declared.row.Cell.TheVariants.{Word, Gone}
+use Rattle.roll_frame.specs.Cells.{Rows}
+use Rattle.roll_frame.specs.Paths.{begins_with, longest, run}
+use Rattle.roll_frame.specs.Games.{Value}
+use Rattle.roll_frame.specs.Timeline.{timeline, front}
+use Rattle.roll_inputs.specs.Boards.{Inputs, count_of}
+use Rattle.roll_laws.specs.Laws.{has_no_other}
+use Rattle.roll_tree.specs.Kept.{Kept, Saved, has_other, later, paths_of}
+use Rattle.roll_session.specs.Standing.{rows_from}
+use Rattle.roll_session.specs.declared.saves.Saves.TheInside.{Inside}
+
+-- the inputs, the saved states, and how many settled rows there is room for
+pub record Standing (S : Type 0) : Type 0 where
+  pub inputs : Inputs
+  pub tree : Kept S
+  pub room : ℕ
+
+-- the fields tell of one timeline
+pub record IsInStep {S : Type 0} (s : Inside S) : Type 0 where
+  pub past : s.past.items ≡ timeline s.board.players s.board.settled
+  pub base : s.tree.base ≡ s.board.settled
+  pub told : s.tree.time ≡ rows_from s.board.players s.board.settled (length s.tree.time)
+  pub room : s.board.frame ≤ vec_capacity s.past
+
+-- the timeline's rows from the settled frame to this one
+abbrev pub rows_to : Inputs → ℕ → Rows
+rows_to inputs to = rows_from inputs.players inputs.settled (to - inputs.settled)
+
+module _ {S : Type 0} where
+  -- the states whose paths have no other cell than this for player p in the frame of its next word
+  abbrev pub without_other : Inputs → ℕ → Cell → List (Saved S) → List (Saved S)
+  without_other inputs p cell states = filter (λ s. not (has_other p (count_of inputs.players p - inputs.settled) cell s.path)) states
+
+  -- the states whose paths have player p gone from the frame of its next word on
+  abbrev pub with_gone_only : Inputs → ℕ → List (Saved S) → List (Saved S)
+  with_gone_only inputs p states = filter (λ s. list_all (has_no_other (p - 1) Gone) (drop (count_of inputs.players p - inputs.settled) s.path)) states
+
+  -- how far past the settled rows the deepest saved state lies on the timeline's way to a frame
+  abbrev pub way_to : Standing S → ℕ → ℕ
+  way_to s to = longest (paths_of s.tree) (rows_to s.inputs to)
+
+  -- each state has the value that the settled rows and its path lead to
+  abbrev pub HaveValues : (S → Value) → (Value → List Cell → Value) → Value → Rows → List (Saved S) → Type 0
+  HaveValues value step opening settled states = All (λ s. value s.snapshot ≡ run step opening (settled ++ s.path)) states
+
+  -- how many rows can be settled more: the deepest saved state on the confirmed timeline up to the frame ends them
+  abbrev pub settling : Standing S → ℕ
+  settling s = way_to s (min (front s.inputs.players) s.inputs.frame)
+
+  -- the states as they are seen from n settled rows later
+  abbrev pub settled_by : Standing S → ℕ → List (Saved S)
+  settled_by s n = map (later n) (filter (λ u. begins_with u.path (rows_from s.inputs.players s.inputs.settled n)) s.tree.states)

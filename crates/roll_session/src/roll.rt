@@ -1,0 +1,119 @@
+//! The roll: from the best saved state to a frame, saving each state on the way.
+ghost use Rattle.std.specs.Prelude.{◌≡◌, ◌⊎◌, ◌<◌, ◌≤◌, ◌+◌, ◌-◌, ◌%◌, ◌^◌, ◌++◌, length, All, IfOk, IfErr, OnOk, OnErr, IsSomeAnd, Some, None, is_ok};
+ghost use Rattle.roll_frame.specs.Claims.{AreRowsOf};
+ghost use Rattle.roll_frame.specs.Games.{Value};
+ghost use Rattle.roll_frame.specs.Paths.{longest, prefixes, run};
+ghost use Rattle.roll_frame.specs.Timeline.{timeline};
+ghost use Rattle.roll_game.specs.Counts.{next_count, refusals_after};
+ghost use Rattle.roll_plan.specs.Plans.{made_of};
+ghost use Rattle.roll_tree.specs.Kept.{held, paths_of};
+ghost use Rattle.roll_session.specs.Saves.{HaveValues, rows_to, way_to};
+ghost use Rattle.roll_session.specs.Standing.{rows_from};
+
+use crate::saves::Saves;
+use roll_frame::{FRAME_LIMIT, PATH_LIMIT, Row, TREE_LIMIT};
+use roll_game::{Game, NoMemory};
+use roll_plan::Planner;
+
+/// Advances by a row, and saves the state that this led to.
+fn advance_and_save<G: Game>(
+    game: &mut G,
+    state: &mut G::State,
+    row: &Row,
+) -> Result<G::Snapshot, NoMemory>
+    ensures snapshot { IfOk result (λ snapshot. G.snapshot_value snapshot ≡ G.step (G.state_value state.old) row.now) }
+    ensures state { OnOk result (G.state_value state.new ≡ G.step (G.state_value state.old) row.now) }
+    ensures turns { G.turn_count game.new ≡ next_count (G.turn_count game.old) }
+    ensures refused { G.refusal_count game.new ≡ refusals_after (is_ok result) (G.refusal_count game.old) }
+{
+    game.advance(state, row)?;
+    game.save(state)
+}
+
+/// Loads a saved state on the timeline's way to a frame, and advances to there, saving each state. Where the game
+/// refuses, it says how many states were saved.
+fn run_on<G: Game>(
+    game: &mut G,
+    saves: &mut Saves<G::Snapshot>,
+    start: usize,
+    from: u32,
+    to: u32,
+) -> Result<G::State, u32>
+    requires base { saves.old.tree.base ≡ saves.old.inputs.settled }
+    requires from { from ≡ saves.old.inputs.settled + way_to saves.old to }
+    requires within { from ≤ to }
+    requires near { to ≤ saves.old.inputs.settled + PATH_LIMIT }
+    requires start { IsSomeAnd (held saves.old.tree start) (λ s. s.path ≡ rows_from saves.old.inputs.players saves.old.inputs.settled (way_to saves.old to)) }
+    requires fits { length saves.old.tree.states + (to - from) ≤ TREE_LIMIT }
+    ensures inputs { saves.new.inputs ≡ saves.old.inputs }
+    ensures room { saves.new.room ≡ saves.old.room }
+    ensures paths { OnOk result (paths_of saves.new.tree ≡ paths_of saves.old.tree ++ prefixes (rows_to saves.old.inputs to) (way_to saves.old to) (to - from)) }
+    ensures values { (opening : Value) → HaveValues G.snapshot_value G.step opening (timeline saves.old.inputs.players saves.old.inputs.settled) saves.old.tree.states → HaveValues G.snapshot_value G.step opening (timeline saves.old.inputs.players saves.old.inputs.settled) saves.new.tree.states }
+    ensures state { IfOk result (λ state. (opening : Value) → HaveValues G.snapshot_value G.step opening (timeline saves.old.inputs.players saves.old.inputs.settled) saves.old.tree.states → G.state_value state ≡ run G.step opening (timeline saves.old.inputs.players to)) }
+    ensures turns { OnOk result (G.turn_count game.new % 2 ^ 64 ≡ (G.turn_count game.old + (to - from)) % 2 ^ 64) }
+    ensures refused { G.refusal_count game.new ≡ refusals_after (is_ok result) (G.refusal_count game.old) }
+    ensures made { IfErr result (λ made. made ≤ to - from) }
+    ensures partial { IfErr result (λ made. paths_of saves.new.tree ≡ paths_of saves.old.tree ++ prefixes (rows_to saves.old.inputs to) (way_to saves.old to) made) }
+    ensures none_forgotten { IfErr result (λ made. (G.turn_count game.new % 2 ^ 64 ≡ (G.turn_count game.old + made) % 2 ^ 64) ⊎ (G.turn_count game.new % 2 ^ 64 ≡ (G.turn_count game.old + (made + 1)) % 2 ^ 64)) }
+{
+    let Ok(loaded) = game.load(saves.snapshot(start)) else {
+        return Err(0);
+    };
+    let mut state = loaded;
+    let mut at = start;
+    for frame in from..to {
+        let row = saves.row(frame);
+        let Ok(snapshot) = advance_and_save(game, &mut state, &row) else {
+            return Err(frame - from);
+        };
+        at = saves.grow(at, frame, snapshot);
+    }
+    Ok(state)
+}
+
+/// The state at the end of a roll, and the length of the path that it started from.
+#[derive(Drop)]
+pub struct Rolled<S> {
+    pub state: S,
+    pub from: u32,
+}
+
+/// Rolls to a frame, and takes down the plan. Where the game refuses, it says how many states were saved, and there is
+/// no plan.
+pub fn roll<G: Game>(
+    game: &mut G,
+    saves: &mut Saves<G::Snapshot>,
+    planner: &mut Planner,
+    to: u32,
+) -> Result<Rolled<G::State>, u32>
+    requires low { saves.old.inputs.frame ≤ to }
+    requires high { to ≤ saves.old.inputs.frame + 1 }
+    requires fits { length saves.old.tree.states + (to - saves.old.inputs.settled - way_to saves.old to) ≤ TREE_LIMIT }
+    requires time { AreRowsOf planner.old.players (rows_to saves.old.inputs to) }
+    requires widths { All (AreRowsOf planner.old.players) (paths_of saves.old.tree) }
+    ensures inputs { saves.new.inputs ≡ saves.old.inputs }
+    ensures room { saves.new.room ≡ saves.old.room }
+    ensures from { IfOk result (λ rolled. rolled.from ≡ saves.old.inputs.settled + way_to saves.old to) }
+    ensures within { IfOk result (λ rolled. rolled.from ≤ to) }
+    ensures paths { OnOk result (paths_of saves.new.tree ≡ paths_of saves.old.tree ++ prefixes (rows_to saves.old.inputs to) (way_to saves.old to) (to - saves.old.inputs.settled - way_to saves.old to)) }
+    ensures values { (opening : Value) → HaveValues G.snapshot_value G.step opening (timeline saves.old.inputs.players saves.old.inputs.settled) saves.old.tree.states → HaveValues G.snapshot_value G.step opening (timeline saves.old.inputs.players saves.old.inputs.settled) saves.new.tree.states }
+    ensures state { IfOk result (λ rolled. (opening : Value) → HaveValues G.snapshot_value G.step opening (timeline saves.old.inputs.players saves.old.inputs.settled) saves.old.tree.states → G.state_value rolled.state ≡ run G.step opening (timeline saves.old.inputs.players to)) }
+    ensures plan { OnOk result (planner.new ≡ record planner.old { last = Some (made_of saves.old.tree (rows_to saves.old.inputs to)) }) }
+    ensures turns { OnOk result (G.turn_count game.new % 2 ^ 64 ≡ (G.turn_count game.old + (to - saves.old.inputs.settled - way_to saves.old to)) % 2 ^ 64) }
+    ensures refused { G.refusal_count game.new ≡ refusals_after (is_ok result) (G.refusal_count game.old) }
+    ensures made { IfErr result (λ made. made ≤ to - saves.old.inputs.settled - way_to saves.old to) }
+    ensures partial { IfErr result (λ made. paths_of saves.new.tree ≡ paths_of saves.old.tree ++ prefixes (rows_to saves.old.inputs to) (way_to saves.old to) made) }
+    ensures none_forgotten { IfErr result (λ made. (G.turn_count game.new % 2 ^ 64 ≡ (G.turn_count game.old + made) % 2 ^ 64) ⊎ (G.turn_count game.new % 2 ^ 64 ≡ (G.turn_count game.old + (made + 1)) % 2 ^ 64)) }
+    ensures no_plan { OnErr result (planner.new ≡ record planner.old { last = None }) }
+{
+    saves.laws();
+    let (start, from) = saves.deepest(to);
+    saves.plan(planner, to);
+    match run_on(game, saves, start, from, to) {
+        Ok(state) => Ok(Rolled { state, from }),
+        Err(made) => {
+            planner.forget();
+            Err(made)
+        }
+    }
+}

@@ -1,0 +1,393 @@
+//! The timeline, and the saved states beside it.
+ghost use Rattle.std.specs.Prelude.{◌≡◌, ℕ, ◌+◌, ◌-◌, ◌≤◌, ◌<◌, ◌∷◌, ◌++◌, [], length, map, filter, drop, min, None, Some, IfOk, IfErr, OnOk, OnErr, IfSome, IsSome, IsSomeAnd, All, option_map, true, false, not, nat_lt, IsTrue, vec_capacity, if◌then◌else◌};
+ghost use Rattle.std.specs.List.{list_all};
+ghost use Rattle.roll_frame.specs.Claims.{AreRowsOf};
+ghost use Rattle.roll_frame.specs.Events.{all_given};
+ghost use Rattle.roll_frame.specs.Inputs.{is_repeated, with_given, with_gone, with_none_given, with_words};
+ghost use Rattle.roll_frame.specs.Order.{in_order};
+ghost use Rattle.roll_frame.specs.Paths.{contains, longest};
+ghost use Rattle.roll_frame.specs.Timeline.{front, row_at, timeline};
+ghost use Rattle.roll_frame.specs.declared.row.Cell.TheVariants.{Gone};
+ghost use Rattle.roll_inputs.specs.Boards.{disconnect_refusal, local_refusal, remote_refusal, with_player};
+ghost use Rattle.roll_laws.specs.Laws.{has_no_other};
+ghost use Rattle.roll_plan.specs.Plans.{made_of};
+ghost use Rattle.roll_tree.specs.Kept.{CanGrow, held, path_of, paths_of, with_state};
+ghost use Rattle.roll_tree.specs.Marks.{AreSameBut};
+ghost use Rattle.roll_session.specs.Standing.{rows_from};
+ghost use Rattle.roll_session.specs.Saves.{rows_to, settled_by, settling, with_gone_only, without_other};
+
+use arrayvec::ArrayVec;
+use roll_frame::{Cell, FRAME_LIMIT, PATH_LIMIT, Path, Refusal, Row, TREE_LIMIT};
+use roll_inputs::{Board, Heard};
+use roll_plan::Planner;
+use roll_tree::Tree;
+use std::alloc::{AllocError, AllocFailed, Global};
+use std::marker::Model;
+
+/// The inputs of all players, the settled rows, and the saved states that can still matter.
+#[derive(Drop)]
+pub struct Saves<S> {
+    board: Board,
+    past: Vec<Row>,
+    tree: Tree<S>,
+}
+
+impl<S> Model for Saves<S> {
+    ghost use Rattle.std.specs.Prelude.{vec_capacity};
+    ghost use Rattle.roll_session.specs.Saves.{Standing, IsInStep};
+
+    ghost Value = { Standing S };
+
+    ghost view = { λ s. record { inputs = s.board; tree = s.tree; room = vec_capacity s.past } };
+
+    ghost invariant = { IsInStep };
+}
+
+impl<S> Saves<S> {
+    /// The inputs at the start, and the opening as the only saved state.
+    pub fn new(alloc: Global, board: Board, opening: S) -> Result<Saves<S>, AllocFailed<S>>
+    where
+        S: Drop,
+        requires frame { board.frame ≡ 0 }
+        requires settled { board.settled ≡ 0 }
+        ensures inputs { IfOk result (λ s. s.inputs ≡ board) }
+        ensures alone { IfOk result (λ s. s.tree.states ≡ record { name = s.tree.root; path = []; snapshot = opening } ∷ []) }
+        ensures returned { IfErr result (λ failed. failed.value ≡ opening) }
+    {
+        match Tree::new(alloc, 0, opening) {
+            Ok(tree) => Ok(Saves {
+                board,
+                past: Vec::new(alloc),
+                tree,
+            }),
+            Err(failed) => Err(failed),
+        }
+    }
+
+    /// Gives a local player's word of this frame, and drops the states that it rules out.
+    pub fn give(&mut self, player: u8, word: u32)
+    where
+        S: Drop,
+        requires { local_refusal self.old.inputs player ≡ None }
+        ensures inputs { self.new.inputs ≡ with_player (with_given word) self.old.inputs player }
+        ensures states { self.new.tree.states ≡ without_other self.old.inputs player (Cell.Word word) self.old.tree.states }
+        ensures rows { timeline self.new.inputs.players self.old.inputs.settled ≡ timeline self.old.inputs.players self.old.inputs.settled }
+        ensures room { self.new.room ≡ self.old.room }
+    {
+        self.board.laws();
+        let count = self.board.count(player);
+        self.board.local(player, word).unwrap();
+        let known = self.tree.time().len();
+        tell(&mut self.tree, &self.board, player, count, known);
+        self.tree.cut(player, count, Cell::Word(word));
+    }
+
+    /// What a remote word would be answered now.
+    pub fn remote_reply(&self, player: u8, frame: u32, word: u32) -> Result<Heard, Refusal>
+        ensures heard { IfOk result (λ heard. heard ≡ (if is_repeated self.now.inputs.players player frame word then Heard.Repeated else Heard.Taken)) }
+        ensures accepted { IfOk result (λ heard. heard ≡ Heard.Taken → remote_refusal self.now.inputs player frame ≡ None) }
+        ensures refused { IfErr result (λ why. remote_refusal self.now.inputs player frame ≡ Some why) }
+        ensures new { OnErr result (is_repeated self.now.inputs.players player frame word ≡ false) }
+    {
+        self.board.remote_reply(&self.past, player, frame, word)
+    }
+
+    /// Takes the next word of a remote player, and drops the states that it rules out.
+    pub fn hear(&mut self, player: u8, frame: u32, word: u32)
+    where
+        S: Drop,
+        requires new { is_repeated self.old.inputs.players player frame word ≡ false }
+        requires accepted { remote_refusal self.old.inputs player frame ≡ None }
+        ensures inputs { self.new.inputs ≡ with_player (with_words (word ∷ [])) self.old.inputs player }
+        ensures states { self.new.tree.states ≡ without_other self.old.inputs player (Cell.Word word) self.old.tree.states }
+        ensures rows { timeline self.new.inputs.players self.old.inputs.settled ≡ timeline self.old.inputs.players self.old.inputs.settled }
+        ensures room { self.new.room ≡ self.old.room }
+    {
+        self.board.laws();
+        let count = self.board.count(player);
+        self.board.remote(&self.past, player, frame, word).unwrap();
+        let known = self.tree.time().len();
+        tell(&mut self.tree, &self.board, player, count, known);
+        self.tree.cut(player, count, Cell::Word(word));
+    }
+
+    /// A remote player leaves. Drops the states that have words of the player later on.
+    pub fn leave(&mut self, player: u8)
+    where
+        S: Drop,
+        requires { disconnect_refusal self.old.inputs player ≡ None }
+        ensures inputs { self.new.inputs ≡ with_player with_gone self.old.inputs player }
+        ensures states { self.new.tree.states ≡ with_gone_only self.old.inputs player self.old.tree.states }
+        ensures rows { timeline self.new.inputs.players self.old.inputs.settled ≡ timeline self.old.inputs.players self.old.inputs.settled }
+        ensures room { self.new.room ≡ self.old.room }
+    {
+        self.board.laws();
+        let count = self.board.count(player);
+        self.board.disconnect(player).unwrap();
+        let known = self.tree.time().len();
+        tell(&mut self.tree, &self.board, player, count, known);
+        cut_words(&mut self.tree, player, count);
+    }
+
+    /// Begins the next frame, with no word given.
+    pub fn next(&mut self)
+        requires given { IsTrue (all_given self.old.inputs.players) }
+        requires near { self.old.inputs.frame ≤ self.old.inputs.settled + self.old.inputs.threshold }
+        requires room { self.old.inputs.frame < self.old.room }
+        ensures inputs { self.new.inputs ≡ record self.old.inputs { frame = self.old.inputs.frame + 1; players = map with_none_given self.old.inputs.players } }
+        ensures tree { self.new.tree ≡ self.old.tree }
+        ensures room { self.new.room ≡ self.old.room }
+    {
+        self.board.next();
+    }
+
+    /// Settles what can be: the rows to the deepest saved state on the confirmed timeline, up to the frame.
+    pub fn settle(&mut self)
+    where
+        S: Drop,
+        requires { self.old.inputs.settled ≤ front self.old.inputs.players }
+        ensures inputs { self.new.inputs ≡ record self.old.inputs { settled = self.old.inputs.settled + settling self.old } }
+        ensures states { self.new.tree.states ≡ settled_by self.old (settling self.old) }
+        ensures room { self.old.room ≤ self.new.room }
+    {
+        self.board.laws();
+        let to = self.board.front().min(self.board.frame());
+        let path = path_to(&mut self.tree, &self.board, to);
+        append(&mut self.past, path.rows.as_slice());
+        let end = self.board.settled() + path.rows.len() as u32;
+        self.tree.settle(&path);
+        self.board.settle(end);
+    }
+
+    /// The deepest saved state on the timeline's way to a frame, and the length of its path. The tree is told the
+    /// timeline that far.
+    pub fn deepest(&mut self, to: u32) -> (usize, u32)
+        requires from { self.old.inputs.settled ≤ to }
+        requires near { to ≤ self.old.inputs.settled + PATH_LIMIT }
+        ensures inputs { self.new.inputs ≡ self.old.inputs }
+        ensures tree { self.new.tree ≡ record self.old.tree { time = self.new.tree.time } }
+        ensures told { to ≤ self.old.inputs.settled + length self.new.tree.time }
+        ensures room { self.new.room ≡ self.old.room }
+        ensures node { IsSomeAnd (held self.old.tree result.0) (λ s. s.path ≡ rows_from self.old.inputs.players self.old.inputs.settled (longest (paths_of self.old.tree) (rows_to self.old.inputs to))) }
+        ensures length { result.1 ≡ self.old.inputs.settled + longest (paths_of self.old.tree) (rows_to self.old.inputs to) }
+        ensures within { result.1 ≤ to }
+    {
+        self.board.laws();
+        reach(&mut self.tree, &self.board, to);
+        self.tree.deepest(to)
+    }
+
+    /// Saves the state that a frame of the timeline leads to from another.
+    pub fn grow(&mut self, parent: usize, frame: u32, snapshot: S) -> usize
+    where
+        S: Drop,
+        requires frame { self.old.inputs.settled ≤ frame }
+        requires fits { CanGrow self.old.tree parent (row_at self.old.inputs.players frame) }
+        requires few { length self.old.tree.states < TREE_LIMIT }
+        ensures inputs { self.new.inputs ≡ self.old.inputs }
+        ensures room { self.new.room ≡ self.old.room }
+        ensures vacant { held self.old.tree result ≡ None }
+        ensures added { IfSome (held self.old.tree parent) (λ s. self.new.tree ≡ with_state self.old.tree (record { name = result; path = s.path ++ row_at self.old.inputs.players frame ∷ []; snapshot = snapshot })) }
+    {
+        let row = self.board.row(frame);
+        match self.tree.insert(parent, row, snapshot) {
+            Ok(name) => name,
+            Err(_) => unreachable!(),
+        }
+    }
+
+    /// Takes down the plan of a roll to a frame, which the tree was told of.
+    pub fn plan(&self, planner: &mut Planner, to: u32)
+        requires from { self.now.inputs.settled ≤ to }
+        requires near { to ≤ self.now.inputs.settled + PATH_LIMIT }
+        requires told { to ≤ self.now.inputs.settled + length self.now.tree.time }
+        requires time { AreRowsOf planner.old.players (rows_to self.now.inputs to) }
+        requires paths { All (AreRowsOf planner.old.players) (paths_of self.now.tree) }
+        ensures { planner.new ≡ record planner.old { last = Some (made_of self.now.tree (rows_to self.now.inputs to)) } }
+    {
+        self.board.laws();
+        let count = (to - self.board.settled()) as usize;
+        planner.plan(&self.tree, to, &self.tree.time()[..count]);
+    }
+
+    /// The current frame.
+    pub fn frame(&self) -> u32
+        ensures { result ≡ self.now.inputs.frame }
+    {
+        self.board.frame()
+    }
+
+    /// The settled frame.
+    pub fn settled(&self) -> u32
+        ensures { result ≡ self.now.inputs.settled }
+    {
+        self.board.settled()
+    }
+
+    /// Whether each local player has given its word of this frame.
+    pub fn ready(&self) -> bool
+        ensures { result ≡ all_given self.now.inputs.players }
+    {
+        self.board.ready()
+    }
+
+    /// The timeline's row of a frame.
+    pub fn row(&self, frame: u32) -> Row
+        requires { self.now.inputs.settled ≤ frame }
+        ensures { result ≡ row_at self.now.inputs.players frame }
+    {
+        self.board.row(frame)
+    }
+
+    /// A settled row. None from the settled frame on.
+    pub fn settled_row(&self, frame: usize) -> Option<Row>
+        ensures { result ≡ (if nat_lt frame self.now.inputs.settled then Some (row_at self.now.inputs.players frame) else None) }
+    {
+        self.past.get(frame).copied()
+    }
+
+    /// Why a local word would be refused now, if it would.
+    pub fn local_refusal(&self, player: u8) -> Option<Refusal>
+        ensures { result ≡ local_refusal self.now.inputs player }
+    {
+        self.board.local_refusal(player)
+    }
+
+    /// Why a disconnect would be refused now, if it would.
+    pub fn disconnect_refusal(&self, player: u8) -> Option<Refusal>
+        ensures { result ≡ disconnect_refusal self.now.inputs player }
+    {
+        self.board.disconnect_refusal(player)
+    }
+
+    /// The snapshot of a saved state.
+    pub fn snapshot(&self, node: usize) -> &S
+        requires { IsSome (held self.now.tree node) }
+        ensures { option_map (λ s. s.snapshot) (held self.now.tree node) ≡ Some result.now }
+    {
+        self.tree.get(node)
+    }
+
+    /// The snapshot of the state that the settled rows lead to.
+    pub fn root(&self) -> &S
+        ensures { IsSomeAnd (held self.now.tree self.now.tree.root) (λ s. (s.path ≡ []) × (s.snapshot ≡ result.now)) }
+    {
+        self.tree.get(self.tree.root())
+    }
+
+    /// The paths of the saved states, in their order.
+    pub fn kept(&self, alloc: Global) -> Result<Vec<Path>, AllocError>
+        ensures { IfOk result (λ paths. paths.items ≡ map (path_of self.now.inputs.settled) (in_order (paths_of self.now.tree))) }
+    {
+        self.tree.kept(alloc)
+    }
+
+    /// What holds of the timeline and the saved states. It does nothing.
+    pub fn laws(&self)
+        ensures base { self.now.tree.base ≡ self.now.inputs.settled }
+        ensures reached { self.now.inputs.settled ≤ self.now.inputs.frame }
+        ensures short { self.now.inputs.frame ≤ FRAME_LIMIT }
+        ensures near { self.now.inputs.frame + 1 ≤ self.now.inputs.settled + PATH_LIMIT }
+        ensures stays { All (λ p. p.local ≡ true → p.gone ≡ false) self.now.inputs.players }
+        ensures ahead { All (λ p. p.gone ≡ false → self.now.inputs.settled ≤ length p.words) self.now.inputs.players }
+    {
+        self.board.laws();
+    }
+
+    /// Makes room for so many settled rows.
+    pub fn reserve(&mut self, rows: usize) -> Result<(), AllocError>
+        ensures inputs { self.new.inputs ≡ self.old.inputs }
+        ensures tree { self.new.tree ≡ self.old.tree }
+        ensures more { self.old.room ≤ self.new.room }
+        ensures room { OnOk result (rows ≤ self.new.room) }
+    {
+        let count = self.past.len();
+        if count < rows {
+            self.past.reserve(rows - count)?;
+        }
+        Ok(())
+    }
+}
+
+/// So many rows of the timeline from the settled frame on.
+fn rows_of(board: &Board, count: usize) -> ArrayVec<Row, PATH_LIMIT>
+    requires { count ≤ PATH_LIMIT }
+    ensures { result.items ≡ rows_from board.now.players board.now.settled count }
+{
+    board.laws();
+    let mut rows = ArrayVec::new();
+    for k in 0..count {
+        rows.push(board.row(board.settled() + k as u32));
+    }
+    rows
+}
+
+/// Tells a tree so many rows of the timeline.
+fn tell<S>(tree: &mut Tree<S>, board: &Board, player: u8, from: u32, count: usize)
+    requires base { tree.old.base ≡ board.now.settled }
+    requires few { count ≤ PATH_LIMIT }
+    requires long { length tree.old.time ≤ count }
+    requires same { AreSameBut player from board.now.settled tree.old.time (rows_from board.now.players board.now.settled count) }
+    ensures { tree.new ≡ record tree.old { time = rows_from board.now.players board.now.settled count } }
+{
+    let rows = rows_of(board, count);
+    tree.mark(player, from, rows.as_slice());
+}
+
+/// Drops each state that has a word of a player in this frame or later.
+fn cut_words<S: Drop>(tree: &mut Tree<S>, player: u8, from: u32)
+    requires some { 1 ≤ player }
+    requires base { tree.old.base ≤ from }
+    requires short { tree.old.base ≤ FRAME_LIMIT }
+    ensures { tree.new ≡ record tree.old { states = filter (λ s. list_all (has_no_other (player - 1) Gone) (drop (from - tree.old.base) s.path)) tree.old.states } }
+{
+    tree.laws();
+    for frame in from..tree.base() + PATH_LIMIT as u32 {
+        tree.cut(player, frame, Cell::Gone);
+    }
+}
+
+/// Tells a tree the timeline up to a frame, if it doesn't know it so far.
+fn reach<S>(tree: &mut Tree<S>, board: &Board, to: u32)
+    requires base { tree.old.base ≡ board.now.settled }
+    requires told { tree.old.time ≡ rows_from board.now.players board.now.settled (length tree.old.time) }
+    requires from { board.now.settled ≤ to }
+    requires near { to ≤ board.now.settled + PATH_LIMIT }
+    ensures same { tree.new ≡ record tree.old { time = tree.new.time } }
+    ensures told { tree.new.time ≡ rows_from board.now.players board.now.settled (length tree.new.time) }
+    ensures far { to ≤ board.now.settled + length tree.new.time }
+{
+    let count = (to - board.settled()) as usize;
+    if tree.time().len() < count {
+        tell(tree, board, 1, 0, count);
+    }
+}
+
+/// The path of the deepest saved state on the timeline's way to a frame.
+fn path_to<S>(tree: &mut Tree<S>, board: &Board, to: u32) -> Path
+    requires base { tree.old.base ≡ board.now.settled }
+    requires told { tree.old.time ≡ rows_from board.now.players board.now.settled (length tree.old.time) }
+    requires from { board.now.settled ≤ to }
+    requires near { to ≤ board.now.settled + PATH_LIMIT }
+    ensures same { tree.new ≡ record tree.old { time = tree.new.time } }
+    ensures told { tree.new.time ≡ rows_from board.now.players board.now.settled (length tree.new.time) }
+    ensures base { result.base ≡ board.now.settled }
+    ensures rows { result.rows.items ≡ rows_from board.now.players board.now.settled (longest (paths_of tree.old) (rows_to board.now to)) }
+    ensures kept { contains (paths_of tree.old) result.rows.items ≡ true }
+    ensures within { board.now.settled + longest (paths_of tree.old) (rows_to board.now to) ≤ to }
+{
+    reach(tree, board, to);
+    let (node, _) = tree.deepest(to);
+    tree.path(node)
+}
+
+/// Adds rows where there is room for them.
+fn append(past: &mut Vec<Row>, rows: &[Row])
+    requires { length past.old.items + length rows.now ≤ vec_capacity past.old }
+    ensures items { past.new.items ≡ past.old.items ++ rows.now }
+    ensures capacity { vec_capacity past.old ≤ vec_capacity past.new }
+{
+    for row in rows {
+        past.push(*row).unwrap();
+    }
+}
