@@ -21,7 +21,7 @@ use Rattle.roll_session.specs.declared.event.Call.{Call}
 use Rattle.roll_cli.specs.declared.command.Command.{Command}
 use Rattle.roll_cli.specs.declared.command.Command.TheVariants.{Local as Gives, Remote as Tells, Disconnect as Leaves, Sync as Syncs, Advance as Advances, Guess, Extend, Claim}
 use Rattle.roll_cli.specs.Calls.{narrowed, call_of}
-use Rattle.roll_cli.specs.Output.{after_command, asked_by}
+use Rattle.roll_cli.specs.Output.{Texts, after_command, asked_by, event_text, is_refused, refused_by, written_by}
 
 -- a number past all players' becomes 0
 narrowed_cases : (p : ℕ) → (narrowed p ≡ p) ⊎ ((narrowed p ≡ 0) × (256 ≤ p))
@@ -88,16 +88,29 @@ asked settings game core (Guess player until words) call few e = absurd (cc)
 asked settings game core (Extend job) call few e = absurd (cc)
 asked settings game core Claim call few e = absurd (cc)
 
--- where there is no call, there is no event
-pub not_asked : (command : Command) → call_of command ≡ None → asked_by command ≡ None
-not_asked (Gives p word) e = absurd (cc)
-not_asked (Tells p frame word) e = absurd (cc)
-not_asked (Leaves p) e = absurd (cc)
-not_asked Syncs e = absurd (cc)
-not_asked Advances e = absurd (cc)
-not_asked (Guess player until words) e = refl
-not_asked (Extend job) e = refl
-not_asked Claim e = refl
+-- what a command of an event writes is the event's
+pub written_asked : (texts : Texts) (settings : Settings) (game : Game) (core : Core) (command : Command) (entry : Entry) → asked_by command ≡ Some entry
+    → written_by texts settings game core command ≡ event_text texts settings game core entry
+written_asked texts settings game core (Gives p word) entry e = cc
+written_asked texts settings game core (Tells p frame word) entry e = cc
+written_asked texts settings game core (Leaves p) entry e = cc
+written_asked texts settings game core Syncs entry e = cc
+written_asked texts settings game core Advances entry e = cc
+written_asked texts settings game core (Guess player until words) entry e = cc
+written_asked texts settings game core (Extend job) entry e = cc
+written_asked texts settings game core Claim entry e = cc
+
+-- whether it is refused is the event's
+pub refused_asked : (settings : Settings) (game : Game) (core : Core) (command : Command) (entry : Entry) → asked_by command ≡ Some entry
+    → refused_by settings game core command ≡ is_refused (reply settings game core (plain entry))
+refused_asked settings game core (Gives p word) entry e = cc
+refused_asked settings game core (Tells p frame word) entry e = cc
+refused_asked settings game core (Leaves p) entry e = cc
+refused_asked settings game core Syncs entry e = cc
+refused_asked settings game core Advances entry e = cc
+refused_asked settings game core (Guess player until words) entry e = cc
+refused_asked settings game core (Extend job) entry e = cc
+refused_asked settings game core Claim entry e = cc
 
 changed_length : (change : Player → Player) (players : List Player) (p : ℕ) → length (changed change players p) ≡ length players
 changed_length change players p = go (player_at players p)

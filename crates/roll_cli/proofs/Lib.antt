@@ -5,5 +5,6 @@ pub mod ShownTexts
 pub mod Unplayed
 pub mod Asked
 pub mod Written
+pub mod Claimed
 pub mod Played
 pub mod Starts

@@ -70,7 +70,7 @@ no_guess player until text words h t many Claim fits e = cc
 
 -- a line's first byte tells whether it can be played
 abbrev plays : ℕ → Bool
-plays letter = not (letter == 71 || (letter == 66 || letter == 67))
+plays letter = not (letter == 71 || letter == 66)
 
 plays-first : (command : Command) → is_played command ≡ plays (get_or (line_of command) 0 0)
 plays-first (Local player word) = refl

@@ -31,11 +31,10 @@ fields_of Claim = codes "C" ∷ []
 abbrev pub line_of : Command → List ℕ
 line_of command = join_with_byte 32 (fields_of command)
 
--- the commands that can be played; there are no branches and no claims yet
+-- the commands that can be played; there are no branches yet
 abbrev pub is_played : Command → Bool
 is_played (Guess player until words) = false
 is_played (Extend job) = false
-is_played Claim = false
 is_played command = true
 
 abbrev pub IsPlayed : Command → Type 0

@@ -1,10 +1,12 @@
 -- What playing a script writes.
-use Rattle.std.specs.Prelude.{◌≡◌, ℕ, ◌+◌, ◌-◌, List, [], ◌∷◌, ◌++◌, codes, Bool, true, false, Option, Some, None, if◌then◌else◌}
+use Rattle.std.specs.Prelude.{◌≡◌, ℕ, ◌+◌, ◌-◌, List, [], ◌∷◌, ◌++◌, codes, Bool, true, false, Option, Some, None, is_none, if◌then◌else◌}
 use Rattle.std.specs.Fmt.{decimal}
 use Rattle.std.specs.Int.{is_in_range}
 use Rattle.std.specs.Option.{option_map_or}
+use Rattle.roll_cert.specs.Texts.{claim_lines}
 use Rattle.roll_duel.specs.Bytes.{bytes_of, step}
 use Rattle.roll_duel.specs.Frame.{opening_of}
+use Rattle.roll_frame.specs.Claims.{claim_of}
 use Rattle.roll_frame.specs.Codes.{code_of}
 use Rattle.roll_frame.specs.Core.{Core, first_core, settled}
 use Rattle.roll_frame.specs.Events.{after, reply}
@@ -14,7 +16,7 @@ use Rattle.roll_frame.specs.Settings.{start_refusal}
 use Rattle.roll_frame.specs.declared.entry.Entry.{Entry}
 use Rattle.roll_frame.specs.declared.entry.Entry.TheVariants.{Local, Remote, Disconnect, Sync, Advance}
 use Rattle.roll_frame.specs.declared.refusal.Refusal.{Refusal}
-use Rattle.roll_frame.specs.declared.refusal.Refusal.TheVariants.{PlayerOutOfRange}
+use Rattle.roll_frame.specs.declared.refusal.Refusal.TheVariants.{PlayerOutOfRange, NoPlan}
 use Rattle.roll_frame.specs.declared.reply.Reply.{Reply}
 use Rattle.roll_frame.specs.declared.reply.Reply.TheVariants.{Refused, Done, Taken, Repeated, Disconnected, Synchronized, Reached, Grafted}
 use Rattle.roll_frame.specs.declared.settings.Settings.{Settings}
@@ -51,7 +53,7 @@ reply_line texts game core (Synchronized row) = frame_line texts game core
 reply_line texts game core (Reached frame from rerun) = frame_line texts game core
 reply_line texts game core (Grafted added) = codes "added " ++ decimal added
 
--- the event that a command asks for; none where it can't be played yet
+-- the event that a command asks for; none where it asks for a claim, or can't be played yet
 abbrev pub asked_by : Command → Option Entry
 asked_by (Gives player word) = Some (Local player word)
 asked_by (Tells player frame word) = Some (Remote player frame word)
@@ -65,10 +67,18 @@ asked_by Claim = None
 abbrev pub after_command : Settings → Game → Core → Command → Core
 after_command settings game core command = option_map_or (λ entry. after settings game core (plain entry)) (asked_by command) core
 
+-- what an event writes
+abbrev pub event_text : Texts → Settings → Game → Core → Entry → List ℕ
+event_text texts settings game core entry = ended (reply_line texts game (after settings game core (plain entry)) (reply settings game core (plain entry)))
+
+-- the claim of the last roll; a refusal where there is none
+unfoldable pub claim_text : Settings → Core → List ℕ
+claim_text settings core = option_map_or (λ roll. text_of (claim_lines (claim_of settings.players roll))) core.last (ended (refused_line NoPlan))
+
 -- what a command writes
 abbrev pub written_by : Texts → Settings → Game → Core → Command → List ℕ
-written_by texts settings game core command =
-    option_map_or (λ entry. ended (reply_line texts game (after settings game core (plain entry)) (reply settings game core (plain entry)))) (asked_by command) []
+written_by texts settings game core Claim = claim_text settings core
+written_by texts settings game core command = option_map_or (event_text texts settings game core) (asked_by command) []
 
 abbrev pub written_from : Texts → Settings → Game → Core → List Command → List ℕ
 written_from texts settings game core [] = []
@@ -79,7 +89,9 @@ abbrev pub is_refused : Reply → Bool
 is_refused (Refused why) = true
 is_refused reply = false
 
+-- whether the reply to a command is a refusal
 abbrev pub refused_by : Settings → Game → Core → Command → Bool
+refused_by settings game core Claim = is_none core.last
 refused_by settings game core command = option_map_or (λ entry. is_refused (reply settings game core (plain entry))) (asked_by command) false
 
 -- how many of the replies to the commands are refusals

@@ -80,14 +80,11 @@ impl Command {
         }
     }
 
-    /// Whether it can be played yet: guesses, branches and claims can't.
+    /// Whether it can be played yet: guesses and branches can't.
     pub fn is_played(&self) -> bool
         ensures { result ≡ can_be_played self.now }
     {
-        !matches!(
-            self,
-            Command::Guess { .. } | Command::Extend { .. } | Command::Claim
-        )
+        !matches!(self, Command::Guess { .. } | Command::Extend { .. })
     }
 }
 

@@ -212,7 +212,7 @@ pub fn push_output<G: Shown + Drop>(
     ensures fault { IfErr result (λ fault. fault ≡ NoMemory) }
 {
     match Session::start(alloc, game, opening, settings) {
-        Ok(mut session) => push_replies(out, &mut session, commands),
+        Ok(mut session) => push_replies(alloc, out, &mut session, commands),
         Err(fault) => push_not_started(out, fault.why),
     }
 }

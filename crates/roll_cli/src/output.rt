@@ -1,11 +1,11 @@
 //! What is written of a session.
-ghost use Rattle.std.specs.Prelude.{◌≡◌, ◌≤◌, ◌<◌, ◌+◌, ◌^◌, ◌++◌, ◌∷◌, [], IfErr, IfOk, OnOk, length};
+ghost use Rattle.std.specs.Prelude.{◌≡◌, ◌≤◌, ◌<◌, ◌+◌, ◌^◌, ◌++◌, ◌∷◌, [], IfErr, IfOk, OnOk, is_none, length};
 ghost use Rattle.std.specs.Fmt.{decimal};
 ghost use Rattle.roll_frame.specs.Core.{settled as settled_of};
 ghost use Rattle.roll_session.specs.Seen.{core_of, game_of};
 ghost use Rattle.roll_text.specs.Lines.{ended};
 ghost use Rattle.roll_cli.specs.Calls.{call_of, narrowed};
-ghost use Rattle.roll_cli.specs.Output.{after_command, frame_line, is_refused as refuses, refusals_from, refused_by, refused_line, reply_line, written_by, written_from};
+ghost use Rattle.roll_cli.specs.Output.{after_command, claim_text, frame_line, is_refused as refuses, refusals_from, refused_by, refused_line, reply_line, written_by, written_from};
 
 use crate::command::Command;
 use crate::engine::PlayFault;
@@ -13,10 +13,11 @@ use crate::shown::Shown;
 use roll_frame::{PLAYER_LIMIT, Refusal, Reply};
 use roll_session::{Call, Session};
 use roll_text::{push_number, push_signed};
-use std::alloc::AllocError;
+use std::alloc::{AllocError, Global};
 
-/// Plays the commands, writes their replies at the end, a line each, and answers how many are refusals.
+/// Plays the commands, writes their replies at the end, and answers how many are refusals.
 pub fn push_replies<G: Shown>(
+    alloc: Global,
     out: &mut Vec<u8>,
     session: &mut Session<G>,
     commands: &[Command],
@@ -29,7 +30,7 @@ pub fn push_replies<G: Shown>(
 {
     let mut refused = 0;
     for command in commands {
-        if push_played(out, session, command)? {
+        if push_played(alloc, out, session, command)? {
             refused += 1;
         }
     }
@@ -38,6 +39,7 @@ pub fn push_replies<G: Shown>(
 
 /// Plays a command, writes its reply, and answers whether it was refused.
 fn push_played<G: Shown>(
+    alloc: Global,
     out: &mut Vec<u8>,
     session: &mut Session<G>,
     command: &Command,
@@ -50,12 +52,39 @@ fn push_played<G: Shown>(
     ensures refused { IfOk result (λ refused. refused ≡ refused_by session.old.settings (game_of G.step session.old) (core_of session.old) command.now) }
     ensures fault { IfErr result (λ fault. fault ≡ PlayFault.NoMemory) }
 {
+    if matches!(command, Command::Claim) {
+        return push_claim(alloc, out, session);
+    }
     let Some(call) = call(command) else {
         return Ok(false);
     };
     let reply = session.perform(call)?;
     push_reply(out, session, reply)?;
     Ok(is_refused(&reply))
+}
+
+/// Writes the claim of the last roll, or the refusal where there is none, and answers whether it was refused.
+fn push_claim<G: Shown>(
+    alloc: Global,
+    out: &mut Vec<u8>,
+    session: &Session<G>,
+) -> Result<bool, PlayFault>
+    ensures written { OnOk result (out.new.items ≡ out.old.items ++ claim_text session.now.settings (core_of session.now)) }
+    ensures refused { IfOk result (λ refused. refused ≡ is_none (core_of session.now).last) }
+    ensures fault { IfErr result (λ fault. fault ≡ PlayFault.NoMemory) }
+{
+    match session.claim(alloc) {
+        Ok(claim) => {
+            let text = roll_cert::write(alloc, &claim)?;
+            out.extend_from_slice(&text)?;
+            Ok(false)
+        }
+        Err(Refusal::NoPlan) => {
+            push_reply(out, session, Reply::Refused(Refusal::NoPlan))?;
+            Ok(true)
+        }
+        Err(_) => Err(PlayFault::NoMemory),
+    }
 }
 
 fn is_refused(reply: &Reply) -> bool

@@ -315,11 +315,7 @@ fn names_the_bad_line(rt: HostRuntime) -> Result<(), Fail> {
     is_bad_script(&rt, b"A\nA\nL 1 \xB2\n", 4)?;
     is_bad_script(&rt, b"A\nX\n", 3)?;
     is_bad_script(&rt, b"A\nL 1 1 1\n", 3)?;
-    for branch in [
-        b"G 2 2 3\n".as_slice(),
-        b"B 0\n".as_slice(),
-        b"C\n".as_slice(),
-    ] {
+    for branch in [b"G 2 2 3\n".as_slice(), b"B 0\n".as_slice()] {
         is_bad_script(&rt, branch, 2)?;
     }
     let long = vec![in rt.alloc(); b'S'; TEXT_LIMIT + 1]?;
@@ -624,4 +620,83 @@ fn takes_a_refused_growth_of_a_claim(rt: HostRuntime) {
             assert_eq!(rt; out[0], 0);
         }
     }
+}
+
+// A script whose last line asks for the claim of its last roll.
+#[derive(Clone, Copy)]
+struct Claimed<'a> {
+    header: &'a [u8],
+    // The commands, and the replies to all but the last one.
+    commands: &'a [u8],
+    replies: &'a [u8],
+    refused: u32,
+    claim: &'a [u8],
+    // What is answered to the claim.
+    answer: &'a [u8],
+}
+
+const AFTER_LATE: Claimed<'static> = Claimed {
+    header: b"",
+    commands: b"roll 1 players 2 local 1 delay 0,0 threshold 8\nL 1 1\nA\nL 1 1\nA\nR 2 0 3\nS\nC\n",
+    replies: LATE_OUTPUT,
+    refused: 0,
+    claim: b"rollcert 1\nplayers 2\nbase 0\nfrom 0\ntime 2\n1,3\n1,3\nkept 1\n-\ndiffers 0\n",
+    answer: b"yes: from 0 to 2 rerun 2\n",
+};
+
+const AFTER_LEAVING: Claimed<'static> = Claimed {
+    header: TWO,
+    commands: b"L 1 1\nA\nL 1 1\nA\nD 2\nS\nR 2 0 3\nD 2\nC\n",
+    replies: b"ok\nframe 1 from 0 rerun 1 settled 0 state 1\nok\nframe 2 from 1 rerun 1 settled 0 state 11\ngone 2\nframe 2 from 0 rerun 2 settled 2 state 66\nrefused 9\nrefused 9\n",
+    refused: 2,
+    claim: b"rollcert 1\nplayers 2\nbase 0\nfrom 0\ntime 2\n1,x\n1,x\nkept 1\n-\ndiffers 0\n",
+    answer: b"yes: from 0 to 2 rerun 2\n",
+};
+
+const OF_FIVE: Claimed<'static> = Claimed {
+    header: WIDE,
+    commands: b"L 1 1\nA\nR 5 0 2\nS\nC\n",
+    replies: b"ok\nframe 1 from 0 rerun 1 settled 0 state 1\ntaken\nframe 1 from 0 rerun 1 settled 0 state 11\n",
+    refused: 0,
+    claim: FIVE,
+    answer: b"yes: from 0 to 1 rerun 1\n",
+};
+
+#[test]
+fn refuses_a_claim_before_a_roll(rt: HostRuntime) -> Result<(), Fail> {
+    writes(&rt, TWO, b"C\n", b"refused 117\n", 1)?;
+    writes(
+        &rt,
+        TWO,
+        b"L 1 1\nC\nC\n",
+        b"ok\nrefused 117\nrefused 117\n",
+        2,
+    )
+}
+
+#[test]
+fn plays_claims(rt: HostRuntime) -> Result<(), Fail> {
+    for case in [AFTER_LATE, AFTER_LEAVING, OF_FIVE] {
+        let mut output = Vec::from_slice(rt.alloc(), case.replies)?;
+        output.extend_from_slice(case.claim)?;
+        writes(&rt, case.header, case.commands, &output, case.refused)?;
+    }
+    Ok(())
+}
+
+#[test]
+fn certifies_the_claims_of_scripts(rt: HostRuntime) -> Result<(), Fail> {
+    for case in [AFTER_LATE, AFTER_LEAVING, OF_FIVE] {
+        let mut script = Vec::from_slice(rt.alloc(), case.header)?;
+        script.extend_from_slice(case.commands)?;
+        let mut out: Vec<u8> = Vec::new(rt.alloc());
+        let answer = play_tally(rt.alloc(), &mut script.as_slice(), &mut out);
+        assert_eq!(rt; answer, Ok(case.refused));
+        let Some(claim) = out.strip_prefix(case.replies) else {
+            assert!(rt; false);
+            continue;
+        };
+        certifies(&rt, claim, b"", case.answer, true)?;
+    }
+    Ok(())
 }
