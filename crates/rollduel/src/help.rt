@@ -24,13 +24,15 @@ A script's first line opens the session, and each further line is a call:
   D p      player p leaves
   S        synchronize: frames that were predicted wrong are run again
   A        advance to the next frame
+  C        claim: the proof that the last S or A ran no frame too many
 
 Numbers are decimal. `roll 2` has `mask m,..` before the threshold: for each player, the bits of
 the word that are predicted to stay as they are. `roll 3` is `roll 2` with the wide limits.
 
 S and A are answered by `frame N from F rerun R settled T state X`: the session is at frame N; it
 loaded the state of frame F and ran R frames; frames below T are final; the game's state is X.
-A call that the session doesn't take is answered by `refused N`, and the script goes on.
+C is answered by the lines of a claim, which `rollduel certify` checks. A call that the session
+doesn't take, as a C before any S or A, is answered by `refused N`, and the script goes on.
 
 Example (the file examples/late-input.roll), where player 2's word for frame 0 comes late:
 

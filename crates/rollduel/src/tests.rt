@@ -106,6 +106,7 @@ fn shows_help_at_each_level(rt: HostRuntime) -> Result<(), Fail> {
             "\n  D p ",
             "\n  S ",
             "\n  A ",
+            "\n  C ",
             "\n  R 2 0 3\n  S\n",
             "\n  frame 2 from 0 rerun 2 settled 1 state 77\n",
         ] {
