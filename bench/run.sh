@@ -1,0 +1,43 @@
+#!/bin/bash
+# Measures rollduel against the plain program: bench/run.sh ROLLDUEL
+# Both play the same scripts, and must write the same bytes. A time is that of a whole run, the least of five.
+set -euo pipefail
+[ $# = 1 ] || { echo "usage: bench/run.sh ROLLDUEL" >&2; exit 2; }
+rollduel=$(realpath -- "$1")
+here=$(dirname -- "$(realpath -- "$0")")
+work=$(mktemp -d)
+trap 'rm -rf -- "$work"' EXIT
+
+rustc -O -o "$work/plain" "$here/plain.rs"
+for frames in 1000 10000 50000; do
+    python3 "$here/script.py" "$frames" 1 > "$work/$frames.roll"
+done
+python3 - "$rollduel" "$work" 1000 10000 50000 <<'END'
+import subprocess
+import sys
+import time
+from pathlib import Path
+
+RUNS = 5
+rollduel, work, sizes = sys.argv[1], Path(sys.argv[2]), sys.argv[3:]
+
+
+def seconds(program, script, output):
+    with open(script, "rb") as source, open(output, "wb") as sink:
+        start = time.perf_counter()
+        subprocess.run([program], stdin=source, stdout=sink, check=True)
+        return time.perf_counter() - start
+
+
+print("| Frames | rollduel | plain | ratio | rollduel, a frame | plain, a frame |")
+print("|---|---|---|---|---|---|")
+for size in sizes:
+    script, ours, theirs = (work / f"{size}.{end}" for end in ("roll", "rollduel", "plain"))
+    pairs = [(seconds(rollduel, script, ours), seconds(work / "plain", script, theirs)) for _ in range(RUNS)]
+    if ours.read_bytes() != theirs.read_bytes():
+        sys.exit(f"{size} frames: the outputs differ")
+    a, b = map(min, zip(*pairs))
+    each = 1e6 / int(size)
+    row = f"| {size} | {a * 1e3:.1f} ms | {b * 1e3:.1f} ms | {a / b:.2f} | {a * each:.3f} µs | {b * each:.3f} µs |"
+    print(row, flush=True)
+END
