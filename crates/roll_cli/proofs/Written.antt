@@ -1,27 +1,28 @@
 -- What a roll's line is, by what a session shows.
-use Rattle.std.proofs.Common.{◌≡◌, ℕ, ◌+◌, ◌-◌, ◌++◌, List, [], ◌∷◌, Bool, arith, append_assoc, codes, refl, sym, ap, ◌∙◌, Option, Some, None}
-use Rattle.std.specs.Prelude.{if◌then◌else◌}
+use Rattle.std.proofs.Common.{◌≡◌, ℕ, ◌+◌, ◌-◌, ◌++◌, List, [], ◌∷◌, Bool, true, false, arith, append_assoc, codes, refl, sym, ap, ◌∙◌, Option, Some, None}
+use Rattle.std.specs.Prelude.{IfSome, if◌then◌else◌, is_none}
+use Rattle.std.proofs.lemmas.Bool.{false≢true}
 use Rattle.std.specs.Fmt.{decimal}
-use Rattle.std.specs.Option.{option_map, option_map_or}
+use Rattle.std.specs.Option.{option_map_or}
 use Rattle.roll_frame.specs.Cells.{Rows}
 use Rattle.roll_frame.specs.Core.{Core, Roll, settled}
 use Rattle.roll_frame.specs.Games.{Game}
 use Rattle.roll_frame.specs.Paths.{run}
 use Rattle.roll_frame.specs.declared.row.Cell.{Cell}
 use Rattle.roll_session.specs.Held.{Shows}
-use Rattle.roll_session.specs.Seen.{plan_of}
-use Rattle.roll_session.specs.declared.event.Plan.{Plan}
+use Rattle.roll_plan.specs.declared.plan.Plan.{Plan}
+use Rattle.roll_session.specs.Planned.{IsPlanOfRoll}
 use Rattle.roll_frame.specs.declared.settings.Settings.{Settings}
 use Rattle.roll_cli.specs.declared.command.Command.{Command}
 use Rattle.roll_cli.specs.Output.{Texts, after_command, frame_line, refused_by, refusals_from, written_by, written_from}
 
-no_roll : (last : Option Roll) → None ≡ option_map plan_of last → last ≡ None
+no_roll : (last : Option Roll) → true ≡ is_none last → last ≡ None
 no_roll None e = refl
-no_roll (Some roll) e = absurd (cc)
+no_roll (Some roll) e = absurd (false≢true (sym e))
 
-a_roll : (last : Option Roll) (plan : Plan) → Some plan ≡ option_map plan_of last → (roll : Roll) × (last ≡ Some roll) × (plan ≡ plan_of roll)
-a_roll None plan e = absurd (cc)
-a_roll (Some roll) plan e = (roll, refl, cc)
+a_roll : (players : ℕ) (last : Option Roll) (plan : Plan) → false ≡ is_none last → IfSome last (λ roll. IsPlanOfRoll players roll plan) → (roll : Roll) × (last ≡ Some roll) × IsPlanOfRoll players roll plan
+a_roll players None plan e h = absurd (false≢true e)
+a_roll players (Some roll) plan e h = (roll, refl, h)
 
 no_rows : {S : Type 0} (value : S → List ℕ) (step : List ℕ → List Cell → List ℕ) (x : List ℕ) (shown : Option Rows) → Shows value step x shown None → shown ≡ None
 no_rows value step x None h = refl
@@ -48,7 +49,7 @@ no_rows_line texts game frame base None = refl
 no_rows_line texts game frame base (Some roll) = refl
 
 -- where there was no roll, or no state is shown, nothing is written
-pub nothing_rolled : (texts : Texts) (game : Game) (core : Core) → None ≡ option_map plan_of core.last → frame_line texts game core ≡ []
+pub nothing_rolled : (texts : Texts) (game : Game) (core : Core) → true ≡ is_none core.last → frame_line texts game core ≡ []
 nothing_rolled texts game core e = line_is texts game core ∙ ap (λ last. line_with texts game core.frame (settled core) last core.shown) (no_roll core.last e)
 
 pub nothing_shown : {S : Type 0} (value : S → List ℕ) (texts : Texts) (game : Game) (core : Core) → Shows value game.step game.opening core.shown None → frame_line texts game core ≡ []
@@ -58,13 +59,14 @@ nothing_shown value texts game core h =
     ∙ no_rows_line texts game core.frame (settled core) core.last
 
 -- what is written of a roll
-pub rolled_line : {S : Type 0} (value : S → List ℕ) (texts : Texts) (game : Game) (core : Core) (plan : Plan) (state : S) (frame base : ℕ)
-    → Some plan ≡ option_map plan_of core.last → Shows value game.step game.opening core.shown (Some state) → frame ≡ core.frame → base ≡ settled core
+pub rolled_line : {S : Type 0} (value : S → List ℕ) (texts : Texts) (game : Game) (core : Core) (players : ℕ) (plan : Plan) (state : S) (frame base : ℕ)
+    → false ≡ is_none core.last → IfSome core.last (λ roll. IsPlanOfRoll players roll plan) → Shows value game.step game.opening core.shown (Some state) → frame ≡ core.frame → base ≡ settled core
     → codes "frame " ++ (decimal frame ++ (codes " from " ++ (decimal plan.from ++ (codes " rerun " ++ (decimal plan.rerun ++ (codes " settled " ++ (decimal base ++ (codes " state " ++ texts (value state))))))))) ≡ frame_line texts game core
-rolled_line value texts game core plan state frame base e h f b =
-    let roll = a_roll core.last plan e in
+rolled_line value texts game core players plan state frame base some is h f b =
+    let roll = a_roll players core.last plan some is in
     let rows = some_rows value game.step game.opening core.shown state h in
-    ap (λ (p : Plan). codes "frame " ++ (decimal frame ++ (codes " from " ++ (decimal p.from ++ (codes " rerun " ++ (decimal p.rerun ++ (codes " settled " ++ (decimal base ++ (codes " state " ++ texts (value state)))))))))) roll.2
+    ap (λ n. codes "frame " ++ (decimal frame ++ (codes " from " ++ (decimal n ++ (codes " rerun " ++ (decimal plan.rerun ++ (codes " settled " ++ (decimal base ++ (codes " state " ++ texts (value state)))))))))) roll.2.from
+    ∙ ap (λ n. codes "frame " ++ (decimal frame ++ (codes " from " ++ (decimal roll.0.from ++ (codes " rerun " ++ (decimal n ++ (codes " settled " ++ (decimal base ++ (codes " state " ++ texts (value state)))))))))) roll.2.rerun
     ∙ ap (λ x. codes "frame " ++ (decimal frame ++ (codes " from " ++ (decimal roll.0.from ++ (codes " rerun " ++ (decimal (roll.0.to - roll.0.from) ++ (codes " settled " ++ (decimal base ++ (codes " state " ++ texts x))))))))) rows.2
     ∙ ap (λ n. line_with texts game n base (Some roll.0) (Some rows.0)) f
     ∙ ap (λ n. line_with texts game core.frame n (Some roll.0) (Some rows.0)) b

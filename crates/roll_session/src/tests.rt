@@ -1,5 +1,8 @@
 use crate::{Call, Session};
-use roll_frame::{FRAME_LIMIT, LOG_LIMIT, PLAYER_LIMIT, Profile, Refusal, Reply, Settings};
+use roll_cert::check;
+use roll_frame::{
+    Cell, FRAME_LIMIT, LOG_LIMIT, PLAYER_LIMIT, Profile, Refusal, Reply, Row, Settings,
+};
 use roll_game::{Call as Kind, Refusing, Tally};
 use std::alloc::Global;
 use std::process::Abort;
@@ -400,5 +403,45 @@ fn tells_what_is_settled(rt: HostRuntime) -> Result<(), Fail> {
     let played = crate::play(rt.alloc(), Tally::new(), Tally::opening(), two(), &LATE);
     let shown = played.ok().and_then(|played| played.shown);
     assert_eq!(rt; shown, Some(77));
+    Ok(())
+}
+
+// One row of two players.
+fn row(one: u32, two: u32) -> Row {
+    Row::from_cells(&[Cell::Word(one), Cell::Word(two)])
+}
+
+#[test]
+fn keeps_what_can_still_matter(rt: HostRuntime) -> Result<(), Fail> {
+    let mut session = open(rt.alloc(), two(), Kind::Load, 0)?;
+    let first = session.kept(rt.alloc())?;
+    assert_eq!(rt; first.len(), 1);
+    assert_eq!(rt; (first[0].base, first[0].rows.len()), (0, 0));
+    session.run(rt.alloc(), &LATE)?;
+    let kept = session.kept(rt.alloc())?;
+    assert_eq!(rt; kept.len(), 2);
+    assert_eq!(rt; (kept[0].base, kept[0].rows.len()), (1, 0));
+    assert_eq!(rt; kept[1].base, 1);
+    assert_eq!(rt; kept[1].rows.as_slice(), [row(1, 3)].as_slice());
+    Ok(())
+}
+
+#[test]
+fn claims_the_last_roll(rt: HostRuntime) -> Result<(), Fail> {
+    let mut session = open(rt.alloc(), two(), Kind::Load, 5)?;
+    assert!(rt; matches!(session.claim(rt.alloc()), Err(Refusal::NoPlan)));
+    session.run(rt.alloc(), &LATE)?;
+    let claim = session.claim(rt.alloc())?;
+    assert_eq!(rt; (claim.players, claim.base, claim.from), (2, 0, 0));
+    assert_eq!(rt;
+        claim.time.as_slice(),
+        [row(1, 3), row(1, 3)].as_slice()
+    );
+    assert_eq!(rt; claim.kept.len(), 1);
+    assert_eq!(rt; claim.kept.as_slice()[0].rows.len(), 0);
+    assert!(rt; claim.differs.is_empty());
+    assert_eq!(rt; check(&claim), Ok(()));
+    assert_eq!(rt; answer(&mut session, S), Refused(107));
+    assert!(rt; matches!(session.claim(rt.alloc()), Err(Refusal::NoPlan)));
     Ok(())
 }
