@@ -439,7 +439,7 @@ fn claims_the_last_roll(rt: HostRuntime) -> Result<(), Fail> {
     );
     assert_eq!(rt; claim.kept.len(), 1);
     assert_eq!(rt; claim.kept.as_slice()[0].rows.len(), 0);
-    assert!(rt; claim.differs.is_empty());
+    assert!(rt; claim.differs.as_slice().is_empty());
     assert_eq!(rt; check(&claim), Ok(()));
     assert_eq!(rt; answer(&mut session, S), Refused(107));
     assert!(rt; matches!(session.claim(rt.alloc()), Err(Refusal::NoPlan)));
