@@ -293,6 +293,27 @@ impl<G: Game> Session<G> {
         self.log.len() >= self.settings.log as usize
     }
 
+    /// Makes room for so many more events: while the game refuses nothing, none of them is refused for want of memory.
+    ///
+    /// # Errors
+    ///
+    /// `LogFull` where the log would pass its limit, else `NoMemory` where the allocator has no room.
+    pub fn reserve_log(&mut self, events: u32) -> Result<(), Refusal>
+        ensures fits { OnOk result ((core_of self.old).logged + events ≤ self.old.settings.log) }
+        ensures refused { IfErr result (λ why. why ≡ (if nat_lt self.old.settings.log ((core_of self.old).logged + events) then Refusal.LogFull else Refusal.NoMemory)) }
+        ensures unchanged { self.new ≡ self.old }
+    {
+        let events = events as usize;
+        if events > self.settings.log as usize - self.log.len() {
+            return Err(Refusal::LogFull);
+        }
+        self.log.reserve(events)?;
+        self.saves.laws();
+        let frame = self.saves.frame() as usize;
+        self.saves.reserve(frame + events)?;
+        Ok(())
+    }
+
     /// The accepted events.
     pub fn log(&self) -> &[Entry]
         ensures { result.now ≡ self.now.log }

@@ -445,3 +445,34 @@ fn claims_the_last_roll(rt: HostRuntime) -> Result<(), Fail> {
     assert!(rt; matches!(session.claim(rt.alloc()), Err(Refusal::NoPlan)));
     Ok(())
 }
+
+#[test]
+fn reserves_the_log(rt: HostRuntime) -> Result<(), Refusal> {
+    let settings = Settings { log: 2, ..two() };
+    let mut session = open(rt.alloc(), settings, Kind::Load, 0)?;
+    assert_eq!(rt; session.reserve_log(2), Ok(()));
+    assert_eq!(rt; session.reserve_log(3), Err(Refusal::LogFull));
+    assert_eq!(rt; answer(&mut session, local(1, 0)), Done);
+    assert_eq!(rt; answer(&mut session, A), Frame(1, 0, 1, 0, 0));
+    assert_eq!(rt; answer(&mut session, S), Refused(114));
+    Ok(())
+}
+
+// With ample memory nothing is refused here; run with any one allocation refused, no event is.
+#[test]
+fn takes_reserved_events(rt: HostRuntime) -> Result<(), Refusal> {
+    let alone = Settings { players: 1, ..two() };
+    let mut session = match open(rt.alloc(), alone, Kind::Load, 0) {
+        Ok(session) => session,
+        Err(_) => open(rt.alloc(), alone, Kind::Load, 0)?,
+    };
+    if session.reserve_log(600).is_err() {
+        session.reserve_log(600)?;
+    }
+    for frame in 0..300 {
+        assert_eq!(rt; answer(&mut session, local(1, 1)), Done, "{frame}");
+        assert_ne!(rt; answer(&mut session, A), Refused(107), "{frame}");
+    }
+    assert_eq!(rt; session.frame(), 300);
+    Ok(())
+}
