@@ -198,9 +198,9 @@ module _ {N : Type 0} (value : N → Value) (step : Value → List Cell → Valu
         inputs = inputs ∙ ap (λ (i : Inputs). record i { frame = i.frame + 1; players = map with_none_given i.players }) k.inputs;
         rows = same;
         paths =
-          ap (λ (T : Rows). from_start T (paths_of st'.tree)) same
-          ∙ held_rolled m (cost core m) st st' k reached (paths ∙ ap (λ j. paths_of st.tree ++ prefixes (rows_to st.inputs m) (longest (paths_of st.tree) (rows_to st.inputs m)) j) (cost_is m st k reached))
-          ∙ sym (filter_same (is_possible (map with_none_given core.players)) (is_possible core.players) all (λ q i. possible_none_given core.players q));
+            ap (λ (T : Rows). from_start T (paths_of st'.tree)) same
+            ∙ held_rolled m (cost core m) st st' k reached (paths ∙ ap (λ j. paths_of st.tree ++ prefixes (rows_to st.inputs m) (longest (paths_of st.tree) (rows_to st.inputs m)) j) (cost_is m st k reached))
+            ∙ sym (filter_same (is_possible (map with_none_given core.players)) (is_possible core.players) all (λ q i. possible_none_given core.players q));
         values = rw same values;
       }
 
@@ -253,20 +253,20 @@ module _ {N : Type 0} (value : N → Value) (step : Value → List Cell → Valu
       let many : settling st ≡ n = ap (λ (i : Inputs). longest ps (rows_to i (min (front i.players) i.frame))) b.inputs in
       let far : s + settling st ≡ settled next = ap (λ k. s + k) many ∙ sym it.settled_is in
       let are : st'.tree.states ≡ map (later n) (filter (λ u. begins_with u.path R) st.tree.states) =
-          states
-          ∙ ap (λ k. map (later k) (filter (λ u. begins_with u.path (rows_from st.inputs.players st.inputs.settled k)) st.tree.states)) many
-          ∙ ap (λ (i : Inputs). map (later n) (filter (λ u. begins_with u.path (rows_from i.players i.settled n)) st.tree.states)) b.inputs in
+      states
+      ∙ ap (λ k. map (later k) (filter (λ u. begins_with u.path (rows_from st.inputs.players st.inputs.settled k)) st.tree.states)) many
+      ∙ ap (λ (i : Inputs). map (later n) (filter (λ u. begins_with u.path (rows_from i.players i.settled n)) st.tree.states)) b.inputs in
       let paths : paths_of st'.tree ≡ map (drop n) (filter (λ q. begins_with q R) ps) =
-          ap (map (λ (u : Saved N). u.path)) are
-          ∙ later_paths n (filter (λ u. begins_with u.path R) st.tree.states)
-          ∙ ap (map (drop n)) (filter_states (λ q. begins_with q R) st.tree.states) in
+      ap (map (λ (u : Saved N). u.path)) are
+      ∙ later_paths n (filter (λ u. begins_with u.path R) st.tree.states)
+      ∙ ap (map (drop n)) (filter_states (λ q. begins_with q R) st.tree.states) in
       let long : length R ≡ n = length-rows_from next.players s n in
       let rows : timeline next.players s ++ R ≡ settled_rows next = settled-rows_from next.players s n ∙ ap (timeline next.players) (sym it.settled_is) in
       record {
         inputs = inputs ∙ ap (λ (i : Inputs). record i { settled = i.settled + settling st }) b.inputs ∙ ap (λ k. record (inputs_of settings next) { settled = k }) far;
         kept_is = ap (from_start (settled_rows next)) paths ∙ ap (λ k. from_start (timeline next.players k) (map (drop n) (filter (λ q. begins_with q R) ps))) it.settled_is ∙ it.kept_is;
         values =
-          subst (λ (l : List (Saved N)). All (λ u. value u.snapshot ≡ run step opening (settled_rows next ++ u.path)) l) (ap (λ k. map (later k) (filter (λ u. begins_with u.path R) st.tree.states)) long ∙ sym are)
-          (subst (λ (T : Rows). All (λ u. value u.snapshot ≡ run step opening (T ++ u.path)) (map (later (length R)) (filter (λ u. begins_with u.path R) st.tree.states))) rows
-          (values_settle value step opening (timeline next.players s) R st.tree.states b.values));
+            subst (λ (l : List (Saved N)). All (λ u. value u.snapshot ≡ run step opening (settled_rows next ++ u.path)) l) (ap (λ k. map (later k) (filter (λ u. begins_with u.path R) st.tree.states)) long ∙ sym are)
+            (subst (λ (T : Rows). All (λ u. value u.snapshot ≡ run step opening (T ++ u.path)) (map (later (length R)) (filter (λ u. begins_with u.path R) st.tree.states))) rows
+            (values_settle value step opening (timeline next.players s) R st.tree.states b.values));
       }

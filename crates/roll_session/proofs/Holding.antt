@@ -1,5 +1,5 @@
 -- What the fields keep, from event to event.
-use Rattle.std.proofs.Common.{◌≡◌, ◌%◌, ◌^◌, ℕ, suc, ◌+◌, ◌-◌, ◌≤◌, List, [], ◌∷◌, ◌++◌, length, refl, ap, sym, ◌∙◌, subst, arith, Option, Some, None, ◌<◌, map, set, take, get_or, eqb, false, true, Bool, cond, min}
+use Rattle.std.proofs.Common.{◌≡◌, ℕ, ◌+◌, ◌≤◌, List, [], ◌∷◌, ◌++◌, length, refl, ap, sym, ◌∙◌, subst, arith, Option, Some, None, map, eqb, false, true, Bool, cond}
 use Rattle.roll_frame.specs.Inputs.{disconnect_tests, local_tests, remote_tests, with_given, with_gone, with_words}
 use Rattle.roll_frame.specs.declared.entry.Entry.TheVariants.{Disconnect, Local, Remote}
 use Rattle.roll_frame.specs.declared.refusal.Refusal.TheVariants.{LogFull}
@@ -32,39 +32,33 @@ use Rattle.roll_session.specs.Saves.{settled_by, settling}
 use Rattle.roll_session.specs.Standing.{from_start, made_from, settled_rows}
 use Rattle.roll_session.proofs.Between.{IsBetween, settled_kept}
 use Rattle.roll_session.proofs.Planning.{plan_is, seen_claim}
-use Rattle.std.specs.Prelude.{nat_le, nat_lt, not, ◌&&◌, ◌||◌, ◌==◌, slice_get}
-use Rattle.std.proofs.lemmas.Bool.{and_parts, not-false, leb-true, le-leb}
+use Rattle.std.specs.Prelude.{nat_le, ◌==◌}
+use Rattle.std.proofs.lemmas.Bool.{le-leb}
 use Rattle.std.proofs.lemmas.Bool.Decides.{nat_tests}
-use Rattle.std.proofs.lemmas.Option.{slice_get-get_or}
 use Rattle.std.proofs.lemmas.List.Elements.{All-cons, All-nil}
-use Rattle.std.proofs.Math.Seq.{take-append_seam}
 use Rattle.std.proofs.lemmas.List.{append-nil}
-use Rattle.std.proofs.lemmas.List.Sums.{fold_push}
 use Rattle.roll_frame.specs.Cells.{Rows}
-use Rattle.roll_frame.specs.Core.{Core, first_core, rolled, depth, cost, settled, IsPlan}
-use Rattle.roll_frame.specs.Events.{CoreEvent, replay, applied, after, played, played_from, refusal, is_repeat, is_accepted, can_be_partial, all_given, log_of}
+use Rattle.roll_frame.specs.Core.{Core, first_core, cost, settled, IsPlan}
+use Rattle.roll_frame.specs.Events.{CoreEvent, replay, applied, after, refusal, is_repeat, is_accepted, can_be_partial, all_given}
 use Rattle.roll_frame.specs.Games.{Game}
-use Rattle.roll_frame.specs.Inputs.{changed, with_none_given}
-use Rattle.roll_frame.specs.Paths.{longest, prefixes, run}
+use Rattle.roll_frame.specs.Paths.{run}
 use Rattle.roll_frame.specs.Refusals.{first_refusal}
-use Rattle.roll_frame.specs.Settings.{first_players, start_tests, start_refusal}
-use Rattle.roll_frame.specs.Timeline.{Player, timeline, front}
+use Rattle.roll_frame.specs.Settings.{start_refusal}
+use Rattle.roll_frame.specs.Timeline.{Player, timeline}
 use Rattle.roll_frame.specs.declared.entry.Entry.{Entry}
 use Rattle.roll_frame.specs.declared.refusal.Refusal.{Refusal}
-use Rattle.roll_frame.specs.declared.row.Cell.{Cell}
 use Rattle.roll_frame.specs.declared.settings.Settings.{Settings}
 use Rattle.roll_laws.specs.Sessions.{IsLog}
 use Rattle.roll_frame.specs.declared.entry.Entry.TheVariants.{Sync, Advance, Partial}
 use Rattle.roll_laws.proofs.Glue.{replay-push, log_played, always_holds, log_first, log_more}
 use Rattle.roll_laws.proofs.Starts.{starts_are_small, few_players}
-use Rattle.roll_laws.proofs.Accepted.{all_fail}
 use Rattle.roll_laws.proofs.Bounds.{players_stay, frames_end, log_ends}
 use Rattle.roll_laws.proofs.Least.{rolls_are_least}
 use Rattle.roll_laws.proofs.Logs.{log_is_counted}
 use Rattle.roll_inputs.specs.Boards.{first_inputs}
 use Rattle.roll_plan.specs.Plans.{Planned}
 use Rattle.roll_tree.specs.Kept.{Saved, paths_of}
-use Rattle.roll_session.specs.Saves.{Standing, HaveValues}
+use Rattle.roll_session.specs.Saves.{Standing}
 use Rattle.roll_session.specs.Seen.{Step, plain, IsLeast}
 use Rattle.roll_session.specs.Held.{Shows, IsKept, IsSession, IsSmall, planned_of}
 

@@ -1,5 +1,5 @@
 -- One cut after another: what is left where a player leaves.
-use Rattle.std.proofs.Common.{◌≡◌, ℕ, ◌+◌, ◌-◌, ◌≤◌, List, [], ◌∷◌, length, take, drop, refl, ap, sym, subst, ◌∙◌, arith, Bool, true, false, cond}
+use Rattle.std.proofs.Common.{◌≡◌, ℕ, ◌+◌, ◌-◌, ◌≤◌, List, [], ◌∷◌, length, take, drop, refl, ap, sym, subst, ◌∙◌, arith, cond}
 use Rattle.std.specs.Prelude.{◌&&◌, filter, not, All}
 use Rattle.std.specs.List.{AllByRecursion, list_all}
 use Rattle.std.proofs.lemmas.List.Elements.{recursion_from_All}
@@ -7,7 +7,7 @@ use Rattle.roll_frame.specs.Cells.{Rows}
 use Rattle.roll_frame.specs.declared.limits.TheConstants.{PATH_LIMIT}
 use Rattle.roll_frame.specs.declared.row.Cell.TheVariants.{Gone}
 use Rattle.roll_laws.specs.Laws.{has_no_other}
-use Rattle.roll_tree.specs.Kept.{Kept, Saved, has_other}
+use Rattle.roll_tree.specs.Kept.{Saved, has_other}
 use Rattle.roll_session.proofs.Cuts.{gone_all, gone_step}
 use Rattle.roll_session.proofs.Filters.{filter_both}
 

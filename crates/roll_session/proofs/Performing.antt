@@ -12,7 +12,7 @@ use Rattle.roll_frame.specs.declared.refusal.Refusal.{Refusal}
 use Rattle.roll_frame.specs.declared.refusal.Refusal.TheVariants.{NoMemory}
 use Rattle.roll_frame.specs.declared.reply.Reply.{Reply}
 use Rattle.roll_frame.specs.declared.reply.Reply.TheVariants.{Refused, Repeated}
-use Rattle.roll_frame.specs.Events.{CoreEvent, played, played_from, replies_from, after, reply, answer, refusal, replay, is_repeat}
+use Rattle.roll_frame.specs.Events.{CoreEvent, played, played_from, replies_from, after, reply, answer, replay, is_repeat}
 use Rattle.roll_frame.specs.declared.settings.Settings.{Settings}
 use Rattle.roll_session.specs.Seen.{Step, Seen, core_of, game_of, refusal_of, with_entry, plain}
 use Rattle.roll_session.specs.Calls.{event_of, events_of, turns_of, turns_from, IsMade}

@@ -1,6 +1,6 @@
 -- The player of an input that is taken.
-use Rattle.std.proofs.Common.{◌≡◌, ℕ, zero, suc, ◌+◌, ◌-◌, ◌<◌, ◌≤◌, List, [], ◌∷◌, length, refl, ap, sym, subst, ◌∙◌, arith, Bool, true, false, eqb, cond, set, get_or, Option, Some, None}
-use Rattle.std.specs.Prelude.{◌&&◌, not, slice_get, slice_set, slice_index_or, All, nat_lt, nat_le}
+use Rattle.std.proofs.Common.{◌≡◌, ℕ, zero, suc, ◌+◌, ◌-◌, ◌<◌, ◌≤◌, List, [], ◌∷◌, length, refl, sym, subst, arith, Bool, true, false, eqb, Option, Some, None}
+use Rattle.std.specs.Prelude.{not, slice_get, slice_index_or, All}
 use Rattle.std.specs.Option.{option_map_or}
 use Rattle.std.proofs.lemmas.Bool.{false≢true}
 use Rattle.std.proofs.lemmas.Bool.Decides.{nat_tests}

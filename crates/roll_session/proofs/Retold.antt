@@ -1,13 +1,12 @@
 -- What a player's input changes of the timeline's rows.
-use Rattle.std.proofs.Common.{◌≡◌, ℕ, zero, suc, ◌+◌, ◌-◌, ◌<◌, ◌≤◌, List, [], ◌∷◌, ◌++◌, length, drop, map, refl, ap, sym, subst, ◌∙◌, arith, Bool, true, false, inl, inr, eqb, Option, Some, None}
+use Rattle.std.proofs.Common.{◌≡◌, ℕ, zero, suc, ◌+◌, ◌-◌, ◌<◌, ◌≤◌, List, [], ◌∷◌, drop, map, refl, ap, sym, subst, ◌∙◌, arith, true, false, inl, inr, eqb}
 use Rattle.std.specs.Prelude.{◌⊎◌, slice_get, option_map}
 use Rattle.std.proofs.lemmas.Bool.{cases_Bool, false≢true, eqb-true}
 use Rattle.std.proofs.lemmas.Bool.Decides.{nat_tests}
-use Rattle.roll_frame.specs.declared.row.Cell.{Cell}
 use Rattle.roll_frame.specs.Cells.{Rows}
 use Rattle.roll_frame.specs.Claims.{cell_in}
 use Rattle.roll_frame.specs.Inputs.{player_at}
-use Rattle.roll_frame.specs.Timeline.{Player, cell_at, row_at, timeline}
+use Rattle.roll_frame.specs.Timeline.{Player, cell_at}
 use Rattle.roll_inputs.specs.Boards.{KeepsCells, cell_of, count_of}
 use Rattle.roll_laws.proofs.Saved.{rows_from as rows_on, timeline_is}
 use Rattle.roll_tree.specs.Marks.{AreSameBut}

@@ -1,21 +1,20 @@
 -- What a roll leaves of what the fields of a session keep.
-use Rattle.std.proofs.Common.{◌≡◌, ℕ, ◌+◌, ◌-◌, ◌≤◌, List, [], ◌∷◌, ◌++◌, length, length-append, map, refl, ap, sym, subst, ◌∙◌, arith, true, Option, Some, None}
+use Rattle.std.proofs.Common.{◌≡◌, ℕ, ◌+◌, ◌-◌, ◌≤◌, List, [], ◌∷◌, ◌++◌, length, map, refl, ap, sym, subst, ◌∙◌, arith, true, Option, Some}
 use Rattle.std.specs.Prelude.{All}
 use Rattle.std.proofs.lemmas.List.{length-map}
 use Rattle.roll_frame.specs.Cells.{Rows}
 use Rattle.roll_frame.specs.Claims.{AreRowsOf}
-use Rattle.roll_frame.specs.Core.{Core, cost, depth, kept, rolled, settled}
+use Rattle.roll_frame.specs.Core.{cost, depth, kept, settled}
 use Rattle.roll_frame.specs.Events.{applied, is_accepted, replay}
-use Rattle.roll_frame.specs.Games.{Game, Value}
+use Rattle.roll_frame.specs.Games.{Value}
 use Rattle.roll_frame.specs.Inputs.{with_none_given}
-use Rattle.roll_frame.specs.Paths.{longest, prefixes, run}
+use Rattle.roll_frame.specs.Paths.{prefixes, run}
 use Rattle.roll_frame.specs.Timeline.{timeline}
 use Rattle.roll_frame.specs.declared.entry.Entry.{Entry}
 use Rattle.roll_frame.specs.declared.entry.Entry.TheVariants.{Advance, Partial, Sync}
 use Rattle.roll_frame.specs.declared.limits.TheConstants.{TREE_LIMIT}
 use Rattle.roll_frame.specs.declared.settings.Settings.{Settings}
 use Rattle.roll_inputs.specs.Boards.{Inputs}
-use Rattle.roll_laws.specs.Laws.{RollsFit, most_kept}
 use Rattle.roll_laws.proofs.Fair.{IsFair}
 use Rattle.roll_laws.proofs.Few.{rolls_fit}
 use Rattle.roll_laws.proofs.Glue.{always_holds}
@@ -23,10 +22,10 @@ use Rattle.roll_laws.proofs.KeptPaths.{window_is_bounded}
 use Rattle.roll_laws.proofs.Rolls.{next_is_fair, roll_of}
 use Rattle.roll_plan.specs.Plans.{CanPlan, Planned, made_of}
 use Rattle.roll_tree.specs.Kept.{Kept, paths_of}
-use Rattle.roll_session.specs.Held.{IsKept, IsSession, Shows, planned_of}
+use Rattle.roll_session.specs.Held.{IsSession, Shows, planned_of}
 use Rattle.roll_session.specs.Saves.{HaveValues, Standing, rows_to, settled_by, settling, way_to}
 use Rattle.roll_session.specs.Seen.{Step, plain}
-use Rattle.roll_session.specs.Standing.{from_start, made_from, rows_from, settled_rows}
+use Rattle.roll_session.specs.Standing.{made_from, rows_from, settled_rows}
 use Rattle.roll_session.proofs.Between.{IsBetween, between_advance, between_partial, between_sync, settled_kept}
 use Rattle.roll_session.proofs.Grows.{start_is}
 use Rattle.roll_session.proofs.Holding.{session_next}

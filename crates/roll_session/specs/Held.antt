@@ -1,5 +1,5 @@
 -- What the fields of a session keep.
-use Rattle.std.specs.Prelude.{◌≡◌, ℕ, ◌≤◌, List, ◌++◌, length, Option, option_map, Some, None, All}
+use Rattle.std.specs.Prelude.{◌≡◌, ◌≤◌, List, length, Option, option_map, Some, None}
 use Rattle.roll_frame.specs.Cells.{Rows}
 use Rattle.roll_frame.specs.Core.{Core, kept, settled}
 use Rattle.roll_frame.specs.Events.{replay}
@@ -11,7 +11,7 @@ use Rattle.roll_frame.specs.declared.limits.TheConstants.{PLAYER_LIMIT, FRAME_LI
 use Rattle.roll_inputs.specs.Boards.{Inputs}
 use Rattle.roll_laws.specs.Sessions.{IsLog}
 use Rattle.roll_plan.specs.Plans.{Planned}
-use Rattle.roll_tree.specs.Kept.{Saved, paths_of}
+use Rattle.roll_tree.specs.Kept.{paths_of}
 use Rattle.roll_session.specs.Saves.{Standing, HaveValues}
 use Rattle.roll_session.specs.Seen.{Step}
 use Rattle.roll_session.specs.Standing.{from_start, made_from, settled_rows}

@@ -2,7 +2,7 @@
 use Rattle.std.specs.Prelude.{◌≡◌, ℕ, ◌-◌, ◌≤◌, List, ◌++◌, length, filter, map, drop, min, not, vec_capacity, All}
 use Rattle.std.specs.List.{list_all}
 use Rattle.roll_frame.specs.declared.row.Cell.{Cell}
-use Rattle.roll_frame.specs.declared.row.Cell.TheVariants.{Word, Gone}
+use Rattle.roll_frame.specs.declared.row.Cell.TheVariants.{Gone}
 use Rattle.roll_frame.specs.Cells.{Rows}
 use Rattle.roll_frame.specs.Paths.{begins_with, longest, run}
 use Rattle.roll_frame.specs.Games.{Value}

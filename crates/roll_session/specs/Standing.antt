@@ -1,5 +1,5 @@
 -- The kept paths beside the timeline, from the settled frame on.
-use Rattle.std.specs.Prelude.{◌≡◌, ℕ, ◌+◌, ◌-◌, List, [], ◌∷◌, ◌++◌, length, map, drop, Option, option_map}
+use Rattle.std.specs.Prelude.{ℕ, ◌+◌, List, ◌++◌, map, drop}
 use Rattle.roll_frame.specs.Cells.{Rows}
 use Rattle.roll_frame.specs.Core.{Core, Roll, settled}
 use Rattle.roll_frame.specs.Order.{in_order}

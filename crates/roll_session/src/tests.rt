@@ -433,10 +433,7 @@ fn claims_the_last_roll(rt: HostRuntime) -> Result<(), Fail> {
     session.run(rt.alloc(), &LATE)?;
     let claim = session.claim(rt.alloc())?;
     assert_eq!(rt; (claim.players, claim.base, claim.from), (2, 0, 0));
-    assert_eq!(rt;
-        claim.time.as_slice(),
-        [row(1, 3), row(1, 3)].as_slice()
-    );
+    assert_eq!(rt; claim.time.as_slice(), [row(1, 3), row(1, 3)].as_slice());
     assert_eq!(rt; claim.kept.len(), 1);
     assert_eq!(rt; claim.kept.as_slice()[0].rows.len(), 0);
     assert!(rt; claim.differs.as_slice().is_empty());
@@ -461,7 +458,10 @@ fn reserves_the_log(rt: HostRuntime) -> Result<(), Refusal> {
 // With ample memory nothing is refused here; run with any one allocation refused, no event is.
 #[test]
 fn takes_reserved_events(rt: HostRuntime) -> Result<(), Refusal> {
-    let alone = Settings { players: 1, ..two() };
+    let alone = Settings {
+        players: 1,
+        ..two()
+    };
     let mut session = match open(rt.alloc(), alone, Kind::Load, 0) {
         Ok(session) => session,
         Err(_) => open(rt.alloc(), alone, Kind::Load, 0)?,

@@ -1,4 +1,4 @@
-use Rattle.std.proofs.Common.{◌≡◌, ◌∙◌, [], ap, subst, ℕ, ◌%◌, ◌^◌}
+use Rattle.std.proofs.Common.{◌∙◌, ap, subst, ℕ, ◌%◌, ◌^◌}
 use Rattle.roll_frame.specs.Core.{Core}
 use Rattle.roll_frame.specs.Games.{Value}
 use Rattle.roll_session.specs.Calls.{events_of}

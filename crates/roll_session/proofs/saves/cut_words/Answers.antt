@@ -1,5 +1,4 @@
-use Rattle.std.proofs.Common.{◌≡◌, ◌≤◌, ◌+◌, ◌-◌, ◌∙◌, List, ap, sym, subst, refl, arith}
-use Rattle.roll_tree.specs.Kept.{Kept, Saved}
+use Rattle.std.proofs.Common.{◌≡◌, ◌-◌, ◌∙◌, ap, sym, arith}
 use Rattle.roll_session.proofs.Leaving.{gone_far, gone_in, gone_next, gone_none}
 use Rattle.roll_session.proofs.saves.cut_words.Goals as goal
 

@@ -1,4 +1,4 @@
-use Rattle.std.proofs.Common.{◌≡◌, ◌≤◌, ◌+◌, ◌-◌, ◌∙◌, ap, sym, subst, refl, arith}
+use Rattle.std.proofs.Common.{◌≡◌, ◌-◌, ◌∙◌, refl}
 use Rattle.roll_frame.specs.Paths.{longest}
 use Rattle.roll_tree.specs.Kept.{paths_of}
 use Rattle.roll_session.specs.Standing.{rows_from}

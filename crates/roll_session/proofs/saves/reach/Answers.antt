@@ -1,4 +1,4 @@
-use Rattle.std.proofs.Common.{◌≡◌, ◌≤◌, ◌<◌, ◌-◌, ◌∙◌, ap, sym, subst, refl, arith, length}
+use Rattle.std.proofs.Common.{◌≤◌, ◌-◌, ap, sym, subst, arith, length}
 use Rattle.roll_frame.specs.Cells.{Rows}
 use Rattle.roll_tree.specs.Marks.{AreSameBut}
 use Rattle.roll_session.specs.Standing.{rows_from}

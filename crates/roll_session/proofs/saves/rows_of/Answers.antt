@@ -1,6 +1,4 @@
-use Rattle.std.proofs.Common.{◌≡◌, ◌∙◌, ◌∷◌, ◌++◌, [], ap, sym, arith, length, List}
-use Rattle.roll_frame.specs.Cells.{Rows}
-use Rattle.roll_frame.specs.declared.row.Cell.{Cell}
+use Rattle.std.proofs.Common.{◌∙◌, ap, sym, arith, length}
 use Rattle.roll_session.proofs.Rows.{length-rows_from, rows_from-more, rows_from-none}
 use Rattle.roll_session.proofs.saves.rows_of.Goals as goal
 

@@ -1,4 +1,4 @@
-use Rattle.std.proofs.Common.{◌≡◌, ◌≤◌}
+use Rattle.std.proofs.Common.{◌≡◌}
 use Rattle.roll_session.specs.Standing.{rows_from}
 use Rattle.roll_session.proofs.saves.rows_of.Given as goal
 

@@ -1,8 +1,4 @@
-use Rattle.std.proofs.Common.{◌≡◌, ◌∙◌, ap, sym, subst, arith, length}
-use Rattle.roll_frame.specs.Cells.{Rows}
-use Rattle.roll_tree.specs.Kept.{CanMark}
-use Rattle.roll_tree.specs.Marks.{AreSameBut}
-use Rattle.roll_session.specs.Standing.{rows_from}
+use Rattle.std.proofs.Common.{◌∙◌, ap, arith, length}
 use Rattle.roll_session.proofs.Rows.{length-rows_from}
 use Rattle.roll_session.proofs.saves.tell.Goals as goal
 

@@ -1,4 +1,4 @@
-use Rattle.std.proofs.Common.{◌≡◌, ◌≤◌, ◌+◌, ◌∙◌, ap, sym, subst, refl, arith}
+use Rattle.std.proofs.Common.{◌≡◌, ◌∙◌, refl, arith}
 use Rattle.roll_session.proofs.Steps.{deepest_is, longest_there, time_is}
 use Rattle.roll_session.proofs.saves.Saves.deepest.Goals as goal
 

@@ -1,4 +1,4 @@
-use Rattle.std.proofs.Common.{◌≡◌, ◌≤◌, ◌∙◌, ap, sym, subst, refl, arith, length}
+use Rattle.std.proofs.Common.{◌≡◌, ap, refl}
 use Rattle.roll_inputs.specs.Boards.{Inputs}
 use Rattle.roll_session.proofs.Playing.{count_reached, local_plays}
 use Rattle.roll_session.proofs.Steps.{retold, still_told}

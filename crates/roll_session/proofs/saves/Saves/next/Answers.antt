@@ -1,6 +1,4 @@
-use Rattle.std.proofs.Common.{◌≡◌, ◌≤◌, ◌<◌, ◌∙◌, ap, sym, subst, refl, arith, length}
-use Rattle.roll_inputs.specs.Boards.{Inputs}
-use Rattle.roll_session.specs.Saves.{Standing}
+use Rattle.std.proofs.Common.{◌∙◌, sym, arith, length}
 use Rattle.roll_session.proofs.Grows.{rows_none_given}
 use Rattle.roll_session.proofs.saves.Saves.next.Goals as goal
 

@@ -1,11 +1,10 @@
-use Rattle.std.proofs.Common.{◌≡◌, ◌≤◌, ◌+◌, ◌-◌, ◌∙◌, ◌++◌, ap, sym, subst, refl, arith, List, length, map, filter, drop, min}
+use Rattle.std.proofs.Common.{◌≡◌, ◌+◌, ◌∙◌, ◌++◌, ap, refl, arith, List, length, map, filter, drop, min}
 use Rattle.roll_frame.specs.Cells.{Rows}
 use Rattle.roll_frame.specs.Paths.{begins_with, longest}
 use Rattle.roll_frame.specs.Timeline.{front}
-use Rattle.roll_inputs.specs.Boards.{Inputs}
 use Rattle.roll_laws.proofs.Saved.{length_timeline}
 use Rattle.roll_tree.specs.Kept.{Kept, Saved, later, paths_of}
-use Rattle.roll_session.specs.Saves.{rows_to, settling, Standing}
+use Rattle.roll_session.specs.Saves.{rows_to}
 use Rattle.roll_session.specs.Standing.{rows_from}
 use Rattle.roll_session.proofs.Rows.{length-rows_from}
 use Rattle.roll_session.proofs.Steps.{settled_step}

@@ -1,20 +1,20 @@
-use Rattle.std.proofs.Common.{◌≡◌, ◌≤◌, ◌-◌, ◌+◌, ◌%◌, ◌^◌, ◌∙◌, ◌++◌, ◌∷◌, [], ap, sym, refl, subst, arith, ℕ, List, Some, None, false, true, inr}
+use Rattle.std.proofs.Common.{◌≡◌, ◌≤◌, ◌-◌, ◌+◌, ◌%◌, ◌^◌, ◌∙◌, ◌++◌, ◌∷◌, [], ap, sym, refl, subst, arith, ℕ, Some, None, false, true, inr}
 use Rattle.std.specs.Prelude.{nat_le}
 use Rattle.roll_inputs.specs.Boards.{Inputs}
 use Rattle.roll_frame.specs.Core.{Core, cost, depth}
-use Rattle.roll_frame.specs.Events.{all_given, can_be_partial, is_accepted, replay}
+use Rattle.roll_frame.specs.Events.{all_given, can_be_partial, replay}
 use Rattle.roll_frame.specs.Games.{Game, Value}
 use Rattle.roll_frame.specs.Paths.{run}
 use Rattle.roll_frame.specs.Timeline.{timeline}
-use Rattle.roll_frame.specs.declared.entry.Entry.TheVariants.{Sync, Advance, Partial}
+use Rattle.roll_frame.specs.declared.entry.Entry.TheVariants.{Advance, Partial}
 use Rattle.roll_laws.proofs.Rolls.{roll_of}
 use Rattle.roll_plan.specs.Plans.{Planned}
-use Rattle.roll_session.specs.Seen.{Seen, core_of, plain, IsLeast}
+use Rattle.roll_session.specs.Seen.{plain}
 use Rattle.roll_session.specs.Standing.{made_from}
 use Rattle.roll_session.specs.Saves.{way_to}
 use Rattle.roll_session.proofs.Between.{can_settle}
-use Rattle.roll_session.proofs.Holding.{accepted, sync_accepted, advance_accepted, partial_accepted, can_be_partial_sync, can_be_partial_advance, least_of}
-use Rattle.roll_session.proofs.Rolled.{Added, near, session_reserved, between_after_sync, between_after_advance, between_after_partial, cost_is, depth_is, frame_is, paths_fit, roll_fits, roll_plan, session_rolled, shown_value, time_fits}
+use Rattle.roll_session.proofs.Holding.{accepted, advance_accepted, partial_accepted, can_be_partial_advance, least_of}
+use Rattle.roll_session.proofs.Rolled.{Added, near, session_reserved, between_after_advance, between_after_partial, cost_is, depth_is, frame_is, paths_fit, roll_fits, roll_plan, session_rolled, shown_value, time_fits}
 use Rattle.roll_session.proofs.session.Session.advance_frame.Goals as goal
 
 pub roll-requires-clause-fits : goal.roll-requires-clause-fits

@@ -1,4 +1,3 @@
-use Rattle.std.proofs.Common.{◌≡◌}
 use Rattle.roll_session.proofs.Holding.{session_claim}
 use Rattle.roll_session.proofs.session.Session.claim.Goals as goal
 

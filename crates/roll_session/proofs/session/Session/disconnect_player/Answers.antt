@@ -1,8 +1,7 @@
-use Rattle.std.proofs.Common.{◌≡◌, ◌++◌, ◌∷◌, [], None, ◌∙◌, ap, sym, refl, false}
+use Rattle.std.proofs.Common.{◌≡◌, ◌++◌, ◌∷◌, [], None, ◌∙◌, ap, refl}
 use Rattle.roll_frame.specs.Core.{Core}
-use Rattle.roll_frame.specs.Events.{is_accepted, refusal, replay}
+use Rattle.roll_frame.specs.Events.{refusal, replay}
 use Rattle.roll_frame.specs.Games.{Game}
-use Rattle.roll_frame.specs.Inputs.{is_repeated}
 use Rattle.roll_frame.specs.declared.entry.Entry.TheVariants.{Disconnect}
 use Rattle.roll_session.specs.Seen.{plain}
 use Rattle.roll_session.proofs.Between.{can_settle}

@@ -1,4 +1,3 @@
-use Rattle.std.proofs.Common.{◌≡◌}
 use Rattle.roll_session.proofs.Holding.{remote_refused}
 use Rattle.roll_session.proofs.session.Session.judge_remote.Goals as goal
 

@@ -1,4 +1,3 @@
-use Rattle.std.proofs.Common.{◌≡◌, ◌∙◌}
 use Rattle.roll_session.proofs.Holding.{session_kept}
 use Rattle.roll_session.proofs.session.Session.kept.Goals as goal
 

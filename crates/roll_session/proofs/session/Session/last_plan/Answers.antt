@@ -1,4 +1,3 @@
-use Rattle.std.proofs.Common.{◌≡◌}
 use Rattle.roll_session.proofs.Holding.{session_plan}
 use Rattle.roll_session.proofs.session.Session.last_plan.Goals as goal
 

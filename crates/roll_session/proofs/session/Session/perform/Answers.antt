@@ -1,4 +1,4 @@
-use Rattle.std.proofs.Common.{◌≡◌, ◌∙◌, ap, refl, cond}
+use Rattle.std.proofs.Common.{◌∙◌, ap, refl, cond}
 use Rattle.roll_frame.specs.Inputs.{is_repeated}
 use Rattle.roll_frame.specs.declared.entry.Entry.TheVariants.{Local, Remote, Disconnect, Sync, Advance}
 use Rattle.roll_inputs.specs.declared.heard.Heard.TheVariants.{Repeated, Taken}

@@ -1,7 +1,7 @@
-use Rattle.std.proofs.Common.{◌≡◌, ◌∙◌, ◌++◌, ◌∷◌, [], ◌+◌, ap, sym, arith, map, take, List, subst, refl, inl, inr, get_or}
+use Rattle.std.proofs.Common.{◌∙◌, ap, sym, arith, List, subst, refl, inl, inr}
 use Rattle.std.proofs.lemmas.List.{take_all}
 use Rattle.std.proofs.lemmas.Option.{slice_get-get_or}
-use Rattle.roll_frame.specs.Events.{played_from, replies_from, after, reply}
+use Rattle.roll_frame.specs.Events.{replies_from}
 use Rattle.roll_session.specs.declared.event.Call.{Call}
 use Rattle.roll_session.specs.Calls.{event_of, events_of, IsMade}
 use Rattle.roll_session.specs.Seen.{core_of, game_of}

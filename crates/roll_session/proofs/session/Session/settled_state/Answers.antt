@@ -1,4 +1,3 @@
-use Rattle.std.proofs.Common.{◌≡◌, ◌∙◌}
 use Rattle.roll_session.proofs.Holding.{session_root}
 use Rattle.roll_session.proofs.session.Session.settled_state.Goals as goal
 

@@ -1,5 +1,4 @@
-use Rattle.std.proofs.Common.{◌≡◌, None, ◌∙◌, ap, sym}
-use Rattle.roll_frame.specs.Settings.{start_refusal}
+use Rattle.std.proofs.Common.{◌∙◌}
 use Rattle.roll_session.proofs.Holding.{session_first}
 use Rattle.roll_session.proofs.session.Session.start.Goals as goal
 
