@@ -1,19 +1,19 @@
 -- The timeline and the saved states after each step.
-use Rattle.std.proofs.Common.{◌≡◌, ℕ, ◌+◌, ◌-◌, ◌≤◌, List, [], ◌∷◌, ◌++◌, length, map, take, drop, refl, ap, sym, subst, ◌∙◌, arith, inl, inr, Bool, true, false, cond, Option, Some, None}
-use Rattle.std.specs.Prelude.{◌==◌, IsSomeAnd, option_map, vec_capacity}
+use Rattle.std.proofs.Common.{◌≡◌, ℕ, ◌+◌, ◌-◌, ◌≤◌, List, [], ◌∷◌, ◌++◌, length, map, take, drop, min, refl, ap, sym, subst, ◌∙◌, arith, inl, inr, Bool, true, false, cond, Option, Some, None}
+use Rattle.std.specs.Prelude.{◌==◌, IsSomeAnd, filter, option_map, vec_capacity}
 use Rattle.std.specs.List.{find}
 use Rattle.roll_frame.specs.Cells.{Rows}
-use Rattle.roll_frame.specs.Paths.{contains, longest}
-use Rattle.roll_frame.specs.Timeline.{Player, timeline}
+use Rattle.roll_frame.specs.Paths.{begins_with, contains, longest}
+use Rattle.roll_frame.specs.Timeline.{Player, front, timeline}
 use Rattle.roll_inputs.specs.Boards.{Inputs, KeepsCells, count_of}
-use Rattle.roll_laws.proofs.Saved.{In, in_has, longest_is}
-use Rattle.roll_tree.specs.Kept.{Kept, Saved, held, paths_of, time_to}
+use Rattle.roll_laws.proofs.Saved.{In, begins, in_has, longest_is}
+use Rattle.roll_tree.specs.Kept.{Kept, Saved, held, later, paths_of, time_to}
 use Rattle.roll_tree.specs.Marks.{AreSameBut}
-use Rattle.roll_session.specs.Saves.{IsInStep}
+use Rattle.roll_session.specs.Saves.{IsInStep, Standing, settled_by, settling}
 use Rattle.roll_session.specs.Standing.{rows_from}
 use Rattle.roll_session.specs.declared.saves.Saves.TheInside.{Inside}
 use Rattle.roll_session.proofs.Retold.{same_but}
-use Rattle.roll_session.proofs.Rows.{drop-rows_from, length-rows_from, settled-rows_from, take-rows_from}
+use Rattle.roll_session.proofs.Rows.{drop-rows_from, length-rows_from, rows_from-none, settled-rows_from, take-rows_from}
 
 -- the longest is no longer than the rows
 pub longest_short : (ps : List Rows) (q : Rows) → longest ps q ≤ length q
@@ -89,3 +89,18 @@ module _ {S : Type 0} where
         told = rw (board, long) rest;
         room = rw board (omega (arith, room, i.room));
       }
+
+  -- where the timeline is settled as far as it can be, nothing settles
+  pub nothing_settles : (st : Standing S) → min (front st.inputs.players) st.inputs.frame ≡ st.inputs.settled → settling st ≡ 0
+  nothing_settles st e =
+      let to = min (front st.inputs.players) st.inputs.frame in
+      omega (arith, longest_short (paths_of st.tree) (rows_from st.inputs.players st.inputs.settled (to - st.inputs.settled)), length-rows_from st.inputs.players st.inputs.settled (to - st.inputs.settled), e)
+
+  -- and the states stay
+  pub none_settled : (st : Standing S) → settled_by st 0 ≡ st.tree.states
+  none_settled st = ap (λ (q : Rows). map (later 0) (filter (λ u. begins_with u.path q) st.tree.states)) (rows_from-none st.inputs.players st.inputs.settled) ∙ stay st.tree.states
+    where
+      stay : (states : List (Saved S)) → map (later 0) (filter (λ u. begins_with u.path []) states) ≡ states
+      stay [] = refl
+      stay (u ∷ states) =
+          ap (λ b. map (later 0) (cond b (u ∷ filter (λ v. begins_with v.path []) states) (filter (λ v. begins_with v.path []) states))) (begins u.path [] refl) ∙ ap (λ (l : List (Saved S)). u ∷ l) (stay states)

@@ -152,9 +152,13 @@ impl<S> Saves<S> {
     {
         self.board.laws();
         let to = self.board.front().min(self.board.frame());
+        let base = self.board.settled();
+        if to == base {
+            return;
+        }
         let path = path_to(&mut self.tree, &self.board, to);
         append(&mut self.past, path.rows.as_slice());
-        let end = self.board.settled() + path.rows.len() as u32;
+        let end = base + path.rows.len() as u32;
         self.tree.settle(&path);
         self.board.settle(end);
     }
