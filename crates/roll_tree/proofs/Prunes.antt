@@ -1,11 +1,12 @@
 -- A walk along the names of a tree that takes out what may go.
 use Rattle.std.proofs.Common.{◌≡◌, ◌≢◌, ◌⊎◌, ◌||◌, ◌&&◌, not, ℕ, zero, suc, ◌+◌, ◌<◌, List, [], ◌∷◌, ◌++◌, length, take, drop, get_or, Bool, true, false, cond, Option, Some, None, is_some, refl, sym, ap, subst, ◌∙◌, inl, inr, arith, eqb, append-nil, append_assoc, take-append-drop, length-append}
-use Rattle.std.specs.List.{filter}
+use Rattle.std.specs.List.{filter, list_all}
 use Rattle.std.specs.Option.{option_map_or}
-use Rattle.std.proofs.lemmas.Bool.{false≢true, cases_Bool, or_cases, or_left, eqb-true, eq-eqb}
+use Rattle.std.proofs.lemmas.Bool.{false≢true, cases_Bool, and_parts, and_from, or_cases, or_left, eqb-true, eq-eqb, ne_eqb}
 use Rattle.std.proofs.lemmas.List.{take_more}
 use Rattle.std.proofs.lemmas.List.Elements.{filter-append}
-use Rattle.std.proofs.lemmas.List.Folds.{list_any-append}
+use Rattle.std.proofs.lemmas.List.Folds.{list_any-append, list_all_more, list_all_at}
+use Rattle.std.proofs.lemmas.Option.{same_Some}
 use Rattle.slab.specs.Slab.{Slab, get, slab_len}
 use Rattle.roll_tree.specs.Layout.{has_name, node_at, IsAfter, AreOrdered}
 use Rattle.roll_tree.specs.Rule.{allows, IsLive, IsPruned}
@@ -161,3 +162,66 @@ module _ {S : Type 0} where
 
       alike : filter (λ name. is_some (get new name)) order ≡ filter live order
       alike = filter-same (λ name. is_some (get new name)) live order (λ name h. go name h (named_node old.slots [] order ordered name h) (live name) (nodes name))
+
+all_named : (live : ℕ → Bool) (names : List ℕ) (k : ℕ) → list_all live names ≡ true → has_name names k ≡ true → live k ≡ true
+all_named live [] k all h = absurd (false≢true h)
+all_named live (n ∷ names) k all h =
+    let parts = and_parts (live n) (list_all live names) all in
+    elim (or_cases (eqb n k) (has_name names k) h) [
+      | inl same ↦ ap live (sym (eqb-true n k same)) ∙ parts.0
+      | inr there ↦ all_named live names k parts.1 there
+    ]
+
+filter_all : (live : ℕ → Bool) (names : List ℕ) → list_all live names ≡ true → filter live names ≡ names
+filter_all live [] all = refl
+filter_all live (n ∷ names) all =
+    let parts = and_parts (live n) (list_all live names) all in
+    ap (λ (b : Bool). cond b (n ∷ filter live names) (filter live names)) parts.0 ∙ ap (λ (l : List ℕ). n ∷ l) (filter_all live names parts.1)
+
+module _ {S : Type 0} (top : ℕ) (rule : Rule) (slots : List (Option (Node S))) (order : List ℕ) (ordered : AreOrdered slots [] order) (i : ℕ) (within : i < length order) (live : ℕ → Bool) (is : IsLive top rule slots live) where
+  abbrev next : ℕ
+  next = get_or order i 0
+
+  -- the top stays
+  live_top : next ≡ top → live next ≡ true
+  live_top same =
+      let after = ordered_at slots [] order ordered i within in
+      is.step next after.node after.node_is
+      ∙ or_left (eqb next top) (option_map_or (λ (e : Edge). live e.parent && allows rule after.node.end e.row) after.node.edge false) (eq-eqb next top same)
+
+  -- where all before it stay, another node stays where its edge may
+  live_edge : list_all live (take i order) ≡ true → (next ≡ top → ⊥) → (node : Node S) → node_at slots next ≡ Some node → live next ≡ option_map_or (λ (e : Edge). allows rule node.end e.row) node.edge false
+  live_edge all differs node found =
+      is.step next node found
+      ∙ ap (λ (b : Bool). b || option_map_or (λ (e : Edge). live e.parent && allows rule node.end e.row) node.edge false) (ne_eqb next top differs)
+      ∙ go node.edge refl
+    where
+      go : (o : Option Edge) → node.edge ≡ o → option_map_or (λ (e : Edge). live e.parent && allows rule node.end e.row) o false ≡ option_map_or (λ (e : Edge). allows rule node.end e.row) o false
+      go None e = refl
+      go (Some e) edge_is =
+          let after = ordered_at slots [] order ordered i within in
+          let same : node ≡ after.node = same_Some _ _ (sym found ∙ after.node_is) in
+          let above = after.parent e (ap (λ (n : Node S). n.edge) (sym same) ∙ edge_is) in
+          ap (λ (b : Bool). b && allows rule node.end e.row) (all_named live (take i order) e.parent all above)
+
+  pub all_with_top : list_all live (take i order) ≡ true → next ≡ top → list_all live (take (i + 1) order) ≡ true
+  all_with_top all same = list_all_more live order i 0 within ∙ and_from _ _ all (live_top same)
+
+  pub all_with_edge : list_all live (take i order) ≡ true → (next ≡ top → ⊥) → (node : Node S) → node_at slots next ≡ Some node → option_map_or (λ (e : Edge). allows rule node.end e.row) node.edge false ≡ true → list_all live (take (i + 1) order) ≡ true
+  all_with_edge all differs node found allowed = list_all_more live order i 0 within ∙ and_from _ _ all (live_edge all differs node found ∙ allowed)
+
+  pub not_all : list_all live (take i order) ≡ true → (next ≡ top → ⊥) → (node : Node S) → node_at slots next ≡ Some node → option_map_or (λ (e : Edge). allows rule node.end e.row) node.edge false ≡ false → list_all live order ≡ false
+  not_all all differs node found refused = list_all_at live order i 0 within (live_edge all differs node found ∙ refused)
+
+module _ {S : Type 0} where
+  -- where all stay, nothing is to be done
+  pub IsPruned-none : (old : Slab (Node S)) (order : List ℕ) (live : ℕ → Bool) → list_all live order ≡ true → IsPruned live old old order order
+  IsPruned-none old order live all = record {
+    nodes = λ name. go name (has_name order name) refl;
+    kept_is = sym (filter_all live order all);
+    counted = refl;
+  }
+    where
+      go : (name : ℕ) (b : Bool) → has_name order name ≡ b → get old name ≡ cond (has_name order name && not (live name)) None (get old name)
+      go name true h = rw (h, all_named live order name all h) refl
+      go name false h = rw h refl

@@ -1,5 +1,6 @@
 //! Taking out of a tree what can no longer matter.
 ghost use Rattle.std.specs.Prelude.{◌≡◌, [], ℕ, ◌+◌, nat_eq, ◌||◌, ◌&&◌, not, is_some, length, filter, Some, None, IsSome, Bool, false, vec_capacity, if◌then◌else◌};
+ghost use Rattle.std.specs.List.{list_all};
 ghost use Rattle.std.specs.Option.{option_map_or};
 ghost use Rattle.slab.specs.Slab.{get, slab_len};
 ghost use Rattle.roll_tree.specs.Layout.{AreOrdered, has_name};
@@ -40,6 +41,16 @@ impl Rule {
             }
         }
     }
+
+    /// Whether a node hangs by an edge that may stay.
+    fn allows_edge<S>(&self, node: &Node<S>) -> bool
+        ensures { result ≡ option_map_or (λ e. allows self.now node.now.end e.row) node.now.edge false }
+    {
+        match &node.edge {
+            Some(edge) => self.allows(node.end, &edge.row),
+            None => false,
+        }
+    }
 }
 
 /// Takes out each node but the top and those that hang below it by edges that the rule allows.
@@ -51,8 +62,28 @@ pub fn prune<S: Drop>(nodes: &mut Slab<Node<S>>, order: &mut Vec<usize>, top: us
     ensures capacity { nodes.new.capacity ≡ nodes.old.capacity }
     ensures space { vec_capacity order.new ≡ vec_capacity order.old }
 {
+    if keeps_all(nodes, order, top, rule) {
+        return;
+    }
     take_out(nodes, order, top, rule);
     order.retain(|name| nodes.contains(*name));
+}
+
+/// Whether all nodes stay. In most calls of `cut` they do, and nothing is written then.
+fn keeps_all<S>(nodes: &Slab<Node<S>>, order: &[usize], top: usize, rule: &Rule) -> bool
+    requires { AreOrdered nodes.now.slots [] order.now }
+    ensures { (live : ℕ → Bool) → IsLive top rule.now nodes.now.slots live → result ≡ list_all live order.now }
+{
+    for name in order {
+        if *name == top {
+            continue;
+        }
+        // A parent comes first, so it stays.
+        if !rule.allows_edge(&nodes[*name]) {
+            return false;
+        }
+    }
+    true
 }
 
 fn take_out<S: Drop>(nodes: &mut Slab<Node<S>>, order: &[usize], top: usize, rule: &Rule)
