@@ -7,7 +7,7 @@ ghost use Rattle.slab.specs.Slab.{slab_len};
 ghost use Rattle.roll_tree.specs.Layout.{node_at, has_name, AreLinked, AreOrdered, AreFresh, AreLike};
 ghost use Rattle.roll_tree.specs.Marks.{differ_at, bit_of, AreMarks, AreSameBut, least_other};
 
-use crate::node::{Edge, Node, set_edge};
+use crate::node::{Edge, Node, set_marks};
 use roll_frame::{PLAYER_LIMIT, Row};
 use slab::Slab;
 
@@ -87,7 +87,7 @@ impl Change {
                 continue;
             };
             let marks = self.marks(node.end, &edge, old, new);
-            set_edge(nodes, *name, Some(Edge { marks, ..edge }));
+            set_marks(nodes, *name, edge, marks);
         }
     }
 

@@ -56,3 +56,16 @@ pub fn set_edge<S>(nodes: &mut Slab<Node<S>>, name: usize, edge: Option<Edge>)
 {
     nodes[name].edge = edge;
 }
+
+/// Gives a node's edge these marks. Nothing is written where it has them.
+pub fn set_marks<S>(nodes: &mut Slab<Node<S>>, name: usize, edge: Edge, marks: u8)
+    requires { IsSomeAnd (get nodes.old name) (λ was. was.edge ≡ Some edge) }
+    ensures changed { IsSomeAnd (get nodes.old name) (λ was. get nodes.new name ≡ Some (record was { edge = Some (record edge { marks = marks }) })) }
+    ensures others { (other : ℕ) → other ≢ name → get nodes.new other ≡ get nodes.old other }
+    ensures len { slab_len nodes.new ≡ slab_len nodes.old }
+    ensures capacity { nodes.new.capacity ≡ nodes.old.capacity }
+{
+    if marks != edge.marks {
+        set_edge(nodes, name, Some(Edge { marks, ..edge }));
+    }
+}

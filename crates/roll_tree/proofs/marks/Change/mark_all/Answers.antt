@@ -10,6 +10,6 @@ marks-marks-requires-clause-fresh g c = was_fresh c.args.self.now.base c.args.ol
 
 pub loop-name-preserved : goal.loop-name-preserved
 loop-name-preserved g c =
-    let changed = rw c.index-node.ensures at c.set_edge.ensures.changed in
+    let changed = rw c.index-node.ensures at c.set_marks.ensures.changed in
     IsMarking-more c.args.self.now.base c.args.old.now c.args.new.now c.args.nodes.now c.args.order.now c.requires.linked c.requires.ordered c.loop-name.nodes c.loop-name.name-index c.loop-name-test.true c.loop-name.invariant
-    c.set_edge.new.nodes c.index-node.result.now c.in-Some.edge c.marks-marks.result c.index-node.ensures c.in-Some.is c.marks-marks.ensures changed c.set_edge.ensures.others c.set_edge.ensures.len c.set_edge.ensures.capacity
+    c.set_marks.new.nodes c.index-node.result.now c.in-Some.edge c.marks-marks.result c.index-node.ensures c.in-Some.is c.marks-marks.ensures changed c.set_marks.ensures.others c.set_marks.ensures.len c.set_marks.ensures.capacity
