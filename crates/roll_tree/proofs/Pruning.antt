@@ -1,6 +1,6 @@
 -- What `cut` and `settle` make of a tree.
 use Rattle.std.proofs.Common.{◌≡◌, ◌≢◌, ◌⊎◌, ℕ, zero, suc, drop, arith, ◌+◌, ◌-◌, ◌≤◌, List, [], ◌∷◌, ◌++◌, length, map, Option, Some, None, Bool, not, refl, sym, ap, subst, ◌∙◌, inl, inr, vec_capacity}
-use Rattle.std.specs.Prelude.{option_map, slice_get, IsSomeAnd}
+use Rattle.std.specs.Prelude.{option_map, slice_get, IsSomeAnd, IfSome}
 use Rattle.std.specs.List.{filter}
 use Rattle.std.proofs.lemmas.Option.{none-some, same_Some}
 use Rattle.std.proofs.lemmas.Bool.{cases_eq}
@@ -10,14 +10,14 @@ use Rattle.roll_frame.specs.declared.limits.TheConstants.{TREE_LIMIT}
 use Rattle.roll_frame.specs.Cells.{Rows}
 use Rattle.roll_frame.specs.Paths.{begins_with}
 use Rattle.roll_tree.specs.Kept.{Saved, Kept, held, later, has_other}
-use Rattle.roll_tree.specs.Layout.{node_at, saved_of, kept_of, IsAfter, AreOrdered, IsTree}
+use Rattle.roll_tree.specs.Layout.{node_at, kept_of, IsAfter, AreOrdered, IsTree}
 use Rattle.roll_tree.specs.Rule.{IsLive, IsPruned}
 use Rattle.roll_tree.specs.declared.node.Node.{Node}
 use Rattle.roll_tree.specs.declared.prune.Rule.TheVariants.{Any, Agrees}
 use Rattle.roll_tree.specs.declared.tree.Tree.TheInside.{Inside}
 use Rattle.roll_tree.proofs.Names.{option_cases}
-use Rattle.roll_tree.proofs.Nodes.{path_at, path_at-top}
-use Rattle.roll_tree.proofs.States.{states_at, held_at, held_node}
+use Rattle.roll_tree.proofs.Nodes.{path_at, path_at-top, length-path_at}
+use Rattle.roll_tree.proofs.States.{states_at, root_held}
 use Rattle.roll_tree.proofs.Cuts.{detached}
 use Rattle.roll_tree.proofs.Rules.{live_by, is_live, left_states, left_tree}
 use Rattle.roll_tree.proofs.Fronts.{cut_rule, settle_rule}
@@ -30,6 +30,10 @@ slice_get-drop (suc n) (row ∷ rows) k =
     slice_get-drop n rows k ∙ ap (slice_get (row ∷ rows)) more
 
 module _ {S : Type 0} where
+  -- what is left below the state of this name and path
+  abbrev pub settled : Kept S → ℕ → Rows → Kept S
+  settled kept name path = record { base = kept.base + length path; root = name; states = map (later (length path)) (filter (λ u. begins_with u.path path) kept.states); time = drop (length path) kept.time }
+
   later_none : (states : List (Saved S)) → map (later 0) states ≡ states
   later_none [] = refl
   later_none (s ∷ states) = ap (λ (l : List (Saved S)). s ∷ l) (later_none states)
@@ -94,26 +98,51 @@ module _ {S : Type 0} (t : Inside S) (tree : IsTree t) (top : ℕ) (first : Node
       left_tree t top first Any begins_there mid tree rule at_top others u.nodes u.order.items (pruned (live_by t top first Any begins_there) live)
       u base root refl refl (λ k. ap (λ (r : Rows). slice_get r k) time ∙ slice_get-drop (first.end - t.base) t.time.items k) len room space
 
-  pub settle_view : (kept : Kept S) (to : Rows) → kept_of t ≡ kept → path_at t.base t.nodes.slots first ≡ to → (kept_of u).states ≡ map (later (length to)) (filter (λ s. begins_with s.path to) kept.states)
-  settle_view kept to view path =
+  pub settle_view : (kept : Kept S) → kept_of t ≡ kept → kept_of u ≡ settled kept top (path_at t.base t.nodes.slots first)
+  settle_view kept view =
+      let path : Rows = path_at t.base t.nodes.slots first in
       let rule = settle_rule t tree top first first_is in
       let live = is_live t top first Any begins_there mid tree rule at_top others in
       let left = left_states t top first Any begins_there mid tree rule at_top others u.nodes u.order.items (pruned (live_by t top first Any begins_there) live) in
-      ap (λ (b : ℕ). states_at b u.nodes.slots u.order.items) base
-      ∙ left
-      ∙ ap (λ (p : Rows). map (later (length p)) (filter (λ s. begins_with s.path p) (states_at t.base t.nodes.slots t.order.items))) path
-      ∙ ap (λ (k : Kept S). map (later (length to)) (filter (λ s. begins_with s.path to) k.states)) view
+      let long = length-path_at t.base t.nodes.slots tree.links top first first_is in
+      let frames : u.base ≡ t.base + length path = omega (arith, base, long) in
+      let deep : first.end - t.base ≡ length path = omega (arith, long) in
+      let rows : u.time.items ≡ drop (length path) t.time.items = time ∙ ap (λ (n : ℕ). drop n t.time.items) deep in
+      let states : states_at u.base u.nodes.slots u.order.items ≡ map (later (length path)) (filter (λ s. begins_with s.path path) (states_at t.base t.nodes.slots t.order.items)) =
+      ap (λ (b : ℕ). states_at b u.nodes.slots u.order.items) base ∙ left in
+      subst (λ (k : Kept S). kept_of u ≡ settled k top path) view (λ i. record { base = frames i; root = root i; states = states i; time = rows i })
 
--- the node of a state that was found
-pub found_node : {S : Type 0} (t : Inside S) (kept : Kept S) (name : ℕ) (to : Rows) → kept_of t ≡ kept → IsTree t → IsSomeAnd (held kept name) (λ s. s.path ≡ to) → (node : Node S) × (node_at t.nodes.slots name ≡ Some node) × (path_at t.base t.nodes.slots node ≡ to)
-found_node {S} t kept name to view tree found = go (option_cases (node_at t.nodes.slots name))
-  where
-    nowhere : IsSomeAnd None (λ (s : Saved S). s.path ≡ to) → ⊥
-    nowhere h = elim h [ ]
+module _ {S : Type 0} where
+  filter_empty : (states : List (Saved S)) → filter (λ s. begins_with s.path []) states ≡ states
+  filter_empty [] = refl
+  filter_empty (s ∷ states) = ap (λ (l : List (Saved S)). s ∷ l) (filter_empty states)
 
-    go : (node_at t.nodes.slots name ≡ None) ⊎ ((node : Node S) × (node_at t.nodes.slots name ≡ Some node)) → (node : Node S) × (node_at t.nodes.slots name ≡ Some node) × (path_at t.base t.nodes.slots node ≡ to)
-    go (inl none) = absurd (nowhere (subst (λ (o : Option (Saved S)). IsSomeAnd o (λ s. s.path ≡ to)) (held_at t kept name view tree ∙ ap (option_map (saved_of t.base t.nodes.slots name)) none) found))
-    go (inr some) = (some.0, some.1, subst (λ (o : Option (Saved S)). IsSomeAnd o (λ s. s.path ≡ to)) (held_node t kept name some.0 view tree some.1) found)
+  -- the root is the root already
+  pub settle_root : (t : Inside S) (kept : Kept S) (name : ℕ) → kept_of t ≡ kept → IsTree t → name ≡ t.root → IfSome (held kept name) (λ s. kept ≡ settled kept name s.path)
+  settle_root t kept name view tree is =
+      go (held kept name) (subst (λ (n : ℕ). IsSomeAnd (held kept n) (λ (s : Saved S). s.path ≡ [])) (sym is) (root_held t kept view tree))
+    where
+      here : kept ≡ settled kept name []
+      here =
+          let base : kept.base ≡ kept.base + 0 = omega arith in
+          let root : kept.root ≡ name = ap (λ (k : Kept S). k.root) (sym view) ∙ sym is in
+          let states : kept.states ≡ map (later 0) (filter (λ s. begins_with s.path []) kept.states) = sym (later_none (filter (λ s. begins_with s.path []) kept.states) ∙ filter_empty kept.states) in
+          λ i. record { base = base i; root = root i; states = states i; time = kept.time }
+
+      go : (o : Option (Saved S)) → IsSomeAnd o (λ s. s.path ≡ []) → IfSome o (λ s. kept ≡ settled kept name s.path)
+      go None h = tt
+      go (Some s) h = subst (λ (p : Rows). kept ≡ settled kept name p) (sym h) here
+
+  -- a tree that is settled at the state of a path
+  pub settled_to : (kept new : Kept S) (name : ℕ) (to : Rows) → IsSomeAnd (held kept name) (λ s. s.path ≡ to) → IfSome (held kept name) (λ s. new ≡ settled kept name s.path) → new ≡ settled kept name to
+  settled_to kept new name to = go (held kept name)
+    where
+      nowhere : IsSomeAnd None (λ (s : Saved S). s.path ≡ to) → ⊥
+      nowhere h = elim h [ ]
+
+      go : (o : Option (Saved S)) → IsSomeAnd o (λ s. s.path ≡ to) → IfSome o (λ s. new ≡ settled kept name s.path) → new ≡ settled kept name to
+      go None found is = absurd (nowhere found)
+      go (Some s) found is = subst (λ (p : Rows). new ≡ settled kept name p) found is
 
 module _ {S : Type 0} (old mid : List (Option (Node S))) (top : ℕ) (first : Node S) (at_top : node_at mid top ≡ Some (detached first)) (others : (name : ℕ) → name ≢ top → node_at mid name ≡ node_at old name) where
   -- names stay in order where a node loses its edge

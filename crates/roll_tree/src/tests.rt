@@ -134,6 +134,29 @@ fn settle(tree: &mut Tree<u32>, to: &Path) {
     }
 }
 
+// Settles at the state of a name, where there is one.
+fn settle_at(tree: &mut Tree<u32>, node: usize) {
+    if tree.contains(node) {
+        tree.settle_at(node);
+    }
+}
+
+#[test]
+fn settles_at_a_name(rt: HostRuntime) -> Result<(), Fail> {
+    let mut tree = Tree::new(rt.alloc(), 5, 0)?;
+    let root = tree.root();
+    let right = grown(&rt, &mut tree, root, row(1, 0), 1);
+    let wrong = grown(&rt, &mut tree, root, row(1, 3), 2);
+    let next = grown(&rt, &mut tree, right, row(2, 0), 3);
+    settle_at(&mut tree, root);
+    assert_eq!(rt; (tree.base(), tree.root(), tree.len()), (5, root, 4));
+    settle_at(&mut tree, right);
+    assert_eq!(rt; (tree.base(), tree.root(), tree.len()), (6, right, 2));
+    assert!(rt; !tree.contains(root) && !tree.contains(wrong));
+    assert_eq!(rt; found(&tree, &path(6, &[row(2, 0)])), Some(next));
+    Ok(())
+}
+
 // Two rows have the same cells, but for this player's.
 fn agree(rt: &impl Abort, row: &Row, there: &Row, but: u8)
     ensures { (k : ℕ) → (k + 1 ≡ but → ⊥) → slice_get row.now k ≡ slice_get there.now k }
@@ -430,8 +453,13 @@ impl Both {
         if state.path.rows.len() > 3 {
             return Ok(());
         }
+        let name = state.name;
         let to = state.path.clone()?;
-        settle(&mut self.tree, &to);
+        if self.random.below(2) == 0 {
+            settle_at(&mut self.tree, name);
+        } else {
+            settle(&mut self.tree, &to);
+        }
         let plain = mem::replace(&mut self.plain, Vec::new(self.alloc));
         self.plain = settled(plain, &to, self.alloc)?;
         let time = mem::replace(&mut self.time, Vec::new(self.alloc));

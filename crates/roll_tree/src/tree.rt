@@ -284,11 +284,25 @@ impl<S> Tree<S> {
         let Some(top) = self.find(to) else {
             unreachable!();
         };
-        self.base = self.nodes[top].end;
-        self.root = top;
-        drop_first(&mut self.time, to.rows.len());
-        set_edge(&mut self.nodes, top, None);
-        prune(&mut self.nodes, &mut self.order, top, &Rule::Any);
+        self.settle_at(top);
+    }
+
+    /// Makes a kept state the root, and drops what doesn't lie below it.
+    pub fn settle_at(&mut self, node: usize)
+    where
+        S: Drop,
+        requires { IsSome (held self.old node) }
+        ensures { IfSome (held self.old node) (λ s. self.new ≡ record { base = self.old.base + length s.path; root = node; time = drop (length s.path) self.old.time; states = map (later (length s.path)) (filter (λ u. begins_with u.path s.path) self.old.states) }) }
+    {
+        if node == self.root {
+            return;
+        }
+        let end = self.nodes[node].end;
+        drop_first(&mut self.time, (end - self.base) as usize);
+        self.base = end;
+        self.root = node;
+        set_edge(&mut self.nodes, node, None);
+        prune(&mut self.nodes, &mut self.order, node, &Rule::Any);
     }
 
     /// Drops each state whose path has another cell than this for the player, counted from 1, in the frame.
