@@ -6,6 +6,7 @@ use Rattle.std.proofs.lemmas.Option.{none-some, same_Some}
 use Rattle.std.proofs.lemmas.Bool.{cases_eq, false≢true}
 use Rattle.slab.specs.Slab.{Slab, get, slab_len}
 use Rattle.roll_frame.specs.declared.limits.TheConstants.{TREE_LIMIT}
+use Rattle.roll_frame.specs.declared.row.Cell.{Cell}
 use Rattle.roll_frame.specs.Cells.{Rows}
 use Rattle.roll_tree.specs.Marks.{AreMarks}
 use Rattle.roll_tree.specs.Kept.{Kept}
@@ -268,3 +269,26 @@ module _ {S : Type 0} (base : ℕ) (time rows : Rows) (old : Slab (Node S)) (nam
           | inl there ↦ marking.done k other f there (sym (others k apart) ∙ at) f_is
           | inr same ↦ absurd (apart (sym same))
         ]
+
+    -- and one whose edge keeps them, since the rows have no other row in its frame
+    pub IsMarking-kept : AreFresh base time old.slots → (node : Node S) → get now name ≡ Some node → (base < node.end → slice_get rows (node.end - base - 1) ≡ slice_get time (node.end - base - 1)) → IsMarking now (place + 1)
+    IsMarking-kept fresh node found same = go node.edge refl
+      where
+        go : (o : Option Edge) → node.edge ≡ o → IsMarking now (place + 1)
+        go None none = IsMarking-past node found none
+        go (Some e) is =
+            IsMarking-more now node e e.marks found is (subst (λ (o : Option (List Cell)). AreMarks o e.row e.marks) (sym (same (was_below node e found is))) (was_fresh fresh node e found is))
+            (found ∙ ap (λ (o : Option Edge). Some (record node { edge = o })) is) (λ other apart. refl) refl refl
+
+-- a row behind others is in its own place, and elsewhere nothing changes
+pub next_row : (time : Rows) (row : List Cell) (k : ℕ) → k ≡ length time → slice_get (time ++ row ∷ []) k ≡ Some row
+next_row [] row zero h = refl
+next_row [] row (suc k) h = absurd (omega (arith, h))
+next_row (r ∷ time) row zero h = absurd (omega (arith, h))
+next_row (r ∷ time) row (suc k) h = next_row time row k (omega (arith, h))
+
+pub other_row : (time : Rows) (row : List Cell) (k : ℕ) → k ≢ length time → slice_get (time ++ row ∷ []) k ≡ slice_get time k
+other_row [] row zero h = absurd (h refl)
+other_row [] row (suc k) h = refl
+other_row (r ∷ time) row zero h = refl
+other_row (r ∷ time) row (suc k) h = other_row time row k (λ e. h (omega (arith, e)))

@@ -1,5 +1,5 @@
 //! Marks: one bit for each player whose cell in a row differs from the timeline's, player 1's the lowest.
-ghost use Rattle.std.specs.Prelude.{◌≡◌, ◌≢◌, ℕ, ◌-◌, ◌<◌, ◌≤◌, [], length, slice_get, List, Option, Some, true};
+ghost use Rattle.std.specs.Prelude.{◌≡◌, ◌≢◌, ℕ, ◌-◌, ◌<◌, ◌≤◌, [], ◌∷◌, ◌++◌, length, slice_get, List, Option, Some, true};
 ghost use Rattle.std.specs.Option.{option_and_then};
 ghost use Rattle.std.specs.Int.{bit_at};
 ghost use Rattle.roll_frame.specs.declared.row.Cell.{Cell};
@@ -8,7 +8,7 @@ ghost use Rattle.roll_tree.specs.Layout.{node_at, has_name, AreLinked, AreOrdere
 ghost use Rattle.roll_tree.specs.Marks.{differ_at, bit_of, AreMarks, AreSameBut, least_other};
 
 use crate::node::{Edge, Node, set_marks};
-use roll_frame::{PLAYER_LIMIT, Row};
+use roll_frame::{PATH_LIMIT, PLAYER_LIMIT, Row};
 use slab::Slab;
 
 /// The marks of a row whose frame is at this place of the timeline, none where it isn't known.
@@ -18,6 +18,32 @@ pub fn marks_in(time: &[Row], place: usize, row: &Row) -> u8
     match time.get(place) {
         Some(there) => marks_of(row, there),
         None => 0,
+    }
+}
+
+/// Marks the edges of the frame after the last that is known, of which this is the row.
+pub fn mark_next<S>(nodes: &mut Slab<Node<S>>, order: &[usize], base: u32, time: &[Row], row: &Row)
+    requires short { length time.now < PATH_LIMIT }
+    requires linked { AreLinked base nodes.old.slots }
+    requires ordered { AreOrdered nodes.old.slots [] order.now }
+    requires listed { (name : ℕ) (node : Node S) → node_at nodes.old.slots name ≡ Some node → has_name order.now name ≡ true }
+    requires fresh { AreFresh base time.now nodes.old.slots }
+    ensures like { AreLike nodes.old.slots nodes.new.slots }
+    ensures fresh { AreFresh base (time.now ++ row.now ∷ []) nodes.new.slots }
+    ensures len { slab_len nodes.new ≡ slab_len nodes.old }
+    ensures capacity { nodes.new.capacity ≡ nodes.old.capacity }
+{
+    let end = u64::from(base) + time.len() as u64 + 1;
+    for name in order {
+        let node = &nodes[*name];
+        if u64::from(node.end) != end {
+            continue;
+        }
+        let Some(edge) = node.edge else {
+            continue;
+        };
+        let marks = marks_of(&edge.row, row);
+        set_marks(nodes, *name, edge, marks);
     }
 }
 

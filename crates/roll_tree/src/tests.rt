@@ -261,6 +261,37 @@ fn marks_eight_players(rt: HostRuntime) -> Result<(), Fail> {
     Ok(())
 }
 
+// Tells a row more, where there is room.
+fn tell_next(tree: &mut Tree<u32>, row: Row) -> bool {
+    if tree.time().len() >= PATH_LIMIT {
+        return false;
+    }
+    tree.tell(row);
+    true
+}
+
+#[test]
+fn marks_the_next_frame(rt: HostRuntime) -> Result<(), Fail> {
+    let mut tree = Tree::new(rt.alloc(), 7, 0)?;
+    let root = tree.root();
+    let right = grown(&rt, &mut tree, root, row(1, 0), 1);
+    let wrong = grown(&rt, &mut tree, root, row(1, 3), 2);
+    let next = grown(&rt, &mut tree, right, row(2, 0), 3);
+    let other = grown(&rt, &mut tree, right, row(2, 1), 4);
+    assert!(rt; tell_next(&mut tree, row(1, 0)));
+    assert_eq!(rt; deepest(&rt, &tree, 8), (right, 8));
+    assert_eq!(rt; first_mark(&rt, &tree, wrong), Some((7, 2)));
+    assert_eq!(rt; first_mark(&rt, &tree, next), None);
+    assert!(rt; tell_next(&mut tree, row(2, 1)));
+    assert_eq!(rt; deepest(&rt, &tree, 9), (other, 9));
+    assert_eq!(rt; first_mark(&rt, &tree, next), Some((8, 2)));
+    for word in 2..PATH_LIMIT as u32 {
+        assert!(rt; tell_next(&mut tree, row(word, 0)));
+    }
+    assert!(rt; !tell_next(&mut tree, row(0, 0)));
+    Ok(())
+}
+
 #[test]
 fn settles_past_the_end_of_the_timeline(rt: HostRuntime) -> Result<(), Fail> {
     let mut tree = Tree::new(rt.alloc(), 2, 0)?;
@@ -522,6 +553,15 @@ impl Both {
         Ok(())
     }
 
+    // Adds a row to the timeline.
+    fn tell(&mut self) -> Result<(), Fail> {
+        let row = self.random.row();
+        if tell_next(&mut self.tree, row) {
+            self.time.push(row)?;
+        }
+        Ok(())
+    }
+
     // Asks how far the timeline's way goes to a frame, and gives the rows on it.
     fn look(&mut self, rt: &impl Abort) -> usize {
         let count = self.random.below(self.time.len().saturating_add(1));
@@ -582,7 +622,8 @@ fn goes_with_a_plain_list(rt: HostRuntime) -> Result<(), Fail> {
         match both.random.below(100) {
             0 => both.cut(),
             1 => both.settle()?,
-            k if k < 10 => both.mark(&rt)?,
+            k if k < 6 => both.mark(&rt)?,
+            k if k < 10 => both.tell()?,
             k if k < 30 => furthest = furthest.max(both.look(&rt)),
             k if k < 50 => both.find(&rt)?,
             _ => both.insert(&rt, call)?,

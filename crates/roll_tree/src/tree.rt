@@ -5,7 +5,7 @@ ghost use Rattle.roll_frame.specs.Paths.{begins_with, contains, longest as longe
 ghost use Rattle.roll_tree.specs.Kept.{Saved, Kept, held, paths_of, with_state, CanGrow, later, has_other, IsClosed, IsDistinct, path_of, CanMark, time_to};
 ghost use Rattle.roll_tree.specs.Marks.{least_mark};
 
-use crate::marks::{Change, least_marked, marks_in};
+use crate::marks::{Change, least_marked, mark_next, marks_in};
 use crate::node::{Edge, Node, set_edge};
 use crate::prune::{Rule, prune};
 use arrayvec::ArrayVec;
@@ -216,6 +216,15 @@ impl<S> Tree<S> {
         change.mark_all(&mut self.nodes, &self.order, &self.time, rows);
         self.time.clear();
         self.time.try_extend_from_slice(rows).unwrap();
+    }
+
+    /// Tells the timeline's next row, behind those that are known.
+    pub fn tell(&mut self, row: Row)
+        requires { length self.old.time < PATH_LIMIT }
+        ensures { self.new ≡ record self.old { time = self.old.time ++ row ∷ [] } }
+    {
+        mark_next(&mut self.nodes, &self.order, self.base, &self.time, &row);
+        self.time.push(row);
     }
 
     /// The deepest kept state on the timeline's way to a frame, and its length, from frame 0.
