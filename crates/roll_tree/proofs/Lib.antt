@@ -15,3 +15,4 @@ pub mod Bytes
 pub mod Marking
 pub mod Deepest
 pub mod Least
+pub mod Parents

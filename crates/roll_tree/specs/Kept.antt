@@ -1,5 +1,5 @@
 -- What a contract sees of a `Tree`.
-use Rattle.std.specs.Prelude.{◌≡◌, ℕ, ◌+◌, ◌-◌, ◌≤◌, ◌<◌, ◌^◌, ◌==◌, List, [], ◌∷◌, ◌++◌, length, map, take, drop, not, Bool, true, false, Option, Some, None, IsSome, if◌then◌else◌}
+use Rattle.std.specs.Prelude.{◌≡◌, ℕ, ◌+◌, ◌-◌, ◌≤◌, ◌<◌, ◌^◌, ◌==◌, List, [], ◌∷◌, ◌++◌, length, map, take, drop, not, Bool, true, false, Option, Some, None, IsSome, IsSomeAnd, if◌then◌else◌}
 use Rattle.std.specs.List.{find}
 use Rattle.std.specs.Option.{option_map_or}
 use Rattle.roll_frame.specs.declared.row.Cell.{Cell}
@@ -9,6 +9,7 @@ use Rattle.roll_frame.specs.Cells.{Rows, cell_eq}
 use Rattle.roll_frame.specs.Claims.{cell_in}
 use Rattle.roll_frame.specs.Paths.{contains}
 use Rattle.roll_tree.specs.Marks.{AreSameBut}
+use Rattle.roll_tree.specs.declared.tree.Above.{Above}
 
 -- a saved state: its name, the rows that lead to it from the base, and its snapshot
 pub record Saved (S : Type 0) : Type 0 where
@@ -64,6 +65,17 @@ module _ {S : Type 0} where
   -- no two states have the same path
   abbrev pub IsDistinct : Kept S → Type 0
   IsDistinct t = (j k : ℕ) (s u : Saved S) → held t j ≡ Some s → held t k ≡ Some u → s.path ≡ u.path → j ≡ k
+
+  -- what is above a state of this path: nothing where it has no rows, else the state and the row that it is made of
+  abbrev pub IsAbove : Kept S → Rows → Option Above → Type 0
+  IsAbove t path None = path ≡ []
+  IsAbove t path (Some above) = IsSomeAnd (held t above.node) (λ s. path ≡ s.path ++ above.row ∷ [])
+
+  -- each state comes after the one above it
+  abbrev pub IsOrdered : Kept S → Type 0
+  IsOrdered t =
+      (before after : List (Saved S)) (s u : Saved S) (row : List Cell) → t.states ≡ before ++ s ∷ after → held t u.name ≡ Some u → s.path ≡ u.path ++ row ∷ []
+      → find (λ x. x.name == u.name) before ≡ Some u
 
 -- a path of these rows from the base on
 abbrev pub path_of : ℕ → Rows → Path

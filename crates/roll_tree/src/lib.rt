@@ -6,7 +6,7 @@ mod node;
 mod prune;
 mod tree;
 
-pub use tree::{Tree, TreeFull};
+pub use tree::{Above, Tree, TreeFull};
 
 #[cfg(test)]
 mod tests;

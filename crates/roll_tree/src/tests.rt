@@ -1,7 +1,7 @@
 ghost use Rattle.std.specs.Prelude.{◌≡◌, ◌+◌, ℕ, slice_get};
 ghost use Rattle.roll_tree.specs.Kept.{CanMark};
 
-use crate::{Tree, TreeFull};
+use crate::{Above, Tree, TreeFull};
 use roll_frame::{Cell, PATH_LIMIT, Path, Refusal, Row, TREE_LIMIT};
 use std::alloc::Global;
 use std::mem;
@@ -64,6 +64,26 @@ fn keeps_two_paths(rt: HostRuntime) -> Result<(), Fail> {
         [path(0, &[]), path(0, &[row(1, 3)])].as_slice()
     );
     assert_eq!(rt; tree.len(), 2);
+    Ok(())
+}
+
+fn above(rt: &impl Abort, tree: &Tree<u32>, node: usize) -> Option<Above> {
+    assert!(rt; tree.contains(node));
+    tree.above(node)
+}
+
+#[test]
+fn tells_what_is_above(rt: HostRuntime) -> Result<(), Fail> {
+    let mut tree = Tree::new(rt.alloc(), 5, 0)?;
+    let root = tree.root();
+    let below = grown(&rt, &mut tree, root, row(1, 3), 1);
+    assert!(rt; above(&rt, &tree, root).is_none());
+    match above(&rt, &tree, below) {
+        Some(there) => assert_eq!(rt; (there.node, there.row), (root, row(1, 3))),
+        None => panic!(rt; "nothing is above"),
+    }
+    assert!(rt; tree.contains(below));
+    assert_eq!(rt; tree.end(below), 6);
     Ok(())
 }
 

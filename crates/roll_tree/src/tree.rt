@@ -2,7 +2,7 @@
 ghost use Rattle.std.specs.Prelude.{◌≡◌, ℕ, ◌+◌, ◌-◌, ◌≤◌, ◌<◌, ◌↔◌, [], ◌∷◌, ◌++◌, length, map, filter, take, drop, not, true, false, is_some, IsSome, IsSomeAnd, IsTrue, IsErr, IfOk, IfErr, IfSome, OnErr, option_map, Some, None, All};
 ghost use Rattle.roll_frame.specs.Order.{frames_of, in_order};
 ghost use Rattle.roll_frame.specs.Paths.{begins_with, contains, longest as longest_of};
-ghost use Rattle.roll_tree.specs.Kept.{Saved, Kept, held, paths_of, with_state, CanGrow, later, has_other, IsClosed, IsDistinct, path_of, CanMark, time_to};
+ghost use Rattle.roll_tree.specs.Kept.{Saved, Kept, held, paths_of, with_state, CanGrow, later, has_other, IsClosed, IsDistinct, IsOrdered, IsAbove, path_of, CanMark, time_to};
 ghost use Rattle.roll_tree.specs.Marks.{least_mark};
 
 use crate::marks::{Change, least_marked, mark_next, marks_in};
@@ -23,6 +23,13 @@ pub struct Tree<S> {
     // The names of the nodes, each after its parent's.
     order: Vec<usize>,
     time: ArrayVec<Row, PATH_LIMIT>,
+}
+
+/// The state above another, and the row between them.
+#[derive(Clone, Copy, Debug)]
+pub struct Above {
+    pub node: usize,
+    pub row: Row,
 }
 
 /// 256 states are kept, and the tree doesn't take this one.
@@ -153,6 +160,28 @@ impl<S> Tree<S> {
         ensures { option_map (λ s. s.snapshot) (held self.now node) ≡ Some result.now }
     {
         &self.nodes[node].snapshot
+    }
+
+    /// The state above a kept one. There is none above the root.
+    pub fn above(&self, node: usize) -> Option<Above>
+        requires { IsSome (held self.now node) }
+        ensures { IfSome (held self.now node) (λ s. IsAbove self.now s.path result) }
+    {
+        match self.nodes[node].edge {
+            Some(edge) => Some(Above {
+                node: edge.parent,
+                row: edge.row,
+            }),
+            None => None,
+        }
+    }
+
+    /// The length of a kept state's path, from frame 0.
+    pub fn end(&self, node: usize) -> u32
+        requires { IsSome (held self.now node) }
+        ensures { option_map (λ s. self.now.base + length s.path) (held self.now node) ≡ Some result }
+    {
+        self.nodes[node].end
     }
 
     /// The path of a kept state.
@@ -344,6 +373,7 @@ impl<S> Tree<S> {
     pub fn laws(&self)
         ensures closed { IsClosed self.now }
         ensures distinct { IsDistinct self.now }
+        ensures ordered { IsOrdered self.now }
         ensures short { All (λ s. length s.path ≤ PATH_LIMIT) self.now.states }
         ensures named { All (λ s. held self.now s.name ≡ Some s) self.now.states }
         ensures few { length self.now.states ≤ TREE_LIMIT }

@@ -1,5 +1,6 @@
 use Rattle.std.proofs.Common.{arith}
 use Rattle.roll_tree.proofs.States.{is_closed, is_distinct, are_short, are_named, length-states}
+use Rattle.roll_tree.proofs.Parents.{is_ordered}
 use Rattle.roll_tree.proofs.tree.Tree.laws.Goals as goal
 
 pub returns-clause-closed : goal.returns-clause-closed
@@ -7,6 +8,9 @@ returns-clause-closed g c = is_closed c.self.inside c.args.self.now c.self.view_
 
 pub returns-clause-distinct : goal.returns-clause-distinct
 returns-clause-distinct g c = is_distinct c.self.inside c.args.self.now c.self.view_is c.self.invariant
+
+pub returns-clause-ordered : goal.returns-clause-ordered
+returns-clause-ordered g c = is_ordered c.self.inside c.args.self.now c.self.view_is c.self.invariant
 
 pub returns-clause-short : goal.returns-clause-short
 returns-clause-short g c = are_short c.self.inside c.args.self.now c.self.view_is c.self.invariant
