@@ -1,7 +1,8 @@
 pub mod Settled
 pub mod Entries
 pub mod Claims
-pub mod Copies
 pub mod Seen
 pub mod Ranking
+pub mod Spelling
 pub mod Making
+pub mod Passing

@@ -16,13 +16,13 @@ use Rattle.roll_laws.proofs.Saved.{In, has_in, in_has}
 use Rattle.roll_tree.specs.Kept.{IsClosed, Kept, Saved, held, path_of, paths_of}
 use Rattle.roll_tree.specs.Marks.{least_mark, least_other}
 use Rattle.roll_tree.proofs.Least.{least_mark-least_place}
-use Rattle.roll_frame.specs.declared.limits.TheConstants.{PLAYER_LIMIT}
+use Rattle.roll_frame.specs.declared.limits.TheConstants.{PATH_LIMIT, PLAYER_LIMIT}
 use Rattle.roll_cert.specs.Told.{entry_of}
 use Rattle.roll_plan.specs.Fields.{IsFit, IsLast, made_in}
 use Rattle.roll_plan.specs.declared.planner.Planner.TheInside.{Inside}
 use Rattle.roll_plan.specs.Plans.{CanPlan, IsPlanOf, Made, made_of, roll_of}
 use Rattle.roll_plan.specs.Ranks.{entries_by, marked_for}
-use Rattle.roll_plan.specs.declared.planner.Ranked.{Ranked}
+use Rattle.roll_plan.specs.Spelled.{spelled}
 use Rattle.roll_plan.proofs.Entries.{entries_on, entry_for}
 use Rattle.roll_plan.proofs.Settled.{on, order_again, order_on}
 
@@ -75,15 +75,11 @@ mark_within t (suc n) (row ∷ rows) (other ∷ others) l = ap (λ o. option_map
 
 module _ {S : Type 0} (players to : ℕ) (t : Kept S) (rows : Rows) (can : CanPlan players t to rows) where
   -- by the marks, an entry is that of the plan
-  marked_is : (state : ℕ) (k : Ranked) → k.path.base ≡ t.base → AreRowsOf players k.path.rows.items → marked_for t (made_of t rows).from to state k ≡ entry_for (made_of t rows) state k.path.rows.items
-  marked_is state k base of =
-      ap (λ n. cond (nat_lt from n && nat_le n to) (named (least_mark t.base path t.time)) None) (ap (λ n. n + length path) base)
-      ∙ ap (λ n. cond (nat_lt from end && nat_le end n) (named (least_mark t.base path t.time)) None) can.end
+  marked_is : (state : ℕ) (path : Rows) → AreRowsOf players path → marked_for t (made_of t rows).from to state (path_of t.base path) ≡ entry_for (made_of t rows) state path
+  marked_is state path of =
+      ap (λ n. cond (nat_lt from end && nat_le end n) (named (least_mark t.base path t.time)) None) can.end
       ∙ go (nat_lt from end) (nat_le end (t.base + length rows)) refl
     where
-      path : Rows
-      path = k.path.rows.items
-
       from : ℕ
       from = t.base + longest (paths_of t) rows
 
@@ -101,12 +97,12 @@ module _ {S : Type 0} (players to : ℕ) (t : Kept S) (rows : Rows) (can : CanPl
       go true false e = refl
       go false b e = refl
 
-  pub all_marked : (state : ℕ) (kept : List Ranked) → AllByRecursion (λ (k : Ranked). k.path.base ≡ t.base) kept → AllByRecursion (λ (k : Ranked). AreRowsOf players k.path.rows.items) kept
-      → entries_by (marked_for t (made_of t rows).from to) state kept ≡ entries_by (entry_for (made_of t rows)) state (map (λ (k : Ranked). k.path.rows.items) kept)
-  all_marked state [] bases ofs = refl
-  all_marked state (k ∷ kept) bases ofs =
-      ap (λ o. cons_option o (entries_by (marked_for t (made_of t rows).from to) (suc state) kept)) (marked_is state k bases.0 ofs.0)
-      ∙ ap (cons_option (entry_for (made_of t rows) state k.path.rows.items)) (all_marked (suc state) kept bases.1 ofs.1)
+  all_marked : (state : ℕ) (paths : List Rows) → AllByRecursion (AreRowsOf players) paths
+      → entries_by (marked_for t (made_of t rows).from to) state (map (path_of t.base) paths) ≡ entries_by (entry_for (made_of t rows)) state paths
+  all_marked state [] ofs = refl
+  all_marked state (path ∷ paths) ofs =
+      ap (λ o. cons_option o (entries_by (marked_for t (made_of t rows).from to) (suc state) (map (path_of t.base) paths))) (marked_is state path ofs.0)
+      ∙ ap (cons_option (entry_for (made_of t rows) state path)) (all_marked (suc state) paths ofs.1)
 
   pub made_is_fit : 1 ≤ players → players ≤ PLAYER_LIMIT → contains (paths_of t) [] ≡ true → IsFit players (made_of t rows)
   made_is_fit some few root =
@@ -122,51 +118,11 @@ module _ {S : Type 0} (players to : ℕ) (t : Kept S) (rows : Rows) (can : CanPl
         ordered = order_again (paths_of t);
       }
 
-  -- these are the kept paths, in order
-  abbrev pub AreTaken : List Ranked → Type 0
-  AreTaken kept = map (λ (k : Ranked). k.path) kept ≡ map (path_of t.base) (in_order (paths_of t))
-
-  pub taken_rows : (kept : List Ranked) → AreTaken kept → map (λ (k : Ranked). k.path.rows.items) kept ≡ in_order (paths_of t)
-  taken_rows kept e = sym (through kept) ∙ ap (map (λ (p : Path). p.rows.items)) e ∙ back (in_order (paths_of t))
-    where
-      through : (ks : List Ranked) → map (λ (p : Path). p.rows.items) (map (λ (k : Ranked). k.path) ks) ≡ map (λ (k : Ranked). k.path.rows.items) ks
-      through [] = refl
-      through (k ∷ ks) = ap (λ (l : List Rows). k.path.rows.items ∷ l) (through ks)
-
-      back : (ps : List Rows) → map (λ (p : Path). p.rows.items) (map (path_of t.base) ps) ≡ ps
-      back [] = refl
-      back (p ∷ ps) = ap (λ (l : List Rows). p ∷ l) (back ps)
-
-  taken_bases : (kept : List Ranked) (ps : List Rows) → map (λ (k : Ranked). k.path) kept ≡ map (path_of t.base) ps → AllByRecursion (λ (k : Ranked). k.path.base ≡ t.base) kept
-  taken_bases [] ps e = tt
-  taken_bases (k ∷ kept) [] e = absurd (none e)
-    where
-      none : {x : Path} {xs : List Path} → x ∷ xs ≡ [] → ⊥
-      none f = cc
-  taken_bases (k ∷ kept) (p ∷ ps) e = (ap (λ (path : Path). path.base) (first e), taken_bases kept ps (rest e))
-    where
-      first : {x y : Path} {xs ys : List Path} → x ∷ xs ≡ y ∷ ys → x ≡ y
-      first f = cc
-
-      rest : {x y : Path} {xs ys : List Path} → x ∷ xs ≡ y ∷ ys → xs ≡ ys
-      rest f = cc
-
-  taken_ofs : (kept : List Ranked) → All (AreRowsOf players) (map (λ (k : Ranked). k.path.rows.items) kept) → AllByRecursion (λ (k : Ranked). AreRowsOf players k.path.rows.items) kept
-  taken_ofs kept all = unmapped kept (recursion_from_All (AreRowsOf players) (map (λ (k : Ranked). k.path.rows.items) kept) all)
-    where
-      unmapped : (ks : List Ranked) → AllByRecursion (AreRowsOf players) (map (λ (k : Ranked). k.path.rows.items) ks) → AllByRecursion (λ (k : Ranked). AreRowsOf players k.path.rows.items) ks
-      unmapped [] each = tt
-      unmapped (k ∷ ks) each = (each.0, unmapped ks each.1)
-
-  pub all_bases : (kept : List Ranked) → AreTaken kept → All (λ (k : Ranked). k.path.base ≡ t.base) kept
-  all_bases kept e = All-from_recursion (λ (k : Ranked). k.path.base ≡ t.base) kept (taken_bases kept (in_order (paths_of t)) e)
-
   -- the entries that were made by the marks are those of the plan's claim
-  pub entries_are : (kept : List Ranked) (settled : Rows) → AreTaken kept → length settled ≡ t.base
-      → entries_by (marked_for t (made_of t rows).from to) 0 kept ≡ (claim_of players (roll_of settled (made_of t rows))).differs
-  entries_are kept settled taken e =
-      all_marked 0 kept (taken_bases kept (in_order (paths_of t)) taken) (taken_ofs kept (subst (All (AreRowsOf players)) (sym (taken_rows kept taken)) (all_ordered (AreRowsOf players) (paths_of t) can.paths)))
-      ∙ ap (entries_by (entry_for (made_of t rows)) 0) (taken_rows kept taken)
+  pub entries_are : (settled : Rows) → length settled ≡ t.base
+      → entries_by (marked_for t (made_of t rows).from to) 0 (map (path_of t.base) (in_order (paths_of t))) ≡ (claim_of players (roll_of settled (made_of t rows))).differs
+  entries_are settled e =
+      all_marked 0 (in_order (paths_of t)) (recursion_from_All (AreRowsOf players) (in_order (paths_of t)) (all_ordered (AreRowsOf players) (paths_of t) can.paths))
       ∙ sym (entries_on (made_of t rows) settled 0 (in_order (paths_of t)) e)
       ∙ sym (ap (differs_from (roll_of settled (made_of t rows)) 0) (order_on settled (in_order (paths_of t)) ∙ ap (map (on settled)) (order_again (paths_of t))))
 
@@ -185,27 +141,29 @@ module _ {S : Type 0} (players to : ℕ) (t : Kept S) (rows : Rows) (can : CanPl
     pub root : contains (paths_of t) [] ≡ true
     pub base : p.base ≡ t.base
     pub time : p.time.items ≡ rows
-    pub taken : AreTaken p.kept.items
+    pub taken : spelled p.taken.items ≡ paths_of t
+    pub paths : All (λ (path : Rows). length path ≤ PATH_LIMIT) (paths_of t)
     pub to_is : p.plan.to ≡ to
     pub from : p.plan.from ≡ t.base + longest (paths_of t) (take (to - t.base) t.time)
     pub rerun : p.plan.rerun ≡ p.plan.to - p.plan.from
-    pub differs : map entry_of p.plan.differs.items ≡ entries_by (marked_for t p.plan.from p.plan.to) 0 p.kept.items
+    pub differs : map entry_of p.plan.differs.items ≡ entries_by (marked_for t p.plan.from p.plan.to) 0 (map (path_of t.base) (in_order (paths_of t)))
 
   pub start_is : (p : Inside) → IsDone p → p.plan.from ≡ (made_of t rows).from
   start_is p done = done.from ∙ ap (λ (r : Rows). t.base + longest (paths_of t) r) told_to
 
   pub made_is : (p : Inside) → IsDone p → made_in p ≡ made_of t rows
-  made_is p done = λ i. record { base = done.base i; kept = taken_rows p.kept.items done.taken i; time = done.time i; from = start_is p done i }
+  made_is p done = λ i. record { base = done.base i; kept = in_order (done.taken i); time = done.time i; from = start_is p done i }
 
   done_plan : (p : Inside) → IsDone p → IsPlanOf players (made_of t rows) p.plan
   done_plan p done =
+      let paths : List Path = map (path_of t.base) (in_order (paths_of t)) in
       record {
         to = done.to_is ∙ can.end;
         from = start_is p done;
         rerun = done.rerun;
         differs = λ settled e.
-            done.differs ∙ ap (λ n. entries_by (marked_for t n p.plan.to) 0 p.kept.items) (start_is p done) ∙ ap (λ n. entries_by (marked_for t (made_of t rows).from n) 0 p.kept.items) done.to_is
-            ∙ entries_are p.kept.items settled done.taken e;
+            done.differs ∙ ap (λ n. entries_by (marked_for t n p.plan.to) 0 paths) (start_is p done) ∙ ap (λ n. entries_by (marked_for t (made_of t rows).from n) 0 paths) done.to_is
+            ∙ entries_are settled e;
       }
 
   pub done_last : (p : Inside) → IsDone p → IsLast p
@@ -214,7 +172,7 @@ module _ {S : Type 0} (players to : ℕ) (t : Kept S) (rows : Rows) (can : CanPl
       record {
         fit = subst (λ (n : ℕ). IsFit n (made_in p)) (sym done.players_are) (subst (IsFit players) (sym made) (made_is_fit (omega (arith, done.some, done.players_are)) (omega (arith, done.few, done.players_are)) done.root));
         plan = subst (λ (n : ℕ). IsPlanOf n (made_in p) p.plan) (sym done.players_are) (subst (λ (m : Made). IsPlanOf players m p.plan) (sym made) (done_plan p done));
-        bases = subst (λ (n : ℕ). All (λ (k : Ranked). k.path.base ≡ n) p.kept.items) (sym done.base) (all_bases p.kept.items done.taken);
+        paths = subst (All (λ (path : Rows). length path ≤ PATH_LIMIT)) (sym done.taken) done.paths;
       }
 
 module _ {S : Type 0} where

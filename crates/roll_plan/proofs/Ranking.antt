@@ -1,6 +1,6 @@
 -- The kept paths of a tree, taken down and put in order.
-use Rattle.std.proofs.Common.{◌≡◌, ℕ, zero, suc, ◌+◌, ◌<◌, List, [], ◌∷◌, ◌++◌, length, map, take, get_or, Bool, true, false, refl, sym, ap, subst, ◌∙◌, arith, Some}
-use Rattle.std.specs.Prelude.{All, option_map}
+use Rattle.std.proofs.Common.{◌≡◌, ℕ, zero, suc, ◌+◌, ◌<◌, List, [], ◌∷◌, ◌++◌, length, map, take, drop, take-append-drop, append_assoc, get_or, Bool, true, false, refl, sym, ap, subst, ◌∙◌, arith, Some}
+use Rattle.std.specs.Prelude.{All, IsSome, option_map}
 use Rattle.std.specs.List.{AllByRecursion}
 use Rattle.std.specs.List.Sorted.{IsPermutation, IsSorted}
 use Rattle.std.specs.Ordering.{is_lt, ordering_then}
@@ -18,12 +18,13 @@ use Rattle.roll_plan.specs.Ranks.{HasNode, ranked_of}
 use Rattle.roll_plan.specs.declared.planner.Ranked.{Ranked}
 
 module _ {S : Type 0} where
-  -- the state at a place, and its name
-  pub record IsAt (t : Kept S) (k : ℕ) : Type 0 where
+  -- the state at a place of the tree, and its name
+  pub record IsAt (t : Kept S) (names : List ℕ) (k : ℕ) : Type 0 where
     pub state : Saved S
-    pub name_is : get_or (map (λ (s : Saved S). s.name) t.states) k 0 ≡ state.name
-    pub held_is : held t state.name ≡ Some state
+    pub name_is : get_or names k 0 ≡ state.name
+    pub held_is : held t (get_or names k 0) ≡ Some state
     pub more : take (k + 1) t.states ≡ take k t.states ++ state ∷ []
+    pub split : t.states ≡ take k t.states ++ state ∷ drop (k + 1) t.states
 
   at_name : (t : Kept S) (states : List (Saved S)) → AllByRecursion (λ (s : Saved S). held t s.name ≡ Some s) states → (k : ℕ) → k < length states
       → (s : Saved S) × (get_or (map (λ (x : Saved S). x.name) states) k 0 ≡ s.name) × (held t s.name ≡ Some s) × (take (k + 1) states ≡ take k states ++ s ∷ [])
@@ -38,10 +39,22 @@ module _ {S : Type 0} where
       let next : suc k + 1 ≡ suc (k + 1) = omega arith in
       (r.0, r.1, r.2, ap (λ n. take n (s ∷ states)) next ∙ ap (λ (l : List (Saved S)). s ∷ l) r.3)
 
-  pub state_at : (t : Kept S) → All (λ (s : Saved S). held t s.name ≡ Some s) t.states → (k : ℕ) → k < length t.states → IsAt t k
-  state_at t named k within =
-      let r = at_name t t.states (recursion_from_All (λ (s : Saved S). held t s.name ≡ Some s) t.states named) k within in
-      record { state = r.0; name_is = r.1; held_is = r.2; more = r.3 }
+  pub state_at : (t : Kept S) → All (λ (s : Saved S). held t s.name ≡ Some s) t.states → (names : List ℕ) → names ≡ map (λ (s : Saved S). s.name) t.states → (k : ℕ) → k < length names → IsAt t names k
+  state_at t named names are k within =
+      let low : k < length t.states = omega (arith, within, ap (λ (l : List ℕ). length l) are, length-map t.states (λ (s : Saved S). s.name)) in
+      let r = at_name t t.states (recursion_from_All (λ (s : Saved S). held t s.name ≡ Some s) t.states named) k low in
+      let name = ap (λ (l : List ℕ). get_or l k 0) are ∙ r.1 in
+      record {
+        state = r.0;
+        name_is = name;
+        held_is = ap (held t) name ∙ r.2;
+        more = r.3;
+        split = sym (take-append-drop (k + 1) t.states) ∙ ap (λ (l : List (Saved S)). l ++ drop (k + 1) t.states) r.3 ∙ append_assoc (take k t.states) (r.0 ∷ []) (drop (k + 1) t.states);
+      }
+
+  -- a name of the tree is held
+  pub is_held : (t : Kept S) (names : List ℕ) (k : ℕ) → IsAt t names k → IsSome (held t (get_or names k 0))
+  is_held t names k at = rw at.held_is refl
 
   each_node : (t : Kept S) (states : List (Saved S)) → AllByRecursion (λ (s : Saved S). held t s.name ≡ Some s) states → AllByRecursion (HasNode t) (map (ranked_of t.base) states)
   each_node t [] named = tt

@@ -1,14 +1,15 @@
 -- What the fields of a planner keep. No public clause cites this module.
-use Rattle.std.specs.Prelude.{◌≡◌, ℕ, ◌+◌, ◌≤◌, [], length, map, All, true, vec_capacity, Some, None, if◌then◌else◌}
+use Rattle.std.specs.Prelude.{◌≡◌, ℕ, ◌+◌, ◌≤◌, [], length, All, true, vec_capacity, Some, None, if◌then◌else◌}
 use Rattle.roll_frame.specs.declared.limits.TheConstants.{FRAME_LIMIT, PATH_LIMIT, PLAYER_LIMIT, TREE_LIMIT}
 use Rattle.roll_frame.specs.Claims.{AreRowsOf}
 use Rattle.roll_frame.specs.Order.{in_order}
 use Rattle.roll_frame.specs.Paths.{contains, longest}
+use Rattle.roll_plan.specs.Spelled.{spelled}
 use Rattle.roll_plan.specs.Plans.{Made, Planned, IsPlanOf}
 use Rattle.roll_plan.specs.declared.planner.Planner.TheInside.{Inside}
 
 abbrev pub made_in : Inside → Made
-made_in p = record { base = p.base; kept = map (λ k. k.path.rows.items) p.kept.items; time = p.time.items; from = p.plan.from }
+made_in p = record { base = p.base; kept = in_order (spelled p.taken.items); time = p.time.items; from = p.plan.from }
 
 abbrev pub planned_of : Inside → Planned
 planned_of p = record { players = p.players; last = if p.is_made then Some (made_in p) else None }
@@ -29,11 +30,12 @@ pub record IsFit (players : ℕ) (made : Made) : Type 0 where
 pub record IsLast (p : Inside) : Type 0 where
   pub fit : IsFit p.players (made_in p)
   pub plan : IsPlanOf p.players (made_in p) p.plan
-  pub bases : All (λ k. k.path.base ≡ p.base) p.kept.items
+  pub paths : All (λ path. length path ≤ PATH_LIMIT) (spelled p.taken.items)
 
 pub record IsPlanner (p : Inside) : Type 0 where
   pub some : 1 ≤ p.players
   pub few : p.players ≤ PLAYER_LIMIT
-  pub room : TREE_LIMIT ≤ vec_capacity p.kept
+  pub room : TREE_LIMIT ≤ vec_capacity p.taken
+  pub ranks : TREE_LIMIT ≤ vec_capacity p.ranked
   pub space : TREE_LIMIT ≤ vec_capacity p.plan.differs
   pub last : p.is_made ≡ true → IsLast p

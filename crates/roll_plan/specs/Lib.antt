@@ -1,3 +1,4 @@
 pub mod Plans
 pub mod Fields
 pub mod Ranks
+pub mod Spelled

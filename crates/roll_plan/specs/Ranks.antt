@@ -1,7 +1,8 @@
 -- What is taken down of the states of a tree.
-use Rattle.std.specs.Prelude.{◌≡◌, ℕ, suc, List, [], ◌∷◌, ◌&&◌, nat_lt, nat_le, Option, Some, None, option_map, if◌then◌else◌}
+use Rattle.std.specs.Prelude.{◌≡◌, ℕ, suc, List, [], ◌∷◌, ◌&&◌, nat_lt, nat_le, Bool, Option, Some, None, option_map, if◌then◌else◌}
 use Rattle.std.specs.List.{cons_option}
 use Rattle.roll_frame.specs.Claims.{Differ}
+use Rattle.roll_frame.specs.declared.path.Path.{Path}
 use Rattle.roll_frame.specs.Order.{frames_of}
 use Rattle.roll_tree.specs.Kept.{Kept, Saved, held, path_of}
 use Rattle.roll_tree.specs.Marks.{least_mark}
@@ -12,6 +13,10 @@ abbrev pub entries_by : {X : Type 0} → (ℕ → X → Option Differ) → ℕ �
 entries_by entry place [] = []
 entries_by entry place (x ∷ xs) = cons_option (entry place x) (entries_by entry (suc place) xs)
 
+-- whether a plan between these frames passes over a path
+abbrev pub is_passed : ℕ → ℕ → Path → Bool
+is_passed from to path = nat_lt from (frames_of path) && nat_le (frames_of path) to
+
 module _ {S : Type 0} where
   abbrev pub ranked_of : ℕ → Saved S → Ranked
   ranked_of base s = record { path = path_of base s.path; node = s.name }
@@ -21,8 +26,8 @@ module _ {S : Type 0} where
   HasNode t k = option_map (λ s. s.path) (held t k.node) ≡ Some k.path.rows.items
 
   -- the entry of a path that a plan between these frames passes over, by its marks
-  abbrev pub marked_for : Kept S → ℕ → ℕ → ℕ → Ranked → Option Differ
-  marked_for t from to state k =
-      if nat_lt from (frames_of k.path) && nat_le (frames_of k.path) to
-      then option_map (λ place. record { state = state; frame = place.0; player = place.1 }) (least_mark t.base k.path.rows.items t.time)
+  abbrev pub marked_for : Kept S → ℕ → ℕ → ℕ → Path → Option Differ
+  marked_for t from to state path =
+      if is_passed from to path
+      then option_map (λ place. record { state = state; frame = place.0; player = place.1 }) (least_mark t.base path.rows.items t.time)
       else None

@@ -1,9 +1,11 @@
 //! The planner.
-ghost use Rattle.std.specs.Prelude.{◌≡◌, ◌≤◌, ◌<◌, None, Some, IfOk, IfErr, IfSome, OnOk, All, is_none, length, map, option_map, vec_capacity, false, if◌then◌else◌};
+ghost use Rattle.std.specs.Prelude.{◌≡◌, ◌==◌, ◌≤◌, ◌<◌, None, Some, IfOk, IfErr, IfSome, IsSome, OnOk, All, is_none, length, map, option_map, position, vec_capacity, false, if◌then◌else◌};
+ghost use Rattle.std.specs.List.{list_any};
 ghost use Rattle.roll_frame.specs.Claims.{IsRight};
 ghost use Rattle.roll_frame.specs.Order.{in_order};
-ghost use Rattle.roll_tree.specs.Kept.{path_of, paths_of as kept_paths};
-ghost use Rattle.roll_plan.specs.Ranks.{HasNode, entries_by, marked_for, ranked_of};
+ghost use Rattle.roll_tree.specs.Kept.{held, path_of, paths_of as kept_paths};
+ghost use Rattle.roll_plan.specs.Ranks.{HasNode, entries_by, is_passed, marked_for, ranked_of};
+ghost use Rattle.roll_plan.specs.Spelled.{path_before, path_in, spelled};
 ghost use Rattle.roll_cert.specs.Told.{entry_of, told};
 ghost use Rattle.roll_plan.specs.Plans.{CanPlan, IsClaimOf, IsPlanOf, made_of};
 
@@ -11,9 +13,16 @@ use crate::plan::Plan;
 use arrayvec::ArrayVec;
 use roll_cert::{Claim, Differ, Items};
 use roll_frame::{PATH_LIMIT, PLAYER_LIMIT, Path, Refusal, Row, TREE_LIMIT};
-use roll_tree::Tree;
+use roll_tree::{Above, Tree};
 use std::alloc::{AllocError, Global};
 use std::marker::Model;
+
+/// A kept state's name, and what is above it: less than its path.
+#[derive(Clone, Copy, Debug)]
+pub struct Taken {
+    pub node: usize,
+    pub above: Option<Above>,
+}
 
 /// A kept path, and its state's name.
 #[derive(Debug, Drop, PartialEq, Eq, PartialOrd, Ord)]
@@ -30,8 +39,10 @@ pub struct Planner {
     players: u8,
     base: u32,
     time: ArrayVec<Row, PATH_LIMIT>,
-    // The kept paths, in their order.
-    kept: Vec<Ranked>,
+    // The kept states, each after the one above it.
+    taken: Vec<Taken>,
+    // Room for the kept paths, in their order.
+    ranked: Vec<Ranked>,
     plan: Plan,
     // Whether there is a last plan.
     is_made: bool,
@@ -55,13 +66,15 @@ impl Planner {
         requires few { players ≤ PLAYER_LIMIT }
         ensures { IfOk result (λ planner. planner ≡ record { players = players; last = None }) }
     {
-        let kept = Vec::with_capacity(alloc, TREE_LIMIT)?;
+        let taken = Vec::with_capacity(alloc, TREE_LIMIT)?;
+        let ranked = Vec::with_capacity(alloc, TREE_LIMIT)?;
         let differs = Vec::with_capacity(alloc, TREE_LIMIT)?;
         Ok(Planner {
             players,
             base: 0,
             time: ArrayVec::new(),
-            kept,
+            taken,
+            ranked,
             plan: Plan {
                 to: 0,
                 from: 0,
@@ -79,8 +92,8 @@ impl Planner {
     {
         tree.laws();
         let (_, from) = tree.deepest(to);
-        rank(&mut self.kept, tree);
-        name_differs(&mut self.plan.differs, tree, &self.kept, from, to);
+        take_down(&mut self.taken, tree);
+        name_passed(&mut self.plan.differs, &mut self.ranked, tree, from, to);
         self.base = tree.base();
         self.time.clear();
         self.time.try_extend_from_slice(rows).unwrap();
@@ -131,7 +144,7 @@ impl Planner {
         ensures { IfOk result (λ claim. IfSome self.now.last (λ made. IsClaimOf self.now.players made (told claim))) }
     {
         let time = Items::from(Vec::from_slice(alloc, self.time.as_slice())?);
-        let kept = Items::from(paths_of(alloc, &self.kept)?);
+        let kept = Items::from(paths_of(alloc, self.base, &self.taken)?);
         let differs = Items::from(Vec::from_slice(alloc, &self.plan.differs)?);
         Ok(Claim {
             players: self.players,
@@ -144,42 +157,105 @@ impl Planner {
     }
 }
 
-/// Takes down the kept paths of a tree, in their order.
-fn rank<S>(kept: &mut Vec<Ranked>, tree: &Tree<S>)
-    requires room { TREE_LIMIT ≤ vec_capacity kept.old }
-    ensures paths { map (λ k. k.path) kept.new.items ≡ map (path_of tree.now.base) (in_order (kept_paths tree.now)) }
-    ensures nodes { All (HasNode tree.now) kept.new.items }
-    ensures few { length kept.new.items ≤ TREE_LIMIT }
-    ensures room { TREE_LIMIT ≤ vec_capacity kept.new }
+/// Takes down the kept states of a tree, in its order.
+fn take_down<S>(taken: &mut Vec<Taken>, tree: &Tree<S>)
+    requires room { TREE_LIMIT ≤ vec_capacity taken.old }
+    ensures paths { spelled taken.new.items ≡ kept_paths tree.now }
+    ensures room { TREE_LIMIT ≤ vec_capacity taken.new }
 {
     tree.laws();
-    take_down(kept, tree);
-    kept.sort_unstable();
-}
-
-/// Takes down the kept paths of a tree, in the order of its states.
-fn take_down<S>(kept: &mut Vec<Ranked>, tree: &Tree<S>)
-    requires room { TREE_LIMIT ≤ vec_capacity kept.old }
-    ensures ranked { kept.new.items ≡ map (ranked_of tree.now.base) tree.now.states }
-    ensures room { TREE_LIMIT ≤ vec_capacity kept.new }
-{
-    tree.laws();
-    kept.clear();
+    taken.clear();
     for node in tree.names() {
-        kept.push(Ranked {
-            path: tree.path(*node),
-            node: *node,
-        })
-        .unwrap();
+        taken
+            .push(Taken {
+                node: *node,
+                above: tree.above(*node),
+            })
+            .unwrap();
     }
 }
 
-/// Makes an entry for each path that a plan passes over.
+/// Makes an entry for each path that a plan passes over. Mostly there is none, and then no path is looked at.
+fn name_passed<S>(
+    differs: &mut Vec<Differ>,
+    ranked: &mut Vec<Ranked>,
+    tree: &Tree<S>,
+    from: u32,
+    to: u32,
+)
+    requires differs { TREE_LIMIT ≤ vec_capacity differs.old }
+    requires ranked { TREE_LIMIT ≤ vec_capacity ranked.old }
+    ensures entries { map entry_of differs.new.items ≡ entries_by (marked_for tree.now from to) 0 (map (path_of tree.now.base) (in_order (kept_paths tree.now))) }
+    ensures differs { TREE_LIMIT ≤ vec_capacity differs.new }
+    ensures ranked { TREE_LIMIT ≤ vec_capacity ranked.new }
+{
+    if passes_over(tree, from, to) {
+        rank(ranked, tree);
+        name_differs(differs, tree, ranked, from, to);
+    } else {
+        differs.clear();
+    }
+}
+
+/// Whether a plan passes over a kept path.
+fn passes_over<S>(tree: &Tree<S>, from: u32, to: u32) -> bool
+    ensures { result ≡ list_any (λ s. is_passed from to (path_of tree.now.base s.path)) tree.now.states }
+{
+    tree.laws();
+    for node in tree.names() {
+        if is_passed_over(tree, *node, from, to) {
+            return true;
+        }
+    }
+    false
+}
+
+/// Whether a plan passes over the path of a kept state.
+fn is_passed_over<S>(tree: &Tree<S>, node: usize, from: u32, to: u32) -> bool
+    requires { IsSome (held tree.now node) }
+    ensures { option_map (λ s. is_passed from to (path_of tree.now.base s.path)) (held tree.now node) ≡ Some result }
+{
+    let end = tree.end(node);
+    from < end && end <= to
+}
+
+/// Takes down the kept paths of a tree, in their order.
+fn rank<S>(ranked: &mut Vec<Ranked>, tree: &Tree<S>)
+    requires room { TREE_LIMIT ≤ vec_capacity ranked.old }
+    ensures paths { map (λ k. k.path) ranked.new.items ≡ map (path_of tree.now.base) (in_order (kept_paths tree.now)) }
+    ensures nodes { All (HasNode tree.now) ranked.new.items }
+    ensures few { length ranked.new.items ≤ TREE_LIMIT }
+    ensures room { TREE_LIMIT ≤ vec_capacity ranked.new }
+{
+    tree.laws();
+    list_paths(ranked, tree);
+    ranked.sort_unstable();
+}
+
+/// Takes down the kept paths of a tree, in the order of its states.
+fn list_paths<S>(ranked: &mut Vec<Ranked>, tree: &Tree<S>)
+    requires room { TREE_LIMIT ≤ vec_capacity ranked.old }
+    ensures ranked { ranked.new.items ≡ map (ranked_of tree.now.base) tree.now.states }
+    ensures room { TREE_LIMIT ≤ vec_capacity ranked.new }
+{
+    tree.laws();
+    ranked.clear();
+    for node in tree.names() {
+        ranked
+            .push(Ranked {
+                path: tree.path(*node),
+                node: *node,
+            })
+            .unwrap();
+    }
+}
+
+/// Makes an entry for each of these paths that a plan passes over.
 fn name_differs<S>(differs: &mut Vec<Differ>, tree: &Tree<S>, kept: &[Ranked], from: u32, to: u32)
     requires nodes { All (HasNode tree.now) kept.now }
     requires few { length kept.now ≤ TREE_LIMIT }
     requires room { TREE_LIMIT ≤ vec_capacity differs.old }
-    ensures entries { map entry_of differs.new.items ≡ entries_by (marked_for tree.now from to) 0 kept.now }
+    ensures entries { map entry_of differs.new.items ≡ entries_by (λ state k. marked_for tree.now from to state k.path) 0 kept.now }
     ensures room { TREE_LIMIT ≤ vec_capacity differs.new }
 {
     differs.clear();
@@ -194,7 +270,7 @@ fn name_differs<S>(differs: &mut Vec<Differ>, tree: &Tree<S>, kept: &[Ranked], f
 fn entry<S>(tree: &Tree<S>, state: usize, ranked: &Ranked, from: u32, to: u32) -> Option<Differ>
     requires node { HasNode tree.now ranked.now }
     requires few { state < TREE_LIMIT }
-    ensures { option_map entry_of result ≡ marked_for tree.now from to state ranked.now }
+    ensures { option_map entry_of result ≡ marked_for tree.now from to state ranked.now.path }
 {
     let end = ranked.path.frames();
     if end <= u64::from(from) || u64::from(to) < end {
@@ -210,13 +286,50 @@ fn entry<S>(tree: &Tree<S>, state: usize, ranked: &Ranked, from: u32, to: u32) -
     }
 }
 
-/// The paths, in the same order.
-fn paths_of(alloc: Global, kept: &[Ranked]) -> Result<Vec<Path>, AllocError>
-    ensures { IfOk result (λ paths. paths.items ≡ map (λ k. k.path) kept.now) }
+/// The paths of these states, in the order of paths.
+fn paths_of(alloc: Global, base: u32, taken: &[Taken]) -> Result<Vec<Path>, AllocError>
+    requires { All (λ path. length path ≤ PATH_LIMIT) (spelled taken.now) }
+    ensures { IfOk result (λ paths. paths.items ≡ map (path_of base) (in_order (spelled taken.now))) }
 {
-    let mut paths = Vec::with_capacity(alloc, kept.len())?;
-    for ranked in kept {
-        paths.push(ranked.path.clone()?)?;
+    let mut paths = Vec::with_capacity(alloc, taken.len())?;
+    for (place, state) in taken.iter().enumerate() {
+        let path = spell(base, &taken[..place], &paths, state);
+        paths.push(path).unwrap();
     }
+    paths.sort_unstable();
     Ok(paths)
+}
+
+/// The path of a state, by the states before it and their paths.
+fn spell(base: u32, before: &[Taken], paths: &[Path], state: &Taken) -> Path
+    requires same { length paths.now ≡ length before.now }
+    requires short { length (path_in before.now (map (λ p. p.rows.items) paths.now) state.now) ≤ PATH_LIMIT }
+    ensures { result ≡ path_of base (path_in before.now (map (λ p. p.rows.items) paths.now) state.now) }
+{
+    let Some(above) = &state.above else {
+        return Path::new(base);
+    };
+    let mut rows = rows_before(before, paths, above.node);
+    rows.push(above.row);
+    Path { base, rows }
+}
+
+/// The rows of the path of one of these states.
+fn rows_before(before: &[Taken], paths: &[Path], node: usize) -> ArrayVec<Row, PATH_LIMIT>
+    requires { length paths.now ≡ length before.now }
+    ensures { result.items ≡ path_before before.now (map (λ p. p.rows.items) paths.now) node }
+{
+    let mut rows = ArrayVec::new();
+    if let Some(place) = place_of(before, node) {
+        let path = paths[place].rows.as_slice();
+        rows.try_extend_from_slice(path).unwrap();
+    }
+    rows
+}
+
+/// Where the state of a name is.
+fn place_of(taken: &[Taken], node: usize) -> Option<usize>
+    ensures { result ≡ position (λ k. k.node == node) taken.now }
+{
+    taken.iter().position(|state| state.node == node)
 }

@@ -1,16 +1,18 @@
-use Rattle.std.proofs.Common.{◌≡◌, ◌∙◌, ◌++◌, ◌∷◌, [], List, Option, Some, None, ap, sym, arith, map, length, append-nil, length-append}
+use Rattle.std.proofs.Common.{◌≡◌, ◌∙◌, ◌++◌, ◌∷◌, [], List, Option, Some, None, ap, sym, arith, ℕ, map, length, append-nil, length-append}
 use Rattle.std.specs.Prelude.{option_map, ◌+◌, take}
 use Rattle.std.specs.List.{cons_option}
 use Rattle.roll_cert.specs.Told.{entry_of}
+use Rattle.roll_frame.specs.Claims.{Differ as Entry}
 use Rattle.roll_cert.specs.declared.claim.Differ.{Differ}
 use Rattle.roll_plan.specs.Ranks.{entries_by, marked_for}
+use Rattle.roll_plan.specs.declared.planner.Ranked.{Ranked}
 use Rattle.roll_plan.proofs.Entries.{with_entry}
 use Rattle.roll_plan.proofs.planner.name_differs.Goals as goal
 use Rattle.roll_plan.proofs.planner.name_differs.Goals.{in-Some, in_default}
 
 pub loop-state-preserved : goal.loop-state-preserved
 loop-state-preserved g c =
-    let entry = marked_for c.args.tree.now c.args.from c.args.to in
+    let entry : ℕ → Ranked → Option Entry = λ state k. marked_for c.args.tree.now c.args.from c.args.to state k.path in
     let old = c.loop-state.differs.items in
     let more : (o : Option Differ) → option_map entry_of o ≡ entry c.loop-state.state c.index-kept-state.result → map entry_of (old ++ cons_option o []) ≡ entries_by entry 0 (take (c.loop-state.state + 1) c.args.kept.now) = λ o h. with_entry entry c.args.kept.now c.loop-state.state c.index-kept-state.result old o c.loop-state-test.true c.index-kept-state.is c.loop-state.invariant.entries h in
     elim c.match-entry.branch [

@@ -1,44 +1,48 @@
-use Rattle.std.proofs.Common.{◌≡◌, ◌<◌, ◌++◌, ◌∷◌, [], List, arith, ap, sym, ◌∙◌, map, take, length, get_or, ℕ, Some, Option, refl}
-use Rattle.std.specs.Prelude.{IsSome, option_map}
+use Rattle.std.proofs.Common.{◌+◌, ◌++◌, ◌∷◌, [], List, arith, ap, sym, subst, ◌∙◌, map, take, drop, length, length-append, get_or, ℕ, Option}
+use Rattle.std.specs.Prelude.{IfSome}
 use Rattle.std.proofs.lemmas.List.{length-map, map-append}
-use Rattle.std.proofs.lemmas.Option.{same_Some}
-use Rattle.roll_tree.specs.Kept.{Saved, held}
-use Rattle.roll_plan.specs.Ranks.{ranked_of}
-use Rattle.roll_plan.specs.declared.planner.Ranked.{Ranked}
-use Rattle.roll_plan.proofs.Ranking.{state_at}
+use Rattle.roll_frame.specs.Cells.{Rows}
+use Rattle.roll_tree.specs.Kept.{Saved, IsAbove}
+use Rattle.roll_plan.specs.Spelled.{path_in, spelled}
+use Rattle.roll_plan.specs.declared.planner.Taken.{Taken}
+use Rattle.roll_plan.proofs.Ranking.{is_held, state_at}
+use Rattle.roll_plan.proofs.Spelling.{next_is, spelled-push}
 use Rattle.roll_plan.proofs.planner.take_down.Goals as goal
 
-is_there : {X : Type 0} {o : Option X} {x : X} → o ≡ Some x → IsSome o
-is_there e = rw e refl
+pub above-requires : goal.above-requires
+above-requires g c =
+    let names = c.names-node-items.result.now in
+    is_held c.args.tree.now names c.loop-node.node-index (state_at c.args.tree.now c.laws.ensures.named names c.names-node-items.ensures c.loop-node.node-index c.loop-node-test.true)
 
-pub path-requires : goal.path-requires
-path-requires g c =
-    let t = c.args.tree.now in
-    let place = c.loop-node.node-index in
+pub unwrap-requires : goal.unwrap-requires
+unwrap-requires g c =
     let names = c.names-node-items.ensures in
-    let within : place < length t.states = omega (arith, c.loop-node-test.true, ap (λ (l : List ℕ). length l) names, length-map t.states (λ (s : Saved g.row.S.Denot). s.name)) in
-    let at = state_at t c.laws.ensures.named place within in
-    let named = ap (λ (l : List ℕ). get_or l place 0) names ∙ at.name_is in
-    is_there (ap (held t) named ∙ at.held_is)
+    c.push.ensures.succeeds (omega (arith, c.loop-node-test.true, ap (λ (l : List ℕ). length l) names, length-map c.args.tree.now.states (λ (s : Saved g.row.S.Denot). s.name), c.laws.ensures.few, c.loop-node.invariant.count, c.loop-node.invariant.room))
 
 pub loop-node-preserved : goal.loop-node-preserved
 loop-node-preserved g c =
     let t = c.args.tree.now in
     let place = c.loop-node.node-index in
-    let names = c.names-node-items.ensures in
-    let within : place < length t.states = omega (arith, c.loop-node-test.true, ap (λ (l : List ℕ). length l) names, length-map t.states (λ (s : Saved g.row.S.Denot). s.name)) in
-    let at = state_at t c.laws.ensures.named place within in
-    let named = ap (λ (l : List ℕ). get_or l place 0) names ∙ at.name_is in
-    let rows : at.state.path ≡ c.path.result.rows.items =
-    same_Some _ _ (sym (ap (option_map (λ (s : Saved g.row.S.Denot). s.path)) (ap (held t) named ∙ at.held_is)) ∙ c.path.ensures.rows) in
+    let before = take place t.states in
+    let at = state_at t c.laws.ensures.named c.names-node-items.result.now c.names-node-items.ensures place c.loop-node-test.true in
+    let above : IsAbove t at.state.path c.above.result = subst (λ (o : Option (Saved g.row.S.Denot)). IfSome o (λ s. IsAbove t s.path c.above.result)) at.held_is c.above.ensures in
     let pushed = rw c.unwrap.ensures at c.push.ensures.items in
-    let here : Ranked = record { path = c.path.result; node = get_or c.names-node-items.result.now place 0 } in
-    let ranked : here ≡ ranked_of t.base at.state = λ i. record { path = record { base = c.path.ensures.base i; rows = record { items = sym rows i } }; node = named i } in
+    let old : List Taken = c.loop-node.taken.items in
+    let here : Taken = record { node = get_or c.names-node-items.result.now place 0; above = c.above.result } in
+    let path = next_is t c.laws.ensures.ordered before (drop (place + 1) t.states) at.state at.split old c.loop-node.invariant.names here above in
     record {
-      ranked =
-          pushed
-          ∙ ap (λ (l : List Ranked). l ++ here ∷ []) c.loop-node.invariant.ranked
-          ∙ ap (λ (k : Ranked). map (ranked_of t.base) (take place t.states) ++ k ∷ []) ranked
-          ∙ sym (ap (map (ranked_of t.base)) at.more ∙ map-append (ranked_of t.base) (take place t.states) (at.state ∷ []));
+      count = omega (arith, ap (λ (l : List Taken). length l) pushed, length-append old (here ∷ []), c.loop-node.invariant.count);
+      names =
+          ap (map (λ (k : Taken). k.node)) pushed
+          ∙ map-append (λ (k : Taken). k.node) old (here ∷ [])
+          ∙ ap (λ (l : List ℕ). l ++ here.node ∷ []) c.loop-node.invariant.names
+          ∙ ap (λ n. map (λ (s : Saved g.row.S.Denot). s.name) before ++ n ∷ []) at.name_is
+          ∙ sym (ap (map (λ (s : Saved g.row.S.Denot). s.name)) at.more ∙ map-append (λ (s : Saved g.row.S.Denot). s.name) before (at.state ∷ []));
+      paths =
+          ap spelled pushed
+          ∙ spelled-push old here
+          ∙ ap (λ (ps : List Rows). ps ++ path_in old ps here ∷ []) c.loop-node.invariant.paths
+          ∙ ap (λ (p : Rows). map (λ (s : Saved g.row.S.Denot). s.path) before ++ p ∷ []) path
+          ∙ sym (ap (map (λ (s : Saved g.row.S.Denot). s.path)) at.more ∙ map-append (λ (s : Saved g.row.S.Denot). s.path) before (at.state ∷ []));
       room = omega (arith, c.loop-node.invariant.room, c.push.ensures.capacity);
     }

@@ -1,10 +1,11 @@
-use Rattle.std.proofs.Common.{◌≡◌, ◌∙◌, ◌+◌, ◌-◌, ◌++◌, ap, arith, refl, true, Some}
+use Rattle.std.proofs.Common.{◌≡◌, ◌∙◌, ◌+◌, ◌-◌, ◌≤◌, ◌++◌, length, ap, arith, refl, true, Some}
+use Rattle.std.proofs.lemmas.List.Elements.{All-map}
+use Rattle.roll_frame.specs.declared.limits.TheConstants.{PATH_LIMIT}
 use Rattle.roll_frame.specs.Cells.{Rows}
 use Rattle.roll_frame.specs.Paths.{longest}
-use Rattle.roll_tree.specs.Kept.{paths_of}
+use Rattle.roll_tree.specs.Kept.{Saved, paths_of}
 use Rattle.roll_tree.proofs.Lists.{longest_within}
 use Rattle.roll_plan.specs.Plans.{CanPlan, Planned}
-use Rattle.roll_plan.specs.Ranks.{entries_by, marked_for}
 use Rattle.roll_plan.specs.declared.planner.Planner.TheInside.{Inside}
 use Rattle.roll_plan.proofs.Making.{IsDone, done_last, made_is, root_of, told_to}
 use Rattle.roll_plan.proofs.planner.Planner.plan.Given.{Over}
@@ -25,8 +26,9 @@ inside g c =
       players = c.self.inside.players;
       base = c.base-self-inside.result;
       time = c.try_extend_from_slice.new.self;
-      kept = c.rank.new.kept;
-      plan = record { to = c.args.to; from = c.deepest-from.result.1; rerun = c.args.to - c.deepest-from.result.1; differs = c.name_differs.new.differs };
+      taken = c.take_down.new.taken;
+      ranked = c.name_passed.new.ranked;
+      plan = record { to = c.args.to; from = c.deepest-from.result.1; rerun = c.args.to - c.deepest-from.result.1; differs = c.name_passed.new.differs };
       is_made = true;
     }
 
@@ -44,11 +46,12 @@ is_done g c =
       root = root_of c.args.tree.now c.deepest-from.result.0 _ c.laws.ensures.closed c.deepest-from.ensures.node;
       base = c.base-self-inside.ensures;
       time = extended ∙ ap (λ (l : Rows). l ++ rows) c.clear.ensures;
-      taken = c.rank.ensures.paths;
+      taken = c.take_down.ensures.paths;
+      paths = All-map (λ (p : Rows). length p ≤ PATH_LIMIT) (λ (s : Saved g.row.S.Denot). s.path) c.args.tree.now.states c.laws.ensures.short;
       to_is = refl;
       from = c.deepest-from.ensures.length;
       rerun = refl;
-      differs = c.name_differs.ensures.entries ∙ ap (entries_by (marked_for c.args.tree.now c.deepest-from.result.1 c.args.to) 0) c.deref.ensures.value;
+      differs = c.name_passed.ensures.entries;
     }
 
 pub invariant_of-self : goal.invariant_of-self
@@ -56,8 +59,9 @@ invariant_of-self g c =
     record {
       some = c.self.invariant.some;
       few = c.self.invariant.few;
-      room = c.rank.ensures.room;
-      space = c.name_differs.ensures.room;
+      room = c.take_down.ensures.room;
+      ranks = c.name_passed.ensures.ranked;
+      space = c.name_passed.ensures.differs;
       last = λ _. done_last c.args.self.now.players c.args.to c.args.tree.now c.args.rows.now (can_plan g c) (inside g c) (is_done g c);
     }
 
