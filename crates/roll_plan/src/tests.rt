@@ -86,6 +86,45 @@ fn passes_over_a_branch(rt: HostRuntime) -> Result<(), Fail> {
     Ok(())
 }
 
+// The tree of the root and a way of two rows down from it.
+fn three_states(alloc: Global, above: Row, below: Row) -> Result<Tree<u32>, AllocError>
+    ensures base { IfOk result (λ t. t.base ≡ 0) }
+    ensures paths { IfOk result (λ t. paths_of t ≡ [] ∷ (above ∷ []) ∷ (above ∷ below ∷ []) ∷ []) }
+    ensures time { IfOk result (λ t. t.time ≡ []) }
+{
+    let Ok(mut tree) = Tree::new(alloc, 0, 0) else {
+        return Err(AllocError);
+    };
+    let root = tree.root();
+    let Ok(middle) = tree.insert(root, above, 1) else {
+        return Err(AllocError);
+    };
+    let Ok(_) = tree.insert(middle, below, 2) else {
+        return Err(AllocError);
+    };
+    Ok(tree)
+}
+
+#[test]
+fn spells_paths_of_two_rows(rt: HostRuntime) -> Result<(), Fail> {
+    let mut tree = three_states(rt.alloc(), row(1, 0), row(2, 0))?;
+    let rows = [row(1, 0), row(2, 3)];
+    tree.mark(1, 0, &rows);
+    let mut planner = Planner::new(rt.alloc(), 2)?;
+    planner.plan(&tree, 2, &rows);
+    let claim = planner.claim(rt.alloc())?;
+    assert_eq!(rt; (claim.from, claim.kept.len()), (1, 3));
+    assert_eq!(rt;
+        claim.kept.as_slice()[2].rows.as_slice(),
+        [row(1, 0), row(2, 0)].as_slice()
+    );
+    assert_eq!(rt; claim.differs.len(), 1);
+    let differ = claim.differs.as_slice()[0];
+    assert_eq!(rt; (differ.state, differ.frame, differ.player), (2, 1, 2));
+    assert_eq!(rt; check(&claim), Ok(()));
+    Ok(())
+}
+
 #[test]
 fn has_no_claim_without_a_plan(rt: HostRuntime) -> Result<(), Fail> {
     let mut planner = Planner::new(rt.alloc(), 2)?;
