@@ -3,8 +3,8 @@ mod Words
 mod Fronts
 mod Cells
 mod Refused
-mod Players
+pub mod Players
 mod Steps
-mod Changes
+pub mod Changes
 mod Replies
 mod Starts

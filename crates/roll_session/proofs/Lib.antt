@@ -2,6 +2,7 @@ pub mod Holding
 pub mod Between
 pub mod Cuts
 pub mod Filters
+pub mod Foreseen
 pub mod Grows
 pub mod Leaving
 pub mod Performing

@@ -80,7 +80,7 @@ module _ (inputs : Inputs) (p : ℕ) where
       let fails = all_fail (disconnect_tests inputs.players p) h in
       remote_here (passed (λ player. not player.local) inputs.players p (was_not (of_player (λ player. not player.local) inputs.players p) fails.0)) fails.1.0
 
-  count_is : (it : IsPlaying inputs.players p) → count_of inputs.players p ≡ length it.player.words
+  pub count_is : (it : IsPlaying inputs.players p) → count_of inputs.players p ≡ length it.player.words
   count_is it =
       let z : eqb (it.place + 1) 0 ≡ false = grind (arith, nat_tests) in
       let y : it.place + 1 - 1 ≡ it.place = omega arith in

@@ -1,12 +1,13 @@
 -- What a player's input changes of the timeline's rows.
-use Rattle.std.proofs.Common.{◌≡◌, ℕ, zero, suc, ◌+◌, ◌-◌, ◌<◌, ◌≤◌, List, [], ◌∷◌, drop, map, refl, ap, sym, subst, ◌∙◌, arith, true, false, inl, inr, eqb}
+use Rattle.std.proofs.Common.{◌≡◌, ℕ, zero, suc, ◌+◌, ◌-◌, ◌<◌, ◌≤◌, List, [], ◌∷◌, drop, map, refl, ap, sym, subst, ◌∙◌, arith, true, false, inl, inr, eqb, Option, Some}
 use Rattle.std.specs.Prelude.{◌⊎◌, slice_get, option_map}
 use Rattle.std.proofs.lemmas.Bool.{cases_Bool, false≢true, eqb-true}
 use Rattle.std.proofs.lemmas.Bool.Decides.{nat_tests}
 use Rattle.roll_frame.specs.Cells.{Rows}
-use Rattle.roll_frame.specs.Claims.{cell_in}
+use Rattle.roll_frame.specs.Claims.{cell_in, cell_of_row}
 use Rattle.roll_frame.specs.Inputs.{player_at}
-use Rattle.roll_frame.specs.Timeline.{Player, cell_at}
+use Rattle.roll_frame.specs.Timeline.{Player, cell_at, row_at}
+use Rattle.roll_frame.specs.declared.row.Cell.{Cell}
 use Rattle.roll_inputs.specs.Boards.{KeepsCells, cell_of, count_of}
 use Rattle.roll_laws.proofs.Saved.{rows_from as rows_on, timeline_is}
 use Rattle.roll_tree.specs.Marks.{AreSameBut}
@@ -26,19 +27,21 @@ rows_are ps from n =
     let z : 0 + from ≡ from = omega arith in
     ap (drop from) (timeline_is ps (from + n)) ∙ drop_rows ps from 0 n ∙ ap (λ j. rows_on ps j n) z
 
-slice_get-map : {A B : Type 0} (f : A → B) (xs : List A) (k : ℕ) → slice_get (map f xs) k ≡ option_map f (slice_get xs k)
+pub slice_get-map : {A B : Type 0} (f : A → B) (xs : List A) (k : ℕ) → slice_get (map f xs) k ≡ option_map f (slice_get xs k)
 slice_get-map f [] k = refl
 slice_get-map f (x ∷ xs) zero = refl
 slice_get-map f (x ∷ xs) (suc k) = slice_get-map f xs k
 
-cell_on : (ps : List Player) (t n i k : ℕ) → i < n → cell_in (rows_on ps t n) i k ≡ option_map (cell_at (t + i)) (slice_get ps k)
-cell_on ps t zero i k h = absurd (omega arith)
-cell_on ps t (suc n) zero k h = let z : t ≡ t + 0 = omega arith in slice_get-map (cell_at t) ps k ∙ ap (λ j. option_map (cell_at j) (slice_get ps k)) z
-cell_on ps t (suc n) (suc i) k h =
-    let z : suc t + i ≡ t + suc i = omega arith in
-    cell_on ps (suc t) n i k (omega arith) ∙ ap (λ j. option_map (cell_at j) (slice_get ps k)) z
+row_on : (ps : List Player) (t n i : ℕ) → i < n → slice_get (rows_on ps t n) i ≡ Some (row_at ps (t + i))
+row_on ps t zero i h = absurd (omega arith)
+row_on ps t (suc n) zero h = let z : t ≡ t + 0 = omega arith in ap (λ j. Some (row_at ps j)) z
+row_on ps t (suc n) (suc i) h = let z : suc t + i ≡ t + suc i = omega arith in row_on ps (suc t) n i (omega arith) ∙ ap (λ j. Some (row_at ps j)) z
 
-player_next : (ps : List Player) (k : ℕ) → player_at ps (k + 1) ≡ slice_get ps k
+-- a row of the timeline's rows
+pub row_from : (ps : List Player) (from n i : ℕ) → i < n → slice_get (rows_from ps from n) i ≡ Some (row_at ps (from + i))
+row_from ps from n i h = ap (λ (rows : Rows). slice_get rows i) (rows_are ps from n) ∙ row_on ps from n i h
+
+pub player_next : (ps : List Player) (k : ℕ) → player_at ps (k + 1) ≡ slice_get ps k
 player_next ps k =
     let z : eqb (k + 1) 0 ≡ false = grind (arith, nat_tests) in
     let y : k + 1 - 1 ≡ k = omega arith in
@@ -47,7 +50,7 @@ player_next ps k =
 -- a cell of the timeline's rows
 cell_from : (ps : List Player) (from n i k : ℕ) → i < n → cell_in (rows_from ps from n) i k ≡ cell_of ps (k + 1) (from + i)
 cell_from ps from n i k h =
-    ap (λ (rows : Rows). cell_in rows i k) (rows_are ps from n) ∙ cell_on ps from n i k h ∙ ap (option_map (cell_at (from + i))) (sym (player_next ps k))
+    ap (λ (row : Option (List Cell)). cell_of_row row k) (row_from ps from n i h) ∙ slice_get-map (cell_at (from + i)) ps k ∙ ap (option_map (cell_at (from + i))) (sym (player_next ps k))
 
 -- an input changes no cell of another player, and none of a frame whose word was confirmed
 pub same_but : (old new : List Player) (p base n : ℕ) → KeepsCells old new p → AreSameBut p (count_of old p) base (rows_from old base n) (rows_from new base n)

@@ -1,9 +1,10 @@
 -- The timeline and the saved states as a session sees them, and what their fields keep.
-use Rattle.std.specs.Prelude.{◌≡◌, ℕ, ◌-◌, ◌≤◌, List, ◌++◌, length, filter, map, drop, min, not, vec_capacity, All}
+use Rattle.std.specs.Prelude.{◌≡◌, ℕ, ◌-◌, ◌≤◌, List, ◌++◌, length, filter, map, drop, min, not, vec_capacity, All, Bool, true, Some, slice_get}
+use Rattle.std.specs.Option.{option_eq, option_map_or}
 use Rattle.std.specs.List.{list_all}
 use Rattle.roll_frame.specs.declared.row.Cell.{Cell}
-use Rattle.roll_frame.specs.declared.row.Cell.TheVariants.{Gone}
-use Rattle.roll_frame.specs.Cells.{Rows}
+use Rattle.roll_frame.specs.declared.row.Cell.TheVariants.{Gone, Word}
+use Rattle.roll_frame.specs.Cells.{Rows, cell_eq}
 use Rattle.roll_frame.specs.Paths.{begins_with, longest, run}
 use Rattle.roll_frame.specs.Games.{Value}
 use Rattle.roll_frame.specs.Timeline.{timeline, front}
@@ -25,6 +26,10 @@ pub record IsInStep {S : Type 0} (s : Inside S) : Type 0 where
   pub base : s.tree.base ≡ s.board.settled
   pub told : s.tree.time ≡ rows_from s.board.players s.board.settled (length s.tree.time)
   pub room : s.board.frame ≤ vec_capacity s.past
+
+-- whether rows have the word at this place in the cells of this player, from 0, or end before it
+abbrev pub is_told : Rows → ℕ → ℕ → ℕ → Bool
+is_told time place player word = option_map_or (λ row. option_eq cell_eq (slice_get row player) (Some (Word word))) (slice_get time place) true
 
 -- the timeline's rows from the settled frame to this one
 abbrev pub rows_to : Inputs → ℕ → Rows

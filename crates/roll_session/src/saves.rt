@@ -14,7 +14,7 @@ ghost use Rattle.roll_plan.specs.Plans.{made_of};
 ghost use Rattle.roll_tree.specs.Kept.{CanGrow, held, path_of, paths_of, with_state};
 ghost use Rattle.roll_tree.specs.Marks.{AreSameBut};
 ghost use Rattle.roll_session.specs.Standing.{rows_from};
-ghost use Rattle.roll_session.specs.Saves.{rows_to, settled_by, settling, with_gone_only, without_other};
+ghost use Rattle.roll_session.specs.Saves.{is_told, rows_to, settled_by, settling, with_gone_only, without_other};
 
 use arrayvec::ArrayVec;
 use roll_frame::{Cell, FRAME_LIMIT, PATH_LIMIT, Path, Refusal, Row, TREE_LIMIT};
@@ -77,8 +77,7 @@ impl<S> Saves<S> {
         self.board.laws();
         let count = self.board.count(player);
         self.board.local(player, word).unwrap();
-        let known = self.tree.time().len();
-        tell(&mut self.tree, &self.board, player, count, known);
+        retell(&mut self.tree, &self.board, player, count, word);
         self.tree.cut(player, count, Cell::Word(word));
     }
 
@@ -106,8 +105,7 @@ impl<S> Saves<S> {
         self.board.laws();
         let count = self.board.count(player);
         self.board.remote(&self.past, player, frame, word).unwrap();
-        let known = self.tree.time().len();
-        tell(&mut self.tree, &self.board, player, count, known);
+        retell(&mut self.tree, &self.board, player, count, word);
         self.tree.cut(player, count, Cell::Word(word));
     }
 
@@ -124,8 +122,7 @@ impl<S> Saves<S> {
         self.board.laws();
         let count = self.board.count(player);
         self.board.disconnect(player).unwrap();
-        let known = self.tree.time().len();
-        tell(&mut self.tree, &self.board, player, count, known);
+        tell_again(&mut self.tree, &self.board, player, count);
         cut_words(&mut self.tree, player, count);
     }
 
@@ -336,6 +333,41 @@ fn tell<S>(tree: &mut Tree<S>, board: &Board, player: u8, from: u32, count: usiz
 {
     let rows = rows_of(board, count);
     tree.mark(player, from, rows.as_slice());
+}
+
+/// Tells a tree again the rows that it knows, after a player's cells changed from a frame on.
+fn tell_again<S>(tree: &mut Tree<S>, board: &Board, player: u8, from: u32)
+    requires base { tree.old.base ≡ board.now.settled }
+    requires same { AreSameBut player from board.now.settled tree.old.time (rows_from board.now.players board.now.settled (length tree.old.time)) }
+    ensures { tree.new ≡ record tree.old { time = rows_from board.now.players board.now.settled (length tree.old.time) } }
+{
+    let rows = rows_of(board, tree.time().len());
+    tree.mark(player, from, rows.as_slice());
+}
+
+/// Does so after a player gave its next word. Where that changes none of these rows, there's nothing to tell.
+fn retell<S>(tree: &mut Tree<S>, board: &Board, player: u8, from: u32, word: u32)
+    requires base { tree.old.base ≡ board.now.settled }
+    requires some { 1 ≤ player }
+    requires early { board.now.settled ≤ from }
+    requires same { AreSameBut player from board.now.settled tree.old.time (rows_from board.now.players board.now.settled (length tree.old.time)) }
+    requires told { is_told tree.old.time (from - board.now.settled) (player - 1) word ≡ true → rows_from board.now.players board.now.settled (length tree.old.time) ≡ tree.old.time }
+    ensures { tree.new ≡ record tree.old { time = rows_from board.now.players board.now.settled (length tree.old.time) } }
+{
+    let place = (from - tree.base()) as usize;
+    if !is_told(tree.time(), place, usize::from(player) - 1, word) {
+        tell_again(tree, board, player, from);
+    }
+}
+
+/// Whether these rows have the word at this place in the player's cells, who is counted from 0, or end before it.
+fn is_told(time: &[Row], place: usize, player: usize, word: u32) -> bool
+    ensures { result ≡ is_told time.now place player word }
+{
+    match time.get(place) {
+        Some(row) => row.get(player) == Some(Cell::Word(word)),
+        None => true,
+    }
 }
 
 /// Drops each state that has a word of a player in this frame or later.

@@ -4,23 +4,23 @@ use Rattle.roll_session.proofs.Playing.{count_reached, leaving_plays}
 use Rattle.roll_session.proofs.Steps.{retold, still_told}
 use Rattle.roll_session.proofs.saves.Saves.leave.Goals as goal
 
-pub tell-requires-clause-same : goal.tell-requires-clause-same
-tell-requires-clause-same g c =
+pub tell_again-requires-clause-same : goal.tell_again-requires-clause-same
+tell_again-requires-clause-same g c =
     let i = c.self.inside in
     let given = rw c.unwrap.ensures at c.disconnect.ensures.gone in
     let settled : c.disconnect.new.self.settled ≡ i.board.settled = ap (λ (b : Inputs). b.settled) given in
-    rw (settled, c.count-count.ensures, c.time-known.ensures.value) (still_told i c.disconnect.new.self c.args.player c.self.invariant c.disconnect.ensures.cells)
+    rw (settled, c.count-count.ensures) (still_told i c.disconnect.new.self c.args.player c.self.invariant c.disconnect.ensures.cells)
 
 pub cut_words-requires-clause-base : goal.cut_words-requires-clause-base
 cut_words-requires-clause-base g c =
     let i = c.self.inside in
     let free = rw (← c.self.view_is) at c.requires in
     let count = count_reached i.board c.args.player (leaving_plays i.board c.args.player free) c.laws.ensures.ahead in
-    rw (c.tell.ensures, c.self.invariant.base, c.count-count.ensures) count
+    rw (c.tell_again.ensures, c.self.invariant.base, c.count-count.ensures) count
 
 pub invariant_of-self : goal.invariant_of-self
 invariant_of-self g c =
     let i = c.self.inside in
     let given = rw c.unwrap.ensures at c.disconnect.ensures.gone in
     retold i c.disconnect.new.self c.cut_words.new.tree c.self.invariant (ap (λ (b : Inputs). b.settled) given) (ap (λ (b : Inputs). b.frame) given) c.disconnect.ensures.rows
-    (rw (c.cut_words.ensures, c.tell.ensures) refl) (rw (c.cut_words.ensures, c.tell.ensures, c.time-known.ensures.value) refl)
+    (rw (c.cut_words.ensures, c.tell_again.ensures) refl) (rw (c.cut_words.ensures, c.tell_again.ensures) refl)
