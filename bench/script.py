@@ -1,8 +1,8 @@
 """Makes a script of two players, in which the inputs of the second come late: python3 bench/script.py FRAMES SEED
 
-Player 1 is local. The word of player 2 for frame f arrives 0 to 8 frames late, in order, and at the latest in frame
-f + 7: at frame f + 8 the threshold would refuse the local word. In nine frames of ten it is the word of the frame
-before, so that the prediction is right. Words are single digits, so that long scripts fit.
+Player 1 is local. The word of player 2 for frame f arrives 0 to 8 frames late, in order. It is told before the local
+word of that frame, which the threshold would refuse without it at frame f + 8. In nine frames of ten it is the word of
+the frame before, so that the prediction is right. Words are single digits, so that long scripts fit.
 """
 import random
 import sys
@@ -17,7 +17,7 @@ def arrivals(frames, draw):
     last = 0
     for frame in range(frames):
         late = draw.randrange(THRESHOLD + 1)
-        last = min(max(last, frame + late), frame + THRESHOLD - 1)
+        last = max(last, frame + late)
         yield last
 
 
@@ -35,13 +35,13 @@ def lines(frames, draw):
     heard = 0
     yield f"roll 1 players 2 local 1 delay 0,0 threshold {THRESHOLD}"
     for now in range(frames):
-        yield f"L 1 {draw.choice(DIGITS)}"
         before = heard
         while heard < frames and when[heard] == now:
             yield f"R 2 {heard} {words[heard]}"
             heard += 1
         if heard > before:
             yield "S"
+        yield f"L 1 {draw.choice(DIGITS)}"
         yield "A"
 
 

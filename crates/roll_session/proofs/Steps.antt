@@ -1,6 +1,6 @@
 -- The timeline and the saved states after each step.
 use Rattle.std.proofs.Common.{◌≡◌, ℕ, ◌+◌, ◌-◌, ◌≤◌, List, [], ◌∷◌, ◌++◌, length, map, take, drop, min, refl, ap, sym, subst, ◌∙◌, arith, inl, inr, Bool, true, false, cond, Option, Some, None}
-use Rattle.std.specs.Prelude.{◌==◌, IsSomeAnd, filter, option_map, vec_capacity}
+use Rattle.std.specs.Prelude.{◌==◌, IfSome, IsSomeAnd, filter, option_map, vec_capacity}
 use Rattle.std.specs.List.{find}
 use Rattle.roll_frame.specs.Cells.{Rows}
 use Rattle.roll_frame.specs.Paths.{begins_with, contains, longest}
@@ -49,6 +49,10 @@ module _ {S : Type 0} where
       go true e rest = inl (cc e)
       go false e rest = inr (rest e)
 
+  -- a tree that is settled at the state of this name and path
+  abbrev pub settled_with : Kept S → ℕ → Rows → Kept S
+  settled_with t node q = record { base = t.base + length q; root = node; time = drop (length q) t.time; states = map (later (length q)) (filter (λ u. begins_with u.path q) t.states) }
+
   module _ (t : Kept S) (players : List Player) (s to : ℕ) (base : t.base ≡ s) (told : t.time ≡ rows_from players s (length t.time)) (from : s ≤ to) (far : to ≤ s + length t.time) where
     -- the rows that a tree was told, up to a frame
     pub time_is : time_to t to ≡ rows_from players s (to - s)
@@ -63,9 +67,48 @@ module _ {S : Type 0} where
     first_rows : take (longest (paths_of t) (time_to t to)) (time_to t to) ≡ rows_from players s (longest (paths_of t) (rows_from players s (to - s)))
     first_rows = rw time_is (take-rows_from players s (to - s) (longest (paths_of t) (rows_from players s (to - s))) (omega (arith, longest_short (paths_of t) (rows_from players s (to - s)), length-rows_from players s (to - s))))
 
+    -- the first rows that it was told, up to the deepest state
+    pub first_told : take (longest (paths_of t) (time_to t to)) t.time ≡ rows_from players s (longest (paths_of t) (rows_from players s (to - s)))
+    first_told =
+        let n : ℕ = longest (paths_of t) (rows_from players s (to - s)) in
+        ap (λ (q : Rows). take (longest (paths_of t) q) t.time) time_is
+        ∙ ap (take n) told
+        ∙ take-rows_from players s (length t.time) n (omega (arith, far, longest_short (paths_of t) (rows_from players s (to - s)), length-rows_from players s (to - s)))
+
     -- the rows of the deepest state on the timeline
     pub deepest_is : (node : ℕ) → IsSomeAnd (held t node) (λ u. u.path ≡ take (longest (paths_of t) (time_to t to)) (time_to t to)) → IsSomeAnd (held t node) (λ u. u.path ≡ rows_from players s (longest (paths_of t) (rows_from players s (to - s))))
     deepest_is node h = some_and (held t node) (λ u. u.path ≡ take (longest (paths_of t) (time_to t to)) (time_to t to)) (λ u. u.path ≡ rows_from players s (longest (paths_of t) (rows_from players s (to - s)))) (λ u e. e ∙ first_rows) h
+
+  -- the deepest state on the timeline's way to a frame: its frame, and its rows
+  pub record IsDeepest (players : List Player) (s to : ℕ) (t : Kept S) (node end n : ℕ) : Type 0 where
+    pub end_is : end ≡ s + n
+    pub within : s + n ≤ to
+    pub rows : take n t.time ≡ rows_from players s n
+    pub path : IsSomeAnd (held t node) (λ u. u.path ≡ rows_from players s n)
+
+  -- of a tree that was told the timeline so far
+  pub deepest_told : (players : List Player) (s to : ℕ) (was t : Kept S) (node end : ℕ) → was.base ≡ s → t ≡ record was { time = t.time } → t.time ≡ rows_from players s (length t.time) → s ≤ to → to ≤ s + length t.time
+      → IsSomeAnd (held t node) (λ u. u.path ≡ take (longest (paths_of t) (time_to t to)) (time_to t to)) → end ≡ t.base + longest (paths_of t) (time_to t to)
+      → IsDeepest players s to t node end (longest (paths_of was) (rows_from players s (to - s)))
+  deepest_told players s to was t node end is same told from far path length_is =
+      let base : t.base ≡ s = ap (λ (k : Kept S). k.base) same ∙ is in
+      let paths : paths_of t ≡ paths_of was = ap paths_of same in
+      let there = longest_there t players s to base told from far in
+      subst (λ (ps : List Rows). IsDeepest players s to t node end (longest ps (rows_from players s (to - s)))) paths
+      (record {
+        end_is = length_is ∙ (ap (λ k. k + longest (paths_of t) (time_to t to)) base ∙ ap (λ (q : Rows). s + longest (paths_of t) q) (time_is t players s to base told from far));
+        within = subst (λ (q : Rows). s + longest (paths_of t) q ≤ to) (time_is t players s to base told from far) there;
+        rows = ap (λ (q : Rows). take (longest (paths_of t) q) t.time) (sym (time_is t players s to base told from far)) ∙ first_told t players s to base told from far;
+        path = deepest_is t players s to base told from far node path;
+      })
+
+  -- a tree that was settled at the state of a path
+  pub settled_at : (t new : Kept S) (node : ℕ) (q : Rows) → IsSomeAnd (held t node) (λ u. u.path ≡ q) → IfSome (held t node) (λ u. new ≡ settled_with t node u.path) → new ≡ settled_with t node q
+  settled_at t new node q = go (held t node)
+    where
+      go : (o : Option (Saved S)) → IsSomeAnd o (λ u. u.path ≡ q) → IfSome o (λ u. new ≡ settled_with t node u.path) → new ≡ settled_with t node q
+      go None h e = absurd h
+      go (Some u) h e = e ∙ ap (settled_with t node) h
 
   -- a path that a tree gave
   pub path_is : (t : Kept S) (node : ℕ) (rows q : Rows) → IsSomeAnd (held t node) (λ u. u.path ≡ q) → option_map (λ (u : Saved S). u.path) (held t node) ≡ Some rows → (rows ≡ q) × (contains (paths_of t) rows ≡ true)

@@ -5,7 +5,7 @@ ghost use Rattle.roll_frame.specs.Claims.{AreRowsOf};
 ghost use Rattle.roll_frame.specs.Events.{all_given};
 ghost use Rattle.roll_frame.specs.Inputs.{is_repeated, with_given, with_gone, with_none_given, with_words};
 ghost use Rattle.roll_frame.specs.Order.{in_order};
-ghost use Rattle.roll_frame.specs.Paths.{contains, longest};
+ghost use Rattle.roll_frame.specs.Paths.{longest};
 ghost use Rattle.roll_frame.specs.Timeline.{front, row_at, timeline};
 ghost use Rattle.roll_frame.specs.declared.row.Cell.TheVariants.{Gone};
 ghost use Rattle.roll_inputs.specs.Boards.{disconnect_refusal, local_refusal, remote_refusal, with_player};
@@ -153,10 +153,10 @@ impl<S> Saves<S> {
         if to == base {
             return;
         }
-        let path = path_to(&mut self.tree, &self.board, to);
-        append(&mut self.past, path.rows.as_slice());
-        let end = base + path.rows.len() as u32;
-        self.tree.settle(&path);
+        reach(&mut self.tree, &self.board, to);
+        let (node, end) = self.tree.deepest(to);
+        append(&mut self.past, &self.tree.time()[..(end - base) as usize]);
+        self.tree.settle_at(node);
         self.board.settle(end);
     }
 
@@ -323,18 +323,6 @@ fn rows_of(board: &Board, count: usize) -> ArrayVec<Row, PATH_LIMIT>
     rows
 }
 
-/// Tells a tree so many rows of the timeline.
-fn tell<S>(tree: &mut Tree<S>, board: &Board, player: u8, from: u32, count: usize)
-    requires base { tree.old.base ≡ board.now.settled }
-    requires few { count ≤ PATH_LIMIT }
-    requires long { length tree.old.time ≤ count }
-    requires same { AreSameBut player from board.now.settled tree.old.time (rows_from board.now.players board.now.settled count) }
-    ensures { tree.new ≡ record tree.old { time = rows_from board.now.players board.now.settled count } }
-{
-    let rows = rows_of(board, count);
-    tree.mark(player, from, rows.as_slice());
-}
-
 /// Tells a tree again the rows that it knows, after a player's cells changed from a frame on.
 fn tell_again<S>(tree: &mut Tree<S>, board: &Board, player: u8, from: u32)
     requires base { tree.old.base ≡ board.now.settled }
@@ -393,28 +381,11 @@ fn reach<S>(tree: &mut Tree<S>, board: &Board, to: u32)
     ensures told { tree.new.time ≡ rows_from board.now.players board.now.settled (length tree.new.time) }
     ensures far { to ≤ board.now.settled + length tree.new.time }
 {
-    let count = (to - board.settled()) as usize;
-    if tree.time().len() < count {
-        tell(tree, board, 1, 0, count);
+    board.laws();
+    let known = board.settled() + tree.time().len() as u32;
+    for frame in known..to {
+        tree.tell(board.row(frame));
     }
-}
-
-/// The path of the deepest saved state on the timeline's way to a frame.
-fn path_to<S>(tree: &mut Tree<S>, board: &Board, to: u32) -> Path
-    requires base { tree.old.base ≡ board.now.settled }
-    requires told { tree.old.time ≡ rows_from board.now.players board.now.settled (length tree.old.time) }
-    requires from { board.now.settled ≤ to }
-    requires near { to ≤ board.now.settled + PATH_LIMIT }
-    ensures same { tree.new ≡ record tree.old { time = tree.new.time } }
-    ensures told { tree.new.time ≡ rows_from board.now.players board.now.settled (length tree.new.time) }
-    ensures base { result.base ≡ board.now.settled }
-    ensures rows { result.rows.items ≡ rows_from board.now.players board.now.settled (longest (paths_of tree.old) (rows_to board.now to)) }
-    ensures kept { contains (paths_of tree.old) result.rows.items ≡ true }
-    ensures within { board.now.settled + longest (paths_of tree.old) (rows_to board.now to) ≤ to }
-{
-    reach(tree, board, to);
-    let (node, _) = tree.deepest(to);
-    tree.path(node)
 }
 
 /// Adds rows where there is room for them.

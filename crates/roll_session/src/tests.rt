@@ -7,6 +7,7 @@ use roll_game::{Call as Kind, Refusing, Tally};
 use std::alloc::Global;
 use std::process::Abort;
 use std::test::Fail;
+use std::time::Instant;
 
 // What a call shows: its reply, and after a roll its numbers, the settled frame and the state.
 #[derive(Clone, Copy, Debug, PartialEq, Eq)]
@@ -474,5 +475,70 @@ fn takes_reserved_events(rt: HostRuntime) -> Result<(), Refusal> {
         assert_ne!(rt; answer(&mut session, A), Refused(107), "{frame}");
     }
     assert_eq!(rt; session.frame(), 300);
+    Ok(())
+}
+
+// The words of a long run: player 2's are predicted right in nine frames of ten.
+fn first_word(frame: u32) -> u32 {
+    frame % 7
+}
+
+fn second_word(frame: u32) -> u32 {
+    frame / 10 % 10
+}
+
+// By how many frames player 2's word comes late, if none before it comes later.
+fn lateness(frame: u32) -> u32 {
+    frame.wrapping_mul(2_654_435_761) / 65_536 % 9
+}
+
+// Plays so many frames, each with the words that have come and a roll where there were any.
+fn play_long(rt: &(impl Abort + AllocGlobal), frames: u32) -> Result<u32, Refusal> {
+    let mut session = open(rt.alloc(), two(), Kind::Load, 0)?;
+    let mut heard = 0;
+    for now in 0..frames {
+        let before = heard;
+        for frame in before..now.saturating_add(1) {
+            if frame.saturating_add(lateness(frame)) > now {
+                break;
+            }
+            session.remote_input(2, frame, second_word(frame))?;
+            heard = frame.saturating_add(1);
+        }
+        if heard > before {
+            session.synchronize_input()?;
+        }
+        session.add_local_input(1, first_word(now))?;
+        session.advance_frame()?;
+    }
+    for frame in heard..frames {
+        session.remote_input(2, frame, second_word(frame))?;
+    }
+    session.synchronize_input()?;
+    assert_eq!(rt; session.settled(), frames as usize);
+    match session.current() {
+        Some(state) => Ok(*state),
+        None => panic!(rt; "no state"),
+    }
+}
+
+// The same by the game's rule alone: ten times the sum, plus each player's number times its word, modulo a million.
+fn add_up(frames: u32) -> u32 {
+    let mut sum: u32 = 0;
+    for frame in 0..frames {
+        let words = first_word(frame).wrapping_add(second_word(frame).wrapping_mul(2));
+        sum = sum.wrapping_mul(10).wrapping_add(words) % 1_000_000;
+    }
+    sum
+}
+
+#[test]
+fn plays_a_hundred_thousand_frames(rt: HostRuntime) -> Result<(), Fail> {
+    for frames in [1_000, 10_000, 100_000] {
+        let start = Instant::now(&rt)?;
+        let state = play_long(&rt, frames)?;
+        println!(rt; "{frames} frames: {:?}", start.elapsed(&rt)?)?;
+        assert_eq!(rt; state, add_up(frames));
+    }
     Ok(())
 }

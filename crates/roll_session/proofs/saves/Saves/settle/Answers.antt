@@ -1,4 +1,4 @@
-use Rattle.std.proofs.Common.{◌≡◌, ◌+◌, ◌∙◌, ◌++◌, ap, sym, refl, arith, List, length, map, filter, drop, min, vec_capacity}
+use Rattle.std.proofs.Common.{◌≡◌, ◌+◌, ◌-◌, ◌∙◌, ◌++◌, ◌≤◌, ap, sym, refl, arith, List, length, map, filter, drop, min, take, vec_capacity}
 use Rattle.roll_frame.specs.Cells.{Rows}
 use Rattle.roll_frame.specs.Paths.{begins_with, longest}
 use Rattle.roll_frame.specs.Timeline.{front}
@@ -7,65 +7,92 @@ use Rattle.roll_tree.specs.Kept.{Kept, Saved, later, paths_of}
 use Rattle.roll_session.specs.Saves.{Standing, rows_to, settled_by, settling}
 use Rattle.roll_session.specs.Standing.{rows_from}
 use Rattle.roll_session.proofs.Rows.{length-rows_from}
-use Rattle.roll_session.proofs.Steps.{none_settled, nothing_settles, settled_step}
+use Rattle.roll_session.proofs.Steps.{deepest_told, none_settled, nothing_settles, settled_at, settled_step, settled_with}
 use Rattle.roll_session.proofs.saves.Saves.settle.Goals as goal
+
+pub slice_bounds-append-end : goal.slice_bounds-append-end
+slice_bounds-append-end g c =
+    let i = c.self.inside in
+    let low = rw (← c.self.view_is) at c.requires in
+    let from : i.board.settled ≤ c.min-to.result = omega (arith, low, c.min-to.ensures, c.front.ensures, c.frame.ensures, c.laws.ensures.reached) in
+    let n = longest (paths_of i.tree) (rows_to i.board c.min-to.result) in
+    let deep = deepest_told i.board.players i.board.settled c.min-to.result i.tree c.reach.new.tree c.deepest-node.result.0 c.deepest-node.result.1 c.self.invariant.base c.reach.ensures.same c.reach.ensures.told from c.reach.ensures.far c.deepest-node.ensures.node c.deepest-node.ensures.length in
+    let count : c.deepest-node.result.1 - c.settled-base.result ≡ n = omega (arith, deep.end_is, c.settled-base.ensures) in
+    let rows : take (c.deepest-node.result.1 - c.settled-base.result) c.time.result.now ≡ rows_from i.board.players i.board.settled n = ap (λ m. take m c.time.result.now) count ∙ (ap (take n) c.time.ensures.value ∙ deep.rows) in
+    let long = ap length rows ∙ length-rows_from i.board.players i.board.settled n in
+    count ∙ sym long
 
 pub append-requires : goal.append-requires
 append-requires g c =
     let i = c.self.inside in
+    let low = rw (← c.self.view_is) at c.requires in
+    let from : i.board.settled ≤ c.min-to.result = omega (arith, low, c.min-to.ensures, c.front.ensures, c.frame.ensures, c.laws.ensures.reached) in
     let n = longest (paths_of i.tree) (rows_to i.board c.min-to.result) in
+    let deep = deepest_told i.board.players i.board.settled c.min-to.result i.tree c.reach.new.tree c.deepest-node.result.0 c.deepest-node.result.1 c.self.invariant.base c.reach.ensures.same c.reach.ensures.told from c.reach.ensures.far c.deepest-node.ensures.node c.deepest-node.ensures.length in
+    let count : c.deepest-node.result.1 - c.settled-base.result ≡ n = omega (arith, deep.end_is, c.settled-base.ensures) in
+    let rows : take (c.deepest-node.result.1 - c.settled-base.result) c.time.result.now ≡ rows_from i.board.players i.board.settled n = ap (λ m. take m c.time.result.now) count ∙ (ap (take n) c.time.ensures.value ∙ deep.rows) in
+    let long = ap length rows ∙ length-rows_from i.board.players i.board.settled n in
     let past = ap length c.self.invariant.past ∙ length_timeline i.board.players i.board.settled in
-    let more = ap length (c.as_slice.ensures.value ∙ c.path_to-path.ensures.rows) ∙ length-rows_from i.board.players i.board.settled n in
-    omega (arith, past, more, c.path_to-path.ensures.within, c.self.invariant.room, c.min-to.ensures, c.front.ensures, c.frame.ensures)
+    omega (arith, past, long, deep.within, c.self.invariant.room, c.min-to.ensures, c.front.ensures, c.frame.ensures)
 
-pub settle-requires-2-clause-confirmed : goal.settle-requires-2-clause-confirmed
-settle-requires-2-clause-confirmed g c =
+pub settle-requires-clause-confirmed : goal.settle-requires-clause-confirmed
+settle-requires-clause-confirmed g c =
     let i = c.self.inside in
+    let low = rw (← c.self.view_is) at c.requires in
+    let from : i.board.settled ≤ c.min-to.result = omega (arith, low, c.min-to.ensures, c.front.ensures, c.frame.ensures, c.laws.ensures.reached) in
     let n = longest (paths_of i.tree) (rows_to i.board c.min-to.result) in
-    let more = ap length c.path_to-path.ensures.rows ∙ length-rows_from i.board.players i.board.settled n in
+    let deep = deepest_told i.board.players i.board.settled c.min-to.result i.tree c.reach.new.tree c.deepest-node.result.0 c.deepest-node.result.1 c.self.invariant.base c.reach.ensures.same c.reach.ensures.told from c.reach.ensures.far c.deepest-node.ensures.node c.deepest-node.ensures.length in
     let to : c.min-to.result ≡ min (front i.board.players) i.board.frame = c.min-to.ensures ∙ rw (c.front.ensures, c.frame.ensures) refl in
-    omega (arith, more, c.path_to-path.ensures.within, to, c.settled-base.ensures, c.len.ensures.value)
+    omega (arith, deep.end_is, deep.within, to)
 
 pub invariant_of-self : goal.invariant_of-self
 invariant_of-self g c =
     let i = c.self.inside in
+    let low = rw (← c.self.view_is) at c.requires in
+    let from : i.board.settled ≤ c.min-to.result = omega (arith, low, c.min-to.ensures, c.front.ensures, c.frame.ensures, c.laws.ensures.reached) in
     let n = longest (paths_of i.tree) (rows_to i.board c.min-to.result) in
-    let k = length c.path_to-path.new.tree.time in
-    let rows = c.path_to-path.ensures.rows in
-    let more = ap length rows ∙ length-rows_from i.board.players i.board.settled n in
-    let end : c.settled-base.result + c.len.result ≡ i.board.settled + n = omega (arith, more, c.settled-base.ensures, c.len.ensures.value) in
-    settled_step i (record { board = c.settle-2.new.self; past = c.append.new.past; tree = c.settle.new.self }) n k c.self.invariant
-    (c.settle-2.ensures ∙ ap (λ m. record i.board { settled = m }) end)
-    (c.append.ensures.items ∙ ap (λ (q : Rows). i.past.items ++ q) (c.as_slice.ensures.value ∙ rows))
+    let deep = deepest_told i.board.players i.board.settled c.min-to.result i.tree c.reach.new.tree c.deepest-node.result.0 c.deepest-node.result.1 c.self.invariant.base c.reach.ensures.same c.reach.ensures.told from c.reach.ensures.far c.deepest-node.ensures.node c.deepest-node.ensures.length in
+    let count : c.deepest-node.result.1 - c.settled-base.result ≡ n = omega (arith, deep.end_is, c.settled-base.ensures) in
+    let rows : take (c.deepest-node.result.1 - c.settled-base.result) c.time.result.now ≡ rows_from i.board.players i.board.settled n = ap (λ m. take m c.time.result.now) count ∙ (ap (take n) c.time.ensures.value ∙ deep.rows) in
+    let long = ap length rows ∙ length-rows_from i.board.players i.board.settled n in
+    let k = length c.reach.new.tree.time in
+    let long' = length-rows_from i.board.players i.board.settled n in
+    let base : c.reach.new.tree.base ≡ i.board.settled = ap (λ (t : Kept g.row.S.Denot). t.base) c.reach.ensures.same ∙ c.self.invariant.base in
+    let tree = settled_at c.reach.new.tree c.settle_at.new.self c.deepest-node.result.0 (rows_from i.board.players i.board.settled n) deep.path c.settle_at.ensures in
+    settled_step i (record { board = c.settle.new.self; past = c.append.new.past; tree = c.settle_at.new.self }) n k c.self.invariant
+    (c.settle.ensures ∙ ap (λ m. record i.board { settled = m }) deep.end_is)
+    (c.append.ensures.items ∙ ap (λ (q : Rows). i.past.items ++ q) rows)
     c.append.ensures.capacity
-    (c.settle.ensures.base ∙ omega (arith, c.path_to-path.ensures.base, more))
-    (c.settle.ensures.time ∙ (ap (drop (length c.path_to-path.result.rows.items)) c.path_to-path.ensures.told ∙ ap (λ m. drop m (rows_from i.board.players i.board.settled k)) more))
+    (ap (λ (t : Kept g.row.S.Denot). t.base) tree ∙ omega (arith, base, long'))
+    (ap (λ (t : Kept g.row.S.Denot). t.time) tree ∙ (ap (λ m. drop m c.reach.new.tree.time) long' ∙ ap (drop n) c.reach.ensures.told))
 
 pub returns-clause-inputs : goal.returns-clause-inputs
 returns-clause-inputs g c =
     let i = c.self.inside in
-    let to : c.min-to.result ≡ min (front i.board.players) i.board.frame = c.min-to.ensures ∙ rw (c.front.ensures, c.frame.ensures) refl in
+    let low = rw (← c.self.view_is) at c.requires in
+    let from : i.board.settled ≤ c.min-to.result = omega (arith, low, c.min-to.ensures, c.front.ensures, c.frame.ensures, c.laws.ensures.reached) in
     let n = longest (paths_of i.tree) (rows_to i.board c.min-to.result) in
-    let more = ap length c.path_to-path.ensures.rows ∙ length-rows_from i.board.players i.board.settled n in
-    let end : c.settled-base.result + c.len.result ≡ i.board.settled + n = omega (arith, more, c.settled-base.ensures, c.len.ensures.value) in
-    rw (← c.self.view_is) (c.settle-2.ensures ∙ (ap (λ k. record i.board { settled = k }) end ∙ ap (λ k. record i.board { settled = i.board.settled + longest (paths_of i.tree) (rows_to i.board k) }) to))
+    let deep = deepest_told i.board.players i.board.settled c.min-to.result i.tree c.reach.new.tree c.deepest-node.result.0 c.deepest-node.result.1 c.self.invariant.base c.reach.ensures.same c.reach.ensures.told from c.reach.ensures.far c.deepest-node.ensures.node c.deepest-node.ensures.length in
+    let to : c.min-to.result ≡ min (front i.board.players) i.board.frame = c.min-to.ensures ∙ rw (c.front.ensures, c.frame.ensures) refl in
+    rw (← c.self.view_is) (c.settle.ensures ∙ (ap (λ k. record i.board { settled = k }) deep.end_is ∙ ap (λ k. record i.board { settled = i.board.settled + longest (paths_of i.tree) (rows_to i.board k) }) to))
 
 pub returns-clause-states : goal.returns-clause-states
 returns-clause-states g c =
     let i = c.self.inside in
+    let low = rw (← c.self.view_is) at c.requires in
+    let from : i.board.settled ≤ c.min-to.result = omega (arith, low, c.min-to.ensures, c.front.ensures, c.frame.ensures, c.laws.ensures.reached) in
     let n = longest (paths_of i.tree) (rows_to i.board c.min-to.result) in
-    let rows = c.path_to-path.ensures.rows in
-    let more = ap length rows ∙ length-rows_from i.board.players i.board.settled n in
+    let deep = deepest_told i.board.players i.board.settled c.min-to.result i.tree c.reach.new.tree c.deepest-node.result.0 c.deepest-node.result.1 c.self.invariant.base c.reach.ensures.same c.reach.ensures.told from c.reach.ensures.far c.deepest-node.ensures.node c.deepest-node.ensures.length in
     let to : c.min-to.result ≡ min (front i.board.players) i.board.frame = c.min-to.ensures ∙ rw (c.front.ensures, c.frame.ensures) refl in
-    let same = ap (λ (t : Kept g.row.S.Denot). t.states) c.path_to-path.ensures.same in
-    let path = c.path_to-path.result.rows.items in
+    let long' = length-rows_from i.board.players i.board.settled n in
+    let tree = settled_at c.reach.new.tree c.settle_at.new.self c.deepest-node.result.0 (rows_from i.board.players i.board.settled n) deep.path c.settle_at.ensures in
+    let same = ap (λ (t : Kept g.row.S.Denot). t.states) c.reach.ensures.same in
     let states = i.tree.states in
     rw (← c.self.view_is)
-    (c.settle.ensures.states
-    ∙ (ap (λ (ss : List (Saved g.row.S.Denot)). map (later (length path)) (filter (λ (s : Saved g.row.S.Denot). begins_with s.path path) ss)) same
-    ∙ (ap (λ m. map (later m) (filter (λ (s : Saved g.row.S.Denot). begins_with s.path path) states)) more
-    ∙ (ap (λ (q : Rows). map (later n) (filter (λ (s : Saved g.row.S.Denot). begins_with s.path q) states)) rows
-    ∙ ap (λ m. map (later (longest (paths_of i.tree) (rows_to i.board m))) (filter (λ (s : Saved g.row.S.Denot). begins_with s.path (rows_from i.board.players i.board.settled (longest (paths_of i.tree) (rows_to i.board m)))) states)) to))))
+    (ap (λ (t : Kept g.row.S.Denot). t.states) tree
+    ∙ (ap (λ (ss : List (Saved g.row.S.Denot)). map (later (length (rows_from i.board.players i.board.settled n))) (filter (λ (s : Saved g.row.S.Denot). begins_with s.path (rows_from i.board.players i.board.settled n)) ss)) same
+    ∙ (ap (λ m. map (later m) (filter (λ (s : Saved g.row.S.Denot). begins_with s.path (rows_from i.board.players i.board.settled n)) states)) long'
+    ∙ ap (λ m. map (later (longest (paths_of i.tree) (rows_to i.board m))) (filter (λ (s : Saved g.row.S.Denot). begins_with s.path (rows_from i.board.players i.board.settled (longest (paths_of i.tree) (rows_to i.board m)))) states)) to)))
 
 pub returns-then-to-base-clause-inputs : goal.returns-then-to-base-clause-inputs
 returns-then-to-base-clause-inputs g c =
