@@ -1,4 +1,5 @@
 //! The log's entries.
+use crate::boxed::Boxed;
 use crate::limits::BRANCH_LIMIT;
 use crate::path::Path;
 use crate::row::Row;
@@ -26,11 +27,12 @@ pub enum Entry {
     Sync,
     /// A roll to the next frame, which becomes the current one.
     Advance,
-    /// A branch: the path of the state that it starts from, and the rows that were run.
+    /// A branch: the path of the state that it starts from, and the rows that were run. They lie apart, since a log has
+    /// many entries, and few of these.
     Graft {
         ticket: u64,
-        path: Path,
-        rows: ArrayVec<Row, BRANCH_LIMIT>,
+        path: Boxed<Path>,
+        rows: Boxed<ArrayVec<Row, BRANCH_LIMIT>>,
     },
     /// The game refused in a roll to a frame, after so many new states were kept.
     Partial {

@@ -2,6 +2,7 @@
 #![tactic(auto)]
 
 mod advice;
+mod boxed;
 mod entry;
 mod event;
 mod limits;
@@ -13,6 +14,7 @@ mod row;
 mod settings;
 
 pub use advice::Advice;
+pub use boxed::Boxed;
 pub use entry::Entry;
 pub use event::Event;
 pub use limits::{
