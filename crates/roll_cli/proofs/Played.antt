@@ -26,7 +26,7 @@ pub few_commands : (play : Play) (text : List ℕ) → text ≡ text_of (play_li
 few_commands play text e short = omega (arith, ap length e, lines_fit (play_lines play), length-map play.commands line_of)
 
 -- what a session that has just started writes
-pub written_started : (texts : Texts) (step : Step) (s : Seen) (commands : List Command) (settings : Settings) (x : Value) (turns refused : ℕ) → s ≡ record { settings = settings; opening = x; log = []; turns = turns; refused = refused }
+pub written_started : (texts : Texts) (step : Step) (s : Seen) (commands : List Command) (settings : Settings) (x : Value) (turns refused : ℕ) → s ≡ record { settings = settings; opening = x; log = []; turns = turns; refused = refused; reserved = 0 }
     → start_refusal settings ≡ None
     → written_from texts s.settings (game_of step s) (core_of s) commands ≡ output_under texts settings (record { opening = x; step = step }) commands
 written_started texts step s commands settings x turns refused e starts =
@@ -35,7 +35,7 @@ written_started texts step s commands settings x turns refused e starts =
     (ap (λ (core : Core). written_from texts settings game core commands) (replay-nil settings))
     ∙ sym (rw starts refl)
 
-pub refusals_started : (step : Step) (s : Seen) (commands : List Command) (settings : Settings) (x : Value) (turns refused : ℕ) → s ≡ record { settings = settings; opening = x; log = []; turns = turns; refused = refused }
+pub refusals_started : (step : Step) (s : Seen) (commands : List Command) (settings : Settings) (x : Value) (turns refused : ℕ) → s ≡ record { settings = settings; opening = x; log = []; turns = turns; refused = refused; reserved = 0 }
     → start_refusal settings ≡ None
     → refusals_from s.settings (game_of step s) (core_of s) commands ≡ refusals_under settings (record { opening = x; step = step }) commands
 refusals_started step s commands settings x turns refused e starts =

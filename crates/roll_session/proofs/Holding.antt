@@ -1,5 +1,5 @@
 -- What the fields keep, from event to event.
-use Rattle.std.proofs.Common.{◌≡◌, ℕ, ◌+◌, ◌≤◌, List, [], ◌∷◌, ◌++◌, length, refl, ap, sym, ◌∙◌, subst, arith, Option, Some, None, map, eqb, false, true, Bool, cond}
+use Rattle.std.proofs.Common.{◌≡◌, ℕ, ◌+◌, ◌≤◌, List, [], ◌∷◌, ◌++◌, length, refl, ap, sym, ◌∙◌, subst, arith, length-append, Option, Some, None, map, eqb, false, true, Bool, cond}
 use Rattle.roll_frame.specs.Inputs.{disconnect_tests, local_tests, remote_tests, with_given, with_gone, with_words}
 use Rattle.roll_frame.specs.declared.entry.Entry.TheVariants.{Disconnect, Local, Remote}
 use Rattle.roll_frame.specs.declared.refusal.Refusal.TheVariants.{LogFull}
@@ -10,7 +10,8 @@ use Rattle.roll_session.proofs.Playing.{count_reached, leaving_plays, local_play
 use Rattle.roll_session.specs.Saves.{with_gone_only, without_other}
 use Rattle.roll_inputs.specs.declared.heard.Heard.{Heard}
 use Rattle.roll_inputs.specs.declared.heard.Heard.TheVariants.{Repeated, Taken}
-use Rattle.std.specs.Prelude.{◌==◌, All, Result, Ok, Err, IfOk, IfSome, IsSomeAnd, drop, option_map}
+use Rattle.std.specs.Global.{Vec}
+use Rattle.std.specs.Prelude.{◌-◌, max, vec_capacity, vec_len, ◌==◌, All, Result, Ok, Err, IfOk, IfSome, IsSomeAnd, drop, option_map}
 use Rattle.std.specs.List.{AllByRecursion, find}
 use Rattle.std.proofs.lemmas.List.Elements.{recursion_from_All}
 use Rattle.std.proofs.Math.Seq.{drop-append_seam}
@@ -60,7 +61,7 @@ use Rattle.roll_plan.specs.Plans.{Planned}
 use Rattle.roll_tree.specs.Kept.{Saved, paths_of}
 use Rattle.roll_session.specs.Saves.{Standing}
 use Rattle.roll_session.specs.Seen.{Step, plain, IsLeast}
-use Rattle.roll_session.specs.Held.{Shows, IsKept, IsSession, IsSmall, planned_of}
+use Rattle.roll_session.specs.Held.{HasRoom, Shows, IsKept, IsSession, IsSmall, planned_of}
 
 pub replay-nil : (settings : Settings) → replay settings [] ≡ first_core settings
 unfolding replay
@@ -172,6 +173,18 @@ paths_are settled base ps e = sym (ap (map (path_from base)) (order_on settled p
     each [] = refl
     each (q ∷ qs) = ap (λ (r : Rows). path_of base r ∷ map (path_from base) (map (on settled) qs)) (subst (λ n. drop n (settled ++ q) ≡ q) e (drop-append_seam settled q)) ∙ ap (λ (l : List Path). path_of base q ∷ l) (each qs)
 
+-- a log with an entry more is another log
+pub is_longer : (log more : List Entry) (entry : Entry) → more ≡ log ++ entry ∷ [] → more ≡ log → ⊥
+is_longer log more entry e same = omega (arith, ap length e, ap length same, length-append log (entry ∷ []))
+
+-- an event later there is room for one less
+pub room_after : {N : Type 0} (log more : Vec Entry) (saves cut after : Standing N) (reserved left n : ℕ) → HasRoom log saves (max reserved 1)
+    → vec_len more ≡ vec_len log + 1 → vec_capacity log ≤ vec_capacity more → left ≡ reserved - 1
+    → cut.inputs.frame ≤ saves.inputs.frame + 1 → cut.room ≡ saves.room → after.inputs ≡ record cut.inputs { settled = n } → cut.room ≤ after.room → HasRoom more after left
+room_after log more saves cut after reserved left n h len capacity less frame same inputs room =
+    let frames : after.inputs.frame ≡ cut.inputs.frame = ap (λ (i : Inputs). i.frame) inputs in
+    record { entries = omega (arith, h.entries, len, capacity, less); rows = omega (arith, h.rows, frames, frame, same, room, less) }
+
 module _ {S N : Type 0} (state_value : S → List ℕ) (snapshot_value : N → List ℕ) (step : Step) (opening : List ℕ) (settings : Settings) where
   -- the session after one more entry
   pub session_next : (log : List Entry) (entry : Entry) (saves : Standing N) (planner : Planned) (current : Option S) → IsLog settings (record { opening = opening; step = step }) log
@@ -204,6 +217,18 @@ module _ {S N : Type 0} (state_value : S → List ℕ) (snapshot_value : N → L
       let game : Game = record { opening = opening; step = step } in
       session_next log entry after planner current s.is_log a (settled_kept snapshot_value step opening settings game log s.is_log entry a cut after between inputs states)
       (rw shown s.shows) (rw last s.plan)
+
+  -- the session with room for more settled rows
+  pub session_reserved : (log : List Entry) (saves more : Standing N) (planner : Planned) (current : Option S) → IsSession state_value snapshot_value step opening settings log saves planner current → more.inputs ≡ saves.inputs → more.tree ≡ saves.tree
+      → IsSession state_value snapshot_value step opening settings log more planner current
+  session_reserved log saves more planner current s inputs tree =
+      record {
+        is_log = s.is_log;
+        kept = record { inputs = inputs ∙ s.kept.inputs; kept_is = rw tree s.kept.kept_is; values = rw tree s.kept.values };
+        shows = s.shows;
+        plan = s.plan;
+        small = s.small;
+      }
 
   module _ (log : List Entry) (saves : Standing N) (planner : Planned) (current : Option S) (s : IsSession state_value snapshot_value step opening settings log saves planner current) where
     local_tested : (p : ℕ) → local_refusal saves.inputs p ≡ first_refusal (local_tests (replay settings log).players (replay settings log).frame settings.threshold settings.limit p)

@@ -60,13 +60,13 @@ pub replies_more : (settings : Settings) (game : Game) (core : Core) (f : Call �
 replies_more settings game core f calls k d h = rw (take_more calls k d h, map-append) (replies_push settings game core (map f (take k calls)) (f (get_or calls k d)))
 
 -- what a session that has just started makes of any events
-pub fresh_replies : (step : Step) (s : Seen) (settings : Settings) (x : Value) (turns refused : ℕ) (events : List CoreEvent) → s ≡ record { settings = settings; opening = x; log = []; turns = turns; refused = refused }
+pub fresh_replies : (step : Step) (s : Seen) (settings : Settings) (x : Value) (turns refused : ℕ) (events : List CoreEvent) → s ≡ record { settings = settings; opening = x; log = []; turns = turns; refused = refused; reserved = 0 }
     → replies_from s.settings (game_of step s) (core_of s) events ≡ replies_from settings (record { opening = x; step = step }) (first_core settings) events
 fresh_replies step s settings x turns refused events e =
     let game : Game = record { opening = x; step = step } in
     subst (λ (v : Seen). replies_from v.settings (game_of step v) (core_of v) events ≡ replies_from settings game (first_core settings) events) (sym e) (ap (λ (core : Core). replies_from settings game core events) (replay-nil settings))
 
-pub fresh_played : (step : Step) (s : Seen) (settings : Settings) (x : Value) (turns refused : ℕ) (events : List CoreEvent) → s ≡ record { settings = settings; opening = x; log = []; turns = turns; refused = refused }
+pub fresh_played : (step : Step) (s : Seen) (settings : Settings) (x : Value) (turns refused : ℕ) (events : List CoreEvent) → s ≡ record { settings = settings; opening = x; log = []; turns = turns; refused = refused; reserved = 0 }
     → played_from s.settings (game_of step s) (core_of s) events ≡ played settings (record { opening = x; step = step }) events
 fresh_played step s settings x turns refused events e =
     let game : Game = record { opening = x; step = step } in
@@ -108,7 +108,7 @@ made_more step old mid new calls k d h made settings opening core turns refused 
     }
 
 -- what a session that has just started advances its game by
-pub fresh_turns : (step : Step) (s : Seen) (settings : Settings) (x : Value) (turns refused : ℕ) (events : List CoreEvent) → s ≡ record { settings = settings; opening = x; log = []; turns = turns; refused = refused }
+pub fresh_turns : (step : Step) (s : Seen) (settings : Settings) (x : Value) (turns refused : ℕ) (events : List CoreEvent) → s ≡ record { settings = settings; opening = x; log = []; turns = turns; refused = refused; reserved = 0 }
     → s.turns + turns_from s.settings (game_of step s) (core_of s) events ≡ turns + turns_from settings (record { opening = x; step = step }) (first_core settings) events
 fresh_turns step s settings x turns refused events e =
     let game : Game = record { opening = x; step = step } in

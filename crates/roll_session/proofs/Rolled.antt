@@ -32,18 +32,6 @@ use Rattle.roll_session.proofs.Holding.{session_next}
 use Rattle.roll_session.proofs.Planning.{can_plan, made_of_is}
 use Rattle.roll_session.proofs.Rows.{length-rows_from}
 
--- the session with room for more settled rows
-pub session_reserved : {S N : Type 0} (state_value : S → Value) (snapshot_value : N → Value) (step : Step) (opening : Value) (settings : Settings) (log : List Entry) (saves more : Standing N) (planner : Planned) (current : Option S) → IsSession state_value snapshot_value step opening settings log saves planner current → more.inputs ≡ saves.inputs → more.tree ≡ saves.tree
-    → IsSession state_value snapshot_value step opening settings log more planner current
-session_reserved state_value snapshot_value step opening settings log saves more planner current s inputs tree =
-    record {
-      is_log = s.is_log;
-      kept = record { inputs = inputs ∙ s.kept.inputs; kept_is = rw tree s.kept.kept_is; values = rw tree s.kept.values };
-      shows = s.shows;
-      plan = s.plan;
-      small = s.small;
-    }
-
 module _ {S N : Type 0} (state_value : S → Value) (snapshot_value : N → Value) (step : Step) (opening : Value) (settings : Settings) (log : List Entry) (saves : Standing N) (planner : Planned) (current : Option S) (s : IsSession state_value snapshot_value step opening settings log saves planner current) where
   settled_is : saves.inputs.settled ≡ settled (replay settings log)
   settled_is = ap (λ (i : Inputs). i.settled) s.kept.inputs

@@ -1,5 +1,6 @@
 -- What the fields of a session keep.
-use Rattle.std.specs.Prelude.{◌≡◌, ◌≤◌, List, length, Option, option_map, Some, None}
+use Rattle.std.specs.Prelude.{◌≡◌, ◌≤◌, ◌+◌, ℕ, List, length, Option, option_map, Some, None, vec_capacity, vec_len}
+use Rattle.std.specs.Global.{Vec}
 use Rattle.roll_frame.specs.Cells.{Rows}
 use Rattle.roll_frame.specs.Core.{Core, kept, settled}
 use Rattle.roll_frame.specs.Events.{replay}
@@ -53,3 +54,8 @@ pub record IsSession {S N : Type 0} (state_value : S → Value) (snapshot_value 
   pub shows : Shows state_value step opening (replay settings log).shown current
   pub plan : planner ≡ planned_of settings (replay settings log)
   pub small : IsSmall settings log (replay settings log)
+
+-- so many events more need no memory: the log has room for their entries, and the record for the rows that they can settle
+pub record HasRoom {N : Type 0} (log : Vec Entry) (saves : Standing N) (events : ℕ) : Type 0 where
+  pub entries : vec_len log + events ≤ vec_capacity log
+  pub rows : saves.inputs.frame + events ≤ saves.room

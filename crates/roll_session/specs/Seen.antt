@@ -1,5 +1,6 @@
--- A session as its callers see it: how it was opened, its log, and its game's counts. The rest follows from these.
-use Rattle.std.specs.Prelude.{◌≡◌, ◌⊎◌, ◌≤◌, ◌+◌, ◌%◌, ◌^◌, ℕ, List, [], ◌∷◌, ◌++◌, length, Option, None}
+-- A session as its callers see it: how it was opened, its log, its game's counts, and what is reserved. The rest follows from
+-- these.
+use Rattle.std.specs.Prelude.{◌≡◌, ◌⊎◌, ◌≤◌, ◌+◌, ◌-◌, ◌%◌, ◌^◌, ℕ, List, [], ◌∷◌, ◌++◌, length, Option, None}
 use Rattle.roll_frame.specs.declared.refusal.Refusal.{Refusal}
 use Rattle.roll_frame.specs.declared.row.Cell.{Cell}
 use Rattle.roll_frame.specs.declared.entry.Entry.{Entry}
@@ -17,6 +18,8 @@ pub record Seen : Type 0 where
   pub log : List Entry
   pub turns : ℕ
   pub refused : ℕ
+  -- for how many events more there is room for certain
+  pub reserved : ℕ
 
 -- the core state is the replay of the log
 abbrev pub core_of : Seen → Core
@@ -37,8 +40,9 @@ plain entry = record { entry = entry; value = [] }
 abbrev pub refusal_of : Step → Seen → Entry → Option Refusal
 refusal_of step s entry = refusal s.settings (game_of step s) (core_of s) (plain entry)
 
+-- one more entry in the log, and one event less that there is room for
 abbrev pub with_entry : Seen → Entry → Seen
-with_entry s entry = record s { log = s.log ++ entry ∷ [] }
+with_entry s entry = record s { log = s.log ++ entry ∷ []; reserved = s.reserved - 1 }
 
 -- no plan to m, from whichever state was ever saved, runs fewer rows than the roll does
 abbrev pub IsLeast : Core → ℕ → Type 0

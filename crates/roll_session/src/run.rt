@@ -1,5 +1,5 @@
 //! Whole runs: calls as values, and their replies.
-ghost use Rattle.std.specs.Prelude.{◌≡◌, ◌≢◌, ◌⊎◌, ◌+◌, ◌%◌, ◌^◌, None, List, map, IfOk, OnOk, OnErr, IfErr, unwrap_or};
+ghost use Rattle.std.specs.Prelude.{◌≡◌, ◌≢◌, ◌≤◌, ◌⊎◌, ◌+◌, ◌%◌, ◌^◌, None, List, map, length, IfOk, OnOk, OnErr, IfErr, unwrap_or};
 ghost use Rattle.roll_frame.specs.Core.{first_core};
 ghost use Rattle.roll_frame.specs.Events.{after, reply, replies_from, played_from, played};
 ghost use Rattle.roll_frame.specs.Settings.{start_refusal};
@@ -22,7 +22,9 @@ impl<G: Game> Session<G> {
         ensures core { OnOk result (core_of self.new ≡ after self.old.settings (game_of G.step self.old) (core_of self.old) (event_of call)) }
         ensures turns { OnOk result (self.new.turns % 2 ^ 64 ≡ (self.old.turns + turns_of self.old.settings (game_of G.step self.old) (core_of self.old) (event_of call)) % 2 ^ 64) }
         ensures refused { OnOk result (self.new.refused ≡ self.old.refused) }
+        ensures reserved { OnOk result (self.old.reserved ≤ self.new.reserved + 1) }
         ensures reply { IfOk result (λ answer. answer ≡ reply self.old.settings (game_of G.step self.old) (core_of self.old) (event_of call)) }
+        ensures short { OnErr result ((self.old.reserved ≡ 0) ⊎ IsCutShort G.step self.old self.new call) }
         ensures left { OnErr result ((self.new ≡ self.old) ⊎ IsCutShort G.step self.old self.new call) }
     {
         match call {
@@ -59,6 +61,7 @@ impl<G: Game> Session<G> {
     pub fn run(&mut self, alloc: Global, calls: &[Call]) -> Result<Vec<Reply>, NoMemory>
         ensures made { OnOk result (IsMade G.step self.old self.new calls.now) }
         ensures replies { IfOk result (λ replies. replies.items ≡ replies_from self.old.settings (game_of G.step self.old) (core_of self.old) (events_of calls.now)) }
+        ensures reserved { OnOk result (self.old.reserved ≤ self.new.reserved + length calls.now) }
         ensures left { OnErr result (IsEndedEarly G.step self.old self.new calls.now) }
     {
         let Ok(mut replies) = Vec::with_capacity(alloc, calls.len()) else {

@@ -1,5 +1,5 @@
 //! The session.
-ghost use Rattle.std.specs.Prelude.{◌≡◌, ◌≢◌, ◌≤◌, ◌<◌, ◌+◌, ◌-◌, ◌%◌, ◌^◌, ◌⊎◌, ◌∷◌, [], ◌++◌, true, false, not, map, length, nat_le, nat_lt, IfOk, OnOk, IfErr, OnErr, IfSome, is_none, OnSome, option_map, unwrap_or, option_copied, None, Some, if◌then◌else◌};
+ghost use Rattle.std.specs.Prelude.{◌≡◌, ◌≢◌, ◌≤◌, ◌<◌, ◌+◌, ◌-◌, ◌%◌, ◌^◌, ◌⊎◌, ◌∷◌, [], ◌++◌, true, false, not, map, max, length, vec_capacity, vec_len, nat_le, nat_lt, IfOk, OnOk, IfErr, OnErr, IfSome, is_none, OnSome, option_map, unwrap_or, option_copied, None, Some, if◌then◌else◌};
 ghost use Rattle.roll_cert.specs.Told.{told};
 ghost use Rattle.roll_frame.specs.Claims.{claim_of, path_from};
 ghost use Rattle.roll_frame.specs.Core.{cost, depth, kept as kept_of, settled as settled_frame};
@@ -11,7 +11,7 @@ ghost use Rattle.roll_frame.specs.Settings.{start_refusal};
 ghost use Rattle.roll_frame.specs.Timeline.{row_at as row_of, timeline};
 ghost use Rattle.roll_frame.specs.declared.entry.Entry.TheVariants.{Local as Gives, Remote as Tells, Disconnect as Leaves, Sync as Syncs, Advance as Advances};
 ghost use Rattle.roll_game.specs.Counts.{next_count};
-ghost use Rattle.roll_session.specs.Held.{Shows};
+ghost use Rattle.roll_session.specs.Held.{HasRoom, Shows};
 ghost use Rattle.roll_session.specs.Planned.{IsPlanOfRoll};
 ghost use Rattle.roll_session.specs.Seen.{core_of, refusal_of, with_entry, IsLeast, IsPartial};
 
@@ -36,17 +36,19 @@ pub struct Session<G: Game> {
     planner: Planner,
     current: Option<G::State>,
     log: Vec<Entry>,
+    /// How many events more need no memory: those that `reserve_log` made room for and that haven't come yet.
+    reserved: u32,
 }
 
 impl<G: Game> Model for Session<G> {
     ghost use Rattle.roll_session.specs.Seen.{Seen};
-    ghost use Rattle.roll_session.specs.Held.{IsSession};
+    ghost use Rattle.roll_session.specs.Held.{HasRoom, IsSession};
 
     ghost Value = { Seen };
 
-    ghost view = { λ s. record { settings = s.settings; opening = G.snapshot_value s.opening; log = s.log.items; turns = G.turn_count s.game; refused = G.refusal_count s.game } };
+    ghost view = { λ s. record { settings = s.settings; opening = G.snapshot_value s.opening; log = s.log.items; turns = G.turn_count s.game; refused = G.refusal_count s.game; reserved = s.reserved } };
 
-    ghost invariant = { λ s. IsSession G.state_value G.snapshot_value G.step (G.snapshot_value s.opening) s.settings s.log.items s.saves s.planner s.current };
+    ghost invariant = { λ s. IsSession G.state_value G.snapshot_value G.step (G.snapshot_value s.opening) s.settings s.log.items s.saves s.planner s.current × HasRoom s.log s.saves s.reserved };
 }
 
 impl<G: Game> Session<G> {
@@ -58,7 +60,7 @@ impl<G: Game> Session<G> {
         settings: Settings,
     ) -> Result<Session<G>, StartFault<G>>
         ensures accepted { OnOk result (start_refusal settings ≡ None) }
-        ensures session { IfOk result (λ session. session ≡ record { settings = settings; opening = G.snapshot_value opening; log = []; turns = G.turn_count game; refused = G.refusal_count game }) }
+        ensures session { IfOk result (λ session. session ≡ record { settings = settings; opening = G.snapshot_value opening; log = []; turns = G.turn_count game; refused = G.refusal_count game; reserved = 0 }) }
         ensures refused { IfErr result (λ fault. fault.why ≡ unwrap_or (start_refusal settings) Refusal.NoMemory) }
         ensures opening_back { IfErr result (λ fault. fault.opening ≡ opening) }
         ensures turns_back { IfErr result (λ fault. G.turn_count fault.game ≡ G.turn_count game) }
@@ -90,6 +92,7 @@ impl<G: Game> Session<G> {
             planner,
             current: Some(state),
             log: Vec::new(alloc),
+            reserved: 0,
         })
     }
 
@@ -101,12 +104,13 @@ impl<G: Game> Session<G> {
         ensures turns { OnOk result (self.new.turns % 2 ^ 64 ≡ (self.old.turns + cost (core_of self.old) (core_of self.old).frame) % 2 ^ 64) }
         ensures least { OnOk result (IsLeast (core_of self.old) (core_of self.old).frame) }
         ensures refused { IfErr result (λ why. why ≡ unwrap_or (refusal_of G.step self.old Syncs) Refusal.NoMemory) }
+        ensures reserved { OnErr result (refusal_of G.step self.old Syncs ≡ None → (self.old.reserved ≡ 0) ⊎ IsPartial G.step self.old self.new Syncs (core_of self.old).frame) }
         ensures left { OnErr result ((self.new ≡ self.old) ⊎ IsPartial G.step self.old self.new Syncs (core_of self.old).frame) }
     {
         if self.is_full() {
             return Err(Refusal::LogFull);
         }
-        self.log.reserve(1)?;
+        make_room(&mut self.log, &mut self.saves, self.reserved, 1)?;
         self.saves.laws();
         let frame = self.saves.frame();
         let row = self.saves.row(frame);
@@ -114,18 +118,17 @@ impl<G: Game> Session<G> {
             Ok(Rolled { state, .. }) => {
                 self.saves.settle();
                 self.current = Some(state);
-                self.log.push(Entry::Sync).unwrap();
+                enter(&mut self.log, &mut self.reserved, Entry::Sync);
                 Ok(row)
             }
             Err(made) => {
                 self.saves.settle();
                 self.current = None;
-                self.log
-                    .push(Entry::Partial {
-                        to: frame,
-                        kept: made,
-                    })
-                    .unwrap();
+                let entry = Entry::Partial {
+                    to: frame,
+                    kept: made,
+                };
+                enter(&mut self.log, &mut self.reserved, entry);
                 Err(Refusal::NoMemory)
             }
         }
@@ -139,6 +142,7 @@ impl<G: Game> Session<G> {
         ensures turns { OnOk result (self.new.turns % 2 ^ 64 ≡ (self.old.turns + cost (core_of self.old) ((core_of self.old).frame + 1)) % 2 ^ 64) }
         ensures least { OnOk result (IsLeast (core_of self.old) ((core_of self.old).frame + 1)) }
         ensures refused { IfErr result (λ why. why ≡ unwrap_or (refusal_of G.step self.old Advances) Refusal.NoMemory) }
+        ensures reserved { OnErr result (refusal_of G.step self.old Advances ≡ None → (self.old.reserved ≡ 0) ⊎ IsPartial G.step self.old self.new Advances ((core_of self.old).frame + 1)) }
         ensures left { OnErr result ((self.new ≡ self.old) ⊎ IsPartial G.step self.old self.new Advances ((core_of self.old).frame + 1)) }
     {
         if !self.saves.ready() {
@@ -147,16 +151,15 @@ impl<G: Game> Session<G> {
         if self.is_full() {
             return Err(Refusal::LogFull);
         }
-        self.log.reserve(1)?;
+        make_room(&mut self.log, &mut self.saves, self.reserved, 1)?;
         self.saves.laws();
         let next = self.saves.frame() + 1;
-        self.saves.reserve(next as usize)?;
         match roll(&mut self.game, &mut self.saves, &mut self.planner, next) {
             Ok(Rolled { state, from }) => {
                 self.saves.next();
                 self.saves.settle();
                 self.current = Some(state);
-                self.log.push(Entry::Advance).unwrap();
+                enter(&mut self.log, &mut self.reserved, Entry::Advance);
                 Ok(Reached {
                     frame: next,
                     from,
@@ -166,12 +169,11 @@ impl<G: Game> Session<G> {
             Err(made) => {
                 self.saves.settle();
                 self.current = None;
-                self.log
-                    .push(Entry::Partial {
-                        to: next,
-                        kept: made,
-                    })
-                    .unwrap();
+                let entry = Entry::Partial {
+                    to: next,
+                    kept: made,
+                };
+                enter(&mut self.log, &mut self.reserved, entry);
                 Err(Refusal::NoMemory)
             }
         }
@@ -182,14 +184,16 @@ impl<G: Game> Session<G> {
         ensures accepted { OnOk result (refusal_of G.step self.old (Gives player word) ≡ None) }
         ensures log { OnOk result (self.new ≡ with_entry self.old (Gives player word)) }
         ensures refused { IfErr result (λ why. why ≡ unwrap_or (refusal_of G.step self.old (Gives player word)) Refusal.NoMemory) }
+        ensures reserved { OnErr result (refusal_of G.step self.old (Gives player word) ≡ None → self.old.reserved ≡ 0) }
         ensures unchanged { OnErr result (self.new ≡ self.old) }
     {
         self.judge_local(player, word)?;
-        self.log.reserve(1)?;
+        make_room(&mut self.log, &mut self.saves, self.reserved, 1)?;
         self.saves.laws();
         self.saves.give(player, word);
         self.saves.settle();
-        self.log.push(Entry::Local { player, word }).unwrap();
+        let entry = Entry::Local { player, word };
+        enter(&mut self.log, &mut self.reserved, entry);
         Ok(())
     }
 
@@ -200,22 +204,22 @@ impl<G: Game> Session<G> {
         ensures log { IfOk result (λ heard. self.new ≡ (if is_repeated (core_of self.old).players player frame word then self.old else with_entry self.old (Tells player frame word))) }
         ensures refused { IfErr result (λ why. why ≡ unwrap_or (refusal_of G.step self.old (Tells player frame word)) Refusal.NoMemory) }
         ensures new { OnErr result (is_repeated (core_of self.old).players player frame word ≡ false) }
+        ensures reserved { OnErr result (refusal_of G.step self.old (Tells player frame word) ≡ None → self.old.reserved ≡ 0) }
         ensures unchanged { OnErr result (self.new ≡ self.old) }
     {
         let Heard::Taken = self.judge_remote(player, frame, word)? else {
             return Ok(Heard::Repeated);
         };
-        self.log.reserve(1)?;
+        make_room(&mut self.log, &mut self.saves, self.reserved, 1)?;
         self.saves.laws();
         self.saves.hear(player, frame, word);
         self.saves.settle();
-        self.log
-            .push(Entry::Remote {
-                player,
-                frame,
-                word,
-            })
-            .unwrap();
+        let entry = Entry::Remote {
+            player,
+            frame,
+            word,
+        };
+        enter(&mut self.log, &mut self.reserved, entry);
         Ok(Heard::Taken)
     }
 
@@ -225,14 +229,16 @@ impl<G: Game> Session<G> {
         ensures event { IfOk result (λ event. event ≡ Event.DisconnectedFromPeer player) }
         ensures log { OnOk result (self.new ≡ with_entry self.old (Leaves player)) }
         ensures refused { IfErr result (λ why. why ≡ unwrap_or (refusal_of G.step self.old (Leaves player)) Refusal.NoMemory) }
+        ensures reserved { OnErr result (refusal_of G.step self.old (Leaves player) ≡ None → self.old.reserved ≡ 0) }
         ensures unchanged { OnErr result (self.new ≡ self.old) }
     {
         self.judge_leaving(player)?;
-        self.log.reserve(1)?;
+        make_room(&mut self.log, &mut self.saves, self.reserved, 1)?;
         self.saves.laws();
         self.saves.leave(player);
         self.saves.settle();
-        self.log.push(Entry::Disconnect { player }).unwrap();
+        let entry = Entry::Disconnect { player };
+        enter(&mut self.log, &mut self.reserved, entry);
         Ok(Event::DisconnectedFromPeer { player })
     }
 
@@ -294,23 +300,24 @@ impl<G: Game> Session<G> {
     }
 
     /// Makes room for so many more events: while the game refuses nothing, none of them is refused for want of memory.
+    /// Each entry that the log then gets counts as one of them. A call for no more than are left changes nothing, and is
+    /// never refused for want of memory.
     ///
     /// # Errors
     ///
     /// `LogFull` where the log would pass its limit, else `NoMemory` where the allocator has no room.
     pub fn reserve_log(&mut self, events: u32) -> Result<(), Refusal>
         ensures fits { OnOk result ((core_of self.old).logged + events ≤ self.old.settings.log) }
+        ensures reserved { OnOk result (self.new ≡ record self.old { reserved = max self.old.reserved events }) }
         ensures refused { IfErr result (λ why. why ≡ (if nat_lt self.old.settings.log ((core_of self.old).logged + events) then Refusal.LogFull else Refusal.NoMemory)) }
-        ensures unchanged { self.new ≡ self.old }
+        ensures short { OnErr result ((core_of self.old).logged + events ≤ self.old.settings.log → self.old.reserved < events) }
+        ensures unchanged { OnErr result (self.new ≡ self.old) }
     {
-        let events = events as usize;
-        if events > self.settings.log as usize - self.log.len() {
+        if events as usize > self.settings.log as usize - self.log.len() {
             return Err(Refusal::LogFull);
         }
-        self.log.reserve(events)?;
-        self.saves.laws();
-        let frame = self.saves.frame() as usize;
-        self.saves.reserve(frame + events)?;
+        make_room(&mut self.log, &mut self.saves, self.reserved, events)?;
+        self.reserved = self.reserved.max(events);
         Ok(())
     }
 
@@ -405,6 +412,41 @@ impl<G: Game> Session<G> {
     {
         &self.game
     }
+}
+
+/// Makes room for so many events more, unless it is there.
+fn make_room<S>(
+    log: &mut Vec<Entry>,
+    saves: &mut Saves<S>,
+    reserved: u32,
+    events: u32,
+) -> Result<(), AllocError>
+    requires { HasRoom log.old saves.old reserved }
+    ensures log { log.new.items ≡ log.old.items }
+    ensures inputs { saves.new.inputs ≡ saves.old.inputs }
+    ensures tree { saves.new.tree ≡ saves.old.tree }
+    ensures kept { HasRoom log.new saves.new reserved }
+    ensures made { OnOk result (HasRoom log.new saves.new (max reserved events)) }
+    ensures short { OnErr result (reserved < events) }
+{
+    if events <= reserved {
+        return Ok(());
+    }
+    log.reserve(events as usize)?;
+    let rows = saves.frame() as usize + events as usize;
+    saves.reserve(rows)
+}
+
+/// Adds an entry where there is room for it, and takes it off what is reserved.
+fn enter(log: &mut Vec<Entry>, reserved: &mut u32, entry: Entry)
+    requires { vec_len log.old < vec_capacity log.old }
+    ensures items { log.new.items ≡ log.old.items ++ entry ∷ [] }
+    ensures len { vec_len log.new ≡ vec_len log.old + 1 }
+    ensures capacity { vec_capacity log.old ≤ vec_capacity log.new }
+    ensures reserved { reserved.new ≡ reserved.old - 1 }
+{
+    log.push(entry).unwrap();
+    *reserved = reserved.saturating_sub(1);
 }
 
 /// What a session is taken apart into.

@@ -15,6 +15,7 @@ loop-call-preserved g c =
     record {
       made = made_more g.G.Game.step c.args.self.now c.loop-call.self c.perform.new.self c.args.calls.now c.loop-call.call-index _ (omega arith) now.made e.settings e.opening e.core e.turns e.refused;
       replies = (rw c.unwrap.ensures at c.push.ensures.items) ∙ rw (now.replies, e.reply, now.made.core, now.made.settings, now.made.opening) (sym (replies_more c.args.self.now.settings (game_of g.G.Game.step c.args.self.now) (core_of c.args.self.now) event_of c.args.calls.now c.loop-call.call-index _ (omega arith)));
+      reserved = omega (arith, now.reserved, e.reserved);
       room = omega (arith, now.room, c.push.ensures.upper_bound, c.push.ensures.capacity);
     }
 
