@@ -1,7 +1,7 @@
 -- What a roll adds to the paths that are held from the settled frame on.
 use Rattle.std.proofs.Common.{◌≡◌, ℕ, zero, suc, ◌+◌, ◌-◌, ◌<◌, ◌≤◌, List, [], ◌∷◌, ◌++◌, length, refl, ap, sym, ◌∙◌, Bool, true, false, arith, take, drop, subst, inl, inr, map, length-take}
-use Rattle.std.specs.Prelude.{◌⊎◌, filter, not}
-use Rattle.std.proofs.lemmas.Bool.{cases_Bool, false_from_ne_true}
+use Rattle.std.specs.Prelude.{◌⊎◌, filter}
+use Rattle.std.proofs.lemmas.Bool.{false_from_ne_true}
 use Rattle.std.proofs.lemmas.List.{map-append}
 use Rattle.std.proofs.Math.Seq.{take-append-add}
 use Rattle.roll_frame.specs.Cells.{Rows}
@@ -10,7 +10,7 @@ use Rattle.roll_frame.specs.Events.{replay}
 use Rattle.roll_frame.specs.Games.{Game}
 use Rattle.roll_frame.specs.Inputs.{with_none_given}
 use Rattle.roll_frame.specs.Paths.{begins_with, contains, longest, prefixes}
-use Rattle.roll_frame.specs.Timeline.{Player, front, timeline, least_of}
+use Rattle.roll_frame.specs.Timeline.{Player, timeline}
 use Rattle.roll_frame.specs.declared.entry.Entry.{Entry}
 use Rattle.roll_frame.specs.declared.row.Cell.{Cell}
 use Rattle.roll_frame.specs.declared.settings.Settings.{Settings}
@@ -119,21 +119,6 @@ all_possible core m j = filter_whole (is_possible core.players) (kept core ++ ro
     go : (q : Rows) → In q (kept core) ⊎ In q (rolled_paths core m j) → is_possible core.players q ≡ true
     go q (inl i) = (live core q (in_has (kept core) q i)).2
     go q (inr i) = possible_from_fits 0 core.players q (on_time_fits 0 core.players q (rolled_on_time core m j q i))
-
-abbrev counts : List Player → List ℕ
-counts ps = map (λ player. length player.words) (filter (λ player. not player.gone) ps)
-
-counts_none_given : (ps : List Player) → counts (map with_none_given ps) ≡ counts ps
-counts_none_given [] = refl
-counts_none_given (p ∷ ps) = go (cases_Bool p.gone) (counts_none_given ps)
-  where
-    go : (p.gone ≡ true) ⊎ (p.gone ≡ false) → counts (map with_none_given ps) ≡ counts ps → counts (map with_none_given (p ∷ ps)) ≡ counts (p ∷ ps)
-    go (inl e) rest = rw e rest
-    go (inr e) rest = rw e (ap (λ ns. length p.words ∷ ns) rest)
-
--- the front does not hang on which words were given
-pub front_none_given : (ps : List Player) → front (map with_none_given ps) ≡ front ps
-front_none_given ps = ap least_of (counts_none_given ps)
 
 row_none_given : (t : ℕ) (ps : List Player) (row : List Cell) → row_possible t (map with_none_given ps) row ≡ row_possible t ps row
 row_none_given t [] row = refl

@@ -309,10 +309,6 @@ module _ {S N : Type 0} (state_value : S → List ℕ) (snapshot_value : N → L
             let value = of_held (λ (v : Saved N). snapshot_value v.snapshot ≡ run step opening (settled_rows (replay settings log) ++ v.path)) saves.tree saves.tree.root u s.kept.values e in
             ap snapshot_value (sym h.1) ∙ (value ∙ ap (run step opening) (ap (λ (q : Rows). settled_rows (replay settings log) ++ q) h.0 ∙ append-nil (settled_rows (replay settings log))))
 
-    -- where a roll goes, and what it costs
-    pub session_players : planner.players ≡ settings.players
-    session_players = ap (λ (p : Planned). p.players) s.plan
-
     -- the kept paths, as the tree gives them
     pub session_kept : map (path_of saves.inputs.settled) (in_order (paths_of saves.tree)) ≡ map (path_from (settled (replay settings log))) (in_order (kept (replay settings log)))
     session_kept =

@@ -35,13 +35,6 @@ refused_reply step old entry why n e ne = go (refusal_of step old entry) e ∙ a
     go None f = absurd (ne f)
     go (Some w) f = ap Refused f
 
-pub refused_core : (step : Step) (old new : Seen) (entry : Entry) (why : Refusal) → is_repeat (core_of old) entry ≡ false → why ≡ unwrap_or (refusal_of step old entry) NoMemory → why ≢ NoMemory → new ≡ old → core_of new ≡ after old.settings (game_of step old) (core_of old) (plain entry)
-refused_core step old new entry why n e ne same = ap core_of same ∙ sym (go (refusal_of step old entry) refl e)
-  where
-    go : (o : Option Refusal) → refusal_of step old entry ≡ o → why ≡ unwrap_or o NoMemory → after old.settings (game_of step old) (core_of old) (plain entry) ≡ core_of old
-    go None f h = absurd (ne h)
-    go (Some w) f h = rw (n, f) refl
-
 -- what the reply to a refused call is, unless it was refused for want of memory
 pub refused_is : {E : Type 0} (r : Result Reply E) (why : Refusal) (x : Reply) → IfOk r (λ found. (found ≡ Refused why) × (why ≢ NoMemory)) → (why ≢ NoMemory → Refused why ≡ x) → IfOk r (λ found. found ≡ x)
 refused_is (Ok found) why x h f = h.0 ∙ f h.1

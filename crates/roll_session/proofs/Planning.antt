@@ -1,10 +1,9 @@
 -- The plans of rolls, from the settled frame on.
 use Rattle.std.proofs.Common.{◌≡◌, ℕ, zero, suc, ◌+◌, ◌-◌, ◌≤◌, List, [], ◌∷◌, ◌++◌, length, length-take, length-drop, map, take, drop, refl, sym, ap, subst, ◌∙◌, arith, inl, inr, Option, Some, None}
-use Rattle.std.specs.Prelude.{IfSome, is_none, option_map, All}
+use Rattle.std.specs.Prelude.{IfSome, option_map, All}
 use Rattle.std.specs.List.{AllByRecursion, cons_option}
 use Rattle.std.proofs.lemmas.List.{take-append-drop}
 use Rattle.std.proofs.lemmas.List.Elements.{All-from_recursion}
-use Rattle.std.proofs.lemmas.Option.{IfSome_then}
 use Rattle.roll_frame.specs.declared.limits.TheConstants.{FRAME_LIMIT, PATH_LIMIT}
 use Rattle.roll_frame.specs.Cells.{Rows}
 use Rattle.roll_frame.specs.Claims.{Claim, AreRowsOf, claim_of, differ_of, differs_from, path_from}
@@ -183,16 +182,6 @@ plan_is players roll fair plan is =
       rerun = omega (arith, is.rerun, fair.to_is, fair.low, fair.top);
       differs = is.differs (take roll.settled roll.time) (settled_long players roll fair) ∙ ap (λ (c : Claim). c.differs) (planned_claim_is players roll fair);
     }
-
--- what is seen of the last plan is that of the last roll, where the last plan is that roll's
-pub seen_plan : (players : ℕ) (core_last : Option Roll) (planned : Option Made) (result : Option Plan) → planned ≡ option_map made_from core_last → ((roll : Roll) → core_last ≡ Some roll → IsFair players roll)
-    → is_none result ≡ is_none planned → IfSome planned (λ made. IfSome result (λ plan. IsPlanOf players made plan))
-    → (is_none result ≡ is_none core_last) × IfSome core_last (λ roll. IfSome result (λ plan. IsPlanOfRoll players roll plan))
-seen_plan players None planned result e fair when told = (when ∙ ap is_none e, tt)
-seen_plan players (Some roll) planned result e fair when told = (
-  when ∙ ap is_none e,
-  IfSome_then result (subst (λ (o : Option Made). IfSome o (λ made. IfSome result (λ plan. IsPlanOf players made plan))) e told) (λ plan is. plan_is players roll (fair roll refl) plan is),
-)
 
 -- so is the claim that is made of it
 pub seen_claim : (players : ℕ) (core_last : Option Roll) (planned : Option Made) (claim : Claim) → planned ≡ option_map made_from core_last → ((roll : Roll) → core_last ≡ Some roll → IsFair players roll)

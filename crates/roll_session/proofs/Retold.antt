@@ -1,5 +1,5 @@
 -- What a player's input changes of the timeline's rows.
-use Rattle.std.proofs.Common.{◌≡◌, ℕ, zero, suc, ◌+◌, ◌-◌, ◌<◌, ◌≤◌, List, [], ◌∷◌, drop, map, refl, ap, sym, subst, ◌∙◌, arith, true, false, inl, inr, eqb, Option, Some}
+use Rattle.std.proofs.Common.{◌≡◌, ℕ, zero, suc, ◌+◌, ◌-◌, ◌<◌, List, [], ◌∷◌, drop, map, refl, ap, sym, subst, ◌∙◌, arith, true, false, inl, inr, eqb, Option, Some}
 use Rattle.std.specs.Prelude.{◌⊎◌, slice_get, option_map}
 use Rattle.std.proofs.lemmas.Bool.{cases_Bool, false≢true, eqb-true}
 use Rattle.std.proofs.lemmas.Bool.Decides.{nat_tests}
@@ -66,9 +66,3 @@ same_but old new p base n keeps place k h early =
       where
         eqb-same : (a b : ℕ) → a ≡ b → eqb a b ≡ true
         eqb-same a b h = grind (arith, nat_tests, h)
-
--- more rows of the same timeline
-pub same_longer : (ps : List Player) (p from base n m : ℕ) → n ≤ m → AreSameBut p from base (rows_from ps base n) (rows_from ps base m)
-same_longer ps p from base n m h place k i early =
-    let j : place < n = omega (arith, i, length-rows_from ps base n) in
-    cell_from ps base m place k (omega (arith, j, h)) ∙ sym (cell_from ps base n place k j)

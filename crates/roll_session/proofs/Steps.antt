@@ -1,12 +1,11 @@
 -- The timeline and the saved states after each step.
-use Rattle.std.proofs.Common.{◌≡◌, ℕ, ◌+◌, ◌-◌, ◌≤◌, List, [], ◌∷◌, ◌++◌, length, map, take, drop, min, refl, ap, sym, subst, ◌∙◌, arith, inl, inr, Bool, true, false, cond, Option, Some, None}
-use Rattle.std.specs.Prelude.{◌==◌, IfSome, IsSomeAnd, filter, option_map, vec_capacity}
-use Rattle.std.specs.List.{find}
+use Rattle.std.proofs.Common.{◌≡◌, ℕ, ◌+◌, ◌-◌, ◌≤◌, List, [], ◌∷◌, ◌++◌, length, map, take, drop, min, refl, ap, sym, subst, ◌∙◌, arith, inl, inr, cond, Option, Some, None}
+use Rattle.std.specs.Prelude.{IfSome, IsSomeAnd, filter, vec_capacity}
 use Rattle.roll_frame.specs.Cells.{Rows}
-use Rattle.roll_frame.specs.Paths.{begins_with, contains, longest}
+use Rattle.roll_frame.specs.Paths.{begins_with, longest}
 use Rattle.roll_frame.specs.Timeline.{Player, front, timeline}
 use Rattle.roll_inputs.specs.Boards.{Inputs, KeepsCells, count_of}
-use Rattle.roll_laws.proofs.Saved.{In, begins, in_has, longest_is}
+use Rattle.roll_laws.proofs.Saved.{begins, longest_is}
 use Rattle.roll_tree.specs.Kept.{Kept, Saved, held, later, paths_of, time_to}
 use Rattle.roll_tree.specs.Marks.{AreSameBut}
 use Rattle.roll_session.specs.Saves.{IsInStep, Standing, settled_by, settling}
@@ -40,14 +39,6 @@ module _ {S : Type 0} where
         told = let long = ap length time ∙ length-rows_from new.players new.settled (length s.tree.time) in rw long time;
         room = rw frame i.room;
       }
-
-  held_in : (f : Saved S → Bool) (states : List (Saved S)) (s : Saved S) → find f states ≡ Some s → In s.path (map (λ (u : Saved S). u.path) states)
-  held_in f [] s e = absurd (cc e)
-  held_in f (u ∷ states) s e = go (f u) e (held_in f states s)
-    where
-      go : (b : Bool) → cond b (Some u) (find f states) ≡ Some s → (find f states ≡ Some s → In s.path (map (λ (v : Saved S). v.path) states)) → In s.path (u.path ∷ map (λ (v : Saved S). v.path) states)
-      go true e rest = inl (cc e)
-      go false e rest = inr (rest e)
 
   -- a tree that is settled at the state of this name and path
   abbrev pub settled_with : Kept S → ℕ → Rows → Kept S
@@ -109,16 +100,6 @@ module _ {S : Type 0} where
       go : (o : Option (Saved S)) → IsSomeAnd o (λ u. u.path ≡ q) → IfSome o (λ u. new ≡ settled_with t node u.path) → new ≡ settled_with t node q
       go None h e = absurd h
       go (Some u) h e = e ∙ ap (settled_with t node) h
-
-  -- a path that a tree gave
-  pub path_is : (t : Kept S) (node : ℕ) (rows q : Rows) → IsSomeAnd (held t node) (λ u. u.path ≡ q) → option_map (λ (u : Saved S). u.path) (held t node) ≡ Some rows → (rows ≡ q) × (contains (paths_of t) rows ≡ true)
-  path_is t node rows q h e = go (held t node) refl h e
-    where
-      go : (o : Option (Saved S)) → held t node ≡ o → IsSomeAnd o (λ u. u.path ≡ q) → option_map (λ (u : Saved S). u.path) o ≡ Some rows → (rows ≡ q) × (contains (paths_of t) rows ≡ true)
-      go None is h e = absurd h
-      go (Some u) is h e =
-          let same : u.path ≡ rows = cc e in
-          (sym same ∙ h, subst (λ (r : Rows). contains (paths_of t) r ≡ true) same (in_has (paths_of t) u.path (held_in (λ v. v.name == node) t.states u is)))
 
   -- after some rows were settled
   pub settled_step : (s new : Inside S) (n k : ℕ) → IsInStep s → new.board ≡ record s.board { settled = s.board.settled + n } → new.past.items ≡ s.past.items ++ rows_from s.board.players s.board.settled n → vec_capacity s.past ≤ vec_capacity new.past

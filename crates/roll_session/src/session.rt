@@ -385,10 +385,15 @@ impl<G: Game> Session<G> {
     }
 
     /// The paths of all kept states, in their order: those that can still matter.
-    pub fn kept(&self, alloc: Global) -> Result<Vec<Path>, AllocError>
-        ensures { IfOk result (λ paths. paths.items ≡ map (path_from (settled_frame (core_of self.now))) (in_order (kept_of (core_of self.now)))) }
+    ///
+    /// # Errors
+    ///
+    /// `NoMemory` where the allocator has no room.
+    pub fn kept(&self, alloc: Global) -> Result<Vec<Path>, Refusal>
+        ensures kept { IfOk result (λ paths. paths.items ≡ map (path_from (settled_frame (core_of self.now))) (in_order (kept_of (core_of self.now)))) }
+        ensures refused { IfErr result (λ why. why ≡ Refusal.NoMemory) }
     {
-        self.saves.kept(alloc)
+        Ok(self.saves.kept(alloc)?)
     }
 
     /// Takes the session apart.

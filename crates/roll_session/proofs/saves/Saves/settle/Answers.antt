@@ -7,7 +7,7 @@ use Rattle.roll_tree.specs.Kept.{Kept, Saved, later, paths_of}
 use Rattle.roll_session.specs.Saves.{Standing, rows_to, settled_by, settling}
 use Rattle.roll_session.specs.Standing.{rows_from}
 use Rattle.roll_session.proofs.Rows.{length-rows_from}
-use Rattle.roll_session.proofs.Steps.{deepest_told, none_settled, nothing_settles, settled_at, settled_step, settled_with}
+use Rattle.roll_session.proofs.Steps.{deepest_told, none_settled, nothing_settles, settled_at, settled_step}
 use Rattle.roll_session.proofs.saves.Saves.settle.Goals as goal
 
 pub slice_bounds-append-end : goal.slice_bounds-append-end
