@@ -386,5 +386,8 @@ impl<S> Tree<S> {
 fn drop_first(rows: &mut ArrayVec<Row, PATH_LIMIT>, count: usize)
     ensures { rows.new.items ≡ drop count rows.old.items }
 {
-    rows.drain(..count.min(rows.len()));
+    let count = count.min(rows.len());
+    let left = rows.len() - count;
+    rows.as_mut_slice().copy_within(count.., 0);
+    rows.truncate(left);
 }
