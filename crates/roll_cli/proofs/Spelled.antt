@@ -1,5 +1,5 @@
 -- The lines of commands, cut into their fields and joined again.
-use Rattle.std.proofs.Common.{◌≡◌, ℕ, ◌<◌, ◌≤◌, ◌==◌, List, [], ◌∷◌, Option, Bool, false, not, ◌||◌, refl, sym, ap, ◌∙◌, rules, tests, arith, codes, get_or, length}
+use Rattle.std.proofs.Common.{◌≡◌, ℕ, ◌<◌, ◌≤◌, ◌==◌, List, [], ◌∷◌, Option, None, Bool, false, not, ◌||◌, refl, sym, ap, ◌∙◌, rules, tests, arith, codes, get_or, length}
 use Rattle.std.specs.List.{slice_split, AllByRecursion}
 use Rattle.std.specs.Fmt.{decimal}
 use Rattle.std.proofs.lemmas.List.Elements.{All-cons, All-nil}
@@ -47,11 +47,25 @@ some-field (Guess player until words) = omega arith
 some-field (Extend job) = omega arith
 some-field Claim = omega arith
 
+few-fields : (command : Command) → length (fields_of command) ≤ 4
+few-fields (Local player word) = omega arith
+few-fields (Remote player frame word) = omega arith
+few-fields (Disconnect player) = omega arith
+few-fields Sync = omega arith
+few-fields Advance = omega arith
+few-fields (Guess player until words) = omega arith
+few-fields (Extend job) = omega arith
+few-fields Claim = omega arith
+
 pub line-lacks : (command : Command) → IsCommand command → Lacks 10 (line_of command)
 line-lacks command h = join-lacks 10 32 (fields_of command) refl (fields-lack 10 (omega arith) command h)
 
 pub reads-line : (line : List ℕ) (r : Option Command) → Reads IsCommand fields_of (slice_split (λ b. b == 32) line) r → Reads IsCommand line_of line r
 reads-line line r h = reads-joined 32 IsCommand fields_of (λ command fits. (some-field command, fields-lack 32 (omega arith) command fits)) line r h
+
+-- a line of over 4 fields is no command's
+pub no-line : (line : List ℕ) → (length (slice_split (λ b. b == 32) line) ≤ 4 → ⊥) → (command : Command) → IsCommand command → line ≡ line_of command → ⊥
+no-line line long = reads-line line None (λ command fits e. long (omega (arith, ap length e, few-fields command)))
 
 -- a guess has no more words than a path rows
 pub no_guess : (player until text words : List ℕ) → IsList words → text ≡ list_of words → PATH_LIMIT < length words

@@ -5,8 +5,11 @@ ghost use Rattle.roll_cli.specs.Commands.{IsCommand, IsPlayed, fields_of, line_o
 ghost use Rattle.roll_text.specs.Text.{Reads};
 
 use roll_frame::PATH_LIMIT;
-use roll_text::{fields, number, numbers};
+use roll_text::{few_fields, number, numbers};
 use std::alloc::{AllocError, Global};
+
+/// A command has at most this many fields.
+const FIELD_LIMIT: usize = 4;
 
 /// A line of a script below its header. Any number of 32 bits can stand in it: what names nothing is refused when it
 /// is played.
@@ -50,7 +53,9 @@ impl Command {
     pub fn read(alloc: Global, line: &[u8]) -> Result<Option<Command>, AllocError>
         ensures { IfOk result (λ command. Reads IsCommand line_of line.now command) }
     {
-        let fields = fields(alloc, line, b' ')?;
+        let Some(fields) = few_fields::<FIELD_LIMIT>(line, b' ') else {
+            return Ok(None);
+        };
         Command::from_fields(alloc, &fields)
     }
 

@@ -7,7 +7,7 @@ mod list;
 mod streams;
 
 pub use decimal::{number, push_number, push_signed};
-pub use line::{fields, split_line};
+pub use line::{few_fields, fields, split_line};
 pub use list::{numbers, push_list};
 pub use streams::{ReadFault, TEXT_LIMIT, WriteFault, read_all, write_all};
 

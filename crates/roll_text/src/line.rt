@@ -1,10 +1,11 @@
 //! Lines and their fields.
 
-ghost use Rattle.std.specs.Prelude.{◌≡◌, ◌==◌, IfOk, map};
+ghost use Rattle.std.specs.Prelude.{◌≡◌, ◌==◌, ◌≤◌, ◌↔◌, IfOk, IfSome, IsSome, length, map};
 ghost use Rattle.std.specs.List.{slice_split};
 ghost use Rattle.std.specs.Option.{option_map};
 ghost use Rattle.roll_text.specs.Lines.{CutsLine};
 
+use arrayvec::ArrayVec;
 use std::alloc::{AllocError, Global};
 
 /// The first line, without its end, and what follows it.
@@ -20,4 +21,17 @@ pub fn fields<'a>(alloc: Global, line: &'a [u8], separator: u8) -> Result<Vec<&'
     ensures { IfOk result (λ fields. map (λ field. field.now) fields.items ≡ slice_split (λ b. b == separator) line.now) }
 {
     line.split(|b| *b == separator).collect(alloc)
+}
+
+/// The fields of a line, which lie between separators. None where there are more than `N`.
+pub fn few_fields<const N: usize>(line: &[u8], separator: u8) -> Option<ArrayVec<&[u8], N>>
+    ensures variant { IsSome result ↔ (length (slice_split (λ b. b == separator) line.now) ≤ N) }
+    ensures value { IfSome result (λ fields. map (λ field. field.now) fields.items ≡ slice_split (λ b. b == separator) line.now) }
+{
+    let mut fields = ArrayVec::new();
+    let Ok(()) = fields.extend(line.split(|b| *b == separator)) else {
+        return None;
+    };
+    prove!(fields.len() <= N);
+    Some(fields)
 }

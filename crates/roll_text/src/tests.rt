@@ -166,6 +166,22 @@ fn cuts_fields(rt: HostRuntime) -> Result<(), Fail> {
 }
 
 #[test]
+fn cuts_few_fields(rt: HostRuntime) -> Result<(), Fail> {
+    let parts = few_fields::<4>(b"L 1  0", b' ').expect(&rt, "as many as there is room for");
+    let want = [
+        b"L".as_slice(),
+        b"1".as_slice(),
+        b"".as_slice(),
+        b"0".as_slice(),
+    ];
+    assert_eq!(rt; parts.as_slice(), want.as_slice());
+    assert_eq!(rt; few_fields::<4>(b"L 1  0 ", b' ').is_none(), true);
+    let none = few_fields::<4>(b"", b' ').expect(&rt, "one field");
+    assert_eq!(rt; none.as_slice(), [b"".as_slice()].as_slice());
+    Ok(())
+}
+
+#[test]
 fn tells_each_failed_read(rt: HostRuntime) -> Result<(), Fail> {
     // 20 bytes, 3 at a time: 7 reads, and one more that finds the end
     let text = b"roll 1 players 2 loc".as_slice();
