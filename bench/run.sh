@@ -1,6 +1,6 @@
 #!/bin/bash
 # Measures rollduel against the plain program: bench/run.sh ROLLDUEL
-# Both play the same scripts, and must write the same bytes. A time is that of a whole run, the least of five.
+# Both play the same scripts, and must write the same bytes. A time is that of a whole run, the least of 25.
 set -euo pipefail
 [ $# = 1 ] || { echo "usage: bench/run.sh ROLLDUEL" >&2; exit 2; }
 rollduel=$(realpath -- "$1")
@@ -18,7 +18,7 @@ import sys
 import time
 from pathlib import Path
 
-RUNS = 5
+RUNS = 25
 rollduel, work, sizes = sys.argv[1], Path(sys.argv[2]), sys.argv[3:]
 
 
