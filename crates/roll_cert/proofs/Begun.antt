@@ -6,7 +6,7 @@ use Rattle.std.proofs.lemmas.Grind.{flat_map-append}
 use Rattle.std.proofs.lemmas.List.{append-nil, length-replicate}
 use Rattle.roll_frame.specs.declared.limits.TheConstants.{FRAME_LIMIT, PATH_LIMIT, PLAYER_LIMIT, TREE_LIMIT}
 use Rattle.roll_frame.specs.declared.row.Cell.TheVariants.{Word}
-use Rattle.roll_frame.specs.Claims.{Claim}
+use Rattle.roll_frame.specs.declared.claim.Claim.{Claim}
 use Rattle.roll_text.specs.Lines.{ended, text_of}
 use Rattle.roll_text.specs.Numbers.{IsWord}
 use Rattle.roll_cert.specs.Reading.{IsWithin, StartsWith, StartsWithAll, fewest, most}

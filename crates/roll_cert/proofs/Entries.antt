@@ -6,10 +6,12 @@ use Rattle.std.proofs.lemmas.Bool.{cases_lt}
 use Rattle.std.proofs.lemmas.Option.{same_Some, slice_get_within, get_or_from_slice_get}
 use Rattle.std.proofs.Math.Seq.{take-suc}
 use Rattle.roll_frame.specs.declared.path.Path.{Path}
-use Rattle.roll_frame.specs.Claims.{Claim, Differ, IsDeeper, is_for}
+use Rattle.roll_frame.specs.declared.claim.Claim.{Claim}
+use Rattle.roll_frame.specs.declared.claim.Differ.{Differ}
+use Rattle.roll_frame.specs.Claims.{IsDeeper, is_for, IsSame}
 use Rattle.roll_cert.specs.declared.checking.Flaw.{Flaw}
 use Rattle.roll_cert.specs.declared.checking.Flaw.TheVariants.{Shape, FromNotKept, Range, Equal, Twice, Missing}
-use Rattle.roll_cert.specs.Flaws.{IsInRange, IsSame, HasEntry, HasFlaw, stage, place, turn}
+use Rattle.roll_cert.specs.Flaws.{IsInRange, HasEntry, HasFlaw, stage, place, turn}
 use Rattle.roll_cert.specs.Checked.{IsGood, AreGood, AreNamed, IsFlawOf}
 
 pub AreGood-more : (claim : Claim) (n : ℕ) → AreGood claim n → ((entry : Differ) → slice_get claim.differs n ≡ Some entry → IsGood claim n entry) → AreGood claim (n + 1)

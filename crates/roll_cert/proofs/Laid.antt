@@ -3,7 +3,7 @@ use Rattle.std.proofs.Common.{◌≡◌, ℕ, ◌<◌, ◌≤◌, ◌^◌, ◌==
 use Rattle.std.specs.Prelude.{nat_le}
 use Rattle.std.specs.List.{AllByRecursion, list_any}
 use Rattle.roll_frame.specs.declared.limits.TheConstants.{FRAME_LIMIT, PATH_LIMIT, PLAYER_LIMIT, TREE_LIMIT}
-use Rattle.roll_frame.specs.Claims.{Claim}
+use Rattle.roll_frame.specs.declared.claim.Claim.{Claim}
 use Rattle.roll_text.specs.Lines.{Lacks}
 use Rattle.roll_cert.specs.Texts.{IsEntry, IsPathOf, IsRowOf, IsSized, claim_lines, entry_line, path_line, row_line, section, version_of}
 use Rattle.roll_cert.proofs.Spelled.{entry-lacks, path-lacks, row-lacks}

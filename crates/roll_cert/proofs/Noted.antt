@@ -1,15 +1,15 @@
 -- Flags of the states that entries name.
-use Rattle.std.proofs.Common.{◌≡◌, ◌⊎◌, ◌||◌, ◌<◌, ◌≤◌, ◌≢◌, ℕ, List, [], ◌∷◌, ◌++◌, map, set, replicate, Bool, true, false, Some, nat_eq, refl, sym, ap, ◌∙◌, inl, inr, arith, length, subst}
+use Rattle.std.proofs.Common.{◌≡◌, ◌⊎◌, ◌||◌, ◌<◌, ◌≤◌, ◌≢◌, ℕ, List, [], ◌∷◌, ◌++◌, set, replicate, Bool, true, false, Some, nat_eq, sym, ap, ◌∙◌, inl, inr, arith, length, subst}
 use Rattle.std.specs.Prelude.{slice_get}
 use Rattle.std.specs.List.{list_any}
 use Rattle.std.proofs.lemmas.Bool.Decides.{eqb_tells}
 use Rattle.std.proofs.lemmas.List.{length-replicate, get_or-replicate, length-set, get_or-set_same, get_or-set_other}
 use Rattle.std.proofs.lemmas.List.Folds.{list_any-append}
 use Rattle.std.proofs.lemmas.Option.{slice_get-get_or, slice_get_within, get_or_from_slice_get}
+use Rattle.std.proofs.Math.Bool.{or-false, or-true}
 use Rattle.roll_frame.specs.declared.limits.TheConstants.{TREE_LIMIT}
-use Rattle.roll_frame.specs.Claims.{Differ as Entry, is_for}
-use Rattle.roll_cert.specs.declared.claim.Differ.{Differ}
-use Rattle.roll_cert.specs.Told.{entry_of}
+use Rattle.roll_frame.specs.declared.claim.Differ.{Differ}
+use Rattle.roll_frame.specs.Claims.{is_for}
 use Rattle.roll_cert.specs.Checked.{IsNoted}
 
 none_at : (n state : ℕ) → state < n → slice_get (replicate n false) state ≡ Some false
@@ -18,22 +18,14 @@ none_at n state h = slice_get-get_or (replicate n false) state false (subst (λ 
 pub noted_none : IsNoted (replicate TREE_LIMIT false) []
 noted_none = record { each = none_at TREE_LIMIT }
 
-or-false : (b : Bool) → (b || false) ≡ b
-or-false true = refl
-or-false false = refl
-
-or-true : (b : Bool) → (b || true) ≡ true
-or-true true = refl
-or-true false = refl
-
-names-push : (entries : List Entry) (entry : Entry) (state : ℕ) → list_any (is_for state) (entries ++ entry ∷ []) ≡ (list_any (is_for state) entries || nat_eq entry.state state)
+names-push : (entries : List Differ) (entry : Differ) (state : ℕ) → list_any (is_for state) (entries ++ entry ∷ []) ≡ (list_any (is_for state) entries || nat_eq entry.state state)
 names-push entries entry state = list_any-append (is_for state) entries (entry ∷ []) ∙ ap (λ (b : Bool). list_any (is_for state) entries || b) (or-false (nat_eq entry.state state))
 
 -- an entry that names no state with a flag changes none
-names-other : (entries : List Entry) (entry : Entry) (state : ℕ) → nat_eq entry.state state ≡ false → list_any (is_for state) (entries ++ entry ∷ []) ≡ list_any (is_for state) entries
+names-other : (entries : List Differ) (entry : Differ) (state : ℕ) → nat_eq entry.state state ≡ false → list_any (is_for state) (entries ++ entry ∷ []) ≡ list_any (is_for state) entries
 names-other entries entry state e = names-push entries entry state ∙ ap (λ (b : Bool). list_any (is_for state) entries || b) e ∙ or-false (list_any (is_for state) entries)
 
-names-same : (entries : List Entry) (entry : Entry) (state : ℕ) → nat_eq entry.state state ≡ true → list_any (is_for state) (entries ++ entry ∷ []) ≡ true
+names-same : (entries : List Differ) (entry : Differ) (state : ℕ) → nat_eq entry.state state ≡ true → list_any (is_for state) (entries ++ entry ∷ []) ≡ true
 names-same entries entry state e = names-push entries entry state ∙ ap (λ (b : Bool). list_any (is_for state) entries || b) e ∙ or-true (list_any (is_for state) entries)
 
 set_other : (flags : List Bool) (at state : ℕ) (old b : Bool) → state ≢ at → slice_get flags state ≡ Some b → slice_get (set flags at old) state ≡ Some b
@@ -48,7 +40,7 @@ set_same flags at new b there =
     slice_get-get_or (set flags at new) at false (omega (arith, length-set flags at new))
     ∙ ap Some (get_or-set_same flags at new false within)
 
-noted-at : (flags : List Bool) (entries : List Entry) (entry : Entry) → IsNoted flags entries → (state : ℕ) → state < TREE_LIMIT
+noted-at : (flags : List Bool) (entries : List Differ) (entry : Differ) → IsNoted flags entries → (state : ℕ) → state < TREE_LIMIT
     → ((nat_eq entry.state state ≡ true) × (entry.state ≡ state)) ⊎ ((nat_eq entry.state state ≡ false) × (entry.state ≢ state))
     → slice_get (set flags entry.state true) state ≡ Some (list_any (is_for state) (entries ++ entry ∷ []))
 noted-at flags entries entry noted state below (inl same) =
@@ -58,19 +50,14 @@ noted-at flags entries entry noted state below (inr other) =
     set_other flags entry.state state true (list_any (is_for state) entries) (λ e. other.1 (sym e)) (noted.each state below)
     ∙ ap Some (sym (names-other entries entry state other.0))
 
-pub noted-more : (flags : List Bool) (entries : List Entry) (entry : Entry) → IsNoted flags entries → IsNoted (set flags entry.state true) (entries ++ entry ∷ [])
+pub noted-more : (flags : List Bool) (entries : List Differ) (entry : Differ) → IsNoted flags entries → IsNoted (set flags entry.state true) (entries ++ entry ∷ [])
 noted-more flags entries entry noted = record { each = λ state below. noted-at flags entries entry noted state below (eqb_tells entry.state state) }
 
-past-at : (flags : List Bool) (entries : List Entry) (entry : Entry) → IsNoted flags entries → TREE_LIMIT ≤ entry.state → (state : ℕ) → state < TREE_LIMIT
+past-at : (flags : List Bool) (entries : List Differ) (entry : Differ) → IsNoted flags entries → TREE_LIMIT ≤ entry.state → (state : ℕ) → state < TREE_LIMIT
     → ((nat_eq entry.state state ≡ true) × (entry.state ≡ state)) ⊎ ((nat_eq entry.state state ≡ false) × (entry.state ≢ state))
     → slice_get flags state ≡ Some (list_any (is_for state) (entries ++ entry ∷ []))
 past-at flags entries entry noted past state below (inl same) = absurd (omega arith)
 past-at flags entries entry noted past state below (inr other) = noted.each state below ∙ ap Some (sym (names-other entries entry state other.0))
 
-pub noted-past : (flags : List Bool) (entries : List Entry) (entry : Entry) → IsNoted flags entries → TREE_LIMIT ≤ entry.state → IsNoted flags (entries ++ entry ∷ [])
+pub noted-past : (flags : List Bool) (entries : List Differ) (entry : Differ) → IsNoted flags entries → TREE_LIMIT ≤ entry.state → IsNoted flags (entries ++ entry ∷ [])
 noted-past flags entries entry noted past = record { each = λ state below. past-at flags entries entry noted past state below (eqb_tells entry.state state) }
-
--- entries as the definition has them are for the same states
-pub names-told : (entries : List Differ) (state : ℕ) → list_any (λ entry. nat_eq entry.state state) entries ≡ list_any (is_for state) (map entry_of entries)
-names-told [] state = refl
-names-told (entry ∷ entries) state = ap (λ (b : Bool). nat_eq entry.state state || b) (names-told entries state)

@@ -9,7 +9,8 @@ use Rattle.roll_frame.specs.declared.limits.TheConstants.{PATH_LIMIT, TREE_LIMIT
 use Rattle.roll_frame.specs.declared.path.Path.{Path}
 use Rattle.roll_frame.specs.declared.row.Cell.{Cell}
 use Rattle.roll_frame.specs.Cells.{Rows}
-use Rattle.roll_frame.specs.Claims.{Claim, Differ}
+use Rattle.roll_frame.specs.declared.claim.Claim.{Claim}
+use Rattle.roll_frame.specs.declared.claim.Differ.{Differ}
 use Rattle.roll_text.specs.Lines.{Lacks, text_of}
 use Rattle.roll_text.proofs.LineTexts.{text_of-injective}
 use Rattle.roll_cert.specs.Texts.{IsCell, IsEntry, IsPathOf, IsRowOf, IsSized, cell_text, claim_lines, entry_line, entry_fields, named, path_line, row_line, rows_line, section}

@@ -8,7 +8,7 @@ use Rattle.std.proofs.lemmas.Fmt.{decimal_injective}
 use Rattle.std.proofs.lemmas.List.{append-nil, append_cancel_left, length-append}
 use Rattle.roll_frame.specs.declared.refusal.Refusal.{Refusal}
 use Rattle.roll_frame.specs.declared.refusal.Refusal.TheVariants.{NoMemory, Unreadable}
-use Rattle.roll_frame.specs.Claims.{Claim}
+use Rattle.roll_frame.specs.declared.claim.Claim.{Claim}
 use Rattle.roll_text.specs.declared.streams.TheConstants.{TEXT_LIMIT}
 use Rattle.roll_text.specs.Lines.{ended, text_of}
 use Rattle.roll_text.specs.Text.{IsUnreadableAt}

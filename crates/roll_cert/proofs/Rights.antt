@@ -6,11 +6,14 @@ use Rattle.std.proofs.lemmas.Bool.{cases_Bool, cases_lt, false≢true, eq-eqb}
 use Rattle.std.proofs.lemmas.Bool.Decides.{eqb_tells}
 use Rattle.std.proofs.lemmas.List.Sums.{sum_by-cons, sum_by-take-le, count_by_more_yes, count_by_more_no}
 use Rattle.std.proofs.lemmas.Option.{same_Some, slice_get-get_or, slice_get_within, get_or_from_slice_get}
+use Rattle.std.proofs.Math.Seq.{take-length}
 use Rattle.roll_frame.specs.declared.path.Path.{Path}
-use Rattle.roll_frame.specs.Claims.{Claim, Differ, IsShaped, IsRight, IsTrueEntry, is_start, is_for}
+use Rattle.roll_frame.specs.declared.claim.Claim.{Claim}
+use Rattle.roll_frame.specs.declared.claim.Differ.{Differ}
+use Rattle.roll_frame.specs.Claims.{IsShaped, IsRight, IsTrueEntry, is_start, is_for, IsSame}
 use Rattle.roll_cert.specs.declared.checking.Flaw.{Flaw}
 use Rattle.roll_cert.specs.declared.checking.Flaw.TheVariants.{Shape, FromNotKept, Range, Equal, Twice, Missing}
-use Rattle.roll_cert.specs.Flaws.{IsInRange, IsSame, HasFlaw, IsFirst, ComesBefore, stage, place, turn}
+use Rattle.roll_cert.specs.Flaws.{IsInRange, HasFlaw, IsFirst, ComesBefore, stage, place, turn}
 use Rattle.roll_cert.specs.Checked.{IsGood, AreGood, AreNamed, IsFlawOf}
 use Rattle.roll_cert.proofs.Entries.{only}
 
@@ -70,21 +73,10 @@ at_most_one claim state good (suc n) within =
     (once-step claim.differs state n found.0 (omega arith) (get_or_from_slice_get claim.differs n found.0 found.0 found.1)
     (good n found.0 (omega arith) found.1).once (at_most_one claim state good n (omega arith)) (eqb_tells found.0.state state))
 
-take-length : (xs : List Differ) → take (length xs) xs ≡ xs
-take-length [] = refl
-take-length (x ∷ xs) = ap (λ (ys : List Differ). x ∷ ys) (take-length xs)
-
 true_entry : (claim : Claim) (j : ℕ) (entry : Differ) → IsGood claim j entry → IsSomeAnd (slice_get claim.kept entry.state) (IsTrueEntry claim entry)
 true_entry claim j entry good =
     subst (λ (o : Option Path). IsSomeAnd o (IsTrueEntry claim entry)) (sym good.range.0)
-    (record {
-      deeper = good.range.1.deeper;
-      from = good.range.1.from;
-      below = good.range.1.below;
-      first = good.range.1.first;
-      last = good.range.1.last;
-      differs = good.differs;
-    })
+    (record { on_path = good.range.1; differs = good.differs })
 
 pub right : (claim : Claim) → IsShaped claim → list_any (is_start claim) claim.kept ≡ true → AreGood claim (length claim.differs) → AreNamed claim (length claim.kept) → IsRight claim
 right claim shaped start good named =
@@ -229,16 +221,13 @@ wrong claim Shape has right = has right.shape
 wrong claim FromNotKept has right = false≢true (sym has ∙ right.start)
 wrong claim (Range j) (entry, there, none) right =
     let found = in_some (slice_get claim.kept entry.state) (IsTrueEntry claim entry) (true_at claim j entry right there) in
-    none found.0 (
-      found.1,
-      record { deeper = found.2.deeper; from = found.2.from; below = found.2.below; first = found.2.first; last = found.2.last },
-    )
+    none found.0 (found.1, found.2.on_path)
 wrong claim (Equal j) (entry, there, (path, range, same)) right =
     let found = in_some (slice_get claim.kept entry.state) (IsTrueEntry claim entry) (true_at claim j entry right there) in
     found.2.differs (subst (λ (p : Path). IsSame claim entry p) (same_Some path found.0 (sym range.0 ∙ found.1)) same)
 wrong claim (Twice j) (entry, there, named) right =
     let found = in_some (slice_get claim.kept entry.state) (IsTrueEntry claim entry) (true_at claim j entry right there) in
-    let one : count_by (is_for entry.state) claim.differs ≡ 1 = right.once entry.state found.0 found.1 found.2.deeper in
+    let one : count_by (is_for entry.state) claim.differs ≡ 1 = right.once entry.state found.0 found.1 found.2.on_path.deeper in
     let two : 2 ≤ count_by (is_for entry.state) claim.differs = twice_counts claim.differs j entry there named in
     omega arith
 wrong claim (Missing i) (path, there, deeper, none) right =

@@ -10,7 +10,8 @@ use Rattle.roll_frame.specs.declared.limits.TheConstants.{FRAME_LIMIT, PATH_LIMI
 use Rattle.roll_frame.specs.declared.row.Cell.{Cell}
 use Rattle.roll_frame.specs.declared.row.Cell.TheVariants.{Word, Gone}
 use Rattle.roll_frame.specs.Cells.{Rows}
-use Rattle.roll_frame.specs.Claims.{Claim, Differ}
+use Rattle.roll_frame.specs.declared.claim.Claim.{Claim}
+use Rattle.roll_frame.specs.declared.claim.Differ.{Differ}
 use Rattle.roll_text.specs.declared.streams.TheConstants.{TEXT_LIMIT}
 use Rattle.roll_text.specs.Lines.{ended, text_of}
 use Rattle.roll_cert.specs.Texts.{IsCell, IsEntry, IsPathOf, IsRowOf, IsSized, cell_text, claim_lines, entry_line, heading_lines, named, path_line, row_line, rows_line, section, version_of}

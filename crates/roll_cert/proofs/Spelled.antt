@@ -1,32 +1,20 @@
 -- The lines of rows, paths and entries, cut into their parts.
-use Rattle.std.proofs.Common.{◌≡◌, ℕ, ◌<◌, ◌==◌, ◌&&◌, Bool, true, false, List, [], ◌∷◌, refl, sym, ap, ◌∙◌, rules, tests, arith, codes, get_or, length, map, Bor}
-use Rattle.std.specs.Prelude.{nat_le}
+use Rattle.std.proofs.Common.{◌≡◌, ℕ, ◌<◌, ◌==◌, false, List, [], ◌∷◌, refl, sym, ap, rules, tests, arith, codes, length, map}
 use Rattle.std.specs.List.{AllByRecursion, join_with_byte, slice_split}
 use Rattle.std.specs.Fmt.{decimal}
-use Rattle.std.proofs.lemmas.Bool.{and_parts}
 use Rattle.std.proofs.lemmas.Fmt.{decimal_injective, digits_decimal}
-use Rattle.std.proofs.lemmas.List.{get_or-map}
 use Rattle.std.proofs.lemmas.Str.Parse.{numerals_by_value, tells_digits, not_in_digits}
 use Rattle.std.proofs.lemmas.List.Elements.{All-cons, All-nil}
 use Rattle.roll_frame.specs.declared.path.Path.{Path}
 use Rattle.roll_frame.specs.declared.row.Cell.{Cell}
 use Rattle.roll_frame.specs.declared.row.Cell.TheVariants.{Word, Gone}
 use Rattle.roll_frame.specs.Cells.{Rows}
-use Rattle.roll_frame.specs.Claims.{Differ}
+use Rattle.roll_frame.specs.declared.claim.Differ.{Differ}
 use Rattle.roll_text.specs.Lines.{Lacks}
 use Rattle.roll_text.specs.Numbers.{IsWord}
-use Rattle.roll_text.proofs.Joined.{decimal-lacks, join-lacks, split-fields}
+use Rattle.roll_text.proofs.Joined.{decimal-lacks, join-lacks, split-fields, high-lacks}
 use Rattle.roll_cert.specs.Texts.{IsCell, IsEntry, IsPathOf, IsRowOf, cell_text, entry_fields, entry_line, path_line, row_line, rows_line}
 use Rattle.roll_cert.proofs.Values.{all-lack}
-
--- whether no byte is below a comma's
-abbrev are_high : List ℕ → Bool
-are_high [] = true
-are_high (b ∷ bs) = nat_le 44 b && are_high bs
-
-high-lacks : (c : ℕ) → c < 44 → (bytes : List ℕ) → are_high bytes ≡ true → Lacks c bytes
-high-lacks c low [] h = All-nil _
-high-lacks c low (b ∷ bs) h = let parts = and_parts (nat_le 44 b) (are_high bs) h in All-cons (λ x. (x == c) ≡ false) b bs (search (rules, tests)) (high-lacks c low bs parts.1)
 
 -- a cell has no comma, no space and no line's end
 pub cell-lacks : (c : ℕ) → c < 48 → (cell : Cell) → IsCell cell → Lacks c (cell_text cell)
@@ -63,9 +51,6 @@ cell_text-injective (Word v) (Word w) h k e = ap Word (decimal_injective v w (om
 cell_text-injective (Word v) Gone h k e = absurd (letter_apart v h e)
 cell_text-injective Gone (Word w) h k e = absurd (letter_apart w k (sym e))
 cell_text-injective Gone Gone h k e = refl
-
-pub text_at : (fields : List (Bor (List ℕ))) (texts : List (List ℕ)) (i : ℕ) (d : Bor (List ℕ)) → map (λ field. field.now) fields ≡ texts → i < length fields → (get_or fields i d).now ≡ get_or texts i []
-text_at fields texts i d e h = sym (get_or-map (λ field. field.now) fields i d [] h) ∙ ap (λ t. get_or t i []) e
 
 -- a line that is not a dash has some rows
 pub some_rows : (text : List ℕ) (rows : Rows) → (text ≡ codes "-" → ⊥) → text ≡ rows_line rows → (0 < length rows) × (text ≡ join_with_byte 32 (map row_line rows))

@@ -3,9 +3,11 @@ use Rattle.std.specs.Prelude.{◌≡◌, ℕ, ◌<◌, List, Bool, take, true, f
 use Rattle.std.specs.List.{list_any}
 use Rattle.roll_frame.specs.declared.limits.TheConstants.{TREE_LIMIT}
 use Rattle.roll_frame.specs.declared.path.Path.{Path}
-use Rattle.roll_frame.specs.Claims.{Claim, Differ, IsDeeper, is_for}
+use Rattle.roll_frame.specs.declared.claim.Claim.{Claim}
+use Rattle.roll_frame.specs.declared.claim.Differ.{Differ}
+use Rattle.roll_frame.specs.Claims.{IsDeeper, is_for, IsSame}
 use Rattle.roll_cert.specs.declared.checking.Flaw.{Flaw}
-use Rattle.roll_cert.specs.Flaws.{IsInRange, IsSame, HasFlaw, stage, place, turn}
+use Rattle.roll_cert.specs.Flaws.{IsInRange, HasFlaw, stage, place, turn}
 
 -- the flags tell which of the first states the entries name
 pub record IsNoted (flags : List Bool) (entries : List Differ) : Type 0 where

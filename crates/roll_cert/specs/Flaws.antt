@@ -1,27 +1,16 @@
 -- What can be wrong with a claim, and which flaw is named.
-use Rattle.std.specs.Prelude.{◌≡◌, ℕ, ◌-◌, ◌<◌, ◌≤◌, ◌⊎◌, take, true, false, Some, slice_get}
+use Rattle.std.specs.Prelude.{◌≡◌, ℕ, ◌<◌, ◌⊎◌, take, true, false, Some, slice_get}
 use Rattle.std.specs.List.{list_any}
 use Rattle.roll_frame.specs.declared.path.Path.{Path}
-use Rattle.roll_frame.specs.Order.{frames_of}
-use Rattle.roll_frame.specs.Claims.{Claim, Differ, IsDeeper, IsShaped, is_start, is_for, cell_in}
+use Rattle.roll_frame.specs.declared.claim.Claim.{Claim}
+use Rattle.roll_frame.specs.declared.claim.Differ.{Differ}
+use Rattle.roll_frame.specs.Claims.{IsDeeper, IsOnPath, IsSame, IsShaped, is_start, is_for}
 use Rattle.roll_cert.specs.declared.checking.Flaw.{Flaw}
 use Rattle.roll_cert.specs.declared.checking.Flaw.TheVariants.{Shape, FromNotKept, Range, Equal, Twice, Missing}
-
--- the path is deeper than the start, and the entry has a frame of the path's rows, and a player
-pub record IsOnPath (claim : Claim) (entry : Differ) (path : Path) : Type 0 where
-  pub deeper : IsDeeper claim path
-  pub from : claim.base ≤ entry.frame
-  pub below : entry.frame < frames_of path
-  pub first : 1 ≤ entry.player
-  pub last : entry.player ≤ claim.players
 
 -- the entry names this kept path, and a place on it
 abbrev pub IsInRange : Claim → Differ → Path → Type 0
 IsInRange claim entry path = (slice_get claim.kept entry.state ≡ Some path) × IsOnPath claim entry path
-
--- path and time have the same cell at the entry's place
-abbrev pub IsSame : Claim → Differ → Path → Type 0
-IsSame claim entry path = cell_in path.rows.items (entry.frame - claim.base) (entry.player - 1) ≡ cell_in claim.time (entry.frame - claim.base) (entry.player - 1)
 
 -- entry j of the claim
 abbrev pub HasEntry : Claim → ℕ → (Differ → Type 0) → Type 0

@@ -1,6 +1,6 @@
 -- What holds of the texts of all claims.
 use Rattle.std.specs.Prelude.{◌≡◌, ◌≤◌, length}
-use Rattle.roll_frame.specs.Claims.{Claim}
+use Rattle.roll_frame.specs.declared.claim.Claim.{Claim}
 use Rattle.roll_text.specs.declared.streams.TheConstants.{TEXT_LIMIT}
 use Rattle.roll_text.specs.Lines.{text_of}
 use Rattle.roll_cert.specs.Texts.{IsSized, claim_lines}

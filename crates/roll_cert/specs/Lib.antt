@@ -1,6 +1,5 @@
 pub mod Checked
 pub mod Flaws
-pub mod Told
 pub mod Texts
 pub mod Reading
 pub mod Laws

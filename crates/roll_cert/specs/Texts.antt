@@ -9,7 +9,8 @@ use Rattle.roll_frame.specs.declared.refusal.Refusal.TheVariants.{Unreadable}
 use Rattle.roll_frame.specs.declared.row.Cell.{Cell}
 use Rattle.roll_frame.specs.declared.row.Cell.TheVariants.{Word, Gone}
 use Rattle.roll_frame.specs.Cells.{Rows}
-use Rattle.roll_frame.specs.Claims.{Claim, Differ}
+use Rattle.roll_frame.specs.declared.claim.Claim.{Claim}
+use Rattle.roll_frame.specs.declared.claim.Differ.{Differ}
 use Rattle.roll_text.specs.Numbers.{IsWord}
 use Rattle.roll_text.specs.Streams.{IsBadAt}
 use Rattle.roll_text.specs.Text.{Spells}

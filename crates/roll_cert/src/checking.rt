@@ -1,15 +1,14 @@
 //! Whether a claim is right, and what is wrong with it.
 ghost use Rattle.std.specs.Prelude.{◌≡◌, ◌<◌, ◌≤◌, ◌+◌, ◌-◌, ◌↔◌, ℕ, All, [], ◌∷◌, ◌++◌, List, length, map, take, nat_eq, Some, None, Err, option_map, slice_get, IsTrue, OnOk, OnErr, IfOk, IfErr, IfSome};
 ghost use Rattle.std.specs.List.{list_any};
-ghost use Rattle.roll_frame.specs.Claims.{Differ as Entry, IsDeeper, IsShaped, IsRight, AreRowsOf, is_start, is_for, target_of};
+ghost use Rattle.roll_frame.specs.declared.claim.Differ.{Differ};
+ghost use Rattle.roll_frame.specs.Claims.{IsDeeper, IsShaped, IsRight, AreRowsOf, is_start, is_for, target_of, IsOnPath, IsSame};
 ghost use Rattle.roll_cert.specs.declared.checking.Flaw.{Flaw};
 ghost use Rattle.roll_cert.specs.declared.checking.Flaw.TheVariants.{Missing};
-ghost use Rattle.roll_cert.specs.Told.{told, entry_of};
-ghost use Rattle.roll_cert.specs.Flaws.{IsOnPath, IsSame, HasFlaw, IsFirst};
+ghost use Rattle.roll_cert.specs.Flaws.{HasFlaw, IsFirst};
 ghost use Rattle.roll_cert.specs.Checked.{IsNoted, IsGood, AreGood, AreNamed, IsFlawOf};
 
-use crate::claim::{Claim, Differ};
-use roll_frame::{FRAME_LIMIT, PATH_LIMIT, PLAYER_LIMIT, Path, Row, TREE_LIMIT};
+use roll_frame::{Claim, Differ, FRAME_LIMIT, PATH_LIMIT, PLAYER_LIMIT, Path, Row, TREE_LIMIT};
 use thiserror::Error;
 
 /// What is wrong with a claim. The number is the place of an entry or of a kept path, from 0.
@@ -51,7 +50,7 @@ impl Named {
     }
 
     fn insert(&mut self, entry: Differ)
-        ensures { (entries : List Entry) → IsNoted self.old.first entries → IsNoted self.new.first (entries ++ entry_of entry ∷ []) }
+        ensures { (entries : List Differ) → IsNoted self.old.first entries → IsNoted self.new.first (entries ++ entry ∷ []) }
     {
         let state = entry.state as usize;
         if state < TREE_LIMIT {
@@ -61,8 +60,8 @@ impl Named {
 
     // The entries are those so far.
     fn contains(&self, entries: &[Differ], state: usize) -> bool
-        requires { IsNoted self.now.first (map entry_of entries.now) }
-        ensures { result ≡ list_any (is_for state) (map entry_of entries.now) }
+        requires { IsNoted self.now.first entries.now }
+        ensures { result ≡ list_any (is_for state) entries.now }
     {
         if state < TREE_LIMIT {
             return self.first[state];
@@ -72,7 +71,7 @@ impl Named {
 }
 
 fn is_named(entries: &[Differ], state: usize) -> bool
-    ensures { result ≡ list_any (λ entry. nat_eq entry.state state) entries.now }
+    ensures { result ≡ list_any (is_for state) entries.now }
 {
     entries.iter().any(|entry| entry.state as usize == state)
 }
@@ -90,7 +89,7 @@ fn are_shaped(paths: &[Path], base: u32, players: u8) -> bool
 }
 
 fn is_shaped(claim: &Claim) -> bool
-    ensures { IsTrue result ↔ IsShaped (told claim.now) }
+    ensures { IsTrue result ↔ IsShaped claim.now }
 {
     claim.base <= FRAME_LIMIT
         && 1 <= claim.players
@@ -103,14 +102,14 @@ fn is_shaped(claim: &Claim) -> bool
 // The frame that the roll went to.
 fn target(claim: &Claim) -> u64
     requires { length claim.now.time ≤ PATH_LIMIT }
-    ensures { result ≡ target_of (told claim.now) }
+    ensures { result ≡ target_of claim.now }
 {
     u64::from(claim.base) + claim.time.len() as u64
 }
 
 fn is_start(claim: &Claim, path: &Path) -> bool
     requires { length claim.now.time ≤ PATH_LIMIT }
-    ensures { result ≡ is_start (told claim.now) path.now }
+    ensures { result ≡ is_start claim.now path.now }
 {
     let from = u64::from(claim.from);
     path.frames() == from
@@ -120,7 +119,7 @@ fn is_start(claim: &Claim, path: &Path) -> bool
 
 fn has_start(claim: &Claim) -> bool
     requires { length claim.now.time ≤ PATH_LIMIT }
-    ensures { result ≡ list_any (is_start (told claim.now)) claim.now.kept }
+    ensures { result ≡ list_any (is_start claim.now) claim.now.kept }
 {
     claim
         .kept
@@ -131,7 +130,7 @@ fn has_start(claim: &Claim) -> bool
 
 fn is_deeper(claim: &Claim, path: &Path) -> bool
     requires { length claim.now.time ≤ PATH_LIMIT }
-    ensures { IsTrue result ↔ IsDeeper (told claim.now) path.now }
+    ensures { IsTrue result ↔ IsDeeper claim.now path.now }
 {
     u64::from(claim.from) < path.frames() && path.frames() <= target(claim)
 }
@@ -139,7 +138,7 @@ fn is_deeper(claim: &Claim, path: &Path) -> bool
 // Whether the entry names this path, which is deeper, a frame of its rows, and a player.
 fn is_in_range(claim: &Claim, entry: Differ, path: &Path) -> bool
     requires { length claim.now.time ≤ PATH_LIMIT }
-    ensures { IsTrue result ↔ IsOnPath (told claim.now) (entry_of entry) path.now }
+    ensures { IsTrue result ↔ IsOnPath claim.now entry path.now }
 {
     is_deeper(claim, path)
         && claim.base <= entry.frame
@@ -152,8 +151,8 @@ fn is_in_range(claim: &Claim, entry: Differ, path: &Path) -> bool
 fn is_same(claim: &Claim, entry: Differ, path: &Path) -> bool
     requires time { length claim.now.time ≤ PATH_LIMIT }
     requires base { path.now.base ≡ claim.now.base }
-    requires range { IsOnPath (told claim.now) (entry_of entry) path.now }
-    ensures { IsTrue result ↔ IsSame (told claim.now) (entry_of entry) path.now }
+    requires range { IsOnPath claim.now entry path.now }
+    ensures { IsTrue result ↔ IsSame claim.now entry path.now }
 {
     let frame = (entry.frame - claim.base) as usize;
     let player = usize::from(entry.player - 1);
@@ -162,7 +161,7 @@ fn is_same(claim: &Claim, entry: Differ, path: &Path) -> bool
 
 fn entry_at(claim: &Claim, j: usize) -> Differ
     requires { j < length claim.now.differs }
-    ensures { slice_get (told claim.now).differs j ≡ Some (entry_of result) }
+    ensures { slice_get claim.now.differs j ≡ Some result }
 {
     claim.differs.as_slice()[j]
 }
@@ -175,11 +174,11 @@ fn kept_at(claim: &Claim, state: u32) -> Option<&Path>
 
 // The first flaw of an entry, where the named states are those of the entries before it.
 fn check_entry(claim: &Claim, j: usize, named: &Named) -> Result<(), Flaw>
-    requires shaped { IsShaped (told claim.now) }
+    requires shaped { IsShaped claim.now }
     requires within { j < length claim.now.differs }
-    requires named { IsNoted named.now.first (take j (told claim.now).differs) }
-    ensures good { OnOk result ((entry : Entry) → slice_get (told claim.now).differs j ≡ Some entry → IsGood (told claim.now) j entry) }
-    ensures flaw { IfErr result (IsFlawOf (told claim.now) j) }
+    requires named { IsNoted named.now.first (take j claim.now.differs) }
+    ensures good { OnOk result ((entry : Differ) → slice_get claim.now.differs j ≡ Some entry → IsGood claim.now j entry) }
+    ensures flaw { IfErr result (IsFlawOf claim.now j) }
 {
     let entry = entry_at(claim, j);
     let Some(path) = kept_at(claim, entry.state) else {
@@ -199,10 +198,10 @@ fn check_entry(claim: &Claim, j: usize, named: &Named) -> Result<(), Flaw>
 
 // The states that the entries name, where no entry has a flaw.
 fn check_entries(claim: &Claim) -> Result<Named, Flaw>
-    requires { IsShaped (told claim.now) }
-    ensures named { IfOk result (λ named. IsNoted named.first (told claim.now).differs) }
-    ensures good { OnOk result (AreGood (told claim.now) (length claim.now.differs)) }
-    ensures flaw { IfErr result (λ flaw. (j : ℕ) × AreGood (told claim.now) j × IsFlawOf (told claim.now) j flaw) }
+    requires { IsShaped claim.now }
+    ensures named { IfOk result (λ named. IsNoted named.first claim.now.differs) }
+    ensures good { OnOk result (AreGood claim.now (length claim.now.differs)) }
+    ensures flaw { IfErr result (λ flaw. (j : ℕ) × AreGood claim.now j × IsFlawOf claim.now j flaw) }
 {
     let mut named = Named::new();
     for j in 0..claim.differs.len() {
@@ -216,10 +215,10 @@ fn check_entries(claim: &Claim) -> Result<Named, Flaw>
 
 // The first deeper path that no entry names.
 fn first_missing(claim: &Claim, named: &Named) -> Option<usize>
-    requires shaped { IsShaped (told claim.now) }
-    requires named { IsNoted named.now.first (told claim.now).differs }
-    ensures none { result ≡ None → AreNamed (told claim.now) (length claim.now.kept) }
-    ensures first { IfSome result (λ i. AreNamed (told claim.now) i × HasFlaw (told claim.now) (Missing i)) }
+    requires shaped { IsShaped claim.now }
+    requires named { IsNoted named.now.first claim.now.differs }
+    ensures none { result ≡ None → AreNamed claim.now (length claim.now.kept) }
+    ensures first { IfSome result (λ i. AreNamed claim.now i × HasFlaw claim.now (Missing i)) }
 {
     for i in 0..claim.kept.len() {
         if !is_deeper(claim, &claim.kept.as_slice()[i]) {
@@ -235,10 +234,10 @@ fn first_missing(claim: &Claim, named: &Named) -> Option<usize>
 /// Whether a claim is right, and else the first of its flaws: its shape comes before its start, then comes
 /// each entry in order, and then the missing entries.
 pub fn check(claim: &Claim) -> Result<(), Flaw>
-    ensures right { OnOk result (IsRight (told claim.now)) }
-    ensures wrong { OnErr result (IsRight (told claim.now) → ⊥) }
-    ensures first { IfErr result (IsFirst (told claim.now)) }
-    ensures only { (flaw : Flaw) → IsFirst (told claim.now) flaw → result ≡ Err flaw }
+    ensures right { OnOk result (IsRight claim.now) }
+    ensures wrong { OnErr result (IsRight claim.now → ⊥) }
+    ensures first { IfErr result (IsFirst claim.now) }
+    ensures only { (flaw : Flaw) → IsFirst claim.now flaw → result ≡ Err flaw }
 {
     if !is_shaped(claim) {
         return Err(Flaw::Shape);
@@ -255,6 +254,3 @@ pub fn check(claim: &Claim) -> Result<(), Flaw>
         None => Ok(()),
     }
 }
-
-#[cfg(test)]
-mod tests;

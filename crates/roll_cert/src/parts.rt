@@ -3,10 +3,8 @@ ghost use Rattle.std.specs.Prelude.{◌≤◌, IfOk, map};
 ghost use Rattle.std.specs.Option.{option_map};
 ghost use Rattle.roll_text.specs.Text.{Reads};
 ghost use Rattle.roll_cert.specs.Texts.{IsCell, IsEntry, IsPathOf, IsRowOf, cell_text, entry_fields, entry_line, path_line, row_line};
-ghost use Rattle.roll_cert.specs.Told.{entry_of};
 
-use crate::claim::Differ;
-use roll_frame::{Cell, PATH_LIMIT, PLAYER_LIMIT, Path, Row};
+use roll_frame::{Cell, Differ, PATH_LIMIT, PLAYER_LIMIT, Path, Row};
 use roll_text::{fields, number};
 use std::alloc::{AllocError, Global};
 
@@ -72,14 +70,14 @@ pub fn read_path(
 
 /// The entry that a text spells.
 pub fn read_entry(alloc: Global, text: &[u8]) -> Result<Option<Differ>, AllocError>
-    ensures { IfOk result (λ entry. Reads IsEntry entry_line text.now (option_map entry_of entry)) }
+    ensures { IfOk result (λ entry. Reads IsEntry entry_line text.now entry) }
 {
     let fields = fields(alloc, text, b' ')?;
     Ok(entry_from(&fields))
 }
 
 fn entry_from(fields: &[&[u8]]) -> Option<Differ>
-    ensures { Reads IsEntry entry_fields (map (λ field. field.now) fields.now) (option_map entry_of result) }
+    ensures { Reads IsEntry entry_fields (map (λ field. field.now) fields.now) result }
 {
     let [state, frame, player] = fields else {
         return None;

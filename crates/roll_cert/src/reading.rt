@@ -1,26 +1,26 @@
 //! Claims read from their texts.
 ghost use Rattle.std.specs.Prelude.{◌≡◌, ◌⊎◌, ◌+◌, ◌≤◌, ◌++◌, IfErr, IfOk, OnOk, map};
-ghost use Rattle.roll_frame.specs.Claims.{Claim as Told};
+ghost use Rattle.roll_frame.specs.declared.claim.Claim.{Claim};
 ghost use Rattle.roll_frame.specs.declared.refusal.Refusal.TheVariants.{NoMemory};
 ghost use Rattle.roll_text.specs.Lines.{text_of};
 ghost use Rattle.roll_text.specs.Numbers.{IsWord};
 ghost use Rattle.roll_cert.specs.Reading.{IsWrong, IsWrongAmong, StartsWith, StartsWithAll, fewest, most};
 ghost use Rattle.roll_cert.specs.Texts.{IsClaimText, IsEntry, IsPathOf, IsRowOf, IsSized, IsUnreadable, claim_lines, entry_line, heading_lines, path_line, row_line};
-ghost use Rattle.roll_cert.specs.Told.{entry_of, told};
 
-use crate::claim::{Claim, Differ, Items};
 use crate::lines::Lines;
 use crate::parts::{read_entry, read_path, read_row};
-use roll_frame::{FRAME_LIMIT, PATH_LIMIT, PLAYER_LIMIT, Path, Refusal, Row, TREE_LIMIT};
+use roll_frame::{
+    Claim, Differ, FRAME_LIMIT, Items, PATH_LIMIT, PLAYER_LIMIT, Path, Refusal, Row, TREE_LIMIT,
+};
 use roll_text::TEXT_LIMIT;
 use std::alloc::Global;
 
 /// The claim that a text spells. A text that is too long is unreadable at line 0.
 pub fn read(alloc: Global, text: &[u8]) -> Result<Claim, Refusal>
-    ensures sized { IfOk result (λ claim. IsSized (told claim)) }
-    ensures claim { IfOk result (λ claim. text.now ≡ text_of (claim_lines (told claim))) }
+    ensures sized { IfOk result (λ claim. IsSized claim) }
+    ensures claim { IfOk result (λ claim. text.now ≡ text_of (claim_lines claim)) }
     ensures refused { IfErr result (λ why. (why ≡ NoMemory) ⊎ IsUnreadable why text.now) }
-    ensures again { (claim : Told) → IsSized claim → text.now ≡ text_of (claim_lines claim) → IfOk result (λ read. told read ≡ claim) }
+    ensures again { (claim : Claim) → IsSized claim → text.now ≡ text_of (claim_lines claim) → IfOk result (λ read. read ≡ claim) }
     ensures readable { IsClaimText text.now → IfErr result (λ why. why ≡ NoMemory) }
 {
     if text.len() > TEXT_LIMIT {
@@ -32,8 +32,8 @@ pub fn read(alloc: Global, text: &[u8]) -> Result<Claim, Refusal>
 /// The claim that all lines of a text spell.
 fn read_claim(alloc: Global, lines: &mut Lines) -> Result<Claim, Refusal>
     requires { lines.old.next ≡ 1 }
-    ensures sized { IfOk result (λ claim. IsSized (told claim)) }
-    ensures claim { IfOk result (λ claim. lines.old.rest.now ≡ text_of (claim_lines (told claim))) }
+    ensures sized { IfOk result (λ claim. IsSized claim) }
+    ensures claim { IfOk result (λ claim. lines.old.rest.now ≡ text_of (claim_lines claim)) }
     ensures refused { IfErr result (λ why. (why ≡ NoMemory) ⊎ IsUnreadable why lines.old.rest.now) }
 {
     let heading = read_heading(lines)?;
@@ -153,7 +153,7 @@ fn next_path(alloc: Global, lines: &mut Lines, players: u8, base: u32) -> Result
 }
 
 fn read_entries(alloc: Global, lines: &mut Lines, count: u32) -> Result<Vec<Differ>, Refusal>
-    ensures ok { IfOk result (λ entries. StartsWithAll IsEntry entry_line count lines.old.rest.now lines.new.rest.now (map entry_of entries.items)) }
+    ensures ok { IfOk result (λ entries. StartsWithAll IsEntry entry_line count lines.old.rest.now lines.new.rest.now entries.items) }
     ensures next { OnOk result (lines.new.next ≡ lines.old.next + count) }
     ensures err { IfErr result (λ why. (why ≡ NoMemory) ⊎ IsWrongAmong IsEntry entry_line count lines.old.next lines.old.rest.now why) }
 {
@@ -165,7 +165,7 @@ fn read_entries(alloc: Global, lines: &mut Lines, count: u32) -> Result<Vec<Diff
 }
 
 fn next_entry(alloc: Global, lines: &mut Lines) -> Result<Differ, Refusal>
-    ensures ok { IfOk result (λ entry. StartsWith IsEntry entry_line lines.old.rest.now lines.new.rest.now (entry_of entry)) }
+    ensures ok { IfOk result (λ entry. StartsWith IsEntry entry_line lines.old.rest.now lines.new.rest.now entry) }
     ensures next { OnOk result (lines.new.next ≡ lines.old.next + 1) }
     ensures err { IfErr result (λ why. (why ≡ NoMemory) ⊎ IsWrong IsEntry entry_line lines.old.next lines.old.rest.now why) }
 {

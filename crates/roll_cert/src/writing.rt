@@ -2,17 +2,15 @@
 ghost use Rattle.std.specs.Prelude.{◌≡◌, ◌++◌, IfOk, OnOk, codes, map};
 ghost use Rattle.roll_text.specs.Lines.{ended, text_of};
 ghost use Rattle.roll_cert.specs.Texts.{cell_text, claim_lines, entry_line, named, path_line, row_line, rows_line, section, version_of};
-ghost use Rattle.roll_cert.specs.Told.{entry_of, told};
 
-use crate::claim::{Claim, Differ};
 use itoa::Buffer;
-use roll_frame::{Cell, Path, Row};
+use roll_frame::{Cell, Claim, Differ, Path, Row};
 use roll_text::push_number;
 use std::alloc::{AllocError, Global};
 
 /// The text of a claim.
 pub fn write(alloc: Global, claim: &Claim) -> Result<Vec<u8>, AllocError>
-    ensures { IfOk result (λ text. text.items ≡ text_of (claim_lines (told claim.now))) }
+    ensures { IfOk result (λ text. text.items ≡ text_of (claim_lines claim.now)) }
 {
     let mut out = Vec::new(alloc);
     push_named(&mut out, b"rollcert ", version(claim.players))?;
@@ -68,7 +66,7 @@ fn push_paths(out: &mut Vec<u8>, paths: &[Path]) -> Result<(), AllocError>
 
 /// Writes how many entries there are, and a line for each.
 fn push_entries(out: &mut Vec<u8>, entries: &[Differ]) -> Result<(), AllocError>
-    ensures { OnOk result (out.new.items ≡ out.old.items ++ text_of (section (codes "differs ") entry_line (map entry_of entries.now))) }
+    ensures { OnOk result (out.new.items ≡ out.old.items ++ text_of (section (codes "differs ") entry_line entries.now)) }
 {
     push_named(out, b"differs ", entries.len())?;
     for entry in entries {
@@ -79,7 +77,7 @@ fn push_entries(out: &mut Vec<u8>, entries: &[Differ]) -> Result<(), AllocError>
 }
 
 fn push_entry(out: &mut Vec<u8>, entry: &Differ) -> Result<(), AllocError>
-    ensures { OnOk result (out.new.items ≡ out.old.items ++ entry_line (entry_of entry.now)) }
+    ensures { OnOk result (out.new.items ≡ out.old.items ++ entry_line entry.now) }
 {
     push_number(out, entry.state)?;
     out.push(b' ')?;

@@ -1,30 +1,16 @@
 -- The claim of a roll, and when a claim is right.
-use Rattle.std.specs.Prelude.{◌≡◌, ◌≢◌, ℕ, suc, ◌+◌, ◌-◌, ◌<◌, ◌≤◌, List, [], ◌∷◌, length, drop, map, Bool, true, ◌&&◌, nat_eq, nat_lt, nat_le, Option, Some, None, option_map, if◌then◌else◌, slice_get, All, IsSomeAnd, count_by}
+use Rattle.std.specs.Prelude.{◌≡◌, ℕ, suc, ◌+◌, ◌-◌, ◌<◌, ◌≤◌, List, [], ◌∷◌, length, drop, map, Bool, true, ◌&&◌, nat_eq, nat_lt, nat_le, Option, Some, None, option_map, if◌then◌else◌, slice_get, All, IsSomeAnd, count_by}
 use Rattle.std.specs.Option.{option_map_or}
 use Rattle.std.specs.List.{cons_option, list_any}
 use Rattle.roll_frame.specs.declared.limits.TheConstants.{FRAME_LIMIT, PLAYER_LIMIT, PATH_LIMIT}
 use Rattle.roll_frame.specs.declared.row.Cell.{Cell}
 use Rattle.roll_frame.specs.declared.path.Path.{Path}
+use Rattle.roll_frame.specs.declared.claim.Claim.{Claim}
+use Rattle.roll_frame.specs.declared.claim.Differ.{Differ}
 use Rattle.roll_frame.specs.Cells.{Rows, cell_eq}
 use Rattle.roll_frame.specs.Paths.{begins_with}
 use Rattle.roll_frame.specs.Order.{frames_of, in_order}
 use Rattle.roll_frame.specs.Core.{Roll}
-
--- the kept path at a place of the list, from 0, differs at a frame in a player's cell
-pub record Differ : Type 0 where
-  pub state : ℕ
-  pub frame : ℕ
-  pub player : ℕ
-
--- time has the timeline's rows from frame base on, up to the roll's end; from is the length of the path
--- that the roll started from
-pub record Claim : Type 0 where
-  pub players : ℕ
-  pub base : ℕ
-  pub time : Rows
-  pub kept : List Path
-  pub from : ℕ
-  pub differs : List Differ
 
 -- the frame that the roll went to
 abbrev pub target_of : Claim → ℕ
@@ -58,14 +44,22 @@ cell_of_row (Some row) place = slice_get row place
 abbrev pub cell_in : Rows → ℕ → ℕ → Option Cell
 cell_in rows frame place = cell_of_row (slice_get rows frame) place
 
--- an entry's path is deeper, and differs from the time at the entry's frame and player
-pub record IsTrueEntry (claim : Claim) (entry : Differ) (path : Path) : Type 0 where
+-- the path is deeper than the start, and the entry has a frame of the path's rows, and a player
+pub record IsOnPath (claim : Claim) (entry : Differ) (path : Path) : Type 0 where
   pub deeper : IsDeeper claim path
   pub from : claim.base ≤ entry.frame
   pub below : entry.frame < frames_of path
   pub first : 1 ≤ entry.player
   pub last : entry.player ≤ claim.players
-  pub differs : cell_in path.rows.items (entry.frame - claim.base) (entry.player - 1) ≢ cell_in claim.time (entry.frame - claim.base) (entry.player - 1)
+
+-- path and time have the same cell at the entry's place
+abbrev pub IsSame : Claim → Differ → Path → Type 0
+IsSame claim entry path = cell_in path.rows.items (entry.frame - claim.base) (entry.player - 1) ≡ cell_in claim.time (entry.frame - claim.base) (entry.player - 1)
+
+-- an entry is of the path, which differs from the time at the entry's place
+pub record IsTrueEntry (claim : Claim) (entry : Differ) (path : Path) : Type 0 where
+  pub on_path : IsOnPath claim entry path
+  pub differs : IsSame claim entry path → ⊥
 
 abbrev pub is_for : ℕ → Differ → Bool
 is_for place entry = nat_eq entry.state place
@@ -78,12 +72,14 @@ pub record IsRight (claim : Claim) : Type 0 where
   pub entries : All (λ entry. IsSomeAnd (slice_get claim.kept entry.state) (IsTrueEntry claim entry)) claim.differs
   pub once : (place : ℕ) (path : Path) → slice_get claim.kept place ≡ Some path → IsDeeper claim path → count_by (is_for place) claim.differs ≡ 1
 
--- the first place where two rows differ, counted from 1
+-- the least player, from 1, whose cells differ in two rows: a cell that only one of them has differs
 abbrev pub place_of : List Cell → List Cell → Option ℕ
+place_of [] [] = None
 place_of (cell ∷ cells) (other ∷ others) = if cell_eq cell other then option_map suc (place_of cells others) else Some 1
-place_of cells others = None
+place_of cells others = Some 1
 
--- the first frame where two lists of rows differ, the first of them in frame t, and the least player there
+-- the least frame in which two lists of rows have different rows, the first of both in frame t, and the least player
+-- whose cells differ there
 abbrev pub least_place : ℕ → Rows → Rows → Option (ℕ × ℕ)
 least_place t (row ∷ rows) (other ∷ others) = option_map_or (λ p. Some (t, p)) (place_of row other) (least_place (suc t) rows others)
 least_place t rows others = None

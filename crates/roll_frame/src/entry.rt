@@ -34,9 +34,9 @@ pub enum Entry {
         path: Boxed<Path>,
         rows: Boxed<ArrayVec<Row, BRANCH_LIMIT>>,
     },
-    /// The game refused in a roll to a frame, after so many new states were kept.
+    /// The game refused in a roll to a frame, after so many new states were saved.
     Partial {
         to: u32,
-        kept: u32,
+        made: u32,
     },
 }

@@ -1,8 +1,9 @@
-//! Rows, paths and refusals of rollback sessions, time-sync advice, and the definitions that every contract cites.
+//! Rows, paths, claims and refusals of rollback sessions, time-sync advice, and the definitions that every contract cites.
 #![tactic(auto)]
 
 mod advice;
 mod boxed;
+mod claim;
 mod entry;
 mod event;
 mod limits;
@@ -15,6 +16,7 @@ mod settings;
 
 pub use advice::Advice;
 pub use boxed::Boxed;
+pub use claim::{Claim, Differ, Items};
 pub use entry::Entry;
 pub use event::Event;
 pub use limits::{

@@ -1,19 +1,18 @@
 -- A change of one player's queue: when it is accepted, and what it leaves.
-use Rattle.std.proofs.Common.{◌≡◌, ◌≢◌, ℕ, ◌+◌, ◌-◌, ◌^◌, ◌<◌, ◌≤◌, zero, suc, List, [], ◌∷◌, ◌++◌, length, get_or, set, map, refl, true, false, not, Some, None, ap, sym, ◌∙◌, subst, arith, length-append}
+use Rattle.std.proofs.Common.{◌≡◌, ◌≢◌, ℕ, ◌+◌, ◌-◌, ◌^◌, ◌<◌, ◌≤◌, zero, suc, List, [], ◌∷◌, ◌++◌, length, get_or, set, refl, true, false, not, Some, None, ap, sym, ◌∙◌, subst, arith, length-append}
 use Rattle.std.proofs.lemmas.Bool.{false≢true, not-true, not-false, leb-false, eqb-false}
 use Rattle.std.proofs.Math.Seq.{map-set_same}
 use Rattle.std.proofs.lemmas.List.{map-set, length-map}
 use Rattle.std.proofs.lemmas.Option.{get_or_from_slice_get}
-use Rattle.std.proofs.lemmas.Simd.{map-map}
 use Rattle.roll_frame.specs.declared.limits.TheConstants.{QUEUE_LIMIT, DELAY_LIMIT}
-use Rattle.roll_frame.specs.Inputs.{player_at, changed, with_words, with_given, with_gone, with_none_given, local_tests, remote_tests, disconnect_tests}
+use Rattle.roll_frame.specs.Inputs.{player_at, changed, with_words, with_given, with_gone, local_tests, remote_tests, disconnect_tests}
 use Rattle.roll_frame.specs.Refusals.{first_refusal}
 use Rattle.roll_frame.specs.Timeline.{Player, cell_at, row_at, timeline}
+use Rattle.roll_frame.proofs.Refused.{all_fail}
 use Rattle.roll_inputs.specs.Boards.{Inputs, IsBoard, IsInStep, KeepsCells, players_of}
 use Rattle.roll_inputs.specs.Queues.{Known}
 use Rattle.roll_inputs.proofs.Players.{found, of_player_at, is_at, changed_at, queue_is, change_keeps, KeepsWords}
 use Rattle.roll_inputs.proofs.Steps.{set_keeps}
-use Rattle.roll_inputs.proofs.Refused.{all_fail}
 
 -- what holds where a local word, a remote word and a disconnect are accepted
 pub record MayGive (players : List Player) (frame threshold limit p : ℕ) : Type 0 where
@@ -122,10 +121,6 @@ module _ (change : Player → Player) (queues : List Known) (p i : ℕ) (x : Pla
 -- what callers see of a board with these queues
 abbrev pub seen : ℕ → ℕ → ℕ → ℕ → List Player → Inputs
 seen frame settled threshold limit players = record { players = players; frame = frame; settled = settled; threshold = threshold; limit = limit }
-
--- a new frame leaves the timeline
-pub start_rows : (players : List Player) (m : ℕ) → timeline (map with_none_given players) m ≡ timeline players m
-start_rows players m = same_rows players (map with_none_given players) m (λ t before. map-map (cell_at t) with_none_given players)
 
 -- a local player has words of the delay and of the frames, of which few are past the settled one
 pub own_few : (settled frame threshold limit : ℕ) (queues : List Known) (q : Known) → IsBoard queues frame settled threshold limit → IsInStep settled frame limit q → q.player.local ≡ true → q.player.given ≡ false → length q.player.words ≤ settled + 24

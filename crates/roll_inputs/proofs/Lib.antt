@@ -1,8 +1,7 @@
 mod Walks
-mod Words
+pub mod Words
 mod Fronts
 mod Cells
-mod Refused
 pub mod Players
 mod Steps
 pub mod Changes

@@ -1,16 +1,15 @@
 -- A player alone is answered as the player among others; and the settled rows have its cells.
-use Rattle.std.proofs.Common.{◌≡◌, ◌⊎◌, ℕ, zero, suc, ◌-◌, ◌<◌, ◌≤◌, List, [], ◌∷◌, ◌++◌, length, get_or, Some, None, eqb, true, false, refl, ap, sym, ◌∙◌, subst, inl, inr, arith, length-append}
+use Rattle.std.proofs.Common.{◌≡◌, ◌⊎◌, ℕ, ◌-◌, ◌<◌, List, [], ◌∷◌, length, get_or, Some, None, eqb, true, false, refl, ap, sym, ◌∙◌, subst, inl, inr}
 use Rattle.std.specs.Prelude.{slice_get}
 use Rattle.std.specs.Option.{option_map}
-use Rattle.std.proofs.Math.Seq.{get_or-append_seam}
-use Rattle.std.proofs.lemmas.Bool.{cases_Bool, cases_lt}
-use Rattle.std.proofs.lemmas.List.{get_or_append_left}
+use Rattle.std.proofs.lemmas.Bool.{cases_Bool}
 use Rattle.std.proofs.lemmas.Option.{slice_get-map, slice_get_within, get_or_from_slice_get, none-some}
 use Rattle.roll_frame.specs.Cells.{Rows}
 use Rattle.roll_frame.specs.Inputs.{player_at, is_repeated, remote_tests}
 use Rattle.roll_frame.specs.Refusals.{first_refusal}
 use Rattle.roll_frame.specs.Timeline.{Player, cell_at, row_at, timeline}
 use Rattle.roll_frame.specs.declared.row.Cell.{Cell}
+use Rattle.roll_frame.proofs.Timelines.{length_timeline, timeline_row}
 use Rattle.roll_inputs.specs.Boards.{IsBoard, IsInStep, players_of, queue_at}
 use Rattle.roll_inputs.specs.Queues.{Known, HasPast}
 use Rattle.roll_inputs.proofs.Players.{queue_at-player, is_at}
@@ -20,24 +19,6 @@ alone_refused players p base f x e = rw e refl
 
 pub alone_repeated : (players : List Player) (p f word : ℕ) (x : Player) → player_at players p ≡ Some x → is_repeated (x ∷ []) 1 f word ≡ is_repeated players p f word
 alone_repeated players p f word x e = rw e refl
-
-length-timeline : (players : List Player) (m : ℕ) → length (timeline players m) ≡ m
-length-timeline players zero = refl
-length-timeline players (suc m) = omega (arith, length-append (timeline players m) (row_at players m ∷ []), length-timeline players m)
-
-timeline-row : (players : List Player) (m t : ℕ) (d : List Cell) → t < m → get_or (timeline players m) t d ≡ row_at players t
-timeline-row players zero t d h = absurd (omega arith)
-timeline-row players (suc m) t d h = by_place (cases_lt t m) (timeline-row players m t d)
-  where
-    long : length (timeline players m) ≡ m
-    long = length-timeline players m
-
-    by_place : (t < m) ⊎ (m ≤ t) → (t < m → get_or (timeline players m) t d ≡ row_at players t) → get_or (timeline players m ++ row_at players m ∷ []) t d ≡ row_at players t
-    by_place (inl before) rest = get_or_append_left (timeline players m) (row_at players m ∷ []) d t (omega (arith, long)) ∙ rest before
-    by_place (inr last) rest =
-        let t_is : t ≡ length (timeline players m) = omega (arith, long) in
-        let m_is : t ≡ m = omega arith in
-        ap (λ (k : ℕ). get_or (timeline players m ++ row_at players m ∷ []) k d) t_is ∙ (get_or-append_seam (timeline players m) (row_at players m) [] d ∙ ap (row_at players) (sym m_is))
 
 -- a queue that was found, and its player
 pub record IsFound (queues : List Known) (p : ℕ) (q : Known) : Type 0 where
@@ -64,8 +45,8 @@ found_step queues p frame settled threshold limit q b h = subst (IsInStep settle
 -- the settled rows have the cells of the queue's player
 pub has_past : (players : List Player) (past : Rows) (p settled : ℕ) (q : Known) → past ≡ timeline players settled → player_at players p ≡ Some q.player → q.from ≡ settled → HasPast q past (p - 1)
 has_past players past p settled q is at from = record {
-  rows = ap (λ (rows : Rows). length rows) is ∙ (length-timeline players settled ∙ sym from);
+  rows = ap (λ (rows : Rows). length rows) is ∙ (length_timeline players settled ∙ sym from);
   cells = λ t before.
-      let row : get_or past t [] ≡ row_at players t = ap (λ (rows : Rows). get_or rows t []) is ∙ timeline-row players settled t [] (subst (λ (n : ℕ). t < n) from before) in
+      let row : get_or past t [] ≡ row_at players t = ap (λ (rows : Rows). get_or rows t []) is ∙ timeline_row players settled t [] (subst (λ (n : ℕ). t < n) from before) in
       ap (λ (cells : List Cell). slice_get cells (p - 1)) row ∙ (slice_get-map (cell_at t) players (p - 1) ∙ ap (option_map (cell_at t)) (is_at players p q.player at).there);
 }

@@ -1,8 +1,7 @@
 -- The queues at the start.
-use Rattle.std.proofs.Common.{◌≡◌, ◌⊎◌, ℕ, ◌<◌, ◌≤◌, length, get_or, map, replicate, true, false, not, None, refl, sym, ◌∙◌, subst, inl, inr, arith}
-use Rattle.std.specs.Prelude.{slice_index_or, nat_lt, nat_le}
-use Rattle.std.specs.Int.{is_in_range}
-use Rattle.std.proofs.lemmas.Bool.{false≢true, cases_Bool, and_parts, not-false, leb-true, ltb-false}
+use Rattle.std.proofs.Common.{◌≡◌, ◌⊎◌, ℕ, ◌<◌, ◌≤◌, length, get_or, map, replicate, true, false, None, refl, sym, ◌∙◌, subst, inl, inr, arith}
+use Rattle.std.specs.Prelude.{slice_index_or, nat_lt}
+use Rattle.std.proofs.lemmas.Bool.{false≢true, cases_Bool, not-false, ltb-false}
 use Rattle.std.proofs.lemmas.List.{length-replicate}
 use Rattle.std.proofs.lemmas.List.Elements.{All-map}
 use Rattle.std.proofs.lemmas.List.Folds.{list_any_at}
@@ -12,16 +11,10 @@ use Rattle.roll_frame.specs.declared.limits.TheConstants.{DELAY_LIMIT, FRAME_LIM
 use Rattle.roll_frame.specs.declared.profile.Profile.{Profile}
 use Rattle.roll_frame.specs.declared.profile.Profile.TheVariants.{Ggpo, Wide}
 use Rattle.roll_frame.specs.declared.settings.Settings.{Settings}
+use Rattle.roll_frame.proofs.Refused.{in_range, all_fail}
 use Rattle.roll_inputs.specs.Boards.{IsBoard, IsInStep, first_known}
 use Rattle.roll_inputs.specs.Queues.{Known}
 use Rattle.roll_inputs.proofs.Steps.{list_any-map}
-use Rattle.roll_inputs.proofs.Refused.{all_fail}
-
--- the limits of a range whose test passes
-in_range : (low high n : ℕ) → not (is_in_range low high n) ≡ false → (low ≤ n) × (n ≤ high)
-in_range low high n h =
-    let parts = and_parts (nat_le low n) (nat_le n high) (not-false (is_in_range low high n) h) in
-    (leb-true low n parts.0, leb-true n high parts.1)
 
 most_of : (profile : Profile) → (most_players profile ≤ PLAYER_LIMIT) × (most_threshold profile ≤ most_threshold Wide)
 most_of Ggpo = (omega arith, omega arith)

@@ -6,8 +6,6 @@ mod heard;
 mod history;
 mod queue;
 mod queues;
-#[cfg(test)]
-mod tests;
 
 pub use board::Board;
 pub use heard::Heard;

@@ -8,23 +8,11 @@ use Rattle.roll_frame.specs.Core.{Core}
 use Rattle.roll_frame.specs.Events.{CoreEvent, tests_of, refusal, is_repeat, is_accepted, applied, after}
 use Rattle.roll_frame.specs.Games.{Game}
 use Rattle.roll_frame.specs.Inputs.{player_at, of_player, changed, with_words, with_given, with_gone, with_none_given}
-use Rattle.roll_frame.specs.Refusals.{first_refusal}
-use Rattle.roll_frame.specs.Timeline.{Player, timeline, row_at, cell_at}
+use Rattle.roll_frame.specs.Timeline.{Player}
 use Rattle.roll_frame.specs.declared.refusal.Refusal.{Refusal}
 use Rattle.roll_frame.specs.declared.settings.Settings.{Settings}
+use Rattle.roll_frame.proofs.Refused.{AllFail, all_fail}
 use Rattle.roll_laws.proofs.Ahead.{Later, later_same, AllLater, all_later_same}
-
-abbrev pub AllFail : List (Bool × Refusal) → Type 0
-AllFail [] = Unit {0}
-AllFail (t ∷ ts) = (t.0 ≡ false) × AllFail ts
-
-pub all_fail : (ts : List (Bool × Refusal)) → first_refusal ts ≡ None → AllFail ts
-all_fail [] e = tt
-all_fail (t ∷ ts) e = go (cases_Bool t.0) (all_fail ts)
-  where
-    go : (t.0 ≡ true) ⊎ (t.0 ≡ false) → (first_refusal ts ≡ None → AllFail ts) → AllFail (t ∷ ts)
-    go (inl b) rest = let no : Some t.1 ≡ None = rw b at e in absurd (cc no)
-    go (inr b) rest = (b, rest (rw b at e))
 
 pub fail_first : (xs ys : List (Bool × Refusal)) → AllFail (xs ++ ys) → AllFail xs × AllFail ys
 fail_first [] ys h = (tt, h)
@@ -131,11 +119,3 @@ later_with_gone x = record { same_local = refl; same_mask = refl; more = []; wor
 pub later_none_given : (ps : List Player) → AllLater ps (map with_none_given ps)
 later_none_given [] = tt
 later_none_given (p ∷ ps) = (record { same_local = refl; same_mask = refl; more = []; words = sym (append-nil p.words); gone = λ h. (h, refl) }, later_none_given ps)
-
-row_none_given : (ps : List Player) (t : ℕ) → row_at (map with_none_given ps) t ≡ row_at ps t
-row_none_given [] t = refl
-row_none_given (p ∷ ps) t = ap (λ cs. cell_at t p ∷ cs) (row_none_given ps t)
-
-pub timeline_none_given : (ps : List Player) (k : ℕ) → timeline (map with_none_given ps) k ≡ timeline ps k
-timeline_none_given ps zero = refl
-timeline_none_given ps (suc k) = cc (timeline_none_given ps k, row_none_given ps k)

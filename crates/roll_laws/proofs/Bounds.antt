@@ -16,13 +16,15 @@ use Rattle.roll_frame.specs.Timeline.{Player, timeline}
 use Rattle.roll_frame.specs.declared.entry.Entry.{Entry}
 use Rattle.roll_frame.specs.declared.limits.TheConstants.{QUEUE_LIMIT, DELAY_LIMIT}
 use Rattle.roll_frame.specs.declared.settings.Settings.{Settings}
+use Rattle.roll_frame.proofs.Timelines.{length_timeline}
+use Rattle.roll_frame.proofs.Refused.{AllFail, all_fail}
 use Rattle.roll_laws.specs.Laws.{Always, KeptAreShort, QueuesAreShort, FramesEnd, LogEnds, PlayersStay}
 use Rattle.roll_frame.specs.declared.entry.Entry.TheVariants.{Local, Remote, Disconnect, Sync, Advance, Graft, Partial}
 use Rattle.std.proofs.lemmas.List.FromFn.{length-map-range_with_len}
 use Rattle.roll_laws.proofs.Ahead.{AllLater}
-use Rattle.roll_laws.proofs.Saved.{In, in_either, has_in, length_timeline}
+use Rattle.roll_laws.proofs.Saved.{In, in_either, has_in}
 use Rattle.roll_laws.proofs.Fronts.{settled_onward}
-use Rattle.roll_laws.proofs.Accepted.{AllFail, all_fail, Outcome, after_log, Each, each_weaker, each_at, of_player_is, changed_each}
+use Rattle.roll_laws.proofs.Accepted.{Outcome, after_log, Each, each_weaker, each_at, of_player_is, changed_each}
 use Rattle.roll_laws.proofs.Prefixes.{in_prefixes, in_filter}
 use Rattle.roll_laws.proofs.Starts.{small_threshold}
 use Rattle.roll_laws.proofs.Sound.{Sound, HasLocal, staying, step, steps, first_sound, first_given, in_kept, none_given}

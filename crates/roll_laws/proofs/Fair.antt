@@ -6,16 +6,19 @@ use Rattle.std.specs.Ordering.{is_lt}
 use Rattle.std.proofs.lemmas.Bool.{false≢true, cases_Bool, cases_lt, or_left, or_right, and_from, and_parts, leb-true, ltb-true, lt-ltb, le-leb, eq-eqb, ne_eqb}
 use Rattle.std.proofs.lemmas.List.Elements.{All-from_recursion}
 use Rattle.roll_frame.specs.Cells.{cell_eq, cell_eq-Decides, Rows}
-use Rattle.roll_frame.specs.Claims.{Differ, IsDeeper, IsTrueEntry, IsRight, AreRowsOf, is_for, cell_in, cell_of_row, place_of, least_place, is_passed, is_start, differ_of, differs_from, path_from, claim_of, target_of}
+use Rattle.roll_frame.specs.declared.claim.Differ.{Differ}
+use Rattle.roll_frame.specs.Claims.{IsDeeper, IsTrueEntry, IsRight, AreRowsOf, is_for, cell_in, cell_of_row, place_of, least_place, is_passed, is_start, differ_of, differs_from, path_from, claim_of, target_of}
 use Rattle.roll_frame.specs.Core.{Roll}
 use Rattle.roll_frame.specs.Order.{frames_of, rows_cmp, placed, in_order}
 use Rattle.roll_frame.specs.Paths.{begins_with}
 use Rattle.roll_frame.specs.declared.limits.TheConstants.{PATH_LIMIT}
 use Rattle.roll_frame.specs.declared.path.Path.{Path}
 use Rattle.roll_frame.specs.declared.row.Cell.{Cell}
+use Rattle.roll_frame.proofs.Beginnings.{begins}
 use Rattle.roll_laws.specs.Laws.{IsLeastEntry}
 use Rattle.std.proofs.lemmas.List.Sums.{sum_by-cons}
-use Rattle.roll_laws.proofs.Saved.{In, begins}
+use Rattle.std.proofs.lemmas.List.{drop-take}
+use Rattle.roll_laws.proofs.Saved.{In}
 use Rattle.roll_laws.proofs.Right.{get_take, count_skips}
 
 abbrev pub Wide : ℕ → Rows → Type 0
@@ -184,11 +187,13 @@ module _ (n : ℕ) (roll : Roll) (fair : IsFair n roll) where
       let past : roll.settled ≤ f = not_settled 0 n roll.settled q roll.time f p o (fair.kept_settled q i) in
       let place : suc p - 1 ≡ p = omega arith in
       record {
-        deeper = (omega (arith, d.0), omega (arith, d.1, fair.to_is, fair.low, fair.top));
-        from = past;
-        below = omega (arith, o.frame);
-        first = omega arith;
-        last = omega (arith, o.player);
+        on_path = record {
+          deeper = (omega (arith, d.0), omega (arith, d.1, fair.to_is, fair.low, fair.top));
+          from = past;
+          below = omega (arith, o.frame);
+          first = omega arith;
+          last = omega (arith, o.player);
+        };
         differs = λ same. o.differs (sym (cell_in_drop roll.settled f p q past) ∙ subst (λ (k : ℕ). cell_in (drop roll.settled q) (f - roll.settled) k ≡ cell_in (drop roll.settled roll.time) (f - roll.settled) k) place same ∙ cell_in_drop roll.settled f p roll.time past);
       }
 
@@ -227,17 +232,7 @@ any_in test g [] q i h = absurd i
 any_in test g (p ∷ ps) q (inl e) h = or_left (test (g p)) (list_any test (map g ps)) (subst (λ (x : Rows). test (g x) ≡ true) e h)
 any_in test g (p ∷ ps) q (inr i) h = or_right (test (g p)) (list_any test (map g ps)) (any_in test g ps q i h)
 
-drop_take : (k m : ℕ) (rows : Rows) → k ≤ m → drop k (take m rows) ≡ take (m - k) (drop k rows)
-drop_take zero m rows l = ap (λ j. take j rows) (omega arith)
-drop_take (suc k) zero rows l = absurd (omega arith)
-drop_take (suc k) (suc m) [] l = none (suc m - suc k)
-  where
-    none : (j : ℕ) → ◌≡◌ {A = Rows} [] (take j [])
-    none zero = refl
-    none (suc j) = refl
-drop_take (suc k) (suc m) (row ∷ rows) l = let e : m - k ≡ suc m - suc k = omega arith in drop_take k m rows (omega arith) ∙ ap (λ j. take j (drop k rows)) e
-
-wide_drop : (n k : ℕ) (rows : Rows) → Wide n rows → Wide n (drop k rows)
+pub wide_drop : (n k : ℕ) (rows : Rows) → Wide n rows → Wide n (drop k rows)
 wide_drop n zero rows w = w
 wide_drop n (suc k) [] w = tt
 wide_drop n (suc k) (row ∷ rows) w = wide_drop n k rows w.1
@@ -334,6 +329,8 @@ module _ (n : ℕ) (roll : Roll) (fair : IsFair n roll) where
       let time_long : length (drop roll.settled roll.time) ≡ length roll.time - roll.settled = length-drop roll.settled roll.time in
       let q : Rows = take roll.from roll.time in
       let q_long : length q ≡ roll.from = omega (arith, length-take roll.from roll.time, fair.to_is, fair.top) in
+      let past : roll.settled + (roll.from - roll.settled) ≡ roll.from = omega (arith, fair.low) in
+      let cut : drop roll.settled q ≡ take (roll.from - roll.settled) (drop roll.settled roll.time) = ap (λ j. drop roll.settled (take j roll.time)) (sym past) ∙ drop-take roll.settled (roll.from - roll.settled) roll.time in
       let own_long : length (drop roll.settled q) ≡ roll.from - roll.settled = omega (arith, length-drop roll.settled q) in
       record {
         shape = record {
@@ -348,7 +345,7 @@ module _ (n : ℕ) (roll : Roll) (fair : IsFair n roll) where
             (and_from (nat_eq (frames_of (path_from roll.settled q)) roll.from && nat_le roll.from (target_of (claim_of n roll))) (begins_with (drop roll.settled roll.time) (drop roll.settled q))
             (and_from (nat_eq (frames_of (path_from roll.settled q)) roll.from) (nat_le roll.from (target_of (claim_of n roll)))
             (eq-eqb (frames_of (path_from roll.settled q)) roll.from (omega (arith, fair.low))) (le-leb roll.from (target_of (claim_of n roll)) (omega (arith, fair.to_is, fair.top, fair.low))))
-            (begins (drop roll.settled roll.time) (drop roll.settled q) (drop_take roll.settled roll.from roll.time fair.low ∙ ap (λ j. take j (drop roll.settled roll.time)) (sym own_long))));
+            (begins (drop roll.settled roll.time) (drop roll.settled q) (cut ∙ ap (λ j. take j (drop roll.settled roll.time)) (sym own_long))));
         entries = claim_entries (IsTrueEntry (claim_of n roll)) (true_entry n roll fair);
         once = λ place path e deeper.
             let u = unmapped (in_order roll.kept) place path e in

@@ -13,13 +13,15 @@ use Rattle.roll_frame.specs.Settings.{open_to_branches, start_refusal}
 use Rattle.roll_frame.specs.Timeline.{Player, timeline, front}
 use Rattle.roll_frame.specs.declared.entry.Entry.{Entry}
 use Rattle.roll_frame.specs.declared.settings.Settings.{Settings}
+use Rattle.roll_frame.proofs.Timelines.{length_timeline}
+use Rattle.roll_frame.proofs.Refused.{AllFail}
 use Rattle.roll_laws.specs.Laws.{FewAreKept, RollsFit, SavedOnce}
 use Rattle.roll_frame.specs.declared.entry.Entry.TheVariants.{Local, Remote, Disconnect, Sync, Advance, Graft, Partial}
 use Rattle.roll_laws.proofs.Known.{fits, possible_from_fits, OnTime}
 use Rattle.roll_laws.proofs.Ahead.{fits_before}
-use Rattle.roll_laws.proofs.Saved.{In, in_has, in_either, length_timeline, take_timeline, on_time_is, time_begins, begins_on_time}
+use Rattle.roll_laws.proofs.Saved.{In, in_has, in_either, take_timeline, on_time_is, time_begins, begins_on_time}
 use Rattle.roll_laws.proofs.Fronts.{depth_at_least, depth_is, settled_is, Onward, settled_onward}
-use Rattle.roll_laws.proofs.Accepted.{AllFail, after_either}
+use Rattle.roll_laws.proofs.Accepted.{after_either}
 use Rattle.roll_laws.proofs.Prefixes.{in_prefixes, in_filter, filter_in}
 use Rattle.roll_laws.proofs.Counting.{filter_le, filter_short, filter_none, filter_parts, Distinct, distinct_append, distinct_filter, distinct_prefixes, distinct_short}
 use Rattle.roll_laws.proofs.Starts.{starts_are_small, few_kept}
@@ -273,7 +275,7 @@ rolled_start settings core m q b deep high i =
     subst (λ (p : Rows). In p (starts core.players (settled core) (settings.threshold + 2))) (sym is)
     (starts_in core.players (settled core) (settings.threshold + 2) n (omega arith) (omega (arith, b.0.lag)))
 
-length_prefixes : (q : Rows) (d k : ℕ) → length (prefixes q d k) ≡ k
+pub length_prefixes : (q : Rows) (d k : ℕ) → length (prefixes q d k) ≡ k
 length_prefixes q d zero = refl
 length_prefixes q d (suc k) = length-append (prefixes q d k) (take (d + suc k) q ∷ []) ∙ omega (arith, length_prefixes q d k)
 

@@ -6,10 +6,11 @@ use Rattle.roll_frame.specs.Cells.{Rows}
 use Rattle.roll_frame.specs.Core.{Core, is_known, settled, depth}
 use Rattle.roll_frame.specs.Paths.{begins_with}
 use Rattle.roll_frame.specs.Timeline.{Player, timeline, least_of, front}
+use Rattle.roll_frame.proofs.Timelines.{length_timeline}
 use Rattle.roll_laws.proofs.Known.{known_confirmed, known_gone, AllKnown}
 use Rattle.roll_laws.proofs.Ahead.{AllLater, all_later_same, all_later_trans, longer, known_row_stays}
 use Rattle.roll_laws.proofs.Predicted.{not_gone}
-use Rattle.roll_laws.proofs.Saved.{In, longest_at_least, longest_is, IsLength, length_timeline, take_timeline, timeline_on_time, time_begins}
+use Rattle.roll_laws.proofs.Saved.{In, longest_at_least, longest_is, IsLength, take_timeline, timeline_on_time, time_begins}
 
 AllOver : ℕ → List ℕ → Type 0
 AllOver n [] = Unit {0}

@@ -12,12 +12,15 @@ use Rattle.roll_frame.specs.Inputs.{changed, with_words}
 use Rattle.roll_frame.specs.Paths.{longest, contains}
 use Rattle.roll_frame.specs.Timeline.{timeline, front}
 use Rattle.roll_frame.specs.declared.settings.Settings.{Settings}
+use Rattle.roll_frame.proofs.Beginnings.{begins}
+use Rattle.roll_frame.proofs.Timelines.{length_timeline}
+use Rattle.roll_frame.proofs.Refused.{AllFail, all_fail}
 use Rattle.roll_laws.specs.Laws.{JobsStartKept, IsJobOf}
 use Rattle.std.specs.Int.{is_in_range}
 use Rattle.roll_laws.proofs.Ahead.{AllLater}
-use Rattle.roll_laws.proofs.Saved.{In, has_in, in_has, begins, longest_at_least, longest_is, length_timeline, take_timeline}
+use Rattle.roll_laws.proofs.Saved.{In, has_in, in_has, longest_at_least, longest_is, take_timeline}
 use Rattle.roll_laws.proofs.Fronts.{settled_is, timeline_stays}
-use Rattle.roll_laws.proofs.Accepted.{AllFail, all_fail, of_player_is, changed_later, later_with_words}
+use Rattle.roll_laws.proofs.Accepted.{of_player_is, changed_later, later_with_words}
 use Rattle.roll_laws.proofs.Sound.{Sound, sound_played}
 use Rattle.roll_laws.proofs.KeptPaths.{kept_settled, settled_kept}
 

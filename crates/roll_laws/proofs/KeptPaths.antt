@@ -1,7 +1,8 @@
 -- What is known, saved and kept, from what is sound and later.
-use Rattle.std.proofs.Common.{◌≡◌, ℕ, zero, suc, ◌+◌, ◌<◌, ◌≤◌, List, [], ◌∷◌, ◌++◌, length, refl, ap, sym, ◌∙◌, true, false, arith, take, subst, inl, inr, Some, None, length-take}
+use Rattle.std.proofs.Common.{◌≡◌, ℕ, zero, suc, ◌+◌, ◌<◌, ◌≤◌, List, [], ◌∷◌, ◌++◌, length, ap, sym, ◌∙◌, true, false, arith, take, subst, inl, inr, Some, None, length-take}
 use Rattle.std.specs.Prelude.{◌⊎◌, nat_le, if◌then◌else◌}
 use Rattle.std.proofs.lemmas.Bool.{false≢true, cases_Bool, cases_lt, false_from_ne_true, and_parts, and_from, leb-true, le-leb}
+use Rattle.std.proofs.lemmas.List.{length-take-le}
 use Rattle.roll_frame.specs.Cells.{Rows}
 use Rattle.roll_frame.specs.Core.{Core, is_known, is_possible, settled, kept, is_live, depth, cost, rolled_paths}
 use Rattle.roll_frame.specs.Events.{played}
@@ -9,11 +10,12 @@ use Rattle.roll_frame.specs.Paths.{contains}
 use Rattle.roll_frame.specs.Timeline.{Player, cell_at, front, timeline}
 use Rattle.roll_frame.specs.declared.row.Cell.{Cell}
 use Rattle.roll_frame.specs.declared.settings.Settings.{Settings}
+use Rattle.roll_frame.proofs.Timelines.{length_timeline}
 use Rattle.roll_laws.specs.Laws.{known_cell, KnownCellsStay, SettledNeverFalls, ImpossibleStays, PrefixesAreSaved, KeptBeginSettled, StartIsKept, RolledIsTimeOrDead, WindowIsBounded, CostIsSmall, KeptArePrefixed}
 use Rattle.roll_laws.proofs.Known.{fits, possible_from_fits, OnTime, on_time_fits, fits_on_time}
 use Rattle.roll_laws.proofs.Ahead.{AllLater, known_stays, fits_before}
 use Rattle.roll_laws.proofs.Predicted.{all_steady_first, stays_on_time}
-use Rattle.roll_laws.proofs.Saved.{In, has_in, in_has, length_timeline, take_timeline, on_time_is, timeline_on_time}
+use Rattle.roll_laws.proofs.Saved.{In, has_in, in_has, take_timeline, on_time_is, timeline_on_time}
 use Rattle.roll_laws.proofs.Fronts.{depth_is, depth_at_least, settled_is, settled_onward, known_below_front}
 use Rattle.roll_laws.proofs.Prefixes.{in_prefixes, in_filter, filter_in}
 use Rattle.roll_laws.proofs.Sound.{Sound, sound_played, onward_played, staying, fits_take}
@@ -60,13 +62,8 @@ pub possible_settled : (ps : List Player) (k : ℕ) (q : Rows) → is_possible p
 possible_settled ps k q p l n =
     let on : OnTime 0 ps (take k q) = fits_on_time 0 k ps q (λ s a b. known_below_front s ps (omega arith)) (fits 0 ps q p) in
     let e = on_time_is ps (take k q) on in
-    let long : length (take k q) ≡ k = long_take k q n in
+    let long : length (take k q) ≡ k = length-take-le k q n in
     e ∙ ap (timeline ps) long
-  where
-    long_take : (n : ℕ) (r : Rows) → n ≤ length r → length (take n r) ≡ n
-    long_take zero r h = refl
-    long_take (suc n) [] h = absurd (omega arith)
-    long_take (suc n) (x ∷ xs) h = ap suc (long_take n xs (omega arith))
 
 pub kept_settled : (settings : Settings) (core : Core) (path : Rows) → Sound settings core → contains (kept core) path ≡ true → take (settled core) path ≡ timeline core.players (settled core)
 kept_settled settings core path s e =

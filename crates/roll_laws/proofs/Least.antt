@@ -1,7 +1,7 @@
 -- Rolls are least, and pruning loses nothing.
 use Rattle.std.specs.Prelude.{filter, min}
 use Rattle.std.proofs.lemmas.Bool.{false≢true, cases_Bool}
-use Rattle.std.proofs.lemmas.List.{append-nil}
+use Rattle.std.proofs.lemmas.List.{append-nil, length-take-le}
 use Rattle.std.proofs.lemmas.List.Elements.{filter-append}
 use Rattle.roll_frame.specs.Cells.{Rows}
 use Rattle.roll_frame.specs.Core.{Core, kept, settled, is_live, depth}
@@ -11,14 +11,16 @@ use Rattle.roll_frame.specs.Paths.{begins_with, longest}
 use Rattle.roll_frame.specs.Timeline.{front, timeline}
 use Rattle.roll_frame.specs.declared.entry.Entry.{Entry}
 use Rattle.roll_frame.specs.declared.settings.Settings.{Settings}
+use Rattle.roll_frame.proofs.Beginnings.{begins}
+use Rattle.roll_frame.proofs.Timelines.{length_timeline}
 use Rattle.roll_laws.specs.Laws.{KeptAfter, SettledAfter, RollsAreLeast, PruningLosesNothing}
 use Rattle.roll_frame.specs.Settings.{start_refusal}
 use Rattle.roll_laws.proofs.Counting.{filter_takes, filter_skips}
-use Rattle.std.proofs.Common.{None, ◌≡◌, ℕ, zero, suc, ◌+◌, ◌≤◌, List, [], ◌∷◌, ◌++◌, length, take, refl, ap, sym, ◌∙◌, Bool, true, false, arith, inl, inr, subst, length-append}
+use Rattle.std.proofs.Common.{None, ◌≡◌, ℕ, ◌+◌, ◌≤◌, List, [], ◌∷◌, ◌++◌, length, take, refl, ap, sym, ◌∙◌, Bool, true, false, arith, inl, inr, subst, length-append}
 use Rattle.std.specs.Prelude.{◌⊎◌}
 use Rattle.std.proofs.Math.Seq.{take-append_seam}
 use Rattle.roll_frame.specs.declared.entry.Entry.TheVariants.{Local, Remote, Disconnect, Sync, Advance, Graft, Partial}
-use Rattle.roll_laws.proofs.Saved.{In, in_left, in_right, in_either, has_in, IsLength, longest_is, longest_at_least, begins, length_timeline, take_timeline, timeline_on_time, time_begins}
+use Rattle.roll_laws.proofs.Saved.{In, in_left, in_right, in_either, has_in, IsLength, longest_is, longest_at_least, take_timeline, timeline_on_time, time_begins}
 use Rattle.roll_laws.proofs.Fronts.{Onward, settled_onward, settled_is, depth_is, depth_at_least}
 use Rattle.roll_laws.proofs.Accepted.{after_accepted}
 use Rattle.roll_laws.proofs.Prefixes.{in_filter}
@@ -41,14 +43,9 @@ longest_fewer ps qs q f = go (longest ps q) (longest_is ps q)
     go : (n : ℕ) → IsLength ps q n → n ≤ longest qs q
     go n (inl e) = omega arith
     go n (inr h) =
-        let long : length (take n q) ≡ n = long_take n q h.1 in
+        let long : length (take n q) ≡ n = length-take-le n q h.1 in
         let b : begins_with q (take n q) ≡ true = begins q (take n q) (ap (λ k. take k q) (sym long)) in
         omega (arith, long, longest_at_least qs q (take n q) (f (take n q) h.0) b)
-      where
-        long_take : (k : ℕ) (r : Rows) → k ≤ length r → length (take k r) ≡ k
-        long_take zero r l = refl
-        long_take (suc k) [] l = absurd (omega arith)
-        long_take (suc k) (x ∷ xs) l = ap suc (long_take k xs (omega arith))
 
 pub pruning_loses_nothing : PruningLosesNothing
 pruning_loses_nothing settings game events h m l =

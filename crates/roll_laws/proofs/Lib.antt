@@ -1,5 +1,6 @@
 pub mod Accepted
 pub mod Ahead
+pub mod Appended
 pub mod Bounds
 pub mod Counting
 pub mod Examples

@@ -6,8 +6,9 @@ use Rattle.roll_frame.specs.Cells.{Rows}
 use Rattle.roll_frame.specs.Core.{Core, depth}
 use Rattle.roll_frame.specs.Events.{played}
 use Rattle.roll_frame.specs.Timeline.{timeline}
+use Rattle.roll_frame.proofs.Timelines.{length_timeline}
 use Rattle.roll_laws.specs.Laws.{RollIsPlan}
-use Rattle.roll_laws.proofs.Saved.{in_has, length_timeline, take_timeline}
+use Rattle.roll_laws.proofs.Saved.{in_has, take_timeline}
 use Rattle.roll_laws.proofs.Fronts.{depth_is}
 use Rattle.roll_laws.proofs.Sound.{sound_played}
 

@@ -42,7 +42,7 @@ steady_first old new l h g = same_words old new l (omega arith)
 pub not_gone : (old new : Player) → Later old new → new.gone ≡ false → old.gone ≡ false
 not_gone old new l g = false_from_ne_true old.gone (λ e. false≢true (sym g ∙ (l.gone e).0))
 
-word_of_cell : (v w : ℕ) → Word v ≡ Word w → v ≡ w
+pub word_of_cell : (v w : ℕ) → Word v ≡ Word w → v ≡ w
 word_of_cell v w e = cc
 
 steady_next : (t : ℕ) (old new : Player) → Later old new → Steady t old new → (is_known t new ≡ true → cell_at t old ≡ cell_at t new) → Steady (suc t) old new

@@ -7,11 +7,13 @@ use Rattle.std.proofs.lemmas.List.Elements.{recursion_from_All}
 use Rattle.std.specs.List.{AllByRecursion}
 use Rattle.std.proofs.Props.{props}
 use Rattle.roll_frame.specs.Cells.{Rows}
-use Rattle.roll_frame.specs.Claims.{Differ, Claim, IsRight, IsTrueEntry, AreRowsOf, is_for, cell_of_row}
+use Rattle.roll_frame.specs.declared.claim.Differ.{Differ}
+use Rattle.roll_frame.specs.declared.claim.Claim.{Claim}
+use Rattle.roll_frame.specs.Claims.{IsRight, IsTrueEntry, AreRowsOf, is_for, cell_of_row}
 use Rattle.roll_frame.specs.Paths.{begins_with}
 use Rattle.roll_frame.specs.declared.path.Path.{Path}
+use Rattle.roll_frame.proofs.Beginnings.{begins_is}
 use Rattle.roll_laws.specs.Laws.{DeeperDiffer}
-use Rattle.roll_laws.proofs.Saved.{begins_is}
 
 pub count_skips : (p : Differ → Bool) (x : Differ) (xs : List Differ) → p x ≡ false → count_by p (x ∷ xs) ≡ count_by p xs
 count_skips p x xs e = rw e (omega arith)
@@ -43,8 +45,8 @@ get_take (row ∷ rows) (suc n) (suc k) h = get_take rows n k (omega arith)
 
 agrees_nowhere : (claim : Claim) (entry : Differ) (path : Path) → IsTrueEntry claim entry path → path.base ≡ claim.base → begins_with claim.time path.rows.items ≡ true → ⊥
 agrees_nowhere claim entry path t b begins =
-    let below : entry.frame < path.base + length path.rows.items = t.below in
-    let from : claim.base ≤ entry.frame = t.from in
+    let below : entry.frame < path.base + length path.rows.items = t.on_path.below in
+    let from : claim.base ≤ entry.frame = t.on_path.from in
     let k : ℕ = entry.frame - claim.base in
     let short : k < length path.rows.items = omega arith in
     let rows : path.rows.items ≡ take (length path.rows.items) claim.time = begins_is claim.time path.rows.items begins in

@@ -11,10 +11,11 @@ use Rattle.roll_frame.specs.Timeline.{Player, timeline}
 use Rattle.roll_frame.specs.declared.entry.Entry.{Entry}
 use Rattle.roll_frame.specs.declared.row.Cell.{Cell}
 use Rattle.roll_frame.specs.declared.settings.Settings.{Settings}
+use Rattle.roll_frame.proofs.Timelines.{length_timeline}
 use Rattle.roll_laws.specs.Laws.{Always, ClaimsAreRight, ClaimsNameLeast}
 use Rattle.roll_frame.specs.declared.entry.Entry.TheVariants.{Local, Remote, Disconnect, Sync, Advance, Graft, Partial}
 use Rattle.roll_laws.proofs.Known.{RowFits, Fits, fits, on_time_fits}
-use Rattle.roll_laws.proofs.Saved.{In, has_in, in_has, length_timeline, take_timeline, timeline_on_time}
+use Rattle.roll_laws.proofs.Saved.{In, has_in, in_has, take_timeline, timeline_on_time}
 use Rattle.roll_laws.proofs.Fronts.{depth_is, depth_at_least, settled_is, settled_onward}
 use Rattle.roll_laws.proofs.Accepted.{Outcome, after_log}
 use Rattle.roll_laws.proofs.Starts.{starts_are_small, few_players, small_threshold}

@@ -13,11 +13,13 @@ use Rattle.roll_frame.specs.Paths.{begins_with}
 use Rattle.roll_frame.specs.Timeline.{Player, cell_at, front, timeline}
 use Rattle.roll_frame.specs.declared.row.Cell.{Cell}
 use Rattle.roll_frame.specs.declared.row.Cell.TheVariants.{Word, Gone}
+use Rattle.roll_frame.proofs.Beginnings.{begins, begins_is}
+use Rattle.roll_frame.proofs.Timelines.{length_timeline}
 use Rattle.roll_laws.specs.Laws.{WordsRuleOut, LeavingRulesOut, LongBeginSettled, has_no_other, has_no_other_in}
 use Rattle.roll_laws.proofs.Fronts.{settled_is}
 use Rattle.roll_laws.proofs.Known.{cell_confirmed, cell_gone, known_confirmed, known_gone}
 use Rattle.roll_laws.proofs.KeptPaths.{possible_settled}
-use Rattle.roll_laws.proofs.Saved.{In, begins, begins_is, length_timeline}
+use Rattle.roll_laws.proofs.Saved.{In}
 use Rattle.roll_laws.proofs.Sound.{sound_played}
 
 and_both : (a b x y : Bool) → ((a && x) && (b && y)) ≡ ((a && b) && (x && y))

@@ -1,10 +1,12 @@
 -- Saved paths: which the timeline begins with, and the longest of them.
-use Rattle.std.proofs.Common.{◌≡◌, ℕ, zero, suc, ◌+◌, ◌≤◌, List, [], ◌∷◌, ◌++◌, length, refl, ap, sym, ◌∙◌, Bool, true, false, arith, take, subst, inl, inr, length-take, max}
+use Rattle.std.proofs.Common.{◌≡◌, ℕ, zero, suc, ◌+◌, ◌≤◌, List, [], ◌∷◌, ◌++◌, length, map, refl, ap, sym, ◌∙◌, Bool, true, false, arith, take, subst, inl, inr, length-take, max}
 use Rattle.std.specs.Prelude.{◌⊎◌}
 use Rattle.std.proofs.lemmas.Bool.{false≢true, or_cases, or_left, or_right}
 use Rattle.roll_frame.specs.Cells.{rows_eq, rows_eq-Decides, Rows}
 use Rattle.roll_frame.specs.Paths.{begins_with, longest, contains}
 use Rattle.roll_frame.specs.Timeline.{Player, row_at, timeline}
+use Rattle.roll_frame.proofs.Beginnings.{begins, begins_is}
+use Rattle.roll_frame.proofs.Timelines.{length_timeline}
 use Rattle.roll_laws.proofs.Known.{OnTime}
 
 -- q is one of these paths
@@ -30,6 +32,17 @@ in_either q (p ∷ ps) qs (inr h) = go (in_either q ps qs h)
     go (inl i) = inl (inr i)
     go (inr i) = inr i
 
+pub in_map : (f : Rows → Rows) (q : Rows) (ps : List Rows) → In q ps → In (f q) (map f ps)
+in_map f q [] h = absurd h
+in_map f q (p ∷ ps) (inl e) = inl (ap f e)
+in_map f q (p ∷ ps) (inr h) = inr (in_map f q ps h)
+
+-- what is among mapped paths was mapped from one of them
+pub map_in : (f : Rows → Rows) (q : Rows) (ps : List Rows) → In q (map f ps) → (p : Rows) × In p ps × (q ≡ f p)
+map_in f q [] h = absurd h
+map_in f q (p ∷ ps) (inl e) = (p, inl refl, e)
+map_in f q (p ∷ ps) (inr h) = let r = map_in f q ps h in (r.0, inr r.1, r.2)
+
 pub has_in : (ps : List Rows) (q : Rows) → contains ps q ≡ true → In q ps
 has_in [] q h = false≢true h
 has_in (p ∷ ps) q h = go (or_cases (rows_eq q p) (contains ps q) h) (has_in ps q)
@@ -42,13 +55,6 @@ pub in_has : (ps : List Rows) (q : Rows) → In q ps → contains ps q ≡ true
 in_has [] q h = absurd h
 in_has (p ∷ ps) q (inl e) = or_left (rows_eq q p) (contains ps q) ((rows_eq-Decides q p).1 e)
 in_has (p ∷ ps) q (inr h) = or_right (rows_eq q p) (contains ps q) (in_has ps q h)
-
--- a path begins with its own first rows, and with no others
-pub begins_is : (q p : Rows) → begins_with q p ≡ true → p ≡ take (length p) q
-begins_is q p h = (rows_eq-Decides p (take (length p) q)).0 h
-
-pub begins : (q p : Rows) → p ≡ take (length p) q → begins_with q p ≡ true
-begins q p e = (rows_eq-Decides p (take (length p) q)).1 e
 
 pub longest_at_least : (ps : List Rows) (q p : Rows) → In p ps → begins_with q p ≡ true → length p ≤ longest ps q
 longest_at_least [] q p i b = absurd i
@@ -109,13 +115,6 @@ timeline_is ps zero = refl
 timeline_is ps (suc m) =
     let place : m ≡ 0 + m = omega arith in
     ap (λ rs. rs ++ row_at ps m ∷ []) (timeline_is ps m) ∙ ap (λ n. rows_from ps 0 m ++ row_at ps n ∷ []) place ∙ sym (rows_from_more ps 0 m)
-
-length_rows : (ps : List Player) (t k : ℕ) → length (rows_from ps t k) ≡ k
-length_rows ps t zero = refl
-length_rows ps t (suc k) = ap suc (length_rows ps (suc t) k)
-
-pub length_timeline : (ps : List Player) (m : ℕ) → length (timeline ps m) ≡ m
-length_timeline ps m = ap length (timeline_is ps m) ∙ length_rows ps 0 m
 
 take_rows : (ps : List Player) (t k m : ℕ) → k ≤ m → take k (rows_from ps t m) ≡ rows_from ps t k
 take_rows ps t zero m h = refl

@@ -15,11 +15,13 @@ use Rattle.roll_frame.specs.Timeline.{Player, front, timeline}
 use Rattle.roll_frame.specs.declared.entry.Entry.{Entry}
 use Rattle.roll_frame.specs.declared.settings.Settings.{Settings}
 use Rattle.roll_frame.specs.declared.entry.Entry.TheVariants.{Local, Remote, Disconnect, Sync, Advance, Graft, Partial}
+use Rattle.roll_frame.proofs.Timelines.{timeline_none_given}
+use Rattle.roll_frame.proofs.Refused.{AllFail, all_fail}
 use Rattle.roll_laws.proofs.Known.{Fits, fits, possible_from_fits}
 use Rattle.roll_laws.proofs.Ahead.{AllLater, all_later_same}
 use Rattle.roll_laws.proofs.Saved.{In, in_left, in_right, has_in, take_timeline}
 use Rattle.roll_laws.proofs.Fronts.{HasStaying, front_later, depth_is, depth_at_least, Onward, onward_same, onward_trans, settled_onward}
-use Rattle.roll_laws.proofs.Accepted.{AllFail, all_fail, after_either, Each, each_weaker, each_at, at_place, of_player_is, changed_later, changed_each, later_with_words, later_with_given, later_with_gone, later_none_given, timeline_none_given}
+use Rattle.roll_laws.proofs.Accepted.{after_either, Each, each_weaker, each_at, at_place, of_player_is, changed_later, changed_each, later_with_words, later_with_given, later_with_gone, later_none_given}
 use Rattle.roll_laws.proofs.Prefixes.{in_prefixes, prefixes_in, in_filter, filter_in, Closed, closed_more, take_below}
 
 abbrev pub HasLocal : List Player → Type 0

@@ -1,20 +1,11 @@
 -- What it says of the settings that a session starts.
-use Rattle.std.proofs.Common.{◌≡◌, ℕ, ◌+◌, ◌≤◌, false, arith, None}
-use Rattle.std.specs.Prelude.{not, nat_le}
-use Rattle.std.specs.Int.{is_in_range}
-use Rattle.std.proofs.lemmas.Bool.{and_parts, not-false, leb-true}
+use Rattle.std.proofs.Common.{◌≡◌, ℕ, ◌+◌, ◌≤◌, arith, None}
 use Rattle.roll_frame.specs.Settings.{most_players, most_threshold, open_to_branches, start_tests, start_refusal}
 use Rattle.roll_frame.specs.declared.profile.Profile.{Profile}
 use Rattle.roll_frame.specs.declared.settings.Settings.{Settings}
+use Rattle.roll_frame.proofs.Refused.{in_range, all_fail}
 use Rattle.roll_laws.specs.Laws.{StartsAreSmall, most_kept}
 use Rattle.roll_frame.specs.declared.profile.Profile.TheVariants.{Ggpo, Wide}
-use Rattle.roll_laws.proofs.Accepted.{all_fail}
-
--- the limits of a range whose test passes
-in_range : (low high n : ℕ) → not (is_in_range low high n) ≡ false → (low ≤ n) × (n ≤ high)
-in_range low high n h =
-    let w = and_parts (nat_le low n) (nat_le n high) (not-false (is_in_range low high n) h) in
-    (leb-true low n w.0, leb-true n high w.1)
 
 -- what a profile lets its sessions keep
 profile_keeps : (profile : Profile) (threshold : ℕ) → threshold ≤ most_threshold profile → open_to_branches profile + threshold + 2 ≤ most_kept profile

@@ -22,7 +22,9 @@ use Rattle.roll_frame.specs.Grafts.{Branch, start_of}
 use Rattle.roll_frame.specs.Events.{CoreEvent, is_accepted, added_by, after, played, replay, log_of}
 use Rattle.roll_frame.specs.Guess.{guess_tests, guessed_time, guessed_job}
 use Rattle.roll_frame.specs.Order.{rows_cmp, in_order}
-use Rattle.roll_frame.specs.Claims.{Claim, Differ, IsDeeper, IsRight, cell_in, claim_of}
+use Rattle.roll_frame.specs.declared.claim.Claim.{Claim}
+use Rattle.roll_frame.specs.declared.claim.Differ.{Differ}
+use Rattle.roll_frame.specs.Claims.{IsDeeper, IsRight, cell_in, claim_of}
 
 -- a fact of the core after any events of any session that starts
 abbrev pub Always : (Settings → Core → Type 0) → Type 0

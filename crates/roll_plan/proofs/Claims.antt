@@ -4,27 +4,21 @@ use Rattle.std.specs.Prelude.{◌⊎◌}
 use Rattle.std.specs.List.{AllByRecursion}
 use Rattle.std.proofs.lemmas.Bool.{cases_Bool}
 use Rattle.std.proofs.lemmas.List.Elements.{recursion_from_All}
+use Rattle.std.proofs.Math.Seq.{drop-append_seam, take-append-add, take-append_seam}
 use Rattle.roll_frame.specs.declared.row.Cell.{Cell}
 use Rattle.roll_frame.specs.declared.row.Cell.TheVariants.{Word}
 use Rattle.roll_frame.specs.Cells.{Rows}
-use Rattle.roll_frame.specs.Claims.{Claim, AreRowsOf, IsRight, claim_of, path_from}
+use Rattle.roll_frame.specs.declared.claim.Claim.{Claim}
+use Rattle.roll_frame.specs.Claims.{AreRowsOf, IsRight, claim_of, path_from}
 use Rattle.roll_frame.specs.Order.{in_order}
 use Rattle.roll_frame.specs.Paths.{begins_with, longest}
 use Rattle.roll_laws.proofs.Fair.{Wide, IsFair, fair_is_right}
-use Rattle.roll_laws.proofs.Saved.{In, has_in, begins_is, begins, longest_at_least, longest_is, IsLength}
-use Rattle.roll_tree.specs.Kept.{path_of}
+use Rattle.roll_laws.proofs.Saved.{In, has_in, longest_at_least, longest_is, IsLength, in_map, map_in}
+use Rattle.roll_tree.specs.SavedStates.{path_of}
+use Rattle.roll_frame.proofs.Beginnings.{begins-behind}
 use Rattle.roll_plan.specs.Plans.{Made, IsClaimOf, roll_of}
 use Rattle.roll_plan.specs.Fields.{IsFit}
 use Rattle.roll_plan.proofs.Settled.{on, order_on}
-
-drop_on : (settled path : Rows) → drop (length settled) (on settled path) ≡ path
-drop_on [] path = refl
-drop_on (row ∷ settled) path = drop_on settled path
-
-take_on : (settled path : Rows) → take (length settled) (on settled path) ≡ settled
-take_on [] [] = refl
-take_on [] (row ∷ path) = refl
-take_on (row ∷ settled) path = ap (λ (q : Rows). row ∷ q) (take_on settled path)
 
 -- so many settled rows, of so many players
 abbrev blank_row : ℕ → List Cell
@@ -50,33 +44,6 @@ wide_blank players (suc n) = (length-blank_row players, wide_blank players n)
 wide_on : (n : ℕ) (settled path : Rows) → Wide n settled → Wide n path → Wide n (on settled path)
 wide_on n [] path v w = w
 wide_on n (row ∷ settled) path v w = (v.0, wide_on n settled path v.1 w)
-
-in_on : (settled q : Rows) (ps : List Rows) → In q ps → In (on settled q) (map (on settled) ps)
-in_on settled q [] i = absurd i
-in_on settled q (p ∷ ps) (inl e) = inl (ap (on settled) e)
-in_on settled q (p ∷ ps) (inr i) = inr (in_on settled q ps i)
-
--- what is among paths on the settled rows is one of the paths on them
-on_in : (settled q : Rows) (ps : List Rows) → In q (map (on settled) ps) → (p : Rows) × In p ps × (q ≡ on settled p)
-on_in settled q [] i = absurd i
-on_in settled q (p ∷ ps) (inl e) = (p, inl refl, e)
-on_in settled q (p ∷ ps) (inr i) = let r = on_in settled q ps i in (r.0, inr r.1, r.2)
-
-begins_on : (settled time path : Rows) → begins_with (on settled time) (on settled path) ≡ true → begins_with time path ≡ true
-begins_on settled time path b =
-    let e = begins_is (on settled time) (on settled path) b in
-    begins time path
-    (sym (drop_on settled path) ∙ ap (drop (length settled)) e ∙ ap (λ n. drop (length settled) (take n (on settled time))) (length-append settled path) ∙ cut settled)
-  where
-    cut : (rows : Rows) → drop (length rows) (take (length rows + length path) (on rows time)) ≡ take (length path) time
-    cut [] = let z : 0 + length path ≡ length path = omega arith in ap (λ n. take n time) z
-    cut (row ∷ rows) = let next : suc (length rows) + length path ≡ suc (length rows + length path) = omega arith in ap (λ n. drop (suc (length rows)) (take n (row ∷ on rows time))) next ∙ cut rows
-
-take_both : (settled time : Rows) (n : ℕ) → take (length settled + n) (on settled time) ≡ on settled (take n time)
-take_both [] time n = let z : 0 + n ≡ n = omega arith in ap (λ k. take k time) z
-take_both (row ∷ settled) time n =
-    let next : suc (length settled) + n ≡ suc (length settled + n) = omega arith in
-    ap (λ k. take k (row ∷ on settled time)) next ∙ ap (λ (q : Rows). row ∷ q) (take_both settled time n)
 
 module _ (players : ℕ) (made : Made) (fit : IsFit players made) where
   wide_of : (rows : Rows) → AreRowsOf players rows → Wide players rows
@@ -107,14 +74,14 @@ module _ (players : ℕ) (made : Made) (fit : IsFit players made) where
         lag = omega (arith, fit.short);
         base = fit.base;
         rows = wide_on players settled made.time w (wide_of made.time fit.time);
-        start = subst (λ (q : Rows). In q (map (on settled) made.kept)) (sym (ap (λ n. take n (on settled made.time)) (fit.from_is ∙ ap (λ n. n + longest made.kept made.time) (sym e)) ∙ take_both settled made.time (longest made.kept made.time))) (in_on settled (take (longest made.kept made.time) made.time) made.kept start.0);
-        kept_rows = λ q i. let r = on_in settled q made.kept i in subst (λ (p : Rows). Wide players p) (sym r.2) (wide_on players settled r.0 w (kept_wide made.kept (recursion_from_All (AreRowsOf players) made.kept fit.paths) r.0 r.1));
-        kept_low = λ q i. let r = on_in settled q made.kept i in omega (arith, ap length r.2, length-append settled r.0, e);
+        start = subst (λ (q : Rows). In q (map (on settled) made.kept)) (sym (ap (λ n. take n (on settled made.time)) (fit.from_is ∙ ap (λ n. n + longest made.kept made.time) (sym e)) ∙ take-append-add settled made.time (longest made.kept made.time))) (in_map (on settled) (take (longest made.kept made.time) made.time) made.kept start.0);
+        kept_rows = λ q i. let r = map_in (on settled) q made.kept i in subst (λ (p : Rows). Wide players p) (sym r.2) (wide_on players settled r.0 w (kept_wide made.kept (recursion_from_All (AreRowsOf players) made.kept fit.paths) r.0 r.1));
+        kept_low = λ q i. let r = map_in (on settled) q made.kept i in omega (arith, ap length r.2, length-append settled r.0, e);
         kept_settled = λ q i.
-            let r = on_in settled q made.kept i in
-            ap (take made.base) r.2 ∙ ap (λ n. take n (on settled r.0)) (sym e) ∙ take_on settled r.0 ∙ sym (ap (λ n. take n (on settled made.time)) (sym e) ∙ take_on settled made.time);
+            let r = map_in (on settled) q made.kept i in
+            ap (take made.base) r.2 ∙ ap (λ n. take n (on settled r.0)) (sym e) ∙ take-append_seam settled r.0 ∙ sym (ap (λ n. take n (on settled made.time)) (sym e) ∙ take-append_seam settled made.time);
         kept_off = λ q i deep within.
-            let r = on_in settled q made.kept i in
+            let r = map_in (on settled) q made.kept i in
             off r.0 r.1 (omega (arith, deep, ap length r.2, length-append settled r.0, e, fit.from_is)) q r.2;
       }
     where
@@ -123,7 +90,7 @@ module _ (players : ℕ) (made : Made) (fit : IsFit players made) where
         where
           go : (begins_with (on settled made.time) q ≡ true) ⊎ (begins_with (on settled made.time) q ≡ false) → begins_with (on settled made.time) q ≡ false
           go (inr b) = b
-          go (inl b) = absurd (let l : length p ≤ longest made.kept made.time = longest_at_least made.kept made.time p i (begins_on settled made.time p (subst (λ (x : Rows). begins_with (on settled made.time) x ≡ true) same b)) in omega arith)
+          go (inl b) = absurd (let l : length p ≤ longest made.kept made.time = longest_at_least made.kept made.time p i (sym (begins-behind settled made.time p) ∙ subst (λ (x : Rows). begins_with (on settled made.time) x ≡ true) same b) in omega arith)
 
   -- the claim of a plan is right
   pub made_is_right : (claim : Claim) → IsClaimOf players made claim → IsRight claim
@@ -140,7 +107,7 @@ claim_on players made settled claim e ordered p b t k f d =
     λ i. record { players = p i; base = b i; time = (t ∙ sym (own made.time)) i; kept = (k ∙ sym paths) i; from = f i; differs = d i }
   where
     own : (path : Rows) → drop made.base (on settled path) ≡ path
-    own path = ap (λ n. drop n (on settled path)) (sym e) ∙ drop_on settled path
+    own path = ap (λ n. drop n (on settled path)) (sym e) ∙ drop-append_seam settled path
 
     each : (ps : List Rows) → map (path_from made.base) (map (on settled) ps) ≡ map (path_of made.base) ps
     each [] = refl

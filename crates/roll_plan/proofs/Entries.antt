@@ -3,13 +3,13 @@ use Rattle.std.proofs.Common.{◌≡◌, ℕ, suc, ◌+◌, ◌<◌, take, get_o
 use Rattle.std.specs.Prelude.{option_map, nat_lt, nat_le, ◌&&◌}
 use Rattle.std.specs.List.{cons_option}
 use Rattle.roll_frame.specs.Cells.{Rows}
-use Rattle.roll_frame.specs.Claims.{Differ, least_place, differ_of, differs_from}
-use Rattle.std.proofs.lemmas.List.{map-append, take_more}
-use Rattle.roll_cert.specs.Told.{entry_of}
-use Rattle.roll_cert.specs.declared.claim.Differ.{Differ as TheDiffer}
+use Rattle.roll_frame.specs.declared.claim.Differ.{Differ}
+use Rattle.roll_frame.specs.Claims.{least_place, differ_of, differs_from}
+use Rattle.roll_frame.proofs.Places.{least_place-behind}
+use Rattle.std.proofs.lemmas.List.{take_more}
 use Rattle.roll_plan.specs.Plans.{Made, roll_of}
 use Rattle.roll_plan.specs.Ranks.{entries_by}
-use Rattle.roll_plan.proofs.Settled.{on, least_on}
+use Rattle.roll_plan.proofs.Settled.{on}
 
 -- whether a plan passes over a path
 abbrev pub passes : Made → Rows → Bool
@@ -24,7 +24,7 @@ entry_on : (made : Made) (settled : Rows) (state : ℕ) (path : Rows) → length
 entry_on made settled state path e =
     let long : length (on settled path) ≡ made.base + length path = length-append settled path ∙ ap (λ n. n + length path) e in
     let base : 0 + length settled ≡ made.base = omega (arith, e) in
-    let places : least_place 0 (on settled path) (on settled made.time) ≡ least_place made.base path made.time = least_on settled path made.time 0 ∙ ap (λ n. least_place n path made.time) base in
+    let places : least_place 0 (on settled path) (on settled made.time) ≡ least_place made.base path made.time = least_place-behind settled path made.time 0 ∙ ap (λ n. least_place n path made.time) base in
     ap (λ n. cond (nat_lt made.from n && nat_le n (made.base + length made.time)) (option_map (λ place. record { state = state; frame = place.0; player = place.1 }) (least_place 0 (on settled path) (on settled made.time))) None) long
     ∙ ap (λ o. cond (passes made path) (option_map (λ place. record { state = state; frame = place.0; player = place.1 }) o) None) places
 
@@ -50,15 +50,9 @@ module _ {X : Type 0} (entry : ℕ → X → Option Differ) where
       ∙ ap (λ n. cons_option (entry place y) (entries_by entry (suc place) xs) ++ cons_option (entry n x) []) next
 
   -- what was made of so many, with the entry of one more where there is one
-  pub with_entry : (xs : List X) (k : ℕ) (x : X) (made : List TheDiffer) (o : Option TheDiffer) → k < length xs → x ≡ get_or xs k x → map entry_of made ≡ entries_by entry 0 (take k xs) → option_map entry_of o ≡ entry k x
-      → map entry_of (made ++ cons_option o []) ≡ entries_by entry 0 (take (k + 1) xs)
-  with_entry xs k x made o within at so_far is =
+  pub with_entry : (xs : List X) (k : ℕ) (x : X) (made : List Differ) → k < length xs → x ≡ get_or xs k x → made ≡ entries_by entry 0 (take k xs) → made ++ cons_option (entry k x) [] ≡ entries_by entry 0 (take (k + 1) xs)
+  with_entry xs k x made within at so_far =
       let place : 0 + length (take k xs) ≡ k = omega (arith, length-take k xs, within) in
-      map-append entry_of made (cons_option o [])
-      ∙ ap (λ (l : List Differ). l ++ map entry_of (cons_option o [])) so_far
-      ∙ ap (λ (l : List Differ). entries_by entry 0 (take k xs) ++ l) (mapped o ∙ ap (λ (d : Option Differ). cons_option d []) (is ∙ sym (ap (λ n. entry n x) place)))
+      ap (λ (l : List Differ). l ++ cons_option (entry k x) []) so_far
+      ∙ ap (λ n. entries_by entry 0 (take k xs) ++ cons_option (entry n x) []) (sym place)
       ∙ sym (ap (entries_by entry 0) (take_more xs k x within ∙ ap (λ y. take k xs ++ y ∷ []) (sym at)) ∙ entries_more 0 (take k xs) x)
-    where
-      mapped : (d : Option TheDiffer) → map entry_of (cons_option d []) ≡ cons_option (option_map entry_of d) []
-      mapped None = refl
-      mapped (Some d) = refl

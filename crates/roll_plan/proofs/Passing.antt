@@ -1,68 +1,61 @@
 -- Which paths a plan passes over, and that there are no entries where it passes over none.
-use Rattle.std.proofs.Common.{◌≡◌, ℕ, suc, ◌+◌, ◌||◌, List, [], ◌∷◌, ◌++◌, map, take, Bool, true, false, cond, refl, sym, ap, ◌∙◌, None}
+use Rattle.std.proofs.Common.{◌≡◌, ℕ, suc, ◌+◌, ◌||◌, List, [], ◌∷◌, ◌++◌, map, take, Bool, true, false, cond, refl, ap, ◌∙◌, None}
 use Rattle.std.specs.Prelude.{option_map}
 use Rattle.std.specs.List.{AllByRecursion, cons_option, list_any}
-use Rattle.std.proofs.lemmas.Bool.{false≢true, or_left, or_right}
+use Rattle.std.proofs.lemmas.Bool.{or_left, or_right, or_parts}
 use Rattle.std.proofs.lemmas.List.Elements.{All-from_recursion, recursion_from_All}
 use Rattle.std.proofs.lemmas.List.Folds.{list_any-append}
+use Rattle.std.proofs.Math.Bool.{or-false}
 use Rattle.roll_frame.specs.Cells.{Rows}
 use Rattle.roll_frame.specs.Order.{in_order}
-use Rattle.roll_tree.specs.Kept.{Kept, Saved, path_of, paths_of}
-use Rattle.roll_tree.specs.Marks.{least_mark}
+use Rattle.roll_tree.specs.SavedStates.{SavedStates, Saved, path_of, paths_of}
+use Rattle.roll_frame.specs.Claims.{least_place}
 use Rattle.roll_plan.specs.Ranks.{entries_by, is_passed, marked_for}
 use Rattle.roll_plan.specs.declared.planner.Ranked.{Ranked}
 use Rattle.roll_plan.proofs.Making.{all_ordered}
 
-or_false : (b : Bool) → (b || false) ≡ b
-or_false true = refl
-or_false false = refl
-
-either : (a b : Bool) → (a || b) ≡ false → (a ≡ false) × (b ≡ false)
-either true b e = absurd (false≢true (sym e))
-either false b e = (refl, e)
-
 module _ {S : Type 0} where
-  abbrev pub passes : Kept S → ℕ → ℕ → Saved S → Bool
+  abbrev pub passes : SavedStates S → ℕ → ℕ → Saved S → Bool
   passes t from to s = is_passed from to (path_of t.base s.path)
 
   -- one state more
-  pub passes_more : (t : Kept S) (from to k : ℕ) (s : Saved S) (b : Bool) → take (k + 1) t.states ≡ take k t.states ++ s ∷ [] → list_any (passes t from to) (take k t.states) ≡ false → passes t from to s ≡ b → list_any (passes t from to) (take (k + 1) t.states) ≡ b
+  pub passes_more : (t : SavedStates S) (from to k : ℕ) (s : Saved S) (b : Bool) → take (k + 1) t.states ≡ take k t.states ++ s ∷ [] → list_any (passes t from to) (take k t.states) ≡ false → passes t from to s ≡ b → list_any (passes t from to) (take (k + 1) t.states) ≡ b
   passes_more t from to k s b more none is =
       ap (list_any (passes t from to)) more
       ∙ list_any-append (passes t from to) (take k t.states) (s ∷ [])
       ∙ ap (λ c. c || (passes t from to s || false)) none
-      ∙ or_false (passes t from to s) ∙ is
+      ∙ or-false (passes t from to s) ∙ is
 
   -- one that is passed over
-  pub passes_one : (t : Kept S) (from to : ℕ) (before after : List (Saved S)) (s : Saved S) → t.states ≡ before ++ s ∷ after → passes t from to s ≡ true → list_any (passes t from to) t.states ≡ true
+  pub passes_one : (t : SavedStates S) (from to : ℕ) (before after : List (Saved S)) (s : Saved S) → t.states ≡ before ++ s ∷ after → passes t from to s ≡ true → list_any (passes t from to) t.states ≡ true
   passes_one t from to before after s split is =
       ap (list_any (passes t from to)) split
       ∙ list_any-append (passes t from to) before (s ∷ after)
       ∙ or_right (list_any (passes t from to) before) (passes t from to s || list_any (passes t from to) after) (or_left (passes t from to s) (list_any (passes t from to) after) is)
 
-  none_each : (t : Kept S) (from to : ℕ) (states : List (Saved S)) → list_any (passes t from to) states ≡ false → AllByRecursion (λ (p : Rows). is_passed from to (path_of t.base p) ≡ false) (map (λ (s : Saved S). s.path) states)
+  none_each : (t : SavedStates S) (from to : ℕ) (states : List (Saved S)) → list_any (passes t from to) states ≡ false → AllByRecursion (λ (p : Rows). is_passed from to (path_of t.base p) ≡ false) (map (λ (s : Saved S). s.path) states)
   none_each t from to [] none = tt
-  none_each t from to (s ∷ states) none = let r = either (passes t from to s) (list_any (passes t from to) states) none in (r.0, none_each t from to states r.1)
+  none_each t from to (s ∷ states) none = let r = or_parts (passes t from to s) (list_any (passes t from to) states) none in (r.0, none_each t from to states r.1)
 
-  entries_none : (t : Kept S) (from to place : ℕ) (paths : List Rows) → AllByRecursion (λ (p : Rows). is_passed from to (path_of t.base p) ≡ false) paths → entries_by (marked_for t from to) place (map (path_of t.base) paths) ≡ []
+  entries_none : (t : SavedStates S) (from to place : ℕ) (paths : List Rows) → AllByRecursion (λ (p : Rows). is_passed from to (path_of t.base p) ≡ false) paths → entries_by (marked_for t from to) place (map (path_of t.base) paths) ≡ []
   entries_none t from to place [] none = refl
   entries_none t from to place (p ∷ paths) none =
-      ap (λ b. cons_option (cond b (option_map (λ at. record { state = place; frame = at.0; player = at.1 }) (least_mark t.base p t.time)) None) (entries_by (marked_for t from to) (suc place) (map (path_of t.base) paths))) none.0
+      ap (λ b. cons_option (cond b (option_map (λ at. record { state = place; frame = at.0; player = at.1 }) (least_place t.base p t.time)) None) (entries_by (marked_for t from to) (suc place) (map (path_of t.base) paths))) none.0
       ∙ entries_none t from to (suc place) paths none.1
 
   -- without a path that is passed over there are no entries
-  pub none_passed : (t : Kept S) (from to : ℕ) → list_any (passes t from to) t.states ≡ false → entries_by (marked_for t from to) 0 (map (path_of t.base) (in_order (paths_of t))) ≡ []
+  pub none_passed : (t : SavedStates S) (from to : ℕ) → list_any (passes t from to) t.states ≡ false → entries_by (marked_for t from to) 0 (map (path_of t.base) (in_order (paths_of t))) ≡ []
   none_passed t from to none =
       let P : Rows → Type 0 = λ (p : Rows). is_passed from to (path_of t.base p) ≡ false in
       entries_none t from to 0 (in_order (paths_of t))
       (recursion_from_All P (in_order (paths_of t)) (all_ordered P (paths_of t) (All-from_recursion P (paths_of t) (none_each t from to t.states none))))
 
   -- entries of paths with names
-  entries_of_paths : (t : Kept S) (from to place : ℕ) (kept : List Ranked) → entries_by (λ state (k : Ranked). marked_for t from to state k.path) place kept ≡ entries_by (marked_for t from to) place (map (λ (k : Ranked). k.path) kept)
+  entries_of_paths : (t : SavedStates S) (from to place : ℕ) (kept : List Ranked) → entries_by (λ state (k : Ranked). marked_for t from to state k.path) place kept ≡ entries_by (marked_for t from to) place (map (λ (k : Ranked). k.path) kept)
   entries_of_paths t from to place [] = refl
   entries_of_paths t from to place (k ∷ kept) = ap (cons_option (marked_for t from to place k.path)) (entries_of_paths t from to (suc place) kept)
 
   -- the entries of the kept paths, which these are
-  pub entries_ranked : (t : Kept S) (from to : ℕ) (kept : List Ranked) → map (λ (k : Ranked). k.path) kept ≡ map (path_of t.base) (in_order (paths_of t))
+  pub entries_ranked : (t : SavedStates S) (from to : ℕ) (kept : List Ranked) → map (λ (k : Ranked). k.path) kept ≡ map (path_of t.base) (in_order (paths_of t))
       → entries_by (λ state (k : Ranked). marked_for t from to state k.path) 0 kept ≡ entries_by (marked_for t from to) 0 (map (path_of t.base) (in_order (paths_of t)))
   entries_ranked t from to kept are = entries_of_paths t from to 0 kept ∙ ap (entries_by (marked_for t from to) 0) are

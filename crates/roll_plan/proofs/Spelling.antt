@@ -9,7 +9,7 @@ use Rattle.std.proofs.lemmas.List.Elements.{All-pop}
 use Rattle.std.proofs.lemmas.Option.{none-some, same_Some}
 use Rattle.roll_frame.specs.declared.path.Path.{Path}
 use Rattle.roll_frame.specs.Cells.{Rows}
-use Rattle.roll_tree.specs.Kept.{Kept, Saved, held, path_of, IsAbove, IsOrdered}
+use Rattle.roll_tree.specs.SavedStates.{SavedStates, Saved, state_named, path_of, IsAbove, IsOrdered}
 use Rattle.roll_tree.specs.declared.tree.Above.{Above}
 use Rattle.roll_plan.specs.Spelled.{path_before, path_in, spelled_on, spelled}
 use Rattle.roll_plan.specs.declared.planner.Taken.{Taken}
@@ -96,7 +96,7 @@ module _ {S : Type 0} where
       ap (λ (o : Option ℕ). option_map_or (λ place. get_or (map (λ (s : Saved S). s.path) states) place []) o []) there ∙ r.2
 
   -- what is above a state, and the states before it, spell its path
-  pub next_is : (t : Kept S) → IsOrdered t → (before after : List (Saved S)) (s : Saved S) → t.states ≡ before ++ s ∷ after → (ks : List Taken) → map (λ (k : Taken). k.node) ks ≡ map (λ (x : Saved S). x.name) before → (k : Taken) → IsAbove t s.path k.above → path_in ks (map (λ (x : Saved S). x.path) before) k ≡ s.path
+  pub next_is : (t : SavedStates S) → IsOrdered t → (before after : List (Saved S)) (s : Saved S) → t.states ≡ before ++ s ∷ after → (ks : List Taken) → map (λ (k : Taken). k.node) ks ≡ map (λ (x : Saved S). x.name) before → (k : Taken) → IsAbove t s.path k.above → path_in ks (map (λ (x : Saved S). x.path) before) k ≡ s.path
   next_is t ordered before after s states ks names k above = go k.above above
     where
       paths : List Rows
@@ -105,13 +105,13 @@ module _ {S : Type 0} where
       nowhere : (P : Saved S → Type 0) → IsSomeAnd None P → ⊥
       nowhere P h = elim h [ ]
 
-      below : (a : Above) (o : Option (Saved S)) → held t a.node ≡ o → IsSomeAnd o (λ u. s.path ≡ u.path ++ a.row ∷ []) → path_before ks paths a.node ++ a.row ∷ [] ≡ s.path
+      below : (a : Above) (o : Option (Saved S)) → state_named t a.node ≡ o → IsSomeAnd o (λ u. s.path ≡ u.path ++ a.row ∷ []) → path_before ks paths a.node ++ a.row ∷ [] ≡ s.path
       below a None e h = absurd (nowhere (λ (u : Saved S). s.path ≡ u.path ++ a.row ∷ []) h)
       below a (Some u) e h =
           let named = find_named t.states a.node u e in
-          let found = ordered before after s u a.row states (ap (held t) named ∙ e) h in
+          let found = ordered before after s u a.row states (ap (state_named t) named ∙ e) h in
           ap (λ (p : Rows). p ++ a.row ∷ []) (path_before-is a.node ks before u names (ap (λ n. find (λ (x : Saved S). eqb x.name n) before) (sym named) ∙ found)) ∙ sym h
 
       go : (o : Option Above) → IsAbove t s.path o → option_map_or (λ (a : Above). path_before ks paths a.node ++ a.row ∷ []) o [] ≡ s.path
       go None e = sym e
-      go (Some a) h = below a (held t a.node) refl h
+      go (Some a) h = below a (state_named t a.node) refl h

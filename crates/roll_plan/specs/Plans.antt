@@ -1,13 +1,13 @@
 -- Plans as they were made, and what they claim.
-use Rattle.std.specs.Prelude.{◌≡◌, ℕ, ◌+◌, ◌-◌, ◌≤◌, List, ◌++◌, length, map, take, All, Option}
-use Rattle.roll_frame.specs.declared.limits.TheConstants.{FRAME_LIMIT, PATH_LIMIT}
+use Rattle.std.specs.Prelude.{◌≡◌, ℕ, ◌+◌, ◌-◌, ◌≤◌, List, ◌++◌, length, map, All, Option}
+use Rattle.roll_frame.specs.declared.limits.TheConstants.{FRAME_LIMIT}
 use Rattle.roll_frame.specs.Cells.{Rows}
-use Rattle.roll_frame.specs.Claims.{Claim, AreRowsOf, claim_of}
+use Rattle.roll_frame.specs.declared.claim.Claim.{Claim}
+use Rattle.roll_frame.specs.Claims.{AreRowsOf, claim_of}
 use Rattle.roll_frame.specs.Core.{Roll}
 use Rattle.roll_frame.specs.Order.{in_order}
 use Rattle.roll_frame.specs.Paths.{longest}
-use Rattle.roll_cert.specs.Told.{entry_of}
-use Rattle.roll_tree.specs.Kept.{Kept, paths_of}
+use Rattle.roll_tree.specs.SavedStates.{SavedStates, paths_of, time_to}
 use Rattle.roll_plan.specs.declared.plan.Plan.{Plan}
 
 -- the settled frame, and from there on the kept paths, in their order, and the timeline's rows; and the length, from
@@ -24,7 +24,7 @@ pub record Planned : Type 0 where
   pub last : Option Made
 
 -- the plan along these rows, from what a tree keeps
-abbrev pub made_of : {S : Type 0} → Kept S → Rows → Made
+abbrev pub made_of : {S : Type 0} → SavedStates S → Rows → Made
 made_of t rows = record { base = t.base; kept = in_order (paths_of t); time = rows; from = t.base + longest (paths_of t) rows }
 
 -- the roll of a plan, on these settled rows
@@ -47,13 +47,13 @@ pub record IsPlanOf (players : ℕ) (made : Made) (plan : Plan) : Type 0 where
   pub to : plan.to ≡ made.base + length made.time
   pub from : plan.from ≡ made.from
   pub rerun : plan.rerun ≡ plan.to - plan.from
-  pub differs : (settled : Rows) → length settled ≡ made.base → map entry_of plan.differs.items ≡ (claim_of players (roll_of settled made)).differs
+  pub differs : (settled : Rows) → length settled ≡ made.base → plan.differs.items ≡ (claim_of players (roll_of settled made)).differs
 
--- a tree and the timeline's rows to a frame, of which a claim can be made
-pub record CanPlan {S : Type 0} (players : ℕ) (t : Kept S) (to : ℕ) (rows : Rows) : Type 0 where
+-- a tree that was told the timeline up to a frame, and where the roll to there starts, of which a claim can be made
+pub record CanPlan {S : Type 0} (players : ℕ) (t : SavedStates S) (start to : ℕ) : Type 0 where
   pub base : t.base ≤ FRAME_LIMIT
-  pub few : length rows ≤ PATH_LIMIT
-  pub end : to ≡ t.base + length rows
-  pub told : rows ≡ take (length rows) t.time
-  pub time : AreRowsOf players rows
+  pub from : t.base ≤ to
+  pub known : to ≤ t.base + length t.time
+  pub starts : start ≡ t.base + longest (paths_of t) (time_to t to)
+  pub time : AreRowsOf players (time_to t to)
   pub paths : All (AreRowsOf players) (paths_of t)

@@ -1,11 +1,11 @@
 -- What is taken down of the states of a tree.
 use Rattle.std.specs.Prelude.{◌≡◌, ℕ, suc, List, [], ◌∷◌, ◌&&◌, nat_lt, nat_le, Bool, Option, Some, None, option_map, if◌then◌else◌}
 use Rattle.std.specs.List.{cons_option}
-use Rattle.roll_frame.specs.Claims.{Differ}
+use Rattle.roll_frame.specs.declared.claim.Differ.{Differ}
 use Rattle.roll_frame.specs.declared.path.Path.{Path}
 use Rattle.roll_frame.specs.Order.{frames_of}
-use Rattle.roll_tree.specs.Kept.{Kept, Saved, held, path_of}
-use Rattle.roll_tree.specs.Marks.{least_mark}
+use Rattle.roll_tree.specs.SavedStates.{SavedStates, Saved, state_named, path_of}
+use Rattle.roll_frame.specs.Claims.{least_place}
 use Rattle.roll_plan.specs.declared.planner.Ranked.{Ranked}
 
 -- the entries that are made of these, the first of them at this place
@@ -22,12 +22,12 @@ module _ {S : Type 0} where
   ranked_of base s = record { path = path_of base s.path; node = s.name }
 
   -- the state of this name has this path
-  abbrev pub HasNode : Kept S → Ranked → Type 0
-  HasNode t k = option_map (λ s. s.path) (held t k.node) ≡ Some k.path.rows.items
+  abbrev pub HasNode : SavedStates S → Ranked → Type 0
+  HasNode t k = option_map (λ s. s.path) (state_named t k.node) ≡ Some k.path.rows.items
 
   -- the entry of a path that a plan between these frames passes over, by its marks
-  abbrev pub marked_for : Kept S → ℕ → ℕ → ℕ → Path → Option Differ
+  abbrev pub marked_for : SavedStates S → ℕ → ℕ → ℕ → Path → Option Differ
   marked_for t from to state path =
       if is_passed from to path
-      then option_map (λ place. record { state = state; frame = place.0; player = place.1 }) (least_mark t.base path.rows.items t.time)
+      then option_map (λ place. record { state = state; frame = place.0; player = place.1 }) (least_place t.base path.rows.items t.time)
       else None

@@ -6,6 +6,3 @@ mod planner;
 
 pub use plan::Plan;
 pub use planner::Planner;
-
-#[cfg(test)]
-mod tests;

@@ -1,5 +1,5 @@
 //! A plan.
-use roll_cert::Differ;
+use roll_frame::Differ;
 
 /// Where a roll goes, and where it starts.
 #[derive(Debug, Drop)]

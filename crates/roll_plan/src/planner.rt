@@ -3,16 +3,14 @@ ghost use Rattle.std.specs.Prelude.{◌≡◌, ◌==◌, ◌≤◌, ◌<◌, Non
 ghost use Rattle.std.specs.List.{list_any};
 ghost use Rattle.roll_frame.specs.Claims.{IsRight};
 ghost use Rattle.roll_frame.specs.Order.{in_order};
-ghost use Rattle.roll_tree.specs.Kept.{held, path_of, paths_of as kept_paths};
+ghost use Rattle.roll_tree.specs.SavedStates.{state_named, path_of, paths_of as kept_paths, time_to};
 ghost use Rattle.roll_plan.specs.Ranks.{HasNode, entries_by, is_passed, marked_for, ranked_of};
 ghost use Rattle.roll_plan.specs.Spelled.{path_before, path_in, spelled};
-ghost use Rattle.roll_cert.specs.Told.{entry_of, told};
 ghost use Rattle.roll_plan.specs.Plans.{CanPlan, IsClaimOf, IsPlanOf, made_of};
 
 use crate::plan::Plan;
 use arrayvec::ArrayVec;
-use roll_cert::{Claim, Differ, Items};
-use roll_frame::{PATH_LIMIT, PLAYER_LIMIT, Path, Refusal, Row, TREE_LIMIT};
+use roll_frame::{Claim, Differ, Items, PATH_LIMIT, PLAYER_LIMIT, Path, Refusal, Row, TREE_LIMIT};
 use roll_tree::{Above, Tree};
 use std::alloc::{AllocError, Global};
 use std::marker::Model;
@@ -85,21 +83,21 @@ impl Planner {
         })
     }
 
-    /// Plans a roll to a frame, along the timeline's rows from the tree's base on.
-    pub fn plan<S>(&mut self, tree: &Tree<S>, to: u32, rows: &[Row])
-        requires { CanPlan self.old.players tree.now to rows.now }
-        ensures { self.new ≡ record self.old { last = Some (made_of tree.now rows.now) } }
+    /// Plans a roll to a frame that a tree was told the timeline up to, from the end of the deepest state on its way.
+    pub fn plan<S>(&mut self, tree: &Tree<S>, start: u32, to: u32)
+        requires { CanPlan self.old.players tree.now start to }
+        ensures { self.new ≡ record self.old { last = Some (made_of tree.now (time_to tree.now to)) } }
     {
         tree.laws();
-        let (_, from) = tree.deepest(to);
         take_down(&mut self.taken, tree);
-        name_passed(&mut self.plan.differs, &mut self.ranked, tree, from, to);
+        name_passed(&mut self.plan.differs, &mut self.ranked, tree, start, to);
         self.base = tree.base();
+        let rows = &tree.time()[..(to - self.base) as usize];
         self.time.clear();
         self.time.try_extend_from_slice(rows).unwrap();
         self.plan.to = to;
-        self.plan.from = from;
-        self.plan.rerun = to - from;
+        self.plan.from = start;
+        self.plan.rerun = to - start;
         self.is_made = true;
     }
 
@@ -124,8 +122,8 @@ impl Planner {
     ///
     /// `NoPlan` where there is no last plan, else `NoMemory` where the allocator has no room.
     pub fn claim(&self, alloc: Global) -> Result<Claim, Refusal>
-        ensures claim { IfOk result (λ claim. IfSome self.now.last (λ made. IsClaimOf self.now.players made (told claim))) }
-        ensures right { IfOk result (λ claim. IsRight (told claim)) }
+        ensures claim { IfOk result (λ claim. IfSome self.now.last (λ made. IsClaimOf self.now.players made claim)) }
+        ensures right { IfOk result (λ claim. IsRight claim) }
         ensures made { OnOk result (is_none self.now.last ≡ false) }
         ensures refused { IfErr result (λ why. why ≡ (if is_none self.now.last then Refusal.NoPlan else Refusal.NoMemory)) }
     {
@@ -141,7 +139,7 @@ impl Planner {
     /// The claim of the last plan.
     fn copied(&self, alloc: Global) -> Result<Claim, AllocError>
         requires { is_none self.now.last ≡ false }
-        ensures { IfOk result (λ claim. IfSome self.now.last (λ made. IsClaimOf self.now.players made (told claim))) }
+        ensures { IfOk result (λ claim. IfSome self.now.last (λ made. IsClaimOf self.now.players made claim)) }
     {
         let time = Items::from(Vec::from_slice(alloc, self.time.as_slice())?);
         let kept = Items::from(paths_of(alloc, self.base, &self.taken)?);
@@ -166,12 +164,10 @@ fn take_down<S>(taken: &mut Vec<Taken>, tree: &Tree<S>)
     tree.laws();
     taken.clear();
     for node in tree.names() {
-        taken
-            .push(Taken {
-                node: *node,
-                above: tree.above(*node),
-            })
-            .unwrap();
+        taken.push_reserved(Taken {
+            node: *node,
+            above: tree.above(*node),
+        });
     }
 }
 
@@ -185,7 +181,7 @@ fn name_passed<S>(
 )
     requires differs { TREE_LIMIT ≤ vec_capacity differs.old }
     requires ranked { TREE_LIMIT ≤ vec_capacity ranked.old }
-    ensures entries { map entry_of differs.new.items ≡ entries_by (marked_for tree.now from to) 0 (map (path_of tree.now.base) (in_order (kept_paths tree.now))) }
+    ensures entries { differs.new.items ≡ entries_by (marked_for tree.now from to) 0 (map (path_of tree.now.base) (in_order (kept_paths tree.now))) }
     ensures differs { TREE_LIMIT ≤ vec_capacity differs.new }
     ensures ranked { TREE_LIMIT ≤ vec_capacity ranked.new }
 {
@@ -212,8 +208,8 @@ fn passes_over<S>(tree: &Tree<S>, from: u32, to: u32) -> bool
 
 /// Whether a plan passes over the path of a kept state.
 fn is_passed_over<S>(tree: &Tree<S>, node: usize, from: u32, to: u32) -> bool
-    requires { IsSome (held tree.now node) }
-    ensures { option_map (λ s. is_passed from to (path_of tree.now.base s.path)) (held tree.now node) ≡ Some result }
+    requires { IsSome (state_named tree.now node) }
+    ensures { option_map (λ s. is_passed from to (path_of tree.now.base s.path)) (state_named tree.now node) ≡ Some result }
 {
     let end = tree.end(node);
     from < end && end <= to
@@ -241,12 +237,10 @@ fn list_paths<S>(ranked: &mut Vec<Ranked>, tree: &Tree<S>)
     tree.laws();
     ranked.clear();
     for node in tree.names() {
-        ranked
-            .push(Ranked {
-                path: tree.path(*node),
-                node: *node,
-            })
-            .unwrap();
+        ranked.push_reserved(Ranked {
+            path: tree.path(*node),
+            node: *node,
+        });
     }
 }
 
@@ -255,13 +249,13 @@ fn name_differs<S>(differs: &mut Vec<Differ>, tree: &Tree<S>, kept: &[Ranked], f
     requires nodes { All (HasNode tree.now) kept.now }
     requires few { length kept.now ≤ TREE_LIMIT }
     requires room { TREE_LIMIT ≤ vec_capacity differs.old }
-    ensures entries { map entry_of differs.new.items ≡ entries_by (λ state k. marked_for tree.now from to state k.path) 0 kept.now }
+    ensures entries { differs.new.items ≡ entries_by (λ state k. marked_for tree.now from to state k.path) 0 kept.now }
     ensures room { TREE_LIMIT ≤ vec_capacity differs.new }
 {
     differs.clear();
     for (state, ranked) in kept.iter().enumerate() {
         if let Some(entry) = entry(tree, state, ranked, from, to) {
-            differs.push(entry).unwrap();
+            differs.push_reserved(entry);
         }
     }
 }
@@ -270,7 +264,7 @@ fn name_differs<S>(differs: &mut Vec<Differ>, tree: &Tree<S>, kept: &[Ranked], f
 fn entry<S>(tree: &Tree<S>, state: usize, ranked: &Ranked, from: u32, to: u32) -> Option<Differ>
     requires node { HasNode tree.now ranked.now }
     requires few { state < TREE_LIMIT }
-    ensures { option_map entry_of result ≡ marked_for tree.now from to state ranked.now.path }
+    ensures { result ≡ marked_for tree.now from to state ranked.now.path }
 {
     let end = ranked.path.frames();
     if end <= u64::from(from) || u64::from(to) < end {
@@ -294,7 +288,7 @@ fn paths_of(alloc: Global, base: u32, taken: &[Taken]) -> Result<Vec<Path>, Allo
     let mut paths = Vec::with_capacity(alloc, taken.len())?;
     for (place, state) in taken.iter().enumerate() {
         let path = spell(base, &taken[..place], &paths, state);
-        paths.push(path).unwrap();
+        paths.push_reserved(path);
     }
     paths.sort_unstable();
     Ok(paths)

@@ -1,11 +1,14 @@
 -- Fields that lack a byte, joined by it and cut again.
-use Rattle.std.proofs.Common.{◌≡◌, ℕ, ◌<◌, ◌^◌, ◌==◌, List, [], ◌∷◌, false, Option, Some, None, sym, ap, ◌∙◌, rules, tests, arith, length}
+use Rattle.std.proofs.Common.{◌≡◌, ℕ, ◌<◌, ◌^◌, ◌==◌, List, [], ◌∷◌, false, Option, Some, None, sym, ap, ◌∙◌, rules, tests, arith, length, Bool, true, ◌&&◌, Bor, get_or, map}
 use Rattle.std.specs.List.{slice_split, join_with_byte, AllByRecursion}
 use Rattle.std.specs.Fmt.{decimal}
 use Rattle.std.proofs.lemmas.Fmt.{digits_decimal}
 use Rattle.std.proofs.lemmas.Str.Parse.{numerals_by_value, tells_digits, not_in_digits}
 use Rattle.std.proofs.lemmas.List.Splits.{slice_split_none, slice_split_at, join_with_byte-slice_split}
 use Rattle.std.proofs.lemmas.List.Elements.{All-from_get_or, All-nil, All-cons, All-append}
+use Rattle.std.proofs.lemmas.Bool.{and_parts}
+use Rattle.std.proofs.lemmas.List.{get_or-map}
+use Rattle.std.specs.Prelude.{nat_le}
 use Rattle.roll_text.specs.Lines.{Lacks}
 use Rattle.roll_text.specs.Text.{Reads}
 
@@ -18,6 +21,15 @@ decimal-lacks c n low small =
     let own = numerals_by_value _ tells_digits in
     let apart = not_in_digits own (decimal n) c (digits_decimal own n small) (λ h. omega arith) in
     All-from_get_or (λ x. (x == c) ≡ false) (decimal n) 0 (λ i l. not_equal _ _ (apart i l))
+
+-- whether no byte is below a comma's
+abbrev pub are_high : List ℕ → Bool
+are_high [] = true
+are_high (b ∷ bs) = nat_le 44 b && are_high bs
+
+pub high-lacks : (c : ℕ) → c < 44 → (bytes : List ℕ) → are_high bytes ≡ true → Lacks c bytes
+high-lacks c low [] h = All-nil _
+high-lacks c low (b ∷ bs) h = let parts = and_parts (nat_le 44 b) (are_high bs) h in All-cons (λ x. (x == c) ≡ false) b bs (search (rules, tests)) (high-lacks c low bs parts.1)
 
 -- fields that lack a byte lack it when they are joined by another one
 pub join-lacks : (c separator : ℕ) (fields : List (List ℕ)) → (separator == c) ≡ false → AllByRecursion (Lacks c) fields → Lacks c (join_with_byte separator fields)
@@ -43,3 +55,7 @@ pub reads-joined : {X : Type 0} (c : ℕ) (Fits : X → Type 0) (fields_of : X �
 reads-joined c Fits fields_of lacking line (Some x) h = (h.0, sym (join_with_byte-slice_split c line) ∙ ap (join_with_byte c) h.1)
 reads-joined c Fits fields_of lacking line None h = λ x fits e.
     h x fits (ap (slice_split (λ b. b == c)) e ∙ split-fields c (fields_of x) (lacking x fits).0 (lacking x fits).1)
+
+-- a field's text
+pub text_at : (fields : List (Bor (List ℕ))) (texts : List (List ℕ)) (i : ℕ) (d : Bor (List ℕ)) → map (λ field. field.now) fields ≡ texts → i < length fields → (get_or fields i d).now ≡ get_or texts i []
+text_at fields texts i d e h = sym (get_or-map (λ field. field.now) fields i d [] h) ∙ ap (λ t. get_or t i []) e

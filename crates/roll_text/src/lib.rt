@@ -10,6 +10,3 @@ pub use decimal::{number, push_number, push_signed};
 pub use line::{few_fields, fields, split_line};
 pub use list::{numbers, push_list};
 pub use streams::{ReadFault, TEXT_LIMIT, WriteFault, read_all, write_all};
-
-#[cfg(test)]
-mod tests;

@@ -9,8 +9,9 @@ use Rattle.roll_frame.specs.declared.row.Cell.{Cell}
 use Rattle.roll_frame.specs.declared.row.Cell.TheVariants.{Word, Gone}
 use Rattle.std.proofs.lemmas.Option.{slice_get_past, slice_get-get_or}
 use Rattle.roll_frame.specs.Cells.{Rows, cell_eq, cell_eq-Decides}
-use Rattle.roll_frame.specs.Claims.{cell_of_row}
-use Rattle.roll_tree.specs.Marks.{differ_at, differs, bit_of, AreMarks, AreSameBut, least_other}
+use Rattle.roll_frame.specs.Claims.{cell_of_row, place_of}
+use Rattle.roll_frame.proofs.Places.{place_of-same}
+use Rattle.roll_tree.specs.Marks.{differ_at, differs, bit_of, AreMarks, AreSameBut}
 
 -- a test that answers at each pair of variants as `cell_eq` does is the same of cells that may be missing
 pub same_options : (test : Cell → Cell → Bool) → ((v w : _) → test (Word v) (Word w) ≡ nat_eq v w) → ((v : _) → test (Word v) Gone ≡ false) → ((w : _) → test Gone (Word w) ≡ false) → test Gone Gone ≡ true → (o p : Option Cell) → option_eq test o p ≡ option_eq cell_eq o p
@@ -56,7 +57,7 @@ unmarked : (there : Option (List Cell)) (row : List Cell) (marks place : ℕ) �
 unmarked there row marks place are e = bit_is (differs there row place) (sym (are place) ∙ e)
 
 -- the first place where rows differ
-least_at : (row there : List Cell) (place : ℕ) → differ_at row there place ≡ true → ((k : ℕ) → k < place → differ_at row there k ≡ false) → least_other row there ≡ Some (suc place)
+least_at : (row there : List Cell) (place : ℕ) → differ_at row there place ≡ true → ((k : ℕ) → k < place → differ_at row there k ≡ false) → place_of row there ≡ Some (suc place)
 least_at [] [] place here before = absurd (false≢true here)
 least_at [] (d ∷ ds) zero here before = refl
 least_at [] (d ∷ ds) (suc place) here before = absurd (false≢true (sym (before 0 (omega arith))))
@@ -76,10 +77,6 @@ none_at (c ∷ cs) (d ∷ ds) all =
     let rest = none_at cs ds (λ k. all (suc k)) in
     rw (first, rest) refl
 
-least_same : (row : List Cell) → least_other row row ≡ None
-least_same [] = refl
-least_same (c ∷ cs) = rw ((cell_eq-Decides c c).1 refl, least_same cs) refl
-
 never_at : (row : List Cell) (k : ℕ) → differ_at row row k ≡ false
 never_at [] k = refl
 never_at (c ∷ cs) zero = rw ((cell_eq-Decides c c).1 refl) refl
@@ -93,11 +90,11 @@ pub all_right : (row : List Cell) (marks : ℕ) → AreMarks (Some row) row mark
 all_right row marks are = same_from_bits marks 0 (λ k. are k ∙ ap (λ (b : Bool). bit_of b) (never_at row k) ∙ sym (bit_at-zero k))
 
 -- the least marked player
-pub least_none : (there : Option (List Cell)) (row : List Cell) → AreMarks there row 0 → option_and_then (least_other row) there ≡ None
+pub least_none : (there : Option (List Cell)) (row : List Cell) → AreMarks there row 0 → option_and_then (place_of row) there ≡ None
 least_none None row are = refl
-least_none (Some there) row are = ap (least_other row) (sym (no_marks row there are)) ∙ least_same row
+least_none (Some there) row are = ap (place_of row) (sym (no_marks row there are)) ∙ place_of-same row
 
-pub least_some : (there : Option (List Cell)) (row : List Cell) (marks place : ℕ) → AreMarks there row marks → bit_at marks place ≡ 1 → ((k : ℕ) → k < place → bit_at marks k ≡ 0) → option_and_then (least_other row) there ≡ Some (place + 1)
+pub least_some : (there : Option (List Cell)) (row : List Cell) (marks place : ℕ) → AreMarks there row marks → bit_at marks place ≡ 1 → ((k : ℕ) → k < place → bit_at marks k ≡ 0) → option_and_then (place_of row) there ≡ Some (place + 1)
 least_some None row marks place are here before = absurd (omega (arith, here, are place))
 least_some (Some there) row marks place are here before =
     least_at row there place (bit_set (differ_at row there place) (sym (are place) ∙ here)) (λ k h. unmarked (Some there) row marks k are (before k h))

@@ -10,7 +10,7 @@ use Rattle.roll_frame.specs.declared.row.Cell.{Cell}
 use Rattle.roll_frame.specs.Cells.{Rows, row_eq, row_eq-Decides}
 use Rattle.roll_frame.specs.Paths.{longest}
 use Rattle.roll_tree.specs.Marks.{AreMarks}
-use Rattle.roll_tree.specs.Kept.{Kept, held, paths_of, time_to}
+use Rattle.roll_tree.specs.SavedStates.{SavedStates, state_named, paths_of, time_to}
 use Rattle.roll_tree.specs.Layout.{node_at, kept_of, IsTree}
 use Rattle.roll_tree.specs.Node.{is_child_of, is_unmarked_of}
 use Rattle.roll_tree.specs.declared.node.Edge.{Edge}
@@ -61,18 +61,18 @@ module _ {S : Type 0} (t : Inside S) (tree : IsTree t) (to : ℕ) where
         go (Some e) is = row e is (eqb e.parent best) refl
 
     -- where it ends
-    pub deepest_node : (kept : Kept S) → kept_of t ≡ kept → (length t.order.items ≤ place) ⊎ (length known ≤ depth) → IsSomeAnd (held kept best) (λ s. s.path ≡ take (longest (paths_of kept) (time_to kept to)) (time_to kept to))
+    pub deepest_node : (kept : SavedStates S) → kept_of t ≡ kept → (length t.order.items ≤ place) ⊎ (length known ≤ depth) → IsSomeAnd (state_named kept best) (λ s. s.path ≡ take (longest (paths_of kept) (time_to kept to)) (time_to kept to))
     deepest_node kept view over =
         let far = way_end t.base t.nodes.slots t.order.items known place best depth way over tree.listed in
         let path : longest (paths_of kept) known ≡ depth = ap (λ (l : List Rows). longest l known) (paths_are t kept view) ∙ far in
-        let time : known ≡ time_to kept to = ap (λ (k : Kept S). time_to k to) view in
-        subst (λ (r : Rows). IsSomeAnd (held kept best) (λ s. s.path ≡ take (longest (paths_of kept) r) r)) time
+        let time : known ≡ time_to kept to = ap (λ (k : SavedStates S). time_to k to) view in
+        subst (λ (r : Rows). IsSomeAnd (state_named kept best) (λ s. s.path ≡ take (longest (paths_of kept) r) r)) time
         (rw (held_node t kept best way.node view tree way.node_is, path) way.path_is)
 
-    pub deepest_length : (kept : Kept S) → kept_of t ≡ kept → (length t.order.items ≤ place) ⊎ (length known ≤ depth) → t.base + depth ≡ kept.base + longest (paths_of kept) (time_to kept to)
+    pub deepest_length : (kept : SavedStates S) → kept_of t ≡ kept → (length t.order.items ≤ place) ⊎ (length known ≤ depth) → t.base + depth ≡ kept.base + longest (paths_of kept) (time_to kept to)
     deepest_length kept view over =
         let far = way_end t.base t.nodes.slots t.order.items known place best depth way over tree.listed in
         let path : longest (paths_of kept) known ≡ depth = ap (λ (l : List Rows). longest l known) (paths_are t kept view) ∙ far in
-        let time : known ≡ time_to kept to = ap (λ (k : Kept S). time_to k to) view in
+        let time : known ≡ time_to kept to = ap (λ (k : SavedStates S). time_to k to) view in
         let whole : longest (paths_of kept) (time_to kept to) ≡ depth = ap (longest (paths_of kept)) (sym time) ∙ path in
         omega (arith, whole, base_is t kept view)

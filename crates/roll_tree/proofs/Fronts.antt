@@ -6,11 +6,13 @@ use Rattle.std.specs.Option.{option_map_or}
 use Rattle.std.proofs.lemmas.List.{take-append-le, take_all, get_or_append_left}
 use Rattle.std.proofs.lemmas.Option.{slice_get_past, slice_get-get_or}
 use Rattle.std.proofs.lemmas.Bool.{cases_eq, cases_lt, eqb-true, eq-eqb}
+use Rattle.std.proofs.Math.Bool.{and-true, not-not}
 use Rattle.roll_frame.specs.declared.row.Cell.{Cell}
 use Rattle.roll_frame.specs.Cells.{Rows, cell_eq, row_eq}
 use Rattle.roll_frame.specs.Claims.{cell_of_row, cell_in}
 use Rattle.roll_frame.specs.Paths.{begins_with}
-use Rattle.roll_tree.specs.Kept.{has_other}
+use Rattle.roll_frame.proofs.Beginnings.{begins, begins_is}
+use Rattle.roll_tree.specs.SavedStates.{has_other}
 use Rattle.roll_tree.specs.Layout.{node_at, IsTree}
 use Rattle.roll_tree.specs.Rule.{agrees, allows}
 use Rattle.roll_tree.specs.declared.node.Node.{Node}
@@ -18,7 +20,6 @@ use Rattle.roll_tree.specs.declared.prune.Rule.TheVariants.{Any, Agrees}
 use Rattle.roll_tree.specs.declared.tree.Tree.TheInside.{Inside}
 use Rattle.roll_tree.proofs.Nodes.{path_at, path_at-top, path_at-below, length-path_at, no_edge}
 use Rattle.roll_tree.proofs.Rules.{IsRule}
-use Rattle.roll_tree.proofs.Way.{begins, begins_is}
 
 -- a path that isn't these rows begins with them where its front does
 begins_front : (to path : Rows) (row : List Cell) → path ++ row ∷ [] ≢ to → begins_with (path ++ row ∷ []) to ≡ begins_with path to
@@ -54,13 +55,9 @@ differs_from cell there = option_map_or (λ c. not (cell_eq c cell)) there false
 agrees_not : (place : ℕ) (cell : Cell) (row : List Cell) → not (differs_from cell (slice_get row place)) ≡ agrees place cell row
 agrees_not place cell row = go (slice_get row place)
   where
-    twice : (b : Bool) → not (not b) ≡ b
-    twice true = refl
-    twice false = refl
-
     go : (o : Option Cell) → not (differs_from cell o) ≡ option_map_or (λ c. cell_eq c cell) o true
     go None = refl
-    go (Some c) = twice (cell_eq c cell)
+    go (Some c) = not-not (cell_eq c cell)
 
 -- a path has no other cell where its front has none and the rule allows its last row
 other_front : (base frame player place end : ℕ) (cell : Cell) (path : Rows) (row : List Cell) → base ≤ frame → player ≡ place + 1 → length path + base + 1 ≡ end → not (has_other player (frame - base) cell (path ++ row ∷ [])) ≡ (not (has_other player (frame - base) cell path) && allows (Agrees place frame cell) end row)
@@ -75,10 +72,6 @@ other_front base frame player place end cell path row low is deep = go (cases_lt
             let less : player - 1 ≡ place = omega (arith, is) in
             ap (λ (b : Bool). differs_from cell (cond b None (cell_in rows (frame - base) (player - 1)))) e
             ∙ ap (λ (k : ℕ). differs_from cell (cell_in rows (frame - base) k)) less
-
-    and-true : (b : Bool) → (b && true) ≡ b
-    and-true true = refl
-    and-true false = refl
 
     elsewhere : (frame - base ≢ length path) → allows (Agrees place frame cell) end row ≡ true
     elsewhere apart = at (eqb end (frame + 1)) refl
@@ -145,10 +138,6 @@ module _ {S : Type 0} (t : Inside S) (tree : IsTree t) where
         ∙ sym (and-true (begins_with (path_at t.base t.nodes.slots up.parent) (path_at t.base t.nodes.slots first)));
   }
     where
-      and-true : (b : Bool) → (b && true) ≡ b
-      and-true true = refl
-      and-true false = refl
-
       empty : (name : ℕ) (node : Node S) → node_at t.nodes.slots name ≡ Some node → name ≢ top → path_at t.base t.nodes.slots node ≡ [] → (b : Bool) → begins_with (path_at t.base t.nodes.slots node) (path_at t.base t.nodes.slots first) ≡ b → begins_with (path_at t.base t.nodes.slots node) (path_at t.base t.nodes.slots first) ≡ false
       empty name node found differs bare true e =
           absurd (differs (tree.distinct name top node first found first_is (bare ∙ sym (begins_is (path_at t.base t.nodes.slots node) (path_at t.base t.nodes.slots first) e ∙ ap (λ (l : Rows). take (length (path_at t.base t.nodes.slots first)) l) bare ∙ take_none (length (path_at t.base t.nodes.slots first))))))

@@ -9,7 +9,7 @@ use Rattle.roll_frame.specs.declared.row.Cell.{Cell}
 use Rattle.roll_frame.specs.declared.limits.TheConstants.{PATH_LIMIT, TREE_LIMIT}
 use Rattle.roll_frame.specs.Cells.{Rows}
 use Rattle.roll_frame.specs.Paths.{contains}
-use Rattle.roll_tree.specs.Kept.{Saved, Kept, held, with_state, CanGrow}
+use Rattle.roll_tree.specs.SavedStates.{Saved, SavedStates, state_named, with_state, CanGrow}
 use Rattle.roll_tree.specs.Layout.{has_name, node_at, saved_of, state_at, kept_of, HasParent, AreLinked, AreDistinct, IsAfter, AreOrdered, AreFresh, IsTree}
 use Rattle.roll_tree.specs.Marks.{AreMarks}
 use Rattle.roll_tree.specs.declared.node.Edge.{Edge}
@@ -146,7 +146,7 @@ module _ {S : Type 0} where
     pub short : parent.end + 1 ≤ t.base + PATH_LIMIT
     pub fresh : (k : ℕ) (node : Node S) → node_at t.nodes.slots k ≡ Some node → path_at t.base t.nodes.slots node ≢ path_at t.base t.nodes.slots parent ++ row ∷ []
 
-  pub fits_below : (t : Inside S) (kept : Kept S) (name : ℕ) (row : List Cell) (parent : Node S) → kept_of t ≡ kept → IsTree t → CanGrow kept name row → node_at t.nodes.slots name ≡ Some parent → FitsBelow t parent row
+  pub fits_below : (t : Inside S) (kept : SavedStates S) (name : ℕ) (row : List Cell) (parent : Node S) → kept_of t ≡ kept → IsTree t → CanGrow kept name row → node_at t.nodes.slots name ≡ Some parent → FitsBelow t parent row
   fits_below t kept name row parent view tree can found =
       let seen = held_node t kept name parent view tree found in
       let s : Saved S = saved_of t.base t.nodes.slots name parent in
@@ -204,7 +204,7 @@ module _ {S : Type 0} where
       unnamed false e = e
 
   -- what is seen after `insert`
-  pub grown_view : (t u : Inside S) (kept : Kept S) (name : ℕ) (child parent : Node S) (edge : Edge) (s : Saved S) → u.base ≡ t.base → u.root ≡ t.root → u.order.items ≡ t.order.items ++ name ∷ [] → u.time.items ≡ t.time.items → kept_of t ≡ kept → IsTree t → IsGrown t.base t.nodes.slots u.nodes.slots name child parent edge → held kept edge.parent ≡ Some s → kept_of u ≡ with_state kept (record { name = name; path = s.path ++ edge.row ∷ []; snapshot = child.snapshot })
+  pub grown_view : (t u : Inside S) (kept : SavedStates S) (name : ℕ) (child parent : Node S) (edge : Edge) (s : Saved S) → u.base ≡ t.base → u.root ≡ t.root → u.order.items ≡ t.order.items ++ name ∷ [] → u.time.items ≡ t.time.items → kept_of t ≡ kept → IsTree t → IsGrown t.base t.nodes.slots u.nodes.slots name child parent edge → state_named kept edge.parent ≡ Some s → kept_of u ≡ with_state kept (record { name = name; path = s.path ++ edge.row ∷ []; snapshot = child.snapshot })
   grown_view t u kept name child parent edge s base root order time view tree grown seen =
       let above : saved_of t.base t.nodes.slots edge.parent parent ≡ s = same_Some _ _ (sym (held_node t kept edge.parent parent view tree grown.above) ∙ seen) in
       let states : states_at u.base u.nodes.slots u.order.items ≡ states_at t.base t.nodes.slots t.order.items ++ (record { name = name; path = s.path ++ edge.row ∷ []; snapshot = child.snapshot }) ∷ [] =
@@ -212,7 +212,7 @@ module _ {S : Type 0} where
       ∙ ap (states_at t.base u.nodes.slots) order
       ∙ grown_states t.base t.nodes.slots u.nodes.slots name child parent edge tree.links grown t.order.items tree.ordered
       ∙ ap (λ (x : Saved S). states_at t.base t.nodes.slots t.order.items ++ (record { name = name; path = x.path ++ edge.row ∷ []; snapshot = child.snapshot }) ∷ []) above in
-      subst (λ (k : Kept S). kept_of u ≡ with_state k (record { name = name; path = s.path ++ edge.row ∷ []; snapshot = child.snapshot })) view (λ i. record { base = base i; root = root i; states = states i; time = time i })
+      subst (λ (k : SavedStates S). kept_of u ≡ with_state k (record { name = name; path = s.path ++ edge.row ∷ []; snapshot = child.snapshot })) view (λ i. record { base = base i; root = root i; states = states i; time = time i })
 
   -- a tree of a root alone
   pub new_tree : (u : Inside S) (node : Node S) → node_at u.nodes.slots u.root ≡ Some node → ((other : ℕ) → other ≢ u.root → node_at u.nodes.slots other ≡ None) → node.edge ≡ None → node.end ≡ u.base → u.order.items ≡ u.root ∷ [] → slab_len u.nodes ≡ 1 → TREE_LIMIT ≤ u.nodes.capacity → TREE_LIMIT ≤ vec_capacity u.order → IsTree u

@@ -1,38 +1,17 @@
 -- The least frame and player in which a path differs from the timeline.
-use Rattle.std.proofs.Common.{◌≡◌, ℕ, suc, ◌+◌, ◌-◌, ◌<◌, List, [], ◌∷◌, ◌++◌, length, Option, Some, None, refl, sym, ap, ◌∙◌, arith}
-use Rattle.std.specs.Prelude.{option_map, slice_get}
+use Rattle.std.proofs.Common.{◌≡◌, ℕ, ◌+◌, ◌-◌, ◌<◌, List, [], ◌∷◌, ◌++◌, length, Option, Some, None, refl, sym, ap, ◌∙◌, arith}
+use Rattle.std.specs.Prelude.{slice_get}
 use Rattle.std.specs.Option.{option_map_or, option_and_then, option_or}
-use Rattle.std.proofs.lemmas.List.Elements.{All-head, All-tail}
 use Rattle.roll_frame.specs.declared.row.Cell.{Cell}
 use Rattle.roll_frame.specs.Cells.{Rows}
-use Rattle.roll_frame.specs.Claims.{AreRowsOf, place_of, least_place}
-use Rattle.roll_tree.specs.Marks.{AreMarks, least_other, least_mark}
+use Rattle.roll_frame.specs.Claims.{place_of, least_place}
+use Rattle.roll_frame.proofs.Places.{in_frame, least_place-push}
+use Rattle.roll_tree.specs.Marks.{AreMarks}
 use Rattle.roll_tree.specs.Layout.{node_at, IsTree}
 use Rattle.roll_tree.specs.declared.node.Edge.{Edge}
 use Rattle.roll_tree.specs.declared.node.Node.{Node}
 use Rattle.roll_tree.specs.declared.tree.Tree.TheInside.{Inside}
 use Rattle.roll_tree.proofs.Nodes.{path_at, path_at-top, path_at-below, length-path_at, no_edge, with_edge}
-
-abbrev in_frame : ℕ → Option ℕ → Option (ℕ × ℕ)
-in_frame frame player = option_map (λ p. (frame, p)) player
-
--- of a path one row further: the front's, or else the row's
-least-push : (t : ℕ) (path : Rows) (row : List Cell) (time : Rows) → least_mark t (path ++ row ∷ []) time ≡ option_or (least_mark t path time) (in_frame (t + length path) (option_and_then (least_other row) (slice_get time (length path))))
-least-push t [] row [] = refl
-least-push t [] row (there ∷ time) = let same : t ≡ t + 0 = omega arith in one (least_other row there) ∙ ap (λ (n : ℕ). in_frame n (least_other row there)) same
-  where
-    one : (o : Option ℕ) → option_map_or (λ p. Some (t, p)) o None ≡ in_frame t o
-    one None = refl
-    one (Some p) = refl
-least-push t (first ∷ path) row [] = refl
-least-push t (first ∷ path) row (there ∷ time) = go (least_other first there) (least-push (suc t) path row time)
-  where
-    go : (o : Option ℕ) → least_mark (suc t) (path ++ row ∷ []) time ≡ option_or (least_mark (suc t) path time) (in_frame (suc t + length path) (option_and_then (least_other row) (slice_get time (length path)))) → option_map_or (λ p. Some (t, p)) o (least_mark (suc t) (path ++ row ∷ []) time) ≡ option_or (option_map_or (λ p. Some (t, p)) o (least_mark (suc t) path time)) (in_frame (t + length (first ∷ path)) (option_and_then (least_other row) (slice_get time (length path))))
-    go None ih =
-        let more : suc t + length path ≡ t + length (first ∷ path) = omega arith in
-        ih
-        ∙ ap (λ (n : ℕ). option_or (least_mark (suc t) path time) (in_frame n (option_and_then (least_other row) (slice_get time (length path))))) more
-    go (Some p) ih = refl
 
 or_assoc : {A : Type 0} (a b c : Option A) → option_or (option_or a b) c ≡ option_or a (option_or b c)
 or_assoc None b c = refl
@@ -53,14 +32,14 @@ module _ {S : Type 0} (t : Inside S) where
     pub here : Node S
     pub from_is : node_at t.nodes.slots start ≡ Some from
     pub here_is : node_at t.nodes.slots at ≡ Some here
-    pub joined : least_mark t.base (path_at t.base t.nodes.slots from) t.time.items ≡ option_or (least_mark t.base (path_at t.base t.nodes.slots here) t.time.items) first
+    pub joined : least_place t.base (path_at t.base t.nodes.slots from) t.time.items ≡ option_or (least_place t.base (path_at t.base t.nodes.slots here) t.time.items) first
 
   pub IsSearch-start : (start : ℕ) (node : Node S) → node_at t.nodes.slots start ≡ Some node → IsSearch start start None
-  IsSearch-start start node found = record { from = node; here = node; from_is = found; here_is = found; joined = or_none (least_mark t.base (path_at t.base t.nodes.slots node) t.time.items) }
+  IsSearch-start start node found = record { from = node; here = node; from_is = found; here_is = found; joined = or_none (least_place t.base (path_at t.base t.nodes.slots node) t.time.items) }
 
   module _ (tree : IsTree t) where
     -- a row further up
-    pub IsSearch-more : (start at : ℕ) (first : Option (ℕ × ℕ)) (e : Edge) (player : Option ℕ) → (s : IsSearch start at first) → s.here.edge ≡ Some e → ((there : Option (List Cell)) (row : List Cell) → AreMarks there row e.marks → player ≡ option_and_then (least_other row) there) → IsSearch start e.parent (option_or (in_frame (s.here.end - 1) player) first)
+    pub IsSearch-more : (start at : ℕ) (first : Option (ℕ × ℕ)) (e : Edge) (player : Option ℕ) → (s : IsSearch start at first) → s.here.edge ≡ Some e → ((there : Option (List Cell)) (row : List Cell) → AreMarks there row e.marks → player ≡ option_and_then (place_of row) there) → IsSearch start e.parent (option_or (in_frame (s.here.end - 1) player) first)
     IsSearch-more start at first e player s is least =
         let slots = t.nodes.slots in
         let up = with_edge t.base slots tree.links at s.here e s.here_is is in
@@ -68,9 +47,9 @@ module _ {S : Type 0} (t : Inside S) where
         let deep = length-path_at t.base slots tree.links up.0.edge.parent up.0.parent up.0.parent_is in
         let place : s.here.end - t.base - 1 ≡ length above = omega (arith, deep, up.0.next) in
         let frame : t.base + length above ≡ s.here.end - 1 = omega (arith, deep, up.0.next) in
-        let mine : player ≡ option_and_then (least_other e.row) (slice_get t.time.items (length above)) =
+        let mine : player ≡ option_and_then (place_of e.row) (slice_get t.time.items (length above)) =
         least (slice_get t.time.items (s.here.end - t.base - 1)) e.row (tree.fresh at s.here e s.here_is is)
-        ∙ ap (λ (n : ℕ). option_and_then (least_other e.row) (slice_get t.time.items n)) place in
+        ∙ ap (λ (n : ℕ). option_and_then (place_of e.row) (slice_get t.time.items n)) place in
         record {
           from = s.from;
           here = up.0.parent;
@@ -78,12 +57,12 @@ module _ {S : Type 0} (t : Inside S) where
           here_is = ap (λ (x : Edge). node_at slots x.parent) (sym up.1) ∙ up.0.parent_is;
           joined =
               s.joined
-              ∙ ap (λ (r : Rows). option_or (least_mark t.base r t.time.items) first) (path_at-below t.base slots tree.links s.here up.0)
-              ∙ ap (λ (x : Edge). option_or (least_mark t.base (above ++ x.row ∷ []) t.time.items) first) up.1
-              ∙ ap (λ (o : Option (ℕ × ℕ)). option_or o first) (least-push t.base above e.row t.time.items)
-              ∙ or_assoc (least_mark t.base above t.time.items) (in_frame (t.base + length above) (option_and_then (least_other e.row) (slice_get t.time.items (length above)))) first
-              ∙ ap (λ (n : ℕ). option_or (least_mark t.base above t.time.items) (option_or (in_frame n (option_and_then (least_other e.row) (slice_get t.time.items (length above)))) first)) frame
-              ∙ ap (λ (p : Option ℕ). option_or (least_mark t.base above t.time.items) (option_or (in_frame (s.here.end - 1) p) first)) (sym mine);
+              ∙ ap (λ (r : Rows). option_or (least_place t.base r t.time.items) first) (path_at-below t.base slots tree.links s.here up.0)
+              ∙ ap (λ (x : Edge). option_or (least_place t.base (above ++ x.row ∷ []) t.time.items) first) up.1
+              ∙ ap (λ (o : Option (ℕ × ℕ)). option_or o first) (least_place-push t.base above e.row t.time.items)
+              ∙ or_assoc (least_place t.base above t.time.items) (in_frame (t.base + length above) (option_and_then (place_of e.row) (slice_get t.time.items (length above)))) first
+              ∙ ap (λ (n : ℕ). option_or (least_place t.base above t.time.items) (option_or (in_frame n (option_and_then (place_of e.row) (slice_get t.time.items (length above)))) first)) frame
+              ∙ ap (λ (p : Option ℕ). option_or (least_place t.base above t.time.items) (option_or (in_frame (s.here.end - 1) p) first)) (sym mine);
         }
 
     -- the walk comes nearer to the root
@@ -95,24 +74,6 @@ module _ {S : Type 0} (t : Inside S) where
         rw (found, parent) (omega (arith, up.0.next, low))
 
     -- at the root
-    pub IsSearch-done : (start at : ℕ) (first : Option (ℕ × ℕ)) → (s : IsSearch start at first) → s.here.edge ≡ None → least_mark t.base (path_at t.base t.nodes.slots s.from) t.time.items ≡ first
+    pub IsSearch-done : (start at : ℕ) (first : Option (ℕ × ℕ)) → (s : IsSearch start at first) → s.here.edge ≡ None → least_place t.base (path_at t.base t.nodes.slots s.from) t.time.items ≡ first
     IsSearch-done start at first s none =
-        s.joined ∙ ap (λ (r : Rows). option_or (least_mark t.base r t.time.items) first) (path_at-top t.base t.nodes.slots s.here (no_edge t.base t.nodes.slots tree.links at s.here s.here_is none))
-
--- of rows of the same number of cells, the least player whose cells differ is that of a claim
-least_other-place_of : (row there : List Cell) → length row ≡ length there → least_other row there ≡ place_of row there
-least_other-place_of [] [] same = refl
-least_other-place_of [] (d ∷ there) same = absurd (omega (arith, same))
-least_other-place_of (c ∷ row) [] same = absurd (omega (arith, same))
-least_other-place_of (c ∷ row) (d ∷ there) same = rw (least_other-place_of row there (omega (arith, same))) refl
-
--- where all rows of a path and of the time have the same number of cells, the least frame and player are those that
--- a claim names
-pub least_mark-least_place : (players t : ℕ) (path time : Rows) → AreRowsOf players path → AreRowsOf players time → least_mark t path time ≡ least_place t path time
-least_mark-least_place players t [] time ofs oft = refl
-least_mark-least_place players t (row ∷ path) [] ofs oft = refl
-least_mark-least_place players t (row ∷ path) (there ∷ time) ofs oft =
-    let has : List Cell → Type 0 = λ r. length r ≡ players in
-    let first = least_other-place_of row there (All-head has row path ofs ∙ sym (All-head has there time oft)) in
-    let rest = least_mark-least_place players (suc t) path time (All-tail has row path ofs) (All-tail has there time oft) in
-    rw (first, rest) refl
+        s.joined ∙ ap (λ (r : Rows). option_or (least_place t.base r t.time.items) first) (path_at-top t.base t.nodes.slots s.here (no_edge t.base t.nodes.slots tree.links at s.here s.here_is none))

@@ -1,5 +1,5 @@
 -- Lists of paths: which are among them, and the longest that some rows begin with.
-use Rattle.std.proofs.Common.{◌≡◌, ◌⊎◌, ℕ, ◌≤◌, List, [], ◌∷◌, length, take, map, Bool, true, false, cond, Option, Some, None, refl, sym, ap, subst, ◌∙◌, inl, inr, arith, length-take, eqb}
+use Rattle.std.proofs.Common.{◌≡◌, ◌⊎◌, ℕ, ◌≤◌, List, [], ◌∷◌, length, take, map, Bool, true, false, cond, Option, Some, None, refl, sym, ap, subst, ◌∙◌, inl, inr, arith, eqb}
 use Rattle.std.specs.Prelude.{IsSomeAnd}
 use Rattle.std.specs.List.{find}
 use Rattle.std.proofs.lemmas.List.{take_all}
@@ -7,17 +7,8 @@ use Rattle.std.proofs.lemmas.Option.{none-some, same_Some}
 use Rattle.std.proofs.lemmas.Bool.{cases_Bool, false≢true, or_cases, or_left, or_right}
 use Rattle.roll_frame.specs.Cells.{Rows, rows_eq, rows_eq-Decides}
 use Rattle.roll_frame.specs.Paths.{begins_with, contains, longest}
-use Rattle.roll_tree.specs.Kept.{Saved, Kept, held, paths_of}
-use Rattle.roll_tree.proofs.Way.{begins, begins_is}
-
--- none of the paths that the rows begin with is longer than the rows
-pub longest_within : (paths : List Rows) (rows : Rows) → longest paths rows ≤ length rows
-longest_within [] rows = omega arith
-longest_within (p ∷ paths) rows = go (begins_with rows p) refl (longest_within paths rows)
-  where
-    go : (b : Bool) → begins_with rows p ≡ b → longest paths rows ≤ length rows → longest (p ∷ paths) rows ≤ length rows
-    go true e ih = let short = ap (λ (l : Rows). length l) (begins_is rows p e) in rw e (omega (arith, ih, short, length-take (length p) rows))
-    go false e ih = rw e ih
+use Rattle.roll_frame.proofs.Beginnings.{longest_within, begins}
+use Rattle.roll_tree.specs.SavedStates.{Saved, SavedStates, state_named, paths_of}
 
 -- a path that is one of them is no longer than the longest
 pub longest_has : (paths : List Rows) (path : Rows) → contains paths path ≡ true → length path ≤ longest paths path
@@ -45,14 +36,14 @@ module _ {S : Type 0} where
           or_right (rows_eq s.path u.path) (contains (map (λ x. x.path) states) s.path) (ih (sym (ap (λ (b : Bool). cond b (Some u) (find (λ x. eqb x.name name) states)) is) ∙ e))
 
   -- the path of a state that is held is one of the paths
-  pub held_path : (t : Kept S) (name : ℕ) (s : Saved S) → held t name ≡ Some s → contains (paths_of t) s.path ≡ true
+  pub held_path : (t : SavedStates S) (name : ℕ) (s : Saved S) → state_named t name ≡ Some s → contains (paths_of t) s.path ≡ true
   held_path t name s e = found_path t.states name s e
 
   -- the state on the way of some rows is that of the rows where it is as long
-  pub reached : (t : Kept S) (name : ℕ) (rows : Rows) → IsSomeAnd (held t name) (λ s. s.path ≡ take (longest (paths_of t) rows) rows) → longest (paths_of t) rows ≡ length rows → contains (paths_of t) rows ≡ true
-  reached t name rows here whole = go (held t name) refl here
+  pub reached : (t : SavedStates S) (name : ℕ) (rows : Rows) → IsSomeAnd (state_named t name) (λ s. s.path ≡ take (longest (paths_of t) rows) rows) → longest (paths_of t) rows ≡ length rows → contains (paths_of t) rows ≡ true
+  reached t name rows here whole = go (state_named t name) refl here
     where
-      go : (o : Option (Saved S)) → held t name ≡ o → IsSomeAnd o (λ s. s.path ≡ take (longest (paths_of t) rows) rows) → contains (paths_of t) rows ≡ true
+      go : (o : Option (Saved S)) → state_named t name ≡ o → IsSomeAnd o (λ s. s.path ≡ take (longest (paths_of t) rows) rows) → contains (paths_of t) rows ≡ true
       go None e h = absurd (some_and_none h)
         where
           some_and_none : IsSomeAnd None (λ (s : Saved S). s.path ≡ take (longest (paths_of t) rows) rows) → ⊥
@@ -60,7 +51,7 @@ module _ {S : Type 0} where
       go (Some s) e h =
           subst (λ (p : Rows). contains (paths_of t) p ≡ true) (h ∙ ap (λ (n : ℕ). take n rows) whole ∙ take_all (length rows) rows (omega arith)) (held_path t name s e)
 
-  pub not_reached : (t : Kept S) (rows : Rows) → (longest (paths_of t) rows ≡ length rows → ⊥) → contains (paths_of t) rows ≡ false
+  pub not_reached : (t : SavedStates S) (rows : Rows) → (longest (paths_of t) rows ≡ length rows → ⊥) → contains (paths_of t) rows ≡ false
   not_reached t rows short = go (cases_Bool (contains (paths_of t) rows))
     where
       go : (contains (paths_of t) rows ≡ true) ⊎ (contains (paths_of t) rows ≡ false) → contains (paths_of t) rows ≡ false

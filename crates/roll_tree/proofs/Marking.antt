@@ -9,7 +9,7 @@ use Rattle.roll_frame.specs.declared.limits.TheConstants.{TREE_LIMIT}
 use Rattle.roll_frame.specs.declared.row.Cell.{Cell}
 use Rattle.roll_frame.specs.Cells.{Rows}
 use Rattle.roll_tree.specs.Marks.{AreMarks}
-use Rattle.roll_tree.specs.Kept.{Kept}
+use Rattle.roll_tree.specs.SavedStates.{SavedStates}
 use Rattle.roll_tree.specs.Layout.{has_name, bare_edge, bare, AreLike, node_at, rows_to, saved_of, state_at, kept_of, HasParent, AreLinked, AreDistinct, IsAfter, AreOrdered, AreFresh, IsTree}
 use Rattle.roll_tree.specs.declared.node.Edge.{Edge}
 use Rattle.roll_tree.specs.declared.node.Node.{Node}
@@ -152,13 +152,13 @@ module _ {S : Type 0} where
       ends (Some o) None e = absurd (none-some (bare o) (sym e))
       ends (Some o) (Some p) e = ap Some (same_end p o (same_Some _ _ e))
 
-  pub marked_view : (t u : Inside S) (kept : Kept S) (rows : Rows) → u.base ≡ t.base → u.root ≡ t.root → u.order ≡ t.order → u.time.items ≡ rows → kept_of t ≡ kept → IsTree t → AreLike t.nodes.slots u.nodes.slots → kept_of u ≡ record kept { time = rows }
+  pub marked_view : (t u : Inside S) (kept : SavedStates S) (rows : Rows) → u.base ≡ t.base → u.root ≡ t.root → u.order ≡ t.order → u.time.items ≡ rows → kept_of t ≡ kept → IsTree t → AreLike t.nodes.slots u.nodes.slots → kept_of u ≡ record kept { time = rows }
   marked_view t u kept rows base root order time view tree like =
       let states : states_at u.base u.nodes.slots u.order.items ≡ states_at t.base t.nodes.slots t.order.items =
       ap (λ (b : ℕ). states_at b u.nodes.slots u.order.items) base
       ∙ ap (λ o. states_at t.base u.nodes.slots o.items) order
       ∙ like_states t.base t.nodes.slots u.nodes.slots tree.links like t.order.items tree.ordered in
-      subst (λ (k : Kept S). kept_of u ≡ record k { time = rows }) view (λ i. record { base = base i; root = root i; states = states i; time = time i })
+      subst (λ (k : SavedStates S). kept_of u ≡ record k { time = rows }) view (λ i. record { base = base i; root = root i; states = states i; time = time i })
 
 module _ {S : Type 0} (base : ℕ) (time rows : Rows) (old : Slab (Node S)) (names : List ℕ) where
   -- the marks of the names so far agree with the new rows, and the others' nodes are as they were

@@ -4,6 +4,7 @@ use Rattle.std.specs.List.{filter, filter_map}
 use Rattle.std.proofs.lemmas.Bool.{cases_Bool, or_cases, or_left, or_right, eqb-true, eq-eqb}
 use Rattle.std.proofs.lemmas.List.Folds.{list_any-append}
 use Rattle.std.proofs.Common.{eqb}
+use Rattle.std.proofs.Math.Bool.{and-false, or-false}
 use Rattle.roll_tree.specs.Layout.{has_name}
 
 pub option_cases : {A : Type 0} (o : Option A) → (o ≡ None) ⊎ ((a : A) × (o ≡ Some a))
@@ -12,10 +13,6 @@ option_cases (Some a) = inr (a, refl)
 
 pub has_name-push : (names : List ℕ) (n name : ℕ) → has_name (names ++ n ∷ []) name ≡ (has_name names name || eqb n name)
 has_name-push names n name = list_any-append (λ m. eqb m name) names (n ∷ []) ∙ ap (λ (b : Bool). has_name names name || b) (or-false (eqb n name))
-  where
-    or-false : (b : Bool) → (b || false) ≡ b
-    or-false true = refl
-    or-false false = refl
 
 pub has_itself : (names : List ℕ) (name : ℕ) → has_name (names ++ name ∷ []) name ≡ true
 has_itself names name = has_name-push names name name ∙ or_right (has_name names name) (eqb name name) (eq-eqb name name refl)
@@ -48,10 +45,6 @@ has_name-filter live (n ∷ names) name = go (cases_Bool (live n)) (cases_Bool (
     go (inr e) (inl same) ih =
         let dead : live name ≡ false = sym (ap live (eqb-true n name same)) ∙ e in
         gone e ∙ rw same (ih ∙ rw dead (and-false (has_name names name)))
-      where
-        and-false : (b : Bool) → (b && false) ≡ false
-        and-false true = refl
-        and-false false = refl
     go (inr e) (inr differs) ih = gone e ∙ rw differs ih
 
 -- two functions that agree at the names give the same of them

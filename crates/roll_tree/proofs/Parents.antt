@@ -5,7 +5,7 @@ use Rattle.std.specs.List.{find}
 use Rattle.std.proofs.lemmas.List.{take-append-le, take_all}
 use Rattle.roll_frame.specs.declared.row.Cell.{Cell}
 use Rattle.roll_frame.specs.Cells.{Rows}
-use Rattle.roll_tree.specs.Kept.{Saved, Kept, held, IsAbove, IsOrdered}
+use Rattle.roll_tree.specs.SavedStates.{Saved, SavedStates, state_named, IsAbove, IsOrdered}
 use Rattle.roll_tree.specs.Layout.{has_name, node_at, saved_of, state_at, kept_of, AreOrdered, IsTree}
 use Rattle.roll_tree.specs.declared.node.Edge.{Edge}
 use Rattle.roll_tree.specs.declared.node.Node.{Node}
@@ -22,12 +22,12 @@ all_but_last p q a b e =
     ∙ ap (take (length p)) e
     ∙ take-append-le (length p) q (b ∷ []) (omega (arith, same)) ∙ take_all (length p) q (omega (arith, same))
 
-module _ {S : Type 0} (t : Inside S) (kept : Kept S) (view : kept_of t ≡ kept) (tree : IsTree t) where
-  seen : (name : ℕ) (node : Node S) → node_at t.nodes.slots name ≡ Some node → held kept name ≡ Some (saved_of t.base t.nodes.slots name node)
+module _ {S : Type 0} (t : Inside S) (kept : SavedStates S) (view : kept_of t ≡ kept) (tree : IsTree t) where
+  seen : (name : ℕ) (node : Node S) → node_at t.nodes.slots name ≡ Some node → state_named kept name ≡ Some (saved_of t.base t.nodes.slots name node)
   seen name node found = held_node t kept name node view tree found
 
   -- by its edge
-  pub above_edge : (name : ℕ) (node : Node S) (e : Edge) → node_at t.nodes.slots name ≡ Some node → node.edge ≡ Some e → IfSome (held kept name) (λ s. IsAbove kept s.path (Some (record { node = e.parent; row = e.row })))
+  pub above_edge : (name : ℕ) (node : Node S) (e : Edge) → node_at t.nodes.slots name ≡ Some node → node.edge ≡ Some e → IfSome (state_named kept name) (λ s. IsAbove kept s.path (Some (record { node = e.parent; row = e.row })))
   above_edge name node e found is =
       let up = with_edge t.base t.nodes.slots tree.links name node e found is in
       let parent = ap (λ (x : Edge). x.parent) up.1 in
@@ -36,7 +36,7 @@ module _ {S : Type 0} (t : Inside S) (kept : Kept S) (view : kept_of t ≡ kept)
       rw (seen name node found, seen e.parent up.0.parent (ap (node_at t.nodes.slots) (sym parent) ∙ up.0.parent_is)) path
 
   -- without one
-  pub above_root : (name : ℕ) (node : Node S) → node_at t.nodes.slots name ≡ Some node → node.edge ≡ None → IfSome (held kept name) (λ s. IsAbove kept s.path None)
+  pub above_root : (name : ℕ) (node : Node S) → node_at t.nodes.slots name ≡ Some node → node.edge ≡ None → IfSome (state_named kept name) (λ s. IsAbove kept s.path None)
   above_root name node found none =
       rw (seen name node found) (path_at-top t.base t.nodes.slots node (no_edge t.base t.nodes.slots tree.links name node found none))
 
@@ -92,7 +92,7 @@ module _ {S : Type 0} (t : Inside S) (kept : Kept S) (view : kept_of t ≡ kept)
       tail f = cc
 
   -- the name of the node above is that of the state above
-  parent_named : (name : ℕ) (node : Node S) (u : Saved S) (row : List Cell) → node_at t.nodes.slots name ≡ Some node → held kept u.name ≡ Some u → path_at t.base t.nodes.slots node ≡ u.path ++ row ∷ [] → (e : Edge) × (node.edge ≡ Some e) × (e.parent ≡ u.name)
+  parent_named : (name : ℕ) (node : Node S) (u : Saved S) (row : List Cell) → node_at t.nodes.slots name ≡ Some node → state_named kept u.name ≡ Some u → path_at t.base t.nodes.slots node ≡ u.path ++ row ∷ [] → (e : Edge) × (node.edge ≡ Some e) × (e.parent ≡ u.name)
   parent_named name node u row found at path =
       let there = node_of_state t kept u.name u view tree at in
       let up = tree.links.linked name node found (omega (arith, length-path_at t.base t.nodes.slots tree.links name node found, ap (λ (l : Rows). length l) path, length-append u.path (row ∷ []))) in
@@ -101,7 +101,7 @@ module _ {S : Type 0} (t : Inside S) (kept : Kept S) (view : kept_of t ≡ kept)
 
   pub is_ordered : IsOrdered kept
   is_ordered before rest s u row states at path =
-      let w = split [] t.order.items tree.ordered before rest s (ap (λ (k : Kept S). k.states) view ∙ states) in
+      let w = split [] t.order.items tree.ordered before rest s (ap (λ (k : SavedStates S). k.states) view ∙ states) in
       let up = parent_named w.name w.node u row w.node_is at (ap (λ (x : Saved S). x.path) w.state ∙ path) in
       let has : has_name w.front u.name ≡ true = ap (has_name w.front) (sym up.2) ∙ w.parent up.0 up.1 in
       ap (find (λ (x : Saved S). eqb x.name u.name)) (sym w.states)

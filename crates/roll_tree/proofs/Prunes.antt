@@ -7,6 +7,7 @@ use Rattle.std.proofs.lemmas.List.{take_more}
 use Rattle.std.proofs.lemmas.List.Elements.{filter-append}
 use Rattle.std.proofs.lemmas.List.Folds.{list_any-append, list_all_more, list_all_at}
 use Rattle.std.proofs.lemmas.Option.{same_Some}
+use Rattle.std.proofs.Math.Bool.{or-false, or-true}
 use Rattle.slab.specs.Slab.{Slab, get, slab_len}
 use Rattle.roll_tree.specs.Layout.{has_name, node_at, IsAfter, AreOrdered}
 use Rattle.roll_tree.specs.Rule.{allows, IsLive, IsPruned}
@@ -122,14 +123,6 @@ module _ {S : Type 0} (top : ℕ) (rule : Rule) (old now after : Slab (Node S)) 
     counted = λ live is. let old_count = part.counted live is in let none : counted_as (live gone) ≡ 0 = ap (λ (b : Bool). counted_as b) (dead live is) in omega (arith, len, old_count, none, filter-push live (take i order) gone, length-append (take i order) (gone ∷ []));
   })
     where
-      or-true : (b : Bool) → (b || true) ≡ true
-      or-true true = refl
-      or-true false = refl
-
-      or-false : (b : Bool) → (b || false) ≡ b
-      or-false true = refl
-      or-false false = refl
-
       apart : (other : ℕ) → eqb gone other ≡ false → other ≢ gone
       apart other e same = false≢true (sym e ∙ eq-eqb gone other (sym same))
 

@@ -9,7 +9,7 @@ use Rattle.roll_frame.specs.declared.row.Cell.{Cell}
 use Rattle.roll_frame.specs.declared.limits.TheConstants.{TREE_LIMIT}
 use Rattle.roll_frame.specs.Cells.{Rows}
 use Rattle.roll_frame.specs.Paths.{begins_with}
-use Rattle.roll_tree.specs.Kept.{Saved, Kept, held, later, has_other}
+use Rattle.roll_tree.specs.SavedStates.{Saved, SavedStates, state_named, later, has_other}
 use Rattle.roll_tree.specs.Layout.{node_at, kept_of, IsAfter, AreOrdered, IsTree}
 use Rattle.roll_tree.specs.Rule.{IsLive, IsPruned}
 use Rattle.roll_tree.specs.declared.node.Node.{Node}
@@ -31,7 +31,7 @@ slice_get-drop (suc n) (row ∷ rows) k =
 
 module _ {S : Type 0} where
   -- what is left below the state of this name and path
-  abbrev pub settled : Kept S → ℕ → Rows → Kept S
+  abbrev pub settled : SavedStates S → ℕ → Rows → SavedStates S
   settled kept name path = record { base = kept.base + length path; root = name; states = map (later (length path)) (filter (λ u. begins_with u.path path) kept.states); time = drop (length path) kept.time }
 
   later_none : (states : List (Saved S)) → map (later 0) states ≡ states
@@ -64,7 +64,7 @@ module _ {S : Type 0} where
         (λ k. let same : k ≡ first.0.end - t.base + k = omega (arith, first.2) in ap (λ (r : Rows). slice_get r k) time ∙ ap (slice_get t.time.items) same)
         refl room space
 
-    pub cut_view : (kept : Kept S) → kept_of t ≡ kept → kept_of u ≡ record kept { states = filter (λ s. not (has_other player (frame - kept.base) cell s.path)) kept.states }
+    pub cut_view : (kept : SavedStates S) → kept_of t ≡ kept → kept_of u ≡ record kept { states = filter (λ s. not (has_other player (frame - kept.base) cell s.path)) kept.states }
     cut_view kept view =
         let first = root_node t tree in
         let rule = cut_rule t tree first.0 frame player place cell first.1 first.2 low is in
@@ -77,14 +77,14 @@ module _ {S : Type 0} where
         ∙ left
         ∙ ap (λ (n : ℕ). map (later n) (filter passes (states_at t.base t.nodes.slots t.order.items))) none
         ∙ later_none (filter passes (states_at t.base t.nodes.slots t.order.items)) in
-        subst (λ (k : Kept S). kept_of u ≡ record k { states = filter (λ s. not (has_other player (frame - k.base) cell s.path)) k.states }) view (λ i. record { base = base i; root = root i; states = states i; time = time i })
+        subst (λ (k : SavedStates S). kept_of u ≡ record k { states = filter (λ s. not (has_other player (frame - k.base) cell s.path)) k.states }) view (λ i. record { base = base i; root = root i; states = states i; time = time i })
 
 -- there is no player 0, so nothing differs there
 cut_all : {S : Type 0} (place : ℕ) (cell : Cell) (states : List (Saved S)) → states ≡ filter (λ s. not (has_other 0 place cell s.path)) states
 cut_all place cell [] = refl
 cut_all place cell (s ∷ states) = ap (λ l. s ∷ l) (cut_all place cell states)
 
-pub cut_nobody : {S : Type 0} (kept : Kept S) (place : ℕ) (cell : Cell) → kept ≡ record kept { states = filter (λ s. not (has_other 0 place cell s.path)) kept.states }
+pub cut_nobody : {S : Type 0} (kept : SavedStates S) (place : ℕ) (cell : Cell) → kept ≡ record kept { states = filter (λ s. not (has_other 0 place cell s.path)) kept.states }
 cut_nobody kept place cell = ap (λ l. record kept { states = l }) (cut_all place cell kept.states)
 
 module _ {S : Type 0} (t : Inside S) (tree : IsTree t) (top : ℕ) (first : Node S) (first_is : node_at t.nodes.slots top ≡ Some first) (mid : Slab (Node S)) (at_top : get mid top ≡ Some (detached first)) (others : (name : ℕ) → name ≢ top → get mid name ≡ get t.nodes name) (len : slab_len mid ≡ slab_len t.nodes) (u : Inside S) (base : u.base ≡ first.end) (root : u.root ≡ top) (time : u.time.items ≡ drop (first.end - t.base) t.time.items) (pruned : (live : ℕ → Bool) → IsLive top Any mid.slots live → IsPruned live mid u.nodes t.order.items u.order.items) where
@@ -98,7 +98,7 @@ module _ {S : Type 0} (t : Inside S) (tree : IsTree t) (top : ℕ) (first : Node
       left_tree t top first Any begins_there mid tree rule at_top others u.nodes u.order.items (pruned (live_by t top first Any begins_there) live)
       u base root refl refl (λ k. ap (λ (r : Rows). slice_get r k) time ∙ slice_get-drop (first.end - t.base) t.time.items k) len room space
 
-  pub settle_view : (kept : Kept S) → kept_of t ≡ kept → kept_of u ≡ settled kept top (path_at t.base t.nodes.slots first)
+  pub settle_view : (kept : SavedStates S) → kept_of t ≡ kept → kept_of u ≡ settled kept top (path_at t.base t.nodes.slots first)
   settle_view kept view =
       let path : Rows = path_at t.base t.nodes.slots first in
       let rule = settle_rule t tree top first first_is in
@@ -110,7 +110,7 @@ module _ {S : Type 0} (t : Inside S) (tree : IsTree t) (top : ℕ) (first : Node
       let rows : u.time.items ≡ drop (length path) t.time.items = time ∙ ap (λ (n : ℕ). drop n t.time.items) deep in
       let states : states_at u.base u.nodes.slots u.order.items ≡ map (later (length path)) (filter (λ s. begins_with s.path path) (states_at t.base t.nodes.slots t.order.items)) =
       ap (λ (b : ℕ). states_at b u.nodes.slots u.order.items) base ∙ left in
-      subst (λ (k : Kept S). kept_of u ≡ settled k top path) view (λ i. record { base = frames i; root = root i; states = states i; time = rows i })
+      subst (λ (k : SavedStates S). kept_of u ≡ settled k top path) view (λ i. record { base = frames i; root = root i; states = states i; time = rows i })
 
 module _ {S : Type 0} where
   filter_empty : (states : List (Saved S)) → filter (λ s. begins_with s.path []) states ≡ states
@@ -118,14 +118,14 @@ module _ {S : Type 0} where
   filter_empty (s ∷ states) = ap (λ (l : List (Saved S)). s ∷ l) (filter_empty states)
 
   -- the root is the root already
-  pub settle_root : (t : Inside S) (kept : Kept S) (name : ℕ) → kept_of t ≡ kept → IsTree t → name ≡ t.root → IfSome (held kept name) (λ s. kept ≡ settled kept name s.path)
+  pub settle_root : (t : Inside S) (kept : SavedStates S) (name : ℕ) → kept_of t ≡ kept → IsTree t → name ≡ t.root → IfSome (state_named kept name) (λ s. kept ≡ settled kept name s.path)
   settle_root t kept name view tree is =
-      go (held kept name) (subst (λ (n : ℕ). IsSomeAnd (held kept n) (λ (s : Saved S). s.path ≡ [])) (sym is) (root_held t kept view tree))
+      go (state_named kept name) (subst (λ (n : ℕ). IsSomeAnd (state_named kept n) (λ (s : Saved S). s.path ≡ [])) (sym is) (root_held t kept view tree))
     where
       here : kept ≡ settled kept name []
       here =
           let base : kept.base ≡ kept.base + 0 = omega arith in
-          let root : kept.root ≡ name = ap (λ (k : Kept S). k.root) (sym view) ∙ sym is in
+          let root : kept.root ≡ name = ap (λ (k : SavedStates S). k.root) (sym view) ∙ sym is in
           let states : kept.states ≡ map (later 0) (filter (λ s. begins_with s.path []) kept.states) = sym (later_none (filter (λ s. begins_with s.path []) kept.states) ∙ filter_empty kept.states) in
           λ i. record { base = base i; root = root i; states = states i; time = kept.time }
 
@@ -134,8 +134,8 @@ module _ {S : Type 0} where
       go (Some s) h = subst (λ (p : Rows). kept ≡ settled kept name p) (sym h) here
 
   -- a tree that is settled at the state of a path
-  pub settled_to : (kept new : Kept S) (name : ℕ) (to : Rows) → IsSomeAnd (held kept name) (λ s. s.path ≡ to) → IfSome (held kept name) (λ s. new ≡ settled kept name s.path) → new ≡ settled kept name to
-  settled_to kept new name to = go (held kept name)
+  pub settled_to : (kept new : SavedStates S) (name : ℕ) (to : Rows) → IsSomeAnd (state_named kept name) (λ s. s.path ≡ to) → IfSome (state_named kept name) (λ s. new ≡ settled kept name s.path) → new ≡ settled kept name to
+  settled_to kept new name to = go (state_named kept name)
     where
       nowhere : IsSomeAnd None (λ (s : Saved S). s.path ≡ to) → ⊥
       nowhere h = elim h [ ]

@@ -6,9 +6,10 @@ use Rattle.std.specs.Option.{option_map_or}
 use Rattle.std.proofs.Math.Seq.{drop-append_seam}
 use Rattle.std.proofs.lemmas.Option.{none-some}
 use Rattle.std.proofs.lemmas.Bool.{cases_eq, false≢true, or_left, eqb-true, eq-eqb}
+use Rattle.std.proofs.Math.Bool.{and-false}
 use Rattle.slab.specs.Slab.{Slab, get, slab_len}
 use Rattle.roll_frame.specs.declared.limits.TheConstants.{TREE_LIMIT}
-use Rattle.roll_tree.specs.Kept.{Saved, later}
+use Rattle.roll_tree.specs.SavedStates.{Saved, later}
 use Rattle.roll_tree.specs.Layout.{has_name, node_at, saved_of, state_at, HasParent, AreLinked, AreDistinct, AreOrdered, AreFresh, IsTree}
 use Rattle.roll_tree.specs.Rule.{allows, IsLive, IsPruned}
 use Rattle.roll_tree.specs.declared.node.Edge.{Edge}
@@ -90,12 +91,8 @@ module _ {S : Type 0} (t : Inside S) (top : ℕ) (first : Node S) (rule : Rule) 
         above = λ name node found differs alive. above name node found differs alive node.edge refl;
       }
         where
-          either : (b : Bool) → (b && false) ≡ false
-          either true = refl
-          either false = refl
-
           stays : (name : ℕ) → live_by name ≡ true → get new name ≡ get mid name
-          stays name alive = pruned.nodes name ∙ ap (λ (b : Bool). cond (has_name t.order.items name && not b) None (get mid name)) alive ∙ ap (λ (b : Bool). cond b None (get mid name)) (either (has_name t.order.items name))
+          stays name alive = pruned.nodes name ∙ ap (λ (b : Bool). cond (has_name t.order.items name && not b) None (get mid name)) alive ∙ ap (λ (b : Bool). cond b None (get mid name)) (and-false (has_name t.order.items name))
 
           gone : (name : ℕ) → live_by name ≡ false → (b : Bool) → has_name t.order.items name ≡ b → cond (has_name t.order.items name && not (live_by name)) None (get mid name) ≡ None
           gone name dead true named = rw (named, dead) refl

@@ -10,7 +10,7 @@ use Rattle.std.proofs.lemmas.List.Elements.{All-cons}
 use Rattle.roll_frame.specs.declared.limits.TheConstants.{PATH_LIMIT}
 use Rattle.roll_frame.specs.Cells.{Rows, rows_eq, rows_eq-Decides}
 use Rattle.roll_frame.specs.Paths.{begins_with, contains, longest}
-use Rattle.roll_tree.specs.Kept.{Saved, Kept, held, paths_of, IsClosed, IsDistinct}
+use Rattle.roll_tree.specs.SavedStates.{Saved, SavedStates, state_named, paths_of, IsClosed, IsDistinct}
 use Rattle.roll_tree.specs.Layout.{has_name, node_at, rows_to, saved_of, state_at, kept_of, AreLinked, AreOrdered, IsTree}
 use Rattle.roll_tree.specs.declared.node.Node.{Node}
 use Rattle.roll_tree.specs.declared.tree.Tree.TheInside.{Inside}
@@ -127,16 +127,16 @@ module _ {S : Type 0} (base : ℕ) (slots : List (Option (Node S))) where
 
 module _ {S : Type 0} where
   -- what is seen under a name is the node there
-  pub held_at : (t : Inside S) (kept : Kept S) (name : ℕ) → kept_of t ≡ kept → IsTree t → held kept name ≡ state_at t.base t.nodes.slots name
+  pub held_at : (t : Inside S) (kept : SavedStates S) (name : ℕ) → kept_of t ≡ kept → IsTree t → state_named kept name ≡ state_at t.base t.nodes.slots name
   held_at t kept name view tree =
-      subst (λ (k : Kept S). held k name ≡ state_at t.base t.nodes.slots name) view
+      subst (λ (k : SavedStates S). state_named k name ≡ state_at t.base t.nodes.slots name) view
       (found_at t.base t.nodes.slots t.order.items name ∙ go (option_cases (node_at t.nodes.slots name)))
     where
       go : (node_at t.nodes.slots name ≡ None) ⊎ ((node : Node S) × (node_at t.nodes.slots name ≡ Some node)) → cond (has_name t.order.items name) (state_at t.base t.nodes.slots name) None ≡ state_at t.base t.nodes.slots name
       go (inl none) = rw none (either_way (has_name t.order.items name) None)
       go (inr some) = rw (tree.listed name some.0 some.1) refl
 
-  pub held_node : (t : Inside S) (kept : Kept S) (name : ℕ) (node : Node S) → kept_of t ≡ kept → IsTree t → node_at t.nodes.slots name ≡ Some node → held kept name ≡ Some (saved_of t.base t.nodes.slots name node)
+  pub held_node : (t : Inside S) (kept : SavedStates S) (name : ℕ) (node : Node S) → kept_of t ≡ kept → IsTree t → node_at t.nodes.slots name ≡ Some node → state_named kept name ≡ Some (saved_of t.base t.nodes.slots name node)
   held_node t kept name node view tree found = held_at t kept name view tree ∙ ap (option_map (saved_of t.base t.nodes.slots name)) found
 
   node_of_some : (o : Option (Node S)) (f : Node S → Saved S) → IsSome (option_map f o) → (node : Node S) × (o ≡ Some node)
@@ -144,23 +144,23 @@ module _ {S : Type 0} where
   node_of_some (Some node) f h = (node, refl)
 
   -- a name that is seen has a node
-  pub node_of_held : (t : Inside S) (kept : Kept S) (name : ℕ) → kept_of t ≡ kept → IsTree t → IsSome (held kept name) → (node : Node S) × (node_at t.nodes.slots name ≡ Some node)
+  pub node_of_held : (t : Inside S) (kept : SavedStates S) (name : ℕ) → kept_of t ≡ kept → IsTree t → IsSome (state_named kept name) → (node : Node S) × (node_at t.nodes.slots name ≡ Some node)
   node_of_held t kept name view tree h = node_of_some (node_at t.nodes.slots name) (saved_of t.base t.nodes.slots name) (subst (λ (o : Option (Saved S)). IsSome o) (held_at t kept name view tree) h)
 
   -- and a state that is seen is the node's
-  pub node_of_state : (t : Inside S) (kept : Kept S) (name : ℕ) (s : Saved S) → kept_of t ≡ kept → IsTree t → held kept name ≡ Some s → (node : Node S) × (node_at t.nodes.slots name ≡ Some node) × (saved_of t.base t.nodes.slots name node ≡ s)
+  pub node_of_state : (t : Inside S) (kept : SavedStates S) (name : ℕ) (s : Saved S) → kept_of t ≡ kept → IsTree t → state_named kept name ≡ Some s → (node : Node S) × (node_at t.nodes.slots name ≡ Some node) × (saved_of t.base t.nodes.slots name node ≡ s)
   node_of_state t kept name s view tree seen =
       let there = node_of_held t kept name view tree (subst (λ (o : Option (Saved S)). IsSome o) (sym seen) refl) in
       (there.0, there.1, same_Some _ _ (sym (held_node t kept name there.0 view tree there.1) ∙ seen))
 
-  pub paths_are : (t : Inside S) (kept : Kept S) → kept_of t ≡ kept → paths_of kept ≡ paths_at t.base t.nodes.slots t.order.items
-  paths_are t kept view = ap (λ (k : Kept S). paths_of k) (sym view)
+  pub paths_are : (t : Inside S) (kept : SavedStates S) → kept_of t ≡ kept → paths_of kept ≡ paths_at t.base t.nodes.slots t.order.items
+  paths_are t kept view = ap (λ (k : SavedStates S). paths_of k) (sym view)
 
-  pub base_is : (t : Inside S) (kept : Kept S) → kept_of t ≡ kept → t.base ≡ kept.base
-  base_is t kept view = ap (λ (k : Kept S). k.base) view
+  pub base_is : (t : Inside S) (kept : SavedStates S) → kept_of t ≡ kept → t.base ≡ kept.base
+  base_is t kept view = ap (λ (k : SavedStates S). k.base) view
 
   -- what holds of every tree
-  pub is_closed : (t : Inside S) (kept : Kept S) → kept_of t ≡ kept → IsTree t → IsClosed kept
+  pub is_closed : (t : Inside S) (kept : SavedStates S) → kept_of t ≡ kept → IsTree t → IsClosed kept
   is_closed t kept view tree name s k seen = go (node_of_state t kept name s view tree seen)
     where
       go : (node : Node S) × (node_at t.nodes.slots name ≡ Some node) × (saved_of t.base t.nodes.slots name node ≡ s) → contains (paths_of kept) (take k s.path) ≡ true
@@ -178,7 +178,7 @@ module _ {S : Type 0} where
           ∙ subst (λ (p : Rows). contains (paths_at t.base t.nodes.slots t.order.items) p ≡ true) path
           (contains_at t.base t.nodes.slots t.order.items front.0 front.1 (tree.listed front.0 front.1 front.2) front.2)
 
-  pub is_distinct : (t : Inside S) (kept : Kept S) → kept_of t ≡ kept → IsTree t → IsDistinct kept
+  pub is_distinct : (t : Inside S) (kept : SavedStates S) → kept_of t ≡ kept → IsTree t → IsDistinct kept
   is_distinct t kept view tree j k s u atj atk e =
       let m = node_of_state t kept j s view tree atj in
       let n = node_of_state t kept k u view tree atk in
@@ -191,9 +191,9 @@ module _ {S : Type 0} where
       ap (λ (l : List (Saved S)). length l) (states-some base slots n names ordered.0.node ordered.0.node_is) ∙ omega (arith, more)
 
   -- as many states are seen as there are names
-  pub length-states : (t : Inside S) (kept : Kept S) → kept_of t ≡ kept → IsTree t → length kept.states ≡ length t.order.items
+  pub length-states : (t : Inside S) (kept : SavedStates S) → kept_of t ≡ kept → IsTree t → length kept.states ≡ length t.order.items
   length-states t kept view tree =
-      ap (λ (k : Kept S). length k.states) (sym view) ∙ states_length t.base t.nodes.slots [] t.order.items tree.ordered
+      ap (λ (k : SavedStates S). length k.states) (sym view) ∙ states_length t.base t.nodes.slots [] t.order.items tree.ordered
 
   -- the names of the states are those in the order
   pub names_are : (base : ℕ) (slots : List (Option (Node S))) (above names : List ℕ) → AreOrdered slots above names → map (λ (s : Saved S). s.name) (filter_map (state_at base slots) names) ≡ names
@@ -203,10 +203,10 @@ module _ {S : Type 0} where
       ∙ ap (λ (l : List ℕ). n ∷ l) (names_are base slots (above ++ n ∷ []) names ordered.1)
 
   -- the root's path has no rows
-  pub root_held : (t : Inside S) (kept : Kept S) → kept_of t ≡ kept → IsTree t → IsSomeAnd (held kept t.root) (λ s. s.path ≡ [])
+  pub root_held : (t : Inside S) (kept : SavedStates S) → kept_of t ≡ kept → IsTree t → IsSomeAnd (state_named kept t.root) (λ s. s.path ≡ [])
   root_held t kept view tree = go (option_cases (node_at t.nodes.slots t.root))
     where
-      go : (node_at t.nodes.slots t.root ≡ None) ⊎ ((node : Node S) × (node_at t.nodes.slots t.root ≡ Some node)) → IsSomeAnd (held kept t.root) (λ s. s.path ≡ [])
+      go : (node_at t.nodes.slots t.root ≡ None) ⊎ ((node : Node S) × (node_at t.nodes.slots t.root ≡ Some node)) → IsSomeAnd (state_named kept t.root) (λ s. s.path ≡ [])
       go (inl none) = absurd (none-some t.base (ap (option_map (λ (n : Node S). n.end)) (sym none) ∙ tree.rooted))
       go (inr some) =
           let end : some.0.end ≡ t.base = same_Some _ _ (ap (option_map (λ (n : Node S). n.end)) (sym some.1) ∙ tree.rooted) in
@@ -223,8 +223,8 @@ module _ {S : Type 0} where
           (All-cons (λ (s : Saved S). length s.path ≤ PATH_LIMIT) (saved_of base slots n some.0) (states_at base slots names)
           (omega (arith, length-path_at base slots links n some.0 some.1, links.high n some.0 some.1)) ih)
 
-  pub are_short : (t : Inside S) (kept : Kept S) → kept_of t ≡ kept → IsTree t → All (λ (s : Saved S). length s.path ≤ PATH_LIMIT) kept.states
-  are_short t kept view tree = subst (λ (k : Kept S). All (λ (s : Saved S). length s.path ≤ PATH_LIMIT) k.states) view (short_at t.base t.nodes.slots t.order.items tree.links)
+  pub are_short : (t : Inside S) (kept : SavedStates S) → kept_of t ≡ kept → IsTree t → All (λ (s : Saved S). length s.path ≤ PATH_LIMIT) kept.states
+  are_short t kept view tree = subst (λ (k : SavedStates S). All (λ (s : Saved S). length s.path ≤ PATH_LIMIT) k.states) view (short_at t.base t.nodes.slots t.order.items tree.links)
 
   -- the path at a place is that of the node of the name there
   pub path_in : (base : ℕ) (slots : List (Option (Node S))) (above names : List ℕ) → AreOrdered slots above names → (i : ℕ) (node : Node S) → i < length names → node_at slots (get_or names i 0) ≡ Some node → get_or (paths_at base slots names) i [] ≡ path_at base slots node
@@ -236,24 +236,32 @@ module _ {S : Type 0} where
       ∙ path_in base slots (above ++ n ∷ []) names ordered.1 i node (omega (arith, within)) found
 
   -- a name that has a node is seen
-  pub held_of_node : (t : Inside S) (kept : Kept S) (name : ℕ) → kept_of t ≡ kept → IsTree t → IsSome (node_at t.nodes.slots name) → IsSome (held kept name)
+  pub held_of_node : (t : Inside S) (kept : SavedStates S) (name : ℕ) → kept_of t ≡ kept → IsTree t → IsSome (node_at t.nodes.slots name) → IsSome (state_named kept name)
   held_of_node t kept name view tree h = go (node_at t.nodes.slots name) refl h
     where
-      go : (o : Option (Node S)) → node_at t.nodes.slots name ≡ o → IsSome o → IsSome (held kept name)
+      go : (o : Option (Node S)) → node_at t.nodes.slots name ≡ o → IsSome o → IsSome (state_named kept name)
       go None e k = absurd (false≢true k)
       go (Some node) e k = rw (held_node t kept name node view tree e) refl
 
-  named_at : (t : Inside S) (kept : Kept S) → kept_of t ≡ kept → IsTree t → (names : List ℕ) → All (λ (s : Saved S). held kept s.name ≡ Some s) (states_at t.base t.nodes.slots names)
+  named_at : (t : Inside S) (kept : SavedStates S) → kept_of t ≡ kept → IsTree t → (names : List ℕ) → All (λ (s : Saved S). state_named kept s.name ≡ Some s) (states_at t.base t.nodes.slots names)
   named_at t kept view tree [] = λ k d within. absurd (omega arith)
   named_at t kept view tree (n ∷ names) = go (option_cases (node_at t.nodes.slots n)) (named_at t kept view tree names)
     where
-      go : (node_at t.nodes.slots n ≡ None) ⊎ ((node : Node S) × (node_at t.nodes.slots n ≡ Some node)) → All (λ (s : Saved S). held kept s.name ≡ Some s) (states_at t.base t.nodes.slots names) → All (λ (s : Saved S). held kept s.name ≡ Some s) (states_at t.base t.nodes.slots (n ∷ names))
-      go (inl none) ih = subst (All (λ (s : Saved S). held kept s.name ≡ Some s)) (sym (states-none t.base t.nodes.slots n names none)) ih
+      go : (node_at t.nodes.slots n ≡ None) ⊎ ((node : Node S) × (node_at t.nodes.slots n ≡ Some node)) → All (λ (s : Saved S). state_named kept s.name ≡ Some s) (states_at t.base t.nodes.slots names) → All (λ (s : Saved S). state_named kept s.name ≡ Some s) (states_at t.base t.nodes.slots (n ∷ names))
+      go (inl none) ih = subst (All (λ (s : Saved S). state_named kept s.name ≡ Some s)) (sym (states-none t.base t.nodes.slots n names none)) ih
       go (inr some) ih =
-          subst (All (λ (s : Saved S). held kept s.name ≡ Some s)) (sym (states-some t.base t.nodes.slots n names some.0 some.1))
-          (All-cons (λ (s : Saved S). held kept s.name ≡ Some s) (saved_of t.base t.nodes.slots n some.0) (states_at t.base t.nodes.slots names)
+          subst (All (λ (s : Saved S). state_named kept s.name ≡ Some s)) (sym (states-some t.base t.nodes.slots n names some.0 some.1))
+          (All-cons (λ (s : Saved S). state_named kept s.name ≡ Some s) (saved_of t.base t.nodes.slots n some.0) (states_at t.base t.nodes.slots names)
           (held_node t kept n some.0 view tree some.1) ih)
 
   -- each state is held under its name
-  pub are_named : (t : Inside S) (kept : Kept S) → kept_of t ≡ kept → IsTree t → All (λ (s : Saved S). held kept s.name ≡ Some s) kept.states
-  are_named t kept view tree = subst (All (λ (s : Saved S). held kept s.name ≡ Some s)) (ap (λ (k : Kept S). k.states) view) (named_at t kept view tree t.order.items)
+  pub are_named : (t : Inside S) (kept : SavedStates S) → kept_of t ≡ kept → IsTree t → All (λ (s : Saved S). state_named kept s.name ≡ Some s) kept.states
+  are_named t kept view tree = subst (All (λ (s : Saved S). state_named kept s.name ≡ Some s)) (ap (λ (k : SavedStates S). k.states) view) (named_at t kept view tree t.order.items)
+
+  -- the root is kept
+  pub is_rooted : (t : Inside S) (kept : SavedStates S) → kept_of t ≡ kept → IsTree t → contains (paths_of kept) [] ≡ true
+  is_rooted t kept view tree = go (state_named kept t.root) refl (root_held t kept view tree)
+    where
+      go : (o : Option (Saved S)) → state_named kept t.root ≡ o → IsSomeAnd o (λ s. s.path ≡ []) → contains (paths_of kept) [] ≡ true
+      go None e h = absurd h
+      go (Some s) e h = subst (λ (p : Rows). contains (paths_of kept) p ≡ true) (ap (take 0) h) (is_closed t kept view tree t.root s 0 e)

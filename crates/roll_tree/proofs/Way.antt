@@ -4,10 +4,11 @@ use Rattle.std.specs.Prelude.{reverse, option_map}
 use Rattle.std.specs.Option.{option_map_or}
 use Rattle.std.proofs.lemmas.List.{take_more, take_all, reverse-append, reverse-reverse}
 use Rattle.std.proofs.lemmas.Option.{none-some, same_Some}
-use Rattle.std.proofs.lemmas.Bool.{cases_eq, cases_lt, false≢true, eqb-true, eq-eqb}
+use Rattle.std.proofs.lemmas.Bool.{cases_eq, cases_lt, false≢true, eqb-true, eq-eqb, and_parts}
 use Rattle.roll_frame.specs.declared.row.Cell.{Cell}
-use Rattle.roll_frame.specs.Cells.{Rows, row_eq, row_eq-Decides, rows_eq-Decides}
+use Rattle.roll_frame.specs.Cells.{Rows, row_eq, row_eq-Decides}
 use Rattle.roll_frame.specs.Paths.{begins_with, longest}
+use Rattle.roll_frame.proofs.Beginnings.{begins, begins_is}
 use Rattle.roll_tree.specs.Layout.{has_name, node_at, AreLinked, AreDistinct, IsAfter, AreOrdered, IsTree}
 use Rattle.roll_tree.specs.Node.{is_child_of}
 use Rattle.roll_tree.specs.declared.node.Edge.{Edge}
@@ -17,13 +18,6 @@ use Rattle.roll_tree.proofs.Names.{option_cases, has_name_cases}
 use Rattle.roll_tree.proofs.Nodes.{path_at, path_at-top, path_at-below, length-path_at, no_edge, with_edge}
 use Rattle.roll_tree.proofs.Prunes.{ordered_at}
 use Rattle.roll_tree.proofs.States.{paths_at, longest_at_least, longest_at_most}
-
--- rows begin with their own first rows, and with no others
-pub begins_is : (q p : Rows) → begins_with q p ≡ true → p ≡ take (length p) q
-begins_is q p h = (rows_eq-Decides p (take (length p) q)).0 h
-
-pub begins : (q p : Rows) → p ≡ take (length p) q → begins_with q p ≡ true
-begins q p e = (rows_eq-Decides p (take (length p) q)).1 e
 
 head_tail : (a b : Rows) (x y : List Cell) → x ∷ a ≡ y ∷ b → (a ≡ b) × (x ≡ y)
 head_tail a b x y e = (cc, cc)
@@ -110,10 +104,6 @@ module _ {S : Type 0} (base : ℕ) (slots : List (Option (Node S))) (order : Lis
     pub way_on : depth < length rows → is_child (get_or rows depth []) ≡ true → IsOnWay (place + 1) name (depth + 1)
     way_on room child = go node.edge refl
       where
-        both : (a b : Bool) → (a && b) ≡ true → (a ≡ true) × (b ≡ true)
-        both true b h = (refl, h)
-        both false b h = absurd (false≢true h)
-
         deeper : (k : ℕ) (other : Node S) → node_at slots k ≡ Some other → begins_with rows (path_at base slots other) ≡ true → (has_name (take place order) k ≡ true) ⊎ (name ≡ k) → length (path_at base slots other) ≤ depth + 1
         deeper k other found b (inl before) = let least = way.deepest k other before found b in omega (arith, least)
         deeper k other found b (inr same) =
@@ -126,7 +116,7 @@ module _ {S : Type 0} (base : ℕ) (slots : List (Option (Node S))) (order : Lis
         go : (o : Option Edge) → node.edge ≡ o → IsOnWay (place + 1) name (depth + 1)
         go None none = absurd (false≢true (sym (ap (λ (o : Option Edge). option_map_or (λ (e : Edge). eqb e.parent best && row_eq e.row (get_or rows depth [])) o false) none) ∙ child))
         go (Some e) is =
-            let tests = both (eqb e.parent best) (row_eq e.row (get_or rows depth [])) (sym (ap (λ (o : Option Edge). option_map_or (λ (e : Edge). eqb e.parent best && row_eq e.row (get_or rows depth [])) o false) is) ∙ child) in
+            let tests = and_parts (eqb e.parent best) (row_eq e.row (get_or rows depth [])) (sym (ap (λ (o : Option Edge). option_map_or (λ (e : Edge). eqb e.parent best && row_eq e.row (get_or rows depth [])) o false) is) ∙ child) in
             let up = with_edge base slots links name node e node_is is in
             let at_best : up.0.edge.parent ≡ best = ap (λ (x : Edge). x.parent) up.1 ∙ eqb-true e.parent best tests.0 in
             let parent : up.0.parent ≡ way.node = same_Some _ _ (sym up.0.parent_is ∙ ap (node_at slots) at_best ∙ way.node_is) in

@@ -6,7 +6,7 @@ use Rattle.slab.specs.Slab.{slab_len}
 use Rattle.roll_frame.specs.declared.row.Cell.{Cell}
 use Rattle.roll_frame.specs.declared.limits.TheConstants.{PATH_LIMIT, TREE_LIMIT}
 use Rattle.roll_frame.specs.Cells.{Rows}
-use Rattle.roll_tree.specs.Kept.{Saved, Kept}
+use Rattle.roll_tree.specs.SavedStates.{Saved, SavedStates}
 use Rattle.roll_tree.specs.Marks.{AreMarks}
 use Rattle.roll_tree.specs.declared.node.Edge.{Edge}
 use Rattle.roll_tree.specs.declared.node.Node.{Node}
@@ -43,7 +43,7 @@ module _ {S : Type 0} where
   abbrev pub state_at : ℕ → List (Option (Node S)) → ℕ → Option (Saved S)
   state_at base slots name = option_map (saved_of base slots name) (node_at slots name)
 
-  abbrev pub kept_of : Inside S → Kept S
+  abbrev pub kept_of : Inside S → SavedStates S
   kept_of t = record { base = t.base; root = t.root; states = filter_map (state_at t.base t.nodes.slots) t.order.items; time = t.time.items }
 
   -- an edge leads up from the node, one frame

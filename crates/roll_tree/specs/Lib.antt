@@ -1,5 +1,5 @@
 pub mod Marks
-pub mod Kept
+pub mod SavedStates
 pub mod Layout
 pub mod Rule
 pub mod Node

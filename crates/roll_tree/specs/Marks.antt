@@ -1,5 +1,5 @@
 -- Where rows differ from the timeline's.
-use Rattle.std.specs.Prelude.{◌≡◌, ℕ, suc, ◌+◌, ◌<◌, List, [], ◌∷◌, length, Bool, false, not, Option, Some, None, option_map, slice_get, if◌then◌else◌}
+use Rattle.std.specs.Prelude.{◌≡◌, ℕ, ◌+◌, ◌<◌, List, length, Bool, false, not, Option, slice_get, if◌then◌else◌}
 use Rattle.std.specs.Int.{bit_at}
 use Rattle.std.specs.Option.{option_map_or, option_eq}
 use Rattle.roll_frame.specs.declared.row.Cell.{Cell}
@@ -27,15 +27,3 @@ AreMarks there row marks = (place : ℕ) → bit_at marks place ≡ bit_of (diff
 abbrev pub AreSameBut : ℕ → ℕ → ℕ → Rows → Rows → Type 0
 AreSameBut player from base time rows =
     (place k : ℕ) → place < length time → (k + 1 ≡ player → base + place < from) → cell_in rows place k ≡ cell_in time place k
-
--- the least player, from 1, whose cells differ in two rows
-abbrev pub least_other : List Cell → List Cell → Option ℕ
-least_other [] [] = None
-least_other (cell ∷ cells) (other ∷ others) = if cell_eq cell other then option_map suc (least_other cells others) else Some 1
-least_other cells others = Some 1
-
--- the least frame in which a path and the time have different rows, the first of both in frame t, and the least
--- player whose cells differ there
-abbrev pub least_mark : ℕ → Rows → Rows → Option (ℕ × ℕ)
-least_mark t (row ∷ rows) (other ∷ others) = option_map_or (λ p. Some (t, p)) (least_other row other) (least_mark (suc t) rows others)
-least_mark t rows others = None

@@ -7,6 +7,3 @@ mod prune;
 mod tree;
 
 pub use tree::{Above, Tree, TreeFull};
-
-#[cfg(test)]
-mod tests;

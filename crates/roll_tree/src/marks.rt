@@ -2,10 +2,11 @@
 ghost use Rattle.std.specs.Prelude.{◌≡◌, ◌≢◌, ℕ, ◌-◌, ◌<◌, ◌≤◌, [], ◌∷◌, ◌++◌, length, slice_get, List, Option, Some, true};
 ghost use Rattle.std.specs.Option.{option_and_then};
 ghost use Rattle.std.specs.Int.{bit_at};
+ghost use Rattle.roll_frame.specs.Claims.{place_of};
 ghost use Rattle.roll_frame.specs.declared.row.Cell.{Cell};
 ghost use Rattle.slab.specs.Slab.{slab_len};
 ghost use Rattle.roll_tree.specs.Layout.{node_at, has_name, AreLinked, AreOrdered, AreFresh, AreLike};
-ghost use Rattle.roll_tree.specs.Marks.{differ_at, bit_of, AreMarks, AreSameBut, least_other};
+ghost use Rattle.roll_tree.specs.Marks.{differ_at, bit_of, AreMarks, AreSameBut};
 
 use crate::node::{Edge, Node, set_marks};
 use roll_frame::{PATH_LIMIT, PLAYER_LIMIT, Row};
@@ -74,7 +75,7 @@ fn marked(marks: u8, place: usize, row: &Row, there: &Row) -> u8
 
 /// The least player, from 1, who has a mark.
 pub fn least_marked(marks: u8) -> Option<u8>
-    ensures { (there : Option (List Cell)) (row : List Cell) → AreMarks there row marks → result ≡ option_and_then (least_other row) there }
+    ensures { (there : Option (List Cell)) (row : List Cell) → AreMarks there row marks → result ≡ option_and_then (place_of row) there }
 {
     if marks == 0 {
         return None;

@@ -1,9 +1,9 @@
 //! The tree.
 ghost use Rattle.std.specs.Prelude.{◌≡◌, ℕ, ◌+◌, ◌-◌, ◌≤◌, ◌<◌, ◌↔◌, [], ◌∷◌, ◌++◌, length, map, filter, take, drop, not, true, false, is_some, IsSome, IsSomeAnd, IsTrue, IsErr, IfOk, IfErr, IfSome, OnErr, option_map, Some, None, All};
+ghost use Rattle.roll_frame.specs.Claims.{least_place};
 ghost use Rattle.roll_frame.specs.Order.{frames_of, in_order};
 ghost use Rattle.roll_frame.specs.Paths.{begins_with, contains, longest as longest_of};
-ghost use Rattle.roll_tree.specs.Kept.{Saved, Kept, held, paths_of, with_state, CanGrow, later, has_other, IsClosed, IsDistinct, IsOrdered, IsAbove, path_of, CanMark, time_to};
-ghost use Rattle.roll_tree.specs.Marks.{least_mark};
+ghost use Rattle.roll_tree.specs.SavedStates.{Saved, SavedStates, state_named, paths_of, with_state, CanGrow, later, has_other, IsClosed, IsDistinct, IsOrdered, IsAbove, path_of, CanMark, time_to};
 
 use crate::marks::{Change, least_marked, mark_next, marks_in};
 use crate::node::{Edge, Node, set_edge};
@@ -50,9 +50,9 @@ impl<S: Drop> From<TreeFull<S>> for Refusal {
 }
 
 impl<S> Model for Tree<S> {
-    ghost use Rattle.roll_tree.specs.Kept.{Kept};
+    ghost use Rattle.roll_tree.specs.SavedStates.{SavedStates};
 
-    ghost Value = { Kept S };
+    ghost Value = { SavedStates S };
 
     ghost use Rattle.roll_tree.specs.Layout.{kept_of, IsTree};
 
@@ -82,7 +82,7 @@ impl<S> Tree<S> {
             end: base,
             snapshot: root,
         });
-        order.push(root).unwrap();
+        order.push_reserved(root);
         Ok(Tree {
             base,
             root,
@@ -109,7 +109,7 @@ impl<S> Tree<S> {
 
     /// Whether a state of this name is kept.
     pub fn contains(&self, node: usize) -> bool
-        ensures { IsTrue result ↔ IsSome (held self.now node) }
+        ensures { IsTrue result ↔ IsSome (state_named self.now node) }
     {
         self.nodes.contains(node)
     }
@@ -124,7 +124,7 @@ impl<S> Tree<S> {
     /// The name of the root.
     pub fn root(&self) -> usize
         ensures value { result ≡ self.now.root }
-        ensures held { IsSomeAnd (held self.now result) (λ s. s.path ≡ []) }
+        ensures state_named { IsSomeAnd (state_named self.now result) (λ s. s.path ≡ []) }
     {
         self.root
     }
@@ -137,8 +137,8 @@ impl<S> Tree<S> {
         ensures full { IsErr result ↔ (length self.old.states ≡ TREE_LIMIT) }
         ensures unchanged { OnErr result (self.new ≡ self.old) }
         ensures returned { IfErr result (λ full. full.snapshot ≡ snapshot) }
-        ensures vacant { IfOk result (λ name. held self.old name ≡ None) }
-        ensures added { IfOk result (λ name. IfSome (held self.old parent) (λ s. self.new ≡ with_state self.old (record { name = name; path = s.path ++ row ∷ []; snapshot = snapshot }))) }
+        ensures vacant { IfOk result (λ name. state_named self.old name ≡ None) }
+        ensures added { IfOk result (λ name. IfSome (state_named self.old parent) (λ s. self.new ≡ with_state self.old (record { name = name; path = s.path ++ row ∷ []; snapshot = snapshot }))) }
     {
         if self.order.len() == TREE_LIMIT {
             return Err(TreeFull { snapshot });
@@ -150,22 +150,22 @@ impl<S> Tree<S> {
             end: end + 1,
             snapshot,
         });
-        self.order.push(name).unwrap();
+        self.order.push_reserved(name);
         Ok(name)
     }
 
     /// The snapshot of a kept state.
     pub fn get(&self, node: usize) -> &S
-        requires { IsSome (held self.now node) }
-        ensures { option_map (λ s. s.snapshot) (held self.now node) ≡ Some result.now }
+        requires { IsSome (state_named self.now node) }
+        ensures { option_map (λ s. s.snapshot) (state_named self.now node) ≡ Some result.now }
     {
         &self.nodes[node].snapshot
     }
 
     /// The state above a kept one. There is none above the root.
     pub fn above(&self, node: usize) -> Option<Above>
-        requires { IsSome (held self.now node) }
-        ensures { IfSome (held self.now node) (λ s. IsAbove self.now s.path result) }
+        requires { IsSome (state_named self.now node) }
+        ensures { IfSome (state_named self.now node) (λ s. IsAbove self.now s.path result) }
     {
         match self.nodes[node].edge {
             Some(edge) => Some(Above {
@@ -178,17 +178,17 @@ impl<S> Tree<S> {
 
     /// The length of a kept state's path, from frame 0.
     pub fn end(&self, node: usize) -> u32
-        requires { IsSome (held self.now node) }
-        ensures { option_map (λ s. self.now.base + length s.path) (held self.now node) ≡ Some result }
+        requires { IsSome (state_named self.now node) }
+        ensures { option_map (λ s. self.now.base + length s.path) (state_named self.now node) ≡ Some result }
     {
         self.nodes[node].end
     }
 
     /// The path of a kept state.
     pub fn path(&self, node: usize) -> Path
-        requires { IsSome (held self.now node) }
+        requires { IsSome (state_named self.now node) }
         ensures base { result.base ≡ self.now.base }
-        ensures rows { option_map (λ s. s.path) (held self.now node) ≡ Some result.rows.items }
+        ensures rows { option_map (λ s. s.path) (state_named self.now node) ≡ Some result.rows.items }
     {
         let mut rows = ArrayVec::new();
         let mut at = node;
@@ -205,7 +205,7 @@ impl<S> Tree<S> {
 
     /// The deepest kept state on the way that these rows go from the base, and its length, from frame 0.
     pub fn longest(&self, rows: &[Row]) -> (usize, u32)
-        ensures node { IsSomeAnd (held self.now result.0) (λ s. s.path ≡ take (longest_of (paths_of self.now) rows.now) rows.now) }
+        ensures node { IsSomeAnd (state_named self.now result.0) (λ s. s.path ≡ take (longest_of (paths_of self.now) rows.now) rows.now) }
         ensures length { result.1 ≡ self.now.base + longest_of (paths_of self.now) rows.now }
     {
         let mut best = self.root;
@@ -260,7 +260,7 @@ impl<S> Tree<S> {
     pub fn deepest(&self, to: u32) -> (usize, u32)
         requires from { self.now.base ≤ to }
         requires known { to ≤ self.now.base + length self.now.time }
-        ensures node { IsSomeAnd (held self.now result.0) (λ s. s.path ≡ take (longest_of (paths_of self.now) (time_to self.now to)) (time_to self.now to)) }
+        ensures node { IsSomeAnd (state_named self.now result.0) (λ s. s.path ≡ take (longest_of (paths_of self.now) (time_to self.now to)) (time_to self.now to)) }
         ensures length { result.1 ≡ self.now.base + longest_of (paths_of self.now) (time_to self.now to) }
     {
         let mut best = self.root;
@@ -280,8 +280,8 @@ impl<S> Tree<S> {
     /// The least frame in which a kept path differs from the timeline, where both have a row, and the least player,
     /// from 1, whose cells differ there.
     pub fn first_mark(&self, node: usize) -> Option<(u32, u8)>
-        requires { IsSome (held self.now node) }
-        ensures { option_map (λ s. least_mark self.now.base s.path self.now.time) (held self.now node) ≡ Some result }
+        requires { IsSome (state_named self.now node) }
+        ensures { option_map (λ s. least_place self.now.base s.path self.now.time) (state_named self.now node) ≡ Some result }
     {
         let mut first = None;
         let mut at = node;
@@ -297,7 +297,7 @@ impl<S> Tree<S> {
     /// The kept state of a path.
     pub fn find(&self, path: &Path) -> Option<usize>
         requires { path.now.base ≡ self.now.base }
-        ensures found { IfSome result (λ name. IsSomeAnd (held self.now name) (λ s. s.path ≡ path.now.rows.items)) }
+        ensures found { IfSome result (λ name. IsSomeAnd (state_named self.now name) (λ s. s.path ≡ path.now.rows.items)) }
         ensures when { is_some result ≡ contains (paths_of self.now) path.now.rows.items }
     {
         let (node, end) = self.longest(path.rows.as_slice());
@@ -315,7 +315,7 @@ impl<S> Tree<S> {
         requires base { to.now.base ≡ self.old.base }
         requires kept { contains (paths_of self.old) to.now.rows.items ≡ true }
         ensures base { self.new.base ≡ frames_of to.now }
-        ensures root { IsSomeAnd (held self.old self.new.root) (λ s. s.path ≡ to.now.rows.items) }
+        ensures root { IsSomeAnd (state_named self.old self.new.root) (λ s. s.path ≡ to.now.rows.items) }
         ensures time { self.new.time ≡ drop (length to.now.rows.items) self.old.time }
         ensures states { self.new.states ≡ map (later (length to.now.rows.items)) (filter (λ s. begins_with s.path to.now.rows.items) self.old.states) }
     {
@@ -329,8 +329,8 @@ impl<S> Tree<S> {
     pub fn settle_at(&mut self, node: usize)
     where
         S: Drop,
-        requires { IsSome (held self.old node) }
-        ensures { IfSome (held self.old node) (λ s. self.new ≡ record { base = self.old.base + length s.path; root = node; time = drop (length s.path) self.old.time; states = map (later (length s.path)) (filter (λ u. begins_with u.path s.path) self.old.states) }) }
+        requires { IsSome (state_named self.old node) }
+        ensures { IfSome (state_named self.old node) (λ s. self.new ≡ record { base = self.old.base + length s.path; root = node; time = drop (length s.path) self.old.time; states = map (later (length s.path)) (filter (λ u. begins_with u.path s.path) self.old.states) }) }
     {
         if node == self.root {
             return;
@@ -363,7 +363,7 @@ impl<S> Tree<S> {
     {
         let mut paths = Vec::with_capacity(alloc, self.order.len())?;
         for name in &self.order {
-            paths.push(self.path(*name)).unwrap();
+            paths.push_reserved(self.path(*name));
         }
         paths.sort_unstable();
         Ok(paths)
@@ -371,11 +371,12 @@ impl<S> Tree<S> {
 
     /// What holds of every tree. It does nothing.
     pub fn laws(&self)
+        ensures rooted { contains (paths_of self.now) [] ≡ true }
         ensures closed { IsClosed self.now }
         ensures distinct { IsDistinct self.now }
         ensures ordered { IsOrdered self.now }
         ensures short { All (λ s. length s.path ≤ PATH_LIMIT) self.now.states }
-        ensures named { All (λ s. held self.now s.name ≡ Some s) self.now.states }
+        ensures named { All (λ s. state_named self.now s.name ≡ Some s) self.now.states }
         ensures few { length self.now.states ≤ TREE_LIMIT }
     {
         let _ = &self.base;

@@ -1,10 +1,9 @@
 use Rattle.std.proofs.Common.{take}
-use Rattle.roll_cert.specs.Told.{told}
 use Rattle.roll_cert.specs.Checked.{IsNoted, AreGood}
 use Rattle.roll_cert.proofs.checking.check_entries.Given as goal
 
 abbrev pub invariant-loop-j : goal.invariant-loop-j
 invariant-loop-j l = record {
-  noted : IsNoted l.named.first (take l.j (told l.claim).differs);
-  good : AreGood (told l.claim) l.j;
+  noted : IsNoted l.named.first (take l.j l.claim.differs);
+  good : AreGood l.claim l.j;
 }

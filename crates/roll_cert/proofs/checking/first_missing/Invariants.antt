@@ -1,6 +1,5 @@
-use Rattle.roll_cert.specs.Told.{told}
 use Rattle.roll_cert.specs.Checked.{AreNamed}
 use Rattle.roll_cert.proofs.checking.first_missing.Given as goal
 
 abbrev pub invariant-loop-i : goal.invariant-loop-i
-invariant-loop-i l = AreNamed (told l.claim) l.i
+invariant-loop-i l = AreNamed l.claim l.i

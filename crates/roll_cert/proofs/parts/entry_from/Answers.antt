@@ -1,6 +1,6 @@
 use Rattle.std.proofs.Common.{◌≡◌, ◌∙◌, sym, arith}
 use Rattle.std.proofs.lemmas.Fmt.{decimal_injective}
-use Rattle.roll_cert.proofs.Spelled.{text_at}
+use Rattle.roll_text.proofs.Joined.{text_at}
 use Rattle.roll_cert.specs.Texts.{entry_fields}
 use Rattle.roll_cert.proofs.parts.entry_from.Goals as goal
 

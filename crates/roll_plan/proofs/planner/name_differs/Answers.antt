@@ -1,9 +1,7 @@
-use Rattle.std.proofs.Common.{◌≡◌, ◌∙◌, ◌++◌, ◌∷◌, [], List, Option, Some, None, ap, sym, arith, ℕ, map, length, append-nil, length-append}
-use Rattle.std.specs.Prelude.{option_map, ◌+◌, take}
+use Rattle.std.proofs.Common.{◌≡◌, ◌∙◌, ◌++◌, ◌∷◌, [], List, Option, Some, None, ap, sym, arith, ℕ, length, append-nil, length-append}
+use Rattle.std.specs.Prelude.{◌+◌, take}
 use Rattle.std.specs.List.{cons_option}
-use Rattle.roll_cert.specs.Told.{entry_of}
-use Rattle.roll_frame.specs.Claims.{Differ as Entry}
-use Rattle.roll_cert.specs.declared.claim.Differ.{Differ}
+use Rattle.roll_frame.specs.declared.claim.Differ.{Differ}
 use Rattle.roll_plan.specs.Ranks.{entries_by, marked_for}
 use Rattle.roll_plan.specs.declared.planner.Ranked.{Ranked}
 use Rattle.roll_plan.proofs.Entries.{with_entry}
@@ -12,21 +10,22 @@ use Rattle.roll_plan.proofs.planner.name_differs.Goals.{in-Some, in_default}
 
 pub loop-state-preserved : goal.loop-state-preserved
 loop-state-preserved g c =
-    let entry : ℕ → Ranked → Option Entry = λ state k. marked_for c.args.tree.now c.args.from c.args.to state k.path in
+    let entry : ℕ → Ranked → Option Differ = λ state k. marked_for c.args.tree.now c.args.from c.args.to state k.path in
     let old = c.loop-state.differs.items in
-    let more : (o : Option Differ) → option_map entry_of o ≡ entry c.loop-state.state c.index-kept-state.result → map entry_of (old ++ cons_option o []) ≡ entries_by entry 0 (take (c.loop-state.state + 1) c.args.kept.now) = λ o h. with_entry entry c.args.kept.now c.loop-state.state c.index-kept-state.result old o c.loop-state-test.true c.index-kept-state.is c.loop-state.invariant.entries h in
+    let more : (o : Option Differ) → o ≡ entry c.loop-state.state c.index-kept-state.result → old ++ cons_option o [] ≡ entries_by entry 0 (take (c.loop-state.state + 1) c.args.kept.now) =
+    λ o h. ap (λ (d : Option Differ). old ++ cons_option d []) h ∙ with_entry entry c.args.kept.now c.loop-state.state c.index-kept-state.result old c.loop-state-test.true c.index-kept-state.is c.loop-state.invariant.entries in
     elim c.match-entry.branch [
       | in-Some w ↦
-          let pushed = rw w.unwrap.ensures at w.push.ensures.items in
+          let pushed = w.push_reserved.ensures.items in
           let longer = ap (λ (l : List Differ). length l) pushed in
           rw w.differs-is (record {
-            entries = ap (map entry_of) pushed ∙ more (Some w.in-Some.entry) (ap (option_map entry_of) (sym w.in-Some.is) ∙ c.entry.ensures);
+            entries = pushed ∙ more (Some w.in-Some.entry) (sym w.in-Some.is ∙ c.entry.ensures);
             few = omega (arith, longer, length-append old (w.in-Some.entry ∷ []), c.loop-state.invariant.few);
-            room = omega (arith, w.push.ensures.capacity, c.loop-state.invariant.room);
+            room = omega (arith, w.push_reserved.ensures.capacity, c.loop-state.invariant.room);
           })
       | in_default w ↦
           rw w.differs-is (record {
-            entries = ap (map entry_of) (sym (append-nil old)) ∙ more None (ap (option_map entry_of) (sym w.in_default.is) ∙ c.entry.ensures);
+            entries = sym (append-nil old) ∙ more None (sym w.in_default.is ∙ c.entry.ensures);
             few = omega (arith, c.loop-state.invariant.few);
             room = c.loop-state.invariant.room;
           })

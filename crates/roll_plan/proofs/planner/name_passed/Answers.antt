@@ -1,5 +1,4 @@
-use Rattle.std.proofs.Common.{sym, ap, ◌∙◌, map}
-use Rattle.roll_cert.specs.Told.{entry_of}
+use Rattle.std.proofs.Common.{sym, ap, ◌∙◌}
 use Rattle.roll_plan.specs.Ranks.{entries_by, marked_for}
 use Rattle.roll_plan.specs.declared.planner.Ranked.{Ranked}
 use Rattle.roll_plan.proofs.Passing.{entries_ranked, none_passed}
@@ -13,4 +12,4 @@ returns-then-passes_over-clause-entries g c =
 
 pub returns-else-passes_over-clause-entries : goal.returns-else-passes_over-clause-entries
 returns-else-passes_over-clause-entries g c =
-    ap (map entry_of) c.clear.ensures.items ∙ sym (none_passed c.args.tree.now c.args.from c.args.to (sym c.passes_over.ensures ∙ c.if-passes_over.false))
+    c.clear.ensures.items ∙ sym (none_passed c.args.tree.now c.args.from c.args.to (sym c.passes_over.ensures ∙ c.if-passes_over.false))

@@ -1,6 +1,6 @@
 use Rattle.std.proofs.Common.{◌≡◌, take, false}
 use Rattle.std.specs.List.{list_any}
-use Rattle.roll_tree.specs.Kept.{path_of}
+use Rattle.roll_tree.specs.SavedStates.{path_of}
 use Rattle.roll_plan.specs.Ranks.{is_passed}
 use Rattle.roll_plan.proofs.planner.passes_over.Given as goal
 

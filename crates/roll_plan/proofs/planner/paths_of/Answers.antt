@@ -5,7 +5,7 @@ use Rattle.std.proofs.lemmas.List.{length-map, map-append, take_all, take_more}
 use Rattle.roll_frame.specs.declared.limits.TheConstants.{PATH_LIMIT}
 use Rattle.roll_frame.specs.declared.path.Path.{Path}
 use Rattle.roll_frame.specs.Cells.{Rows}
-use Rattle.roll_tree.specs.Kept.{path_of}
+use Rattle.roll_tree.specs.SavedStates.{path_of}
 use Rattle.roll_tree.proofs.Sorting.{sorted_is}
 use Rattle.roll_plan.specs.Spelled.{path_in, spelled}
 use Rattle.roll_plan.specs.declared.planner.Taken.{Taken}
@@ -30,11 +30,11 @@ spell-path-requires-clause-short c =
     subst (λ (ps : List Rows). length (path_in before ps k) ≤ PATH_LIMIT) (sym paths)
     (spelled_next (λ (p : Rows). length p ≤ PATH_LIMIT) before (drop (place + 1) taken) k (subst (λ (l : List Taken). All (λ (p : Rows). length p ≤ PATH_LIMIT) (spelled l)) split c.requires))
 
-pub unwrap-requires : goal.unwrap-requires
-unwrap-requires c =
+pub push_reserved-requires : goal.push_reserved-requires
+push_reserved-requires c =
     let before = take c.loop-place.place c.args.taken.now in
     let many = ap (λ (l : List Path). length l) c.loop-place.invariant.paths ∙ length-map (spelled before) (path_of c.args.base) ∙ length-spelled before in
-    c.push.ensures.succeeds (omega (arith, many, c.loop-place-test.true, c.loop-place.invariant.room, length-take c.loop-place.place c.args.taken.now))
+    omega (arith, many, c.loop-place-test.true, c.loop-place.invariant.room, length-take c.loop-place.place c.args.taken.now)
 
 pub loop-place-preserved : goal.loop-place-preserved
 loop-place-preserved c =
@@ -44,14 +44,14 @@ loop-place-preserved c =
     let k = c.index-taken-place.result in
     let paths : map (λ (p : Path). p.rows.items) c.deref.result.now ≡ spelled before = ap (map (λ (p : Path). p.rows.items)) (c.deref.ensures.value ∙ c.loop-place.invariant.paths) ∙ rows_again c.args.base (spelled before) in
     let more : take (place + 1) taken ≡ before ++ k ∷ [] = take_more taken place k c.loop-place-test.true ∙ ap (λ (x : Taken). before ++ x ∷ []) (sym c.index-taken-place.is) in
-    let pushed = rw c.unwrap.ensures at c.push.ensures.items in
+    let pushed = c.push_reserved.ensures.items in
     record {
       paths =
           pushed
           ∙ ap (λ (l : List Path). l ++ c.spell-path.result ∷ []) c.loop-place.invariant.paths
           ∙ ap (λ (p : Path). map (path_of c.args.base) (spelled before) ++ p ∷ []) (c.spell-path.ensures ∙ ap (λ (ps : List Rows). path_of c.args.base (path_in before ps k)) paths)
           ∙ sym (ap (λ (l : List Taken). map (path_of c.args.base) (spelled l)) more ∙ ap (map (path_of c.args.base)) (spelled-push before k) ∙ map-append (path_of c.args.base) (spelled before) (path_in before (spelled before) k ∷ []));
-      room = omega (arith, c.loop-place.invariant.room, c.push.ensures.capacity);
+      room = omega (arith, c.loop-place.invariant.room, c.push_reserved.ensures.capacity);
     }
 
 pub returns : goal.returns

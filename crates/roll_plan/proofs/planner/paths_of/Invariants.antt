@@ -1,5 +1,5 @@
 use Rattle.std.proofs.Common.{◌≡◌, ◌≤◌, length, map, take, vec_capacity}
-use Rattle.roll_tree.specs.Kept.{path_of}
+use Rattle.roll_tree.specs.SavedStates.{path_of}
 use Rattle.roll_plan.specs.Spelled.{spelled}
 use Rattle.roll_plan.proofs.planner.paths_of.Given as goal
 

@@ -2,7 +2,7 @@ use Rattle.std.proofs.Common.{◌+◌, ◌++◌, ◌∷◌, [], List, arith, ap,
 use Rattle.std.specs.Prelude.{IfSome}
 use Rattle.std.proofs.lemmas.List.{length-map, map-append}
 use Rattle.roll_frame.specs.Cells.{Rows}
-use Rattle.roll_tree.specs.Kept.{Saved, IsAbove}
+use Rattle.roll_tree.specs.SavedStates.{Saved, IsAbove}
 use Rattle.roll_plan.specs.Spelled.{path_in, spelled}
 use Rattle.roll_plan.specs.declared.planner.Taken.{Taken}
 use Rattle.roll_plan.proofs.Ranking.{is_held, state_at}
@@ -14,10 +14,10 @@ above-requires g c =
     let names = c.names-node-items.result.now in
     is_held c.args.tree.now names c.loop-node.node-index (state_at c.args.tree.now c.laws.ensures.named names c.names-node-items.ensures c.loop-node.node-index c.loop-node-test.true)
 
-pub unwrap-requires : goal.unwrap-requires
-unwrap-requires g c =
+pub push_reserved-requires : goal.push_reserved-requires
+push_reserved-requires g c =
     let names = c.names-node-items.ensures in
-    c.push.ensures.succeeds (omega (arith, c.loop-node-test.true, ap (λ (l : List ℕ). length l) names, length-map c.args.tree.now.states (λ (s : Saved g.row.S.Denot). s.name), c.laws.ensures.few, c.loop-node.invariant.count, c.loop-node.invariant.room))
+    omega (arith, c.loop-node-test.true, ap (λ (l : List ℕ). length l) names, length-map c.args.tree.now.states (λ (s : Saved g.row.S.Denot). s.name), c.laws.ensures.few, c.loop-node.invariant.count, c.loop-node.invariant.room)
 
 pub loop-node-preserved : goal.loop-node-preserved
 loop-node-preserved g c =
@@ -26,7 +26,7 @@ loop-node-preserved g c =
     let before = take place t.states in
     let at = state_at t c.laws.ensures.named c.names-node-items.result.now c.names-node-items.ensures place c.loop-node-test.true in
     let above : IsAbove t at.state.path c.above.result = subst (λ (o : Option (Saved g.row.S.Denot)). IfSome o (λ s. IsAbove t s.path c.above.result)) at.held_is c.above.ensures in
-    let pushed = rw c.unwrap.ensures at c.push.ensures.items in
+    let pushed = c.push_reserved.ensures.items in
     let old : List Taken = c.loop-node.taken.items in
     let here : Taken = record { node = get_or c.names-node-items.result.now place 0; above = c.above.result } in
     let path = next_is t c.laws.ensures.ordered before (drop (place + 1) t.states) at.state at.split old c.loop-node.invariant.names here above in
@@ -44,5 +44,5 @@ loop-node-preserved g c =
           ∙ ap (λ (ps : List Rows). ps ++ path_in old ps here ∷ []) c.loop-node.invariant.paths
           ∙ ap (λ (p : Rows). map (λ (s : Saved g.row.S.Denot). s.path) before ++ p ∷ []) path
           ∙ sym (ap (map (λ (s : Saved g.row.S.Denot). s.path)) at.more ∙ map-append (λ (s : Saved g.row.S.Denot). s.path) before (at.state ∷ []));
-      room = omega (arith, c.loop-node.invariant.room, c.push.ensures.capacity);
+      room = omega (arith, c.loop-node.invariant.room, c.push_reserved.ensures.capacity);
     }

@@ -3,10 +3,11 @@ use Rattle.std.specs.Prelude.{◌&&◌}
 use Rattle.std.specs.List.{list_any}
 use Rattle.std.proofs.lemmas.Bool.{not-true}
 use Rattle.roll_frame.specs.Timeline.{Player, timeline}
+use Rattle.roll_frame.proofs.Timelines.{timeline_none_given}
 use Rattle.roll_inputs.specs.Boards.{Inputs, players_of, started}
 use Rattle.roll_inputs.specs.Queues.{Known}
 use Rattle.roll_inputs.proofs.Steps.{start_keeps, start_players, list_any-map, all_written}
-use Rattle.roll_inputs.proofs.Changes.{seen, start_rows}
+use Rattle.roll_inputs.proofs.Changes.{seen}
 use Rattle.roll_inputs.proofs.board.Board.next.Goals as goal
 
 begun : (c : goal.After-self-2-1) → take c.self.inside.queues.len (c.start_frames.new.queues ++ drop (length c.start_frames.new.queues) c.self.inside.queues.items) ≡ map started c.self.inside.queues.items
@@ -29,4 +30,4 @@ returns-clause-begun c =
 pub returns-clause-rows : goal.returns-clause-rows
 returns-clause-rows c =
     let i = c.self.inside in
-    rw (← c.self.view_is, begun c) (ap (λ (ps : List Player). timeline ps i.settled) (start_players i.queues.items) ∙ start_rows (players_of i.queues.items) i.settled)
+    rw (← c.self.view_is, begun c) (ap (λ (ps : List Player). timeline ps i.settled) (start_players i.queues.items) ∙ timeline_none_given (players_of i.queues.items) i.settled)

@@ -1,5 +1,4 @@
 use Rattle.std.proofs.Common.{sym, ap, subst, ℕ}
-use Rattle.roll_cert.specs.Told.{told}
 use Rattle.roll_plan.specs.Fields.{made_in}
 use Rattle.roll_plan.specs.Plans.{Planned, IsClaimOf}
 use Rattle.roll_plan.proofs.Claims.{made_is_right}
@@ -10,5 +9,5 @@ pub returns-in-Ok-clause-right : goal.returns-in-Ok-clause-right
 returns-in-Ok-clause-right c =
     let p = c.self.inside in
     let players = ap (λ (s : Planned). s.players) c.self.view_is in
-    let is = at_last p c.args.self.now (λ made. IsClaimOf c.args.self.now.players made (told c.in-Ok.claim)) (sym c.self.view_is) c.if-not-self.false c.in-Ok.ensures in
-    made_is_right p.players (made_in p) (c.self.invariant.last c.if-not-self.false).fit (told c.in-Ok.claim) (subst (λ (n : ℕ). IsClaimOf n (made_in p) (told c.in-Ok.claim)) (sym players) is)
+    let is = at_last p c.args.self.now (λ made. IsClaimOf c.args.self.now.players made c.in-Ok.claim) (sym c.self.view_is) c.if-not-self.false c.in-Ok.ensures in
+    made_is_right p.players (made_in p) (c.self.invariant.last c.if-not-self.false).fit c.in-Ok.claim (subst (λ (n : ℕ). IsClaimOf n (made_in p) c.in-Ok.claim) (sym players) is)

@@ -1,6 +1,6 @@
 use Rattle.std.proofs.Common.{◌≡◌, ℕ, ◌-◌, not, refl, sym, subst, inl, inr, arith}
 use Rattle.std.specs.List.{filter}
-use Rattle.roll_tree.specs.Kept.{has_other}
+use Rattle.roll_tree.specs.SavedStates.{has_other}
 use Rattle.roll_tree.specs.declared.tree.Tree.TheInside.{Inside}
 use Rattle.std.proofs.lemmas.Bool.{cases_lt}
 use Rattle.roll_tree.proofs.States.{base_is}

@@ -4,7 +4,7 @@ use Rattle.roll_tree.proofs.Prunes.{ordered_at}
 use Rattle.roll_tree.proofs.States.{base_is}
 use Rattle.roll_tree.proofs.Way.{IsOnWay, way_start, way_past, way_on}
 use Rattle.roll_tree.proofs.Deepest.{known, unmarked_child, deepest_node, deepest_length}
-use Rattle.roll_tree.specs.Kept.{Kept}
+use Rattle.roll_tree.specs.SavedStates.{SavedStates}
 use Rattle.roll_tree.proofs.tree.Tree.deepest.Goals.{then-is_unmarked_child, else-is_unmarked_child}
 use Rattle.roll_tree.proofs.tree.Tree.deepest.Goals as goal
 
@@ -36,7 +36,7 @@ loop-name-preserved g c =
     let within : place < length t.order.items = rw c.deref-name-items.ensures.value at c.loop-name-test.true in
     let found : get t.nodes (get_or t.order.items place 0) ≡ Some node = rw c.deref-name-items.ensures.value at c.index.ensures in
     let base = base_is t c.args.self.now c.self.view_is in
-    let time = ap (λ (k : Kept g.row.S.Denot). length k.time) c.self.view_is in
+    let time = ap (λ (k : SavedStates g.row.S.Denot). length k.time) c.self.view_is in
     let room : depth < length rows = omega (arith, length-take (c.args.to - t.base) t.time.items, way.within, c.loop-name.invariant.low, c.if-end-to.false, base, time, c.requires.known) in
     let says = sym (unmarked_child t tree c.args.to place best depth way (get_or t.order.items place 0) node found room) ∙ sym c.is_unmarked_child.ensures in
     elim c.if-is_unmarked_child.branch [

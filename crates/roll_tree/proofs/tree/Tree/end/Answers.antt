@@ -1,6 +1,6 @@
 use Rattle.std.proofs.Common.{◌≡◌, ◌+◌, length, refl, ap, ◌∙◌, Some, arith}
 use Rattle.std.specs.Prelude.{option_map}
-use Rattle.roll_tree.specs.Kept.{Saved}
+use Rattle.roll_tree.specs.SavedStates.{Saved}
 use Rattle.roll_tree.proofs.Nodes.{path_at, length-path_at}
 use Rattle.roll_tree.proofs.States.{base_is, node_of_held, held_node}
 use Rattle.roll_tree.proofs.tree.Tree.end.Goals as goal

@@ -1,6 +1,6 @@
 use Rattle.std.proofs.Common.{◌≡◌, length, sym, arith}
 use Rattle.roll_frame.specs.Paths.{longest}
-use Rattle.roll_tree.specs.Kept.{paths_of}
+use Rattle.roll_tree.specs.SavedStates.{paths_of}
 use Rattle.roll_tree.proofs.Lists.{reached, not_reached}
 use Rattle.roll_tree.proofs.tree.Tree.find.Goals as goal
 

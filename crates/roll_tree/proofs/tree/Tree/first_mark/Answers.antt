@@ -1,8 +1,8 @@
 use Rattle.std.proofs.Common.{◌≡◌, Some, None, sym, ap, ◌∙◌}
 use Rattle.std.specs.Prelude.{option_map}
 use Rattle.std.proofs.lemmas.Option.{same_Some}
-use Rattle.roll_tree.specs.Kept.{Saved, Kept}
-use Rattle.roll_tree.specs.Marks.{least_mark}
+use Rattle.roll_tree.specs.SavedStates.{Saved, SavedStates}
+use Rattle.roll_frame.specs.Claims.{least_place}
 use Rattle.roll_tree.specs.declared.node.Node.{Node}
 use Rattle.roll_tree.proofs.Nodes.{path_at}
 use Rattle.roll_tree.proofs.States.{node_of_held, held_node}
@@ -43,6 +43,6 @@ returns g c =
     let s = c.loop-edge.invariant in
     let here : c.index.result.now ≡ s.here = same_Some _ _ (sym c.index.ensures ∙ s.here_is) in
     let none : s.here.edge ≡ None = ap (λ (n : Node g.row.S.Denot). n.edge) (sym here) ∙ c.in_default.is in
-    ap (option_map (λ (u : Saved g.row.S.Denot). least_mark c.args.self.now.base u.path c.args.self.now.time)) (held_node t c.args.self.now c.args.node s.from c.self.view_is c.self.invariant s.from_is)
-    ∙ sym (ap (λ (k : Kept g.row.S.Denot). Some (least_mark k.base (path_at t.base t.nodes.slots s.from) k.time)) c.self.view_is)
+    ap (option_map (λ (u : Saved g.row.S.Denot). least_place c.args.self.now.base u.path c.args.self.now.time)) (held_node t c.args.self.now c.args.node s.from c.self.view_is c.self.invariant s.from_is)
+    ∙ sym (ap (λ (k : SavedStates g.row.S.Denot). Some (least_place k.base (path_at t.base t.nodes.slots s.from) k.time)) c.self.view_is)
     ∙ ap Some (IsSearch-done t c.self.invariant c.args.node c.loop-edge.at c.loop-edge.first s none)

@@ -1,6 +1,6 @@
 use Rattle.std.proofs.Common.{refl, ap}
 use Rattle.std.specs.Prelude.{option_map}
-use Rattle.roll_tree.specs.Kept.{Saved}
+use Rattle.roll_tree.specs.SavedStates.{Saved}
 use Rattle.roll_tree.proofs.States.{node_of_held, held_node}
 use Rattle.roll_tree.proofs.tree.Tree.get.Goals as goal
 

@@ -2,7 +2,7 @@ use Rattle.std.proofs.Common.{◌≡◌, ℕ, subst, ◌+◌, ◌-◌, Some, ref
 use Rattle.std.specs.Prelude.{option_map, slice_get}
 use Rattle.std.proofs.lemmas.Bool.{false≢true}
 use Rattle.roll_frame.specs.Cells.{Rows}
-use Rattle.roll_tree.specs.Kept.{Saved}
+use Rattle.roll_tree.specs.SavedStates.{Saved}
 use Rattle.roll_tree.specs.Marks.{AreMarks}
 use Rattle.roll_tree.specs.Layout.{saved_of}
 use Rattle.roll_tree.specs.declared.node.Edge.{Edge}
@@ -26,7 +26,7 @@ invariant_of-self g c =
     let fits = fits_below c.self.inside c.args.self.now c.args.parent c.args.row parent c.self.view_is c.self.invariant c.requires c.index.ensures in
     let edge : Edge = record { parent = c.args.parent; row = c.args.row; marks = c.marks_in-marks.result } in
     let child : Node g.row.S.Denot = record { edge = Some edge; end = parent.end + 1; snapshot = c.args.snapshot } in
-    let after : Inside g.row.S.Denot = record { base = c.self.inside.base; root = c.self.inside.root; nodes = c.insert_reserved-name.new.self; order = c.push.new.self; time = c.self.inside.time } in
+    let after : Inside g.row.S.Denot = record { base = c.self.inside.base; root = c.self.inside.root; nodes = c.insert_reserved-name.new.self; order = c.push_reserved.new.self; time = c.self.inside.time } in
     let grown : IsGrown c.self.inside.base c.self.inside.nodes.slots after.nodes.slots c.insert_reserved-name.result child parent edge = record {
       vacant = c.insert_reserved-name.ensures.was_vacant;
       edge_is = refl;
@@ -36,7 +36,7 @@ invariant_of-self g c =
       changed = c.insert_reserved-name.ensures.updates.changed;
       others = c.insert_reserved-name.ensures.updates.others;
     } in
-    let order = rw c.unwrap.ensures at c.push.ensures.items in
+    let order = c.push_reserved.ensures.items in
     let place : parent.end - c.self.inside.base ≡ parent.end + 1 - c.self.inside.base - 1 = omega arith in
     let time = c.deref.ensures.0 in
     let marks : AreMarks (slice_get c.self.inside.time.items (parent.end + 1 - c.self.inside.base - 1)) c.args.row c.marks_in-marks.result =
@@ -45,7 +45,7 @@ invariant_of-self g c =
     grown_tree c.self.inside after c.insert_reserved-name.result child parent edge refl refl order refl marks c.self.invariant grown fits c.insert_reserved-name.ensures.len
     (omega (arith, c.insert_reserved-name.ensures.len, c.self.invariant.counted, c.self.invariant.few, c.if-len-eq-TREE_LIMIT.false))
     (omega (arith, c.insert_reserved-name.ensures.capacity, c.self.invariant.room))
-    (omega (arith, c.push.ensures.capacity, c.self.invariant.space))
+    (omega (arith, c.push_reserved.ensures.capacity, c.self.invariant.space))
 
 pub returns-clause-added : goal.returns-clause-added
 returns-clause-added g c =
@@ -53,7 +53,7 @@ returns-clause-added g c =
     let fits = fits_below c.self.inside c.args.self.now c.args.parent c.args.row parent c.self.view_is c.self.invariant c.requires c.index.ensures in
     let edge : Edge = record { parent = c.args.parent; row = c.args.row; marks = c.marks_in-marks.result } in
     let child : Node g.row.S.Denot = record { edge = Some edge; end = parent.end + 1; snapshot = c.args.snapshot } in
-    let after : Inside g.row.S.Denot = record { base = c.self.inside.base; root = c.self.inside.root; nodes = c.insert_reserved-name.new.self; order = c.push.new.self; time = c.self.inside.time } in
+    let after : Inside g.row.S.Denot = record { base = c.self.inside.base; root = c.self.inside.root; nodes = c.insert_reserved-name.new.self; order = c.push_reserved.new.self; time = c.self.inside.time } in
     let grown : IsGrown c.self.inside.base c.self.inside.nodes.slots after.nodes.slots c.insert_reserved-name.result child parent edge = record {
       vacant = c.insert_reserved-name.ensures.was_vacant;
       edge_is = refl;
@@ -63,7 +63,7 @@ returns-clause-added g c =
       changed = c.insert_reserved-name.ensures.updates.changed;
       others = c.insert_reserved-name.ensures.updates.others;
     } in
-    let order = rw c.unwrap.ensures at c.push.ensures.items in
+    let order = c.push_reserved.ensures.items in
     let s : Saved g.row.S.Denot = saved_of c.self.inside.base c.self.inside.nodes.slots c.args.parent parent in
     let seen = held_node c.self.inside c.args.self.now c.args.parent parent c.self.view_is c.self.invariant c.index.ensures in
     rw seen (grown_view c.self.inside after c.args.self.now c.insert_reserved-name.result child parent edge s refl refl order refl c.self.view_is c.self.invariant grown seen)

@@ -5,7 +5,7 @@ use Rattle.std.proofs.lemmas.Option.{same_Some}
 use Rattle.std.proofs.lemmas.List.{take_more, take_all, length-map, map-append}
 use Rattle.roll_frame.specs.declared.path.Path.{Path}
 use Rattle.roll_frame.specs.Cells.{Rows}
-use Rattle.roll_tree.specs.Kept.{Saved, path_of, paths_of}
+use Rattle.roll_tree.specs.SavedStates.{Saved, path_of, paths_of}
 use Rattle.roll_tree.proofs.Nodes.{path_at}
 use Rattle.roll_tree.proofs.Prunes.{ordered_at}
 use Rattle.roll_tree.proofs.States.{held_node, length-states, path_in, paths_are}
@@ -25,14 +25,14 @@ path-requires g c =
     let after = ordered_at t.nodes.slots [] t.order.items c.self.invariant.ordered c.loop-name.name-index within in
     rw (c.deref-name-items.ensures.value, held_node t c.args.self.now (get_or t.order.items c.loop-name.name-index 0) after.node c.self.view_is c.self.invariant after.node_is) refl
 
-pub unwrap-requires : goal.unwrap-requires
-unwrap-requires g c =
+pub push_reserved-requires : goal.push_reserved-requires
+push_reserved-requires g c =
     let t = c.self.inside in
     let within : c.loop-name.name-index < length t.order.items = rw c.deref-name-items.ensures.value at c.loop-name-test.true in
     let states = length-states t c.args.self.now c.self.view_is c.self.invariant in
     let paths = length-map c.args.self.now.states (λ (s : Saved g.row.S.Denot). s.path) in
     let many = ap (λ (l : List Path). length l) c.loop-name.invariant.paths ∙ length-map (take c.loop-name.name-index (paths_of c.args.self.now)) (path_of c.args.self.now.base) in
-    c.push.ensures.succeeds (omega (arith, within, states, paths, many, c.loop-name.invariant.room, length-take c.loop-name.name-index (paths_of c.args.self.now)))
+    omega (arith, within, states, paths, many, c.loop-name.invariant.room, length-take c.loop-name.name-index (paths_of c.args.self.now))
 
 pub loop-name-preserved : goal.loop-name-preserved
 loop-name-preserved g c =
@@ -49,14 +49,14 @@ loop-name-preserved g c =
     let path : c.path.result ≡ path_of kept.base (get_or (paths_of kept) place []) = λ i. record { base = c.path.ensures.base i; rows = record { items = sym here i } } in
     let states = length-states t kept c.self.view_is c.self.invariant in
     let paths = length-map kept.states (λ (s : Saved g.row.S.Denot). s.path) in
-    let pushed = rw c.unwrap.ensures at c.push.ensures.items in
+    let pushed = c.push_reserved.ensures.items in
     record {
       paths =
           pushed
           ∙ ap (λ (l : List Path). l ++ c.path.result ∷ []) c.loop-name.invariant.paths
           ∙ ap (λ (p : Path). map (path_of kept.base) (take place (paths_of kept)) ++ p ∷ []) path
           ∙ sym (ap (map (path_of kept.base)) (take_more (paths_of kept) place [] (omega (arith, within, states, paths))) ∙ map-append (path_of kept.base) (take place (paths_of kept)) (get_or (paths_of kept) place [] ∷ []));
-      room = omega (arith, c.loop-name.invariant.room, c.push.ensures.capacity);
+      room = omega (arith, c.loop-name.invariant.room, c.push_reserved.ensures.capacity);
     }
 
 pub returns : goal.returns

@@ -1,5 +1,5 @@
 use Rattle.std.proofs.Common.{◌≡◌, ◌≤◌, take, map, vec_capacity, length}
-use Rattle.roll_tree.specs.Kept.{path_of, paths_of}
+use Rattle.roll_tree.specs.SavedStates.{path_of, paths_of}
 use Rattle.roll_tree.proofs.tree.Tree.kept.Given as goal
 
 -- the paths of the states so far, with room for the others

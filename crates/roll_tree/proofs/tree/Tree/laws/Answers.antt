@@ -1,7 +1,10 @@
 use Rattle.std.proofs.Common.{arith}
-use Rattle.roll_tree.proofs.States.{is_closed, is_distinct, are_short, are_named, length-states}
+use Rattle.roll_tree.proofs.States.{is_rooted, is_closed, is_distinct, are_short, are_named, length-states}
 use Rattle.roll_tree.proofs.Parents.{is_ordered}
 use Rattle.roll_tree.proofs.tree.Tree.laws.Goals as goal
+
+pub returns-clause-rooted : goal.returns-clause-rooted
+returns-clause-rooted g c = is_rooted c.self.inside c.args.self.now c.self.view_is c.self.invariant
 
 pub returns-clause-closed : goal.returns-clause-closed
 returns-clause-closed g c = is_closed c.self.inside c.args.self.now c.self.view_is c.self.invariant

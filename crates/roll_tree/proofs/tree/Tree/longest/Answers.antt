@@ -2,7 +2,7 @@ use Rattle.std.proofs.Common.{◌≡◌, ◌⊎◌, ◌≤◌, ◌<◌, List, []
 use Rattle.std.proofs.lemmas.Option.{same_Some}
 use Rattle.roll_frame.specs.Cells.{Rows}
 use Rattle.roll_frame.specs.Paths.{longest}
-use Rattle.roll_tree.specs.Kept.{paths_of}
+use Rattle.roll_tree.specs.SavedStates.{paths_of}
 use Rattle.roll_tree.specs.Node.{is_child_of}
 use Rattle.slab.specs.Slab.{get}
 use Rattle.roll_tree.specs.declared.node.Node.{Node}

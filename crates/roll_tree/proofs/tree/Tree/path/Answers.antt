@@ -2,7 +2,7 @@ use Rattle.std.proofs.Common.{◌≡◌, Some, None, sym, ap, ◌∙◌, reverse
 use Rattle.std.specs.Prelude.{option_map}
 use Rattle.std.proofs.lemmas.Option.{same_Some}
 use Rattle.roll_frame.specs.Cells.{Rows}
-use Rattle.roll_tree.specs.Kept.{Saved}
+use Rattle.roll_tree.specs.SavedStates.{Saved}
 use Rattle.roll_tree.specs.declared.node.Node.{Node}
 use Rattle.roll_tree.proofs.States.{node_of_held, held_node}
 use Rattle.roll_tree.proofs.Walks.{IsWalk-start, IsWalk-more, IsWalk-done, refilled}

@@ -1,6 +1,6 @@
 use Rattle.std.proofs.Common.{[], ◌∷◌, ◌++◌, refl, sym, ap, subst, ◌∙◌}
 use Rattle.roll_frame.specs.Cells.{Rows}
-use Rattle.roll_tree.specs.Kept.{Kept}
+use Rattle.roll_tree.specs.SavedStates.{SavedStates}
 use Rattle.roll_tree.specs.Layout.{AreFresh}
 use Rattle.roll_tree.specs.declared.tree.Tree.TheInside.{Inside}
 use Rattle.roll_tree.proofs.Marking.{marked_tree, marked_view}
@@ -16,5 +16,5 @@ invariant_of-self g c =
 pub returns : goal.returns
 returns g c =
     let after : Inside g.row.S.Denot = record { base = c.self.inside.base; root = c.self.inside.root; nodes = c.mark_next.new.nodes; order = c.self.inside.order; time = c.push.new.self } in
-    let time = c.push.ensures.items ∙ ap (λ (k : Kept g.row.S.Denot). k.time ++ c.args.row ∷ []) c.self.view_is in
+    let time = c.push.ensures.items ∙ ap (λ (k : SavedStates g.row.S.Denot). k.time ++ c.args.row ∷ []) c.self.view_is in
     marked_view c.self.inside after c.args.self.now (c.args.self.now.time ++ c.args.row ∷ []) refl refl refl time c.self.view_is c.self.invariant c.mark_next.ensures.like

@@ -1,7 +1,8 @@
 //! Claims as values.
 ghost use Rattle.std.specs.Prelude.{◌≡◌, length};
 
-use roll_frame::{Path, Row};
+use crate::path::Path;
+use crate::row::Row;
 use std::marker::Model;
 
 /// What a roll claims of itself: that it started from the longest kept path on its way.
@@ -67,12 +68,5 @@ impl<T> Items<T> {
         ensures { result ≡ length self.now }
     {
         self.items.len()
-    }
-
-    /// The vector that the list was made from.
-    pub fn into_vec(self) -> Vec<T>
-        ensures { result.items ≡ self }
-    {
-        self.items
     }
 }

@@ -19,7 +19,7 @@ pub record Saved (S : Type 0) : Type 0 where
 
 -- the frame of the root, the root's name, the states in the order in which they came, and the timeline's rows
 -- from the root's frame on, as they were last told
-pub record Kept (S : Type 0) : Type 0 where
+pub record SavedStates (S : Type 0) : Type 0 where
   pub base : ℕ
   pub root : ℕ
   pub states : List (Saved S)
@@ -27,31 +27,31 @@ pub record Kept (S : Type 0) : Type 0 where
 
 module _ {S : Type 0} where
   -- the state of this name
-  abbrev pub held : Kept S → ℕ → Option (Saved S)
-  held t name = find (λ s. s.name == name) t.states
+  abbrev pub state_named : SavedStates S → ℕ → Option (Saved S)
+  state_named t name = find (λ s. s.name == name) t.states
 
-  abbrev pub paths_of : Kept S → List Rows
+  abbrev pub paths_of : SavedStates S → List Rows
   paths_of t = map (λ s. s.path) t.states
 
   -- the tree with one state more
-  abbrev pub with_state : Kept S → Saved S → Kept S
+  abbrev pub with_state : SavedStates S → Saved S → SavedStates S
   with_state t s = record t { states = t.states ++ s ∷ [] }
 
   -- a state one row below this one fits, and isn't there
-  pub record CanGrow (t : Kept S) (parent : ℕ) (row : List Cell) : Type 0 where
-    pub kept : IsSome (held t parent)
-    pub short : (s : Saved S) → held t parent ≡ Some s → length s.path < PATH_LIMIT
-    pub frames : (s : Saved S) → held t parent ≡ Some s → t.base + length s.path + 1 < 2 ^ 32
-    pub fresh : (s : Saved S) → held t parent ≡ Some s → contains (paths_of t) (s.path ++ row ∷ []) ≡ false
+  pub record CanGrow (t : SavedStates S) (parent : ℕ) (row : List Cell) : Type 0 where
+    pub kept : IsSome (state_named t parent)
+    pub short : (s : Saved S) → state_named t parent ≡ Some s → length s.path < PATH_LIMIT
+    pub frames : (s : Saved S) → state_named t parent ≡ Some s → t.base + length s.path + 1 < 2 ^ 32
+    pub fresh : (s : Saved S) → state_named t parent ≡ Some s → contains (paths_of t) (s.path ++ row ∷ []) ≡ false
 
   -- the rows may become the timeline's: those that were known differ in a player's cells alone, from this frame on
-  pub record CanMark (t : Kept S) (player from : ℕ) (rows : Rows) : Type 0 where
+  pub record CanMark (t : SavedStates S) (player from : ℕ) (rows : Rows) : Type 0 where
     pub short : length rows ≤ PATH_LIMIT
     pub long : length t.time ≤ length rows
     pub same : AreSameBut player from t.base t.time rows
 
   -- the timeline's rows up to a frame
-  abbrev pub time_to : Kept S → ℕ → Rows
+  abbrev pub time_to : SavedStates S → ℕ → Rows
   time_to t to = take (to - t.base) t.time
 
   -- the state as it is seen from so many frames later
@@ -59,22 +59,22 @@ module _ {S : Type 0} where
   later frames s = record s { path = drop frames s.path }
 
   -- each front of a path that is kept is kept
-  abbrev pub IsClosed : Kept S → Type 0
-  IsClosed t = (name : ℕ) (s : Saved S) (k : ℕ) → held t name ≡ Some s → contains (paths_of t) (take k s.path) ≡ true
+  abbrev pub IsClosed : SavedStates S → Type 0
+  IsClosed t = (name : ℕ) (s : Saved S) (k : ℕ) → state_named t name ≡ Some s → contains (paths_of t) (take k s.path) ≡ true
 
   -- no two states have the same path
-  abbrev pub IsDistinct : Kept S → Type 0
-  IsDistinct t = (j k : ℕ) (s u : Saved S) → held t j ≡ Some s → held t k ≡ Some u → s.path ≡ u.path → j ≡ k
+  abbrev pub IsDistinct : SavedStates S → Type 0
+  IsDistinct t = (j k : ℕ) (s u : Saved S) → state_named t j ≡ Some s → state_named t k ≡ Some u → s.path ≡ u.path → j ≡ k
 
   -- what is above a state of this path: nothing where it has no rows, else the state and the row that it is made of
-  abbrev pub IsAbove : Kept S → Rows → Option Above → Type 0
+  abbrev pub IsAbove : SavedStates S → Rows → Option Above → Type 0
   IsAbove t path None = path ≡ []
-  IsAbove t path (Some above) = IsSomeAnd (held t above.node) (λ s. path ≡ s.path ++ above.row ∷ [])
+  IsAbove t path (Some above) = IsSomeAnd (state_named t above.node) (λ s. path ≡ s.path ++ above.row ∷ [])
 
   -- each state comes after the one above it
-  abbrev pub IsOrdered : Kept S → Type 0
+  abbrev pub IsOrdered : SavedStates S → Type 0
   IsOrdered t =
-      (before after : List (Saved S)) (s u : Saved S) (row : List Cell) → t.states ≡ before ++ s ∷ after → held t u.name ≡ Some u → s.path ≡ u.path ++ row ∷ []
+      (before after : List (Saved S)) (s u : Saved S) (row : List Cell) → t.states ≡ before ++ s ∷ after → state_named t u.name ≡ Some u → s.path ≡ u.path ++ row ∷ []
       → find (λ x. x.name == u.name) before ≡ Some u
 
 -- a path of these rows from the base on
