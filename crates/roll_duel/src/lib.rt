@@ -18,8 +18,6 @@ mod pad;
 mod ship;
 mod space;
 mod state;
-#[cfg(test)]
-mod tests;
 
 pub use bullet::Bullet;
 pub use duel::Duel;

@@ -1,7 +1,9 @@
 //! A small game that needs no memory.
 ghost use Rattle.std.specs.Prelude.{◌≡◌, ◌≤◌, ◌*◌, ◌^◌, ◌∷◌, []};
+ghost use Rattle.roll_game.specs.Counts.{no_calls};
 ghost use Rattle.roll_game.specs.Tally.{share, tally_step};
 
+use crate::counts::{Call, Counts};
 use crate::game::{Game, NoMemory, RawGame};
 use roll_frame::{Cell, PLAYER_LIMIT, Row};
 use std::marker::Model;
@@ -12,24 +14,26 @@ use std::marker::Model;
 /// word, or 5 for a player who is gone, modulo a million. It never refuses.
 #[derive(Debug, Drop)]
 pub struct Tally {
-    turns: u64,
+    counts: Counts,
 }
 
-/// A clause sees a tally as its turn count.
+/// A clause sees a tally as its counts.
 impl Model for Tally {
-    ghost use Rattle.std.specs.Prelude.{ℕ};
+    ghost use Rattle.roll_game.specs.declared.counts.Counts.{Counts};
 
-    ghost Value = { ℕ };
+    ghost Value = { Counts };
 
-    ghost view = { λ t. t.turns };
+    ghost view = { λ t. t.counts };
 }
 
 impl Tally {
-    /// A tally that was not yet advanced.
+    /// A tally that was not yet asked for anything.
     pub fn new() -> Tally
-        ensures { result ≡ 0 }
+        ensures { result ≡ no_calls }
     {
-        Tally { turns: 0 }
+        Tally {
+            counts: Counts::new(),
+        }
     }
 
     /// The snapshot that a session starts from.
@@ -42,8 +46,9 @@ impl Tally {
 
 impl Default for Tally {
     ghost use Rattle.std.specs.Prelude.{◌≡◌};
+    ghost use Rattle.roll_game.specs.Counts.{no_calls};
 
-    ghost is_default = { λ t. t ≡ 0 };
+    ghost is_default = { λ t. t ≡ no_calls };
 
     fn default() -> Self {
         Tally::new()
@@ -62,26 +67,27 @@ impl RawGame for Tally {
 
     ghost snapshot_value = { λ s. s ∷ [] };
 
-    ghost turn_count = { λ t. t };
-
-    ghost refusal_count = { λ t. 0 };
+    ghost call_counts = { λ t. t };
 
     ghost ran = { λ x row y. y ≡ tally_step x row };
 
     fn load(&mut self, snapshot: &u32) -> Result<u32, NoMemory> {
+        self.counts.note(Call::Load, true);
         Ok(*snapshot)
     }
 
     fn save(&mut self, state: &u32) -> Result<u32, NoMemory> {
+        self.counts.note(Call::Save, true);
         Ok(*state)
     }
 
     fn copy(&mut self, snapshot: &u32) -> Result<u32, NoMemory> {
+        self.counts.note(Call::Copy, true);
         Ok(*snapshot)
     }
 
     fn advance(&mut self, state: &mut u32, row: &Row) -> Result<(), NoMemory> {
-        self.turns = self.turns.wrapping_add(1);
+        self.counts.note(Call::Advance, true);
         *state = stepped(*state, row);
         Ok(())
     }
@@ -90,12 +96,8 @@ impl RawGame for Tally {
         a == b
     }
 
-    fn turns(&self) -> u64 {
-        self.turns
-    }
-
-    fn refused(&self) -> u64 {
-        0
+    fn counts(&self) -> Counts {
+        self.counts
     }
 }
 
@@ -127,66 +129,5 @@ fn added(player: usize, cell: Cell) -> u64
     match cell {
         Cell::Word(word) => player as u64 * u64::from(word),
         Cell::Gone => 5,
-    }
-}
-
-#[cfg(test)]
-mod tests {
-    use super::*;
-
-    /// The snapshot after the same row so many times, from a snapshot on.
-    fn run<G: Game>(
-        game: &mut G,
-        from: &G::Snapshot,
-        row: &Row,
-        count: u32,
-    ) -> Result<G::Snapshot, NoMemory> {
-        let from = game.copy(from)?;
-        let mut state = game.load(&from)?;
-        for _ in 0..count {
-            game.advance(&mut state, row)?;
-        }
-        game.save(&state)
-    }
-
-    #[test]
-    fn adds_words_up(rt: HostRuntime) -> Result<(), NoMemory> {
-        let most = Cell::Word(u32::MAX);
-        let none = Cell::Word(0);
-        let rows = [
-            (Row::from_cells(&[Cell::Word(1), none]), 1, 11),
-            (Row::from_cells(&[Cell::Word(1), Cell::Word(3)]), 7, 77),
-            (Row::from_cells(&[Cell::Word(1), Cell::Gone]), 6, 66),
-            (
-                Row::from_cells(&[Cell::Word(1), none, none, none, Cell::Word(2)]),
-                11,
-                121,
-            ),
-            (Row::from_cells(&[most]), 967_295, 640_245),
-            (Row::from_cells(&[most; 8]), 822_620, 48_820),
-        ];
-        for (row, first, second) in rows {
-            let mut game = Tally::default();
-            assert_eq!(rt;
-                run(&mut game, &Tally::opening(), &row, 1)?,
-                first,
-                "{row:?}"
-            );
-            assert_eq!(rt;
-                run(&mut game, &Tally::opening(), &row, 2)?,
-                second,
-                "{row:?}"
-            );
-            assert_eq!(rt; game.turns(), 3);
-            assert_eq!(rt; game.refused(), 0);
-        }
-        Ok(())
-    }
-
-    #[test]
-    fn compares_sums(rt: HostRuntime) {
-        let game = Tally::new();
-        assert!(rt; game.same(&11, &11));
-        assert!(rt; !game.same(&11, &1));
     }
 }
