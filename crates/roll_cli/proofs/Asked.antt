@@ -1,27 +1,29 @@
 -- The calls that commands ask for are their events.
-use Rattle.std.proofs.Common.{◌≡◌, length-set, ◌==◌, ℕ, ◌-◌, ◌≤◌, ◌⊎◌, inl, inr, List, [], ◌∷◌, length, Bool, true, false, refl, sym, ap, ◌∙◌, subst, arith, rules, tests, Option, Some, None}
-use Rattle.std.specs.Prelude.{nat_lt, slice_set, cond}
+use Rattle.std.proofs.Common.{◌≡◌, ◌==◌, ℕ, ◌-◌, ◌≤◌, ◌⊎◌, inl, inr, List, length, Bool, true, false, refl, sym, ap, ◌∙◌, subst, arith, rules, tests, Option, Some, None}
+use Rattle.std.specs.Prelude.{nat_lt}
 use Rattle.std.specs.Option.{option_map_or}
-use Rattle.std.proofs.lemmas.List.{length-map}
 use Rattle.std.proofs.lemmas.Option.{slice_get_past}
 use Rattle.roll_frame.specs.declared.limits.TheConstants.{PLAYER_LIMIT}
 use Rattle.roll_frame.specs.Core.{Core}
-use Rattle.roll_frame.specs.Events.{after, applied, is_accepted, reply}
+use Rattle.roll_frame.specs.Events.{after, reply}
 use Rattle.roll_frame.specs.Games.{Game}
-use Rattle.roll_frame.specs.Inputs.{changed, player_at, with_given, with_gone, with_none_given, with_words}
+use Rattle.roll_frame.specs.Inputs.{player_at}
 use Rattle.roll_frame.specs.Timeline.{Player}
 use Rattle.roll_frame.specs.declared.entry.Entry.{Entry}
-use Rattle.roll_frame.specs.declared.entry.Entry.TheVariants.{Local, Remote, Disconnect, Sync, Advance, Graft, Partial}
+use Rattle.roll_frame.specs.declared.entry.Entry.TheVariants.{Local, Remote, Disconnect, Sync, Advance}
 use Rattle.roll_frame.specs.declared.refusal.Refusal.TheVariants.{InvalidPlayer}
+use Rattle.roll_frame.specs.declared.reply.Reply.{Reply}
 use Rattle.roll_frame.specs.declared.reply.Reply.TheVariants.{Refused}
 use Rattle.roll_frame.specs.declared.settings.Settings.{Settings}
-use Rattle.roll_session.specs.Seen.{plain}
-use Rattle.roll_session.specs.Calls.{entry_of}
+use Rattle.roll_session.specs.Answered.{IsReplied}
+use Rattle.roll_session.specs.Calls.{entry_of, event_of}
+use Rattle.roll_session.specs.Seen.{Seen, Step, core_of, game_of, plain}
 use Rattle.roll_session.specs.declared.event.Call.{Call}
 use Rattle.roll_cli.specs.declared.command.Command.{Command}
 use Rattle.roll_cli.specs.declared.command.Command.TheVariants.{Local as Gives, Remote as Tells, Disconnect as Leaves, Sync as Syncs, Advance as Advances, Guess, Extend, Claim}
 use Rattle.roll_cli.specs.Calls.{narrowed, call_of}
-use Rattle.roll_cli.specs.Output.{Texts, after_command, asked_by, event_text, is_refused, refused_by, written_by}
+use Rattle.roll_cli.specs.Output.{Texts, after_command, asked_by, event_text, is_refused, refused_by, reply_line, written_by}
+use Rattle.roll_text.specs.Lines.{ended}
 
 -- a number past all players' becomes 0
 narrowed_cases : (p : ℕ) → (narrowed p ≡ p) ⊎ ((narrowed p ≡ 0) × (256 ≤ p))
@@ -112,30 +114,29 @@ refused_asked settings game core (Guess player until words) entry e = cc
 refused_asked settings game core (Extend job) entry e = cc
 refused_asked settings game core Claim entry e = cc
 
-changed_length : (change : Player → Player) (players : List Player) (p : ℕ) → length (changed change players p) ≡ length players
-changed_length change players p = go (player_at players p)
-  where
-    go : (o : Option Player) → length (option_map_or (λ player. slice_set players (p - 1) (change player)) o players) ≡ length players
-    go None = refl
-    go (Some player) = length-set players (p - 1) (change player)
+-- a command whose call was answered
+module _ (step : Step) (old new : Seen) (command : Command) (call : Call) (said : Reply) (few : length (core_of old).players ≤ PLAYER_LIMIT) (is : call_of command ≡ Some call) (r : IsReplied step old new (event_of call) said) where
+  abbrev game : Game
+  game = game_of step old
 
-applied_length : (core : Core) (entry : Entry) → length (applied core entry).players ≡ length core.players
-applied_length core (Local p word) = changed_length (with_given word) core.players p
-applied_length core (Remote p frame word) = changed_length (with_words (word ∷ [])) core.players p
-applied_length core (Disconnect p) = changed_length with_gone core.players p
-applied_length core Sync = refl
-applied_length core Advance = length-map core.players with_none_given
-applied_length core (Graft ticket path rows) = refl
-applied_length core (Partial to made) = refl
+  abbrev event : (entry : Entry) × (asked_by command ≡ Some entry) × AreAlike old.settings game (core_of old) (entry_of call) entry
+  event = asked old.settings game (core_of old) command call few is
 
--- a command leaves as many players
-pub as_many_players : (settings : Settings) (game : Game) (core : Core) (command : Command) → length (after_command settings game core command).players ≡ length core.players
-as_many_players settings game core command = go (asked_by command)
-  where
-    taken : (b : Bool) (entry : Entry) → length (cond b (applied core entry) core).players ≡ length core.players
-    taken true entry = applied_length core entry
-    taken false entry = refl
+  core_after : core_of new ≡ after old.settings game (core_of old) (plain event.0)
+  core_after = r.played.core ∙ event.2.same_core
 
-    go : (o : Option Entry) → length (option_map_or (λ entry. after settings game core (plain entry)) o core).players ≡ length core.players
-    go None = refl
-    go (Some entry) = taken (is_accepted settings game core (plain entry)) entry
+  same_game : game_of step new ≡ game
+  same_game = ap (λ (s : Seen). game_of step s) r.played.seen
+
+  pub core_asked : core_of new ≡ after_command old.settings (game_of step old) (core_of old) command
+  core_asked = core_after ∙ sym (ap (λ (o : Option Entry). option_map_or (λ entry. after old.settings game (core_of old) (plain entry)) o (core_of old)) event.1)
+
+  pub text_asked : (texts : Texts) → ended (reply_line texts (game_of step new) (core_of new) said) ≡ written_by texts old.settings (game_of step old) (core_of old) command
+  text_asked texts =
+      ap (λ (g : Game). ended (reply_line texts g (core_of new) said)) same_game
+      ∙ ap (λ (k : Core). ended (reply_line texts game k said)) core_after
+      ∙ ap (λ (r : Reply). ended (reply_line texts game (after old.settings game (core_of old) (plain event.0)) r)) (r.said_is ∙ event.2.same_reply)
+      ∙ sym (written_asked texts old.settings game (core_of old) command event.0 event.1)
+
+  pub refusal_asked : is_refused said ≡ refused_by old.settings (game_of step old) (core_of old) command
+  refusal_asked = ap is_refused (r.said_is ∙ event.2.same_reply) ∙ sym (refused_asked old.settings game (core_of old) command event.0 event.1)

@@ -2,7 +2,8 @@
 use Rattle.std.proofs.Common.{◌≡◌, refl, ap, true, false, Option, Some, None}
 use Rattle.std.specs.Prelude.{IfSome, is_none, if◌then◌else◌}
 use Rattle.std.specs.Option.{option_map_or}
-use Rattle.roll_frame.specs.Claims.{Claim, claim_of}
+use Rattle.roll_frame.specs.declared.claim.Claim.{Claim}
+use Rattle.roll_frame.specs.Claims.{claim_of}
 use Rattle.roll_frame.specs.Core.{Core, Roll}
 use Rattle.roll_frame.specs.declared.refusal.Refusal.TheVariants.{NoPlan, NoMemory}
 use Rattle.roll_frame.specs.declared.settings.Settings.{Settings}

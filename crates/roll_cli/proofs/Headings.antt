@@ -1,29 +1,17 @@
 -- The line of a header, cut into its fields and written in pieces.
-use Rattle.std.proofs.Common.{◌≡◌, ℕ, zero, suc, ◌<◌, ◌≤◌, ◌^◌, ◌==◌, ◌++◌, ◌&&◌, List, [], ◌∷◌, Bool, true, false, refl, sym, ap, ◌∙◌, rules, tests, arith, codes, get_or, length, length-append, map, take, drop, replicate, Bor}
-use Rattle.std.specs.Prelude.{nat_le}
+use Rattle.std.proofs.Common.{◌≡◌, ℕ, zero, suc, ◌<◌, ◌≤◌, ◌^◌, ◌==◌, ◌++◌, List, [], ◌∷◌, refl, sym, ap, ◌∙◌, arith, codes, length, length-append, take, drop, replicate}
 use Rattle.std.specs.List.{slice_split, join_with_byte, All, AllByRecursion}
 use Rattle.std.specs.Fmt.{decimal}
-use Rattle.std.proofs.lemmas.Bool.{and_parts}
-use Rattle.std.proofs.lemmas.List.{get_or-map}
-use Rattle.std.proofs.lemmas.List.Elements.{All-cons, All-head, All-nil}
+use Rattle.std.proofs.lemmas.List.Elements.{All-head}
 use Rattle.roll_text.specs.Lines.{Lacks}
 use Rattle.roll_text.specs.Numbers.{IsWord, IsList, list_of}
-use Rattle.roll_text.proofs.Joined.{decimal-lacks, join-lacks, split-fields}
+use Rattle.roll_text.proofs.Joined.{decimal-lacks, join-lacks, split-fields, high-lacks}
 use Rattle.roll_text.proofs.Lists.{list_of-lacks, list_of-injective, list_of-cons, list_more}
 use Rattle.std.proofs.lemmas.Fmt.{decimal_injective, decimal_nonempty}
 use Rattle.roll_cli.specs.declared.header.Version.{Version}
 use Rattle.roll_cli.specs.declared.header.Version.TheVariants.{Plain, Masked, Wide}
 use Rattle.roll_cli.specs.Headers.{Setup, IsSetup, header_fields, header_of, mask_fields, mask_count, version_field, in_places}
 use Rattle.roll_frame.specs.declared.limits.TheConstants.{PLAYER_LIMIT}
-
--- whether no byte is below a comma's
-abbrev are_high : List ℕ → Bool
-are_high [] = true
-are_high (b ∷ bs) = nat_le 44 b && are_high bs
-
-high-lacks : (c : ℕ) → c < 44 → (bytes : List ℕ) → are_high bytes ≡ true → Lacks c bytes
-high-lacks c low [] h = All-nil _
-high-lacks c low (b ∷ bs) h = let parts = and_parts (nat_le 44 b) (are_high bs) h in All-cons (λ x. (x == c) ≡ false) b bs (search (rules, tests)) (high-lacks c low bs parts.1)
 
 version-lacks : (c : ℕ) → c < 44 → (version : Version) → Lacks c (version_field version)
 version-lacks c low Plain = high-lacks c low (codes "1") refl
@@ -143,10 +131,6 @@ pub version_read : (version read : Version) (digit : List ℕ) → (version ≡ 
 version_read Plain read digit apart m w e = absurd (apart refl)
 version_read Masked read digit apart m w e = m e
 version_read Wide read digit apart m w e = w e
-
--- a field's text
-pub text_at : (fields : List (Bor (List ℕ))) (texts : List (List ℕ)) (i : ℕ) (d : Bor (List ℕ)) → map (λ field. field.now) fields ≡ texts → i < length fields → (get_or fields i d).now ≡ get_or texts i []
-text_at fields texts i d e h = sym (get_or-map (λ field. field.now) fields i d [] h) ∙ ap (λ t. get_or t i []) e
 
 -- masks are written where there are some
 pub mask_text_some : (masks : List ℕ) → 0 < length masks → mask_text masks ≡ codes " mask " ++ list_of masks

@@ -8,6 +8,7 @@ use Rattle.roll_frame.specs.Settings.{start_refusal}
 use Rattle.roll_frame.specs.declared.refusal.Refusal.{Refusal}
 use Rattle.roll_frame.specs.declared.refusal.Refusal.TheVariants.{NoMemory}
 use Rattle.roll_frame.specs.declared.settings.Settings.{Settings}
+use Rattle.roll_game.specs.declared.counts.Counts.{Counts}
 use Rattle.roll_session.specs.Seen.{Seen, Step, core_of, game_of}
 use Rattle.roll_session.proofs.Holding.{replay-nil}
 use Rattle.roll_text.specs.Lines.{ended, text_of}
@@ -26,19 +27,19 @@ pub few_commands : (play : Play) (text : List ℕ) → text ≡ text_of (play_li
 few_commands play text e short = omega (arith, ap length e, lines_fit (play_lines play), length-map play.commands line_of)
 
 -- what a session that has just started writes
-pub written_started : (texts : Texts) (step : Step) (s : Seen) (commands : List Command) (settings : Settings) (x : Value) (turns refused : ℕ) → s ≡ record { settings = settings; opening = x; log = []; turns = turns; refused = refused; reserved = 0 }
+pub written_started : (texts : Texts) (step : Step) (s : Seen) (commands : List Command) (settings : Settings) (x : Value) (counts : Counts) → s ≡ record { settings = settings; opening = x; log = []; counts = counts; reserved = 0 }
     → start_refusal settings ≡ None
     → written_from texts s.settings (game_of step s) (core_of s) commands ≡ output_under texts settings (record { opening = x; step = step }) commands
-written_started texts step s commands settings x turns refused e starts =
+written_started texts step s commands settings x counts e starts =
     let game : Game = record { opening = x; step = step } in
     subst (λ (v : Seen). written_from texts v.settings (game_of step v) (core_of v) commands ≡ written_from texts settings game (first_core settings) commands) (sym e)
     (ap (λ (core : Core). written_from texts settings game core commands) (replay-nil settings))
     ∙ sym (rw starts refl)
 
-pub refusals_started : (step : Step) (s : Seen) (commands : List Command) (settings : Settings) (x : Value) (turns refused : ℕ) → s ≡ record { settings = settings; opening = x; log = []; turns = turns; refused = refused; reserved = 0 }
+pub refusals_started : (step : Step) (s : Seen) (commands : List Command) (settings : Settings) (x : Value) (counts : Counts) → s ≡ record { settings = settings; opening = x; log = []; counts = counts; reserved = 0 }
     → start_refusal settings ≡ None
     → refusals_from s.settings (game_of step s) (core_of s) commands ≡ refusals_under settings (record { opening = x; step = step }) commands
-refusals_started step s commands settings x turns refused e starts =
+refusals_started step s commands settings x counts e starts =
     let game : Game = record { opening = x; step = step } in
     subst (λ (v : Seen). refusals_from v.settings (game_of step v) (core_of v) commands ≡ refusals_from settings game (first_core settings) commands) (sym e)
     (ap (λ (core : Core). refusals_from settings game core commands) (replay-nil settings))

@@ -3,7 +3,8 @@ use Rattle.std.proofs.Common.{◌≡◌, ◌≤◌, ◌&&◌, List, [], ◌∷�
 use Rattle.std.specs.List.{list_any}
 use Rattle.std.proofs.lemmas.Bool.{false≢true, or_cases, and_parts, leb-true}
 use Rattle.roll_frame.specs.declared.path.Path.{Path}
-use Rattle.roll_frame.specs.Claims.{Claim, is_start, target_of}
+use Rattle.roll_frame.specs.declared.claim.Claim.{Claim}
+use Rattle.roll_frame.specs.Claims.{is_start, target_of}
 use Rattle.roll_frame.specs.Order.{frames_of}
 use Rattle.roll_frame.specs.Paths.{begins_with}
 

@@ -1,7 +1,8 @@
 -- What is written of a claim.
 use Rattle.std.specs.Prelude.{◌≡◌, ◌-◌, ◌++◌, List, ℕ, Bool, true, false, codes}
 use Rattle.std.specs.Fmt.{decimal}
-use Rattle.roll_frame.specs.Claims.{Claim, IsRight, target_of}
+use Rattle.roll_frame.specs.declared.claim.Claim.{Claim}
+use Rattle.roll_frame.specs.Claims.{IsRight, target_of}
 use Rattle.roll_cert.specs.Flaws.{IsFirst}
 use Rattle.roll_cert.specs.Texts.{IsSized, claim_lines}
 use Rattle.roll_cert.specs.declared.checking.Flaw.{Flaw}

@@ -6,14 +6,13 @@ ghost use Rattle.roll_text.specs.Lines.{ended, text_of};
 ghost use Rattle.roll_text.specs.Streams.{IsBadAt};
 ghost use Rattle.roll_text.specs.declared.streams.TheConstants.{TEXT_LIMIT};
 ghost use Rattle.roll_cert.specs.Texts.{IsClaimText, IsSized, claim_lines};
-ghost use Rattle.roll_cert.specs.Told.{told};
 ghost use Rattle.roll_cli.specs.Certified.{IsAnswer, IsCertified, right_line, wrong_line};
 ghost use Rattle.roll_cli.specs.Faults.{TakesAtMost, fault_of_claim};
 ghost use Rattle.roll_cli.specs.declared.engine.PlayFault.TheVariants.{NoMemory, Unreadable, Write as CannotWrite};
 
 use crate::engine::PlayFault;
-use roll_cert::{Claim, Flaw, check};
-use roll_frame::Refusal;
+use roll_cert::{Flaw, check};
+use roll_frame::{Claim, Refusal};
 use roll_text::{read_all, write_all};
 use std::alloc::{AllocError, Global};
 use std::fmt::Write as _;
@@ -41,8 +40,8 @@ pub fn certify<R: Read, W: Write>(
 
 /// The claim whose text a reader holds.
 fn read_claim<R: Read>(alloc: Global, reader: &mut R) -> Result<Claim, PlayFault>
-    ensures fits { IfOk result (λ claim. IsSized (told claim)) }
-    ensures spelled { IfOk result (λ claim. IfSome (R.remaining reader.old) (λ text. text ≡ text_of (claim_lines (told claim)))) }
+    ensures fits { IfOk result (λ claim. IsSized claim) }
+    ensures spelled { IfOk result (λ claim. IfSome (R.remaining reader.old) (λ text. text ≡ text_of (claim_lines claim))) }
     ensures unreadable { (line : ℕ) → result ≡ Err (Unreadable line) → IfSome (R.remaining reader.old) (IsBadAt IsClaimText line) }
     ensures fault { IfErr result (λ fault. fault ≢ CannotWrite) }
     ensures taken { TakesAtMost (TEXT_LIMIT + 1) (R.remaining reader.old) (R.remaining reader.new) }
@@ -66,7 +65,7 @@ fn fault(why: Refusal) -> PlayFault
 
 /// Writes the answer to a claim at once.
 fn write_answer<W: Write>(alloc: Global, writer: &mut W, claim: &Claim) -> Result<bool, PlayFault>
-    ensures written { IfOk result (λ right. (line : List ℕ) × IsAnswer (told claim.now) right line × Appends (W.contents writer.old) (W.contents writer.new) (ended line)) }
+    ensures written { IfOk result (λ right. (line : List ℕ) × IsAnswer claim.now right line × Appends (W.contents writer.old) (W.contents writer.new) (ended line)) }
     ensures fault { IfErr result (λ fault. (fault ≡ CannotWrite) ⊎ ((fault ≡ NoMemory) × (writer.new ≡ writer.old))) }
 {
     let mut out = String::new(alloc);
@@ -77,7 +76,7 @@ fn write_answer<W: Write>(alloc: Global, writer: &mut W, claim: &Claim) -> Resul
 
 /// Writes the answer to a claim at the end.
 fn push_answer(out: &mut String, claim: &Claim) -> Result<bool, AllocError>
-    ensures { IfOk result (λ right. (line : List ℕ) × IsAnswer (told claim.now) right line × (string_bytes out.new ≡ string_bytes out.old ++ ended line)) }
+    ensures { IfOk result (λ right. (line : List ℕ) × IsAnswer claim.now right line × (string_bytes out.new ≡ string_bytes out.old ++ ended line)) }
 {
     match check(claim) {
         Ok(()) => {
@@ -92,8 +91,8 @@ fn push_answer(out: &mut String, claim: &Claim) -> Result<bool, AllocError>
 }
 
 fn push_right(out: &mut String, claim: &Claim) -> Result<(), AllocError>
-    requires { IsRight (told claim.now) }
-    ensures { OnOk result (string_bytes out.new ≡ string_bytes out.old ++ ended (right_line (told claim.now))) }
+    requires { IsRight claim.now }
+    ensures { OnOk result (string_bytes out.new ≡ string_bytes out.old ++ ended (right_line claim.now)) }
 {
     let from = u64::from(claim.from);
     let to = u64::from(claim.base) + claim.time.len() as u64;

@@ -8,8 +8,6 @@ mod header;
 mod output;
 mod script;
 mod shown;
-#[cfg(test)]
-mod tests;
 
 pub use certificate::certify;
 pub use command::Command;

@@ -1,5 +1,5 @@
 //! What is written of a session.
-ghost use Rattle.std.specs.Prelude.{◌≡◌, ◌≤◌, ◌<◌, ◌+◌, ◌^◌, ◌++◌, ◌∷◌, [], IfErr, IfOk, OnOk, is_none, length};
+ghost use Rattle.std.specs.Prelude.{◌≡◌, ◌<◌, ◌+◌, ◌^◌, ◌++◌, IfErr, IfOk, OnOk, is_none, length};
 ghost use Rattle.std.specs.Fmt.{decimal};
 ghost use Rattle.roll_frame.specs.Core.{settled as settled_of};
 ghost use Rattle.roll_session.specs.Seen.{core_of, game_of};
@@ -10,7 +10,7 @@ ghost use Rattle.roll_cli.specs.Output.{after_command, claim_text, frame_line, i
 use crate::command::Command;
 use crate::engine::PlayFault;
 use crate::shown::Shown;
-use roll_frame::{PLAYER_LIMIT, Refusal, Reply};
+use roll_frame::{Refusal, Reply};
 use roll_session::{Call, Session};
 use roll_text::{push_number, push_signed};
 use std::alloc::{AllocError, Global};
@@ -22,8 +22,7 @@ pub fn push_replies<G: Shown>(
     session: &mut Session<G>,
     commands: &[Command],
 ) -> Result<u32, PlayFault>
-    requires few { length commands.now < 2 ^ 32 }
-    requires players { length (core_of session.old).players ≤ PLAYER_LIMIT }
+    requires { length commands.now < 2 ^ 32 }
     ensures written { OnOk result (out.new.items ≡ out.old.items ++ written_from G.text_of session.old.settings (game_of G.step session.old) (core_of session.old) commands.now) }
     ensures refused { IfOk result (λ refused. refused ≡ refusals_from session.old.settings (game_of G.step session.old) (core_of session.old) commands.now) }
     ensures fault { IfErr result (λ fault. fault ≡ PlayFault.NoMemory) }
@@ -44,9 +43,8 @@ fn push_played<G: Shown>(
     session: &mut Session<G>,
     command: &Command,
 ) -> Result<bool, PlayFault>
-    requires { length (core_of session.old).players ≤ PLAYER_LIMIT }
-    ensures settings { session.new.settings ≡ session.old.settings }
-    ensures opening { session.new.opening ≡ session.old.opening }
+    ensures settings { OnOk result (session.new.settings ≡ session.old.settings) }
+    ensures opening { OnOk result (session.new.opening ≡ session.old.opening) }
     ensures core { OnOk result (core_of session.new ≡ after_command session.old.settings (game_of G.step session.old) (core_of session.old) command.now) }
     ensures written { OnOk result (out.new.items ≡ out.old.items ++ written_by G.text_of session.old.settings (game_of G.step session.old) (core_of session.old) command.now) }
     ensures refused { IfOk result (λ refused. refused ≡ refused_by session.old.settings (game_of G.step session.old) (core_of session.old) command.now) }
@@ -58,6 +56,7 @@ fn push_played<G: Shown>(
     let Some(call) = call(command) else {
         return Ok(false);
     };
+    session.laws();
     let reply = session.perform(call)?;
     push_reply(out, session, reply)?;
     Ok(is_refused(&reply))

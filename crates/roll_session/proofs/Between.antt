@@ -18,11 +18,11 @@ use Rattle.roll_frame.specs.declared.row.Cell.{Cell}
 use Rattle.roll_frame.specs.declared.row.Cell.TheVariants.{Word, Gone}
 use Rattle.roll_frame.specs.declared.settings.Settings.{Settings}
 use Rattle.roll_inputs.specs.Boards.{Inputs, count_of, with_player}
-use Rattle.roll_tree.specs.Kept.{Saved, has_other, later, paths_of}
+use Rattle.roll_tree.specs.SavedStates.{Saved, has_other, later, paths_of}
 use Rattle.roll_laws.specs.Laws.{has_no_other}
 use Rattle.roll_laws.specs.Sessions.{IsLog}
-use Rattle.roll_laws.proofs.Accepted.{timeline_none_given}
-use Rattle.roll_laws.proofs.Saved.{begins_is}
+use Rattle.roll_frame.proofs.Beginnings.{begins_is}
+use Rattle.roll_frame.proofs.Timelines.{timeline_none_given}
 use Rattle.roll_session.specs.Held.{IsKept, inputs_of}
 use Rattle.roll_session.specs.Saves.{Standing, rows_to, settled_by, settling, with_gone_only, without_other}
 use Rattle.roll_session.specs.Standing.{from_start, rows_from, settled_rows}
@@ -220,10 +220,10 @@ module _ {N : Type 0} (value : N → Value) (step : Value → List Cell → Valu
   values_settle : (T R : Rows) (xs : List (Saved N)) → All (λ s. value s.snapshot ≡ run step opening (T ++ s.path)) xs
       → All (λ s. value s.snapshot ≡ run step opening ((T ++ R) ++ s.path)) (map (later (length R)) (filter (λ u. begins_with u.path R) xs))
   values_settle T R xs h =
-      let held = All-filter (λ u. begins_with u.path R) (λ s. value s.snapshot ≡ run step opening (T ++ s.path)) xs h in
+      let state_named = All-filter (λ u. begins_with u.path R) (λ s. value s.snapshot ≡ run step opening (T ++ s.path)) xs h in
       let begun = filter_passes (λ (u : Saved N). begins_with u.path R) xs in
       All-map (λ s. value s.snapshot ≡ run step opening ((T ++ R) ++ s.path)) (later (length R)) (filter (λ u. begins_with u.path R) xs)
-      (λ k d lt. held k d lt ∙ ap (run step opening) (split_path T R (slice_index_or (filter (λ (u : Saved N). begins_with u.path R) xs) k d).path (begun k d lt)))
+      (λ k d lt. state_named k d lt ∙ ap (run step opening) (split_path T R (slice_index_or (filter (λ (u : Saved N). begins_with u.path R) xs) k d).path (begun k d lt)))
 
 module _ {N : Type 0} (value : N → Value) (step : Value → List Cell → Value) (opening : Value) (settings : Settings) (game : Game) (log : List Entry) (is_log : IsLog settings game log) (entry : Entry) (accepted : is_accepted settings game (replay settings log) (record { entry = entry; value = [] }) ≡ true) where
   between_settles : (st : Standing N) → IsBetween value step opening settings (replay settings log) entry st → Settles (replay settings log) (applied (replay settings log) entry) (paths_of st.tree)

@@ -14,8 +14,9 @@ use Rattle.roll_frame.specs.declared.row.Cell.TheVariants.{Word, Gone}
 use Rattle.roll_laws.specs.Laws.{has_no_other, has_no_other_in}
 use Rattle.roll_laws.proofs.KeptPaths.{live}
 use Rattle.roll_laws.proofs.Ruled.{words_rule_out, leaving_rules_out}
-use Rattle.roll_laws.proofs.Saved.{In, in_has, length_timeline}
-use Rattle.roll_tree.specs.Kept.{cell_of, has_other}
+use Rattle.roll_laws.proofs.Saved.{In, in_has}
+use Rattle.roll_tree.specs.SavedStates.{cell_of, has_other}
+use Rattle.roll_frame.proofs.Timelines.{length_timeline}
 use Rattle.roll_session.specs.Standing.{settled_rows, from_start}
 use Rattle.roll_session.proofs.Filters.{filter_on, filter_same}
 

@@ -3,7 +3,7 @@ use Rattle.std.proofs.Common.{◌≡◌, List, [], ◌∷◌, ◌++◌, map, Boo
 use Rattle.std.specs.Prelude.{◌&&◌, filter}
 use Rattle.roll_frame.specs.Cells.{Rows}
 use Rattle.roll_laws.proofs.Saved.{In}
-use Rattle.roll_tree.specs.Kept.{Saved}
+use Rattle.roll_tree.specs.SavedStates.{Saved}
 use Rattle.roll_session.specs.Standing.{from_start}
 
 -- a test of paths on the settled rows

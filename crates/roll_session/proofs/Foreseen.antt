@@ -1,5 +1,5 @@
 -- Words that change none of the rows that were told: those that were predicted, and those of later frames.
-use Rattle.std.proofs.Common.{◌≡◌, ℕ, ◌+◌, ◌-◌, ◌<◌, ◌≤◌, List, [], ◌∷◌, ◌++◌, length, length-append, get_or, drop, true, false, refl, ap, sym, subst, ◌∙◌, inl, inr, arith, Some}
+use Rattle.std.proofs.Common.{◌≡◌, ℕ, ◌+◌, ◌-◌, ◌<◌, ◌≤◌, List, [], ◌∷◌, ◌++◌, length, length-append, get_or, drop, true, false, ap, sym, subst, ◌∙◌, inl, inr, arith, Some}
 use Rattle.std.specs.Prelude.{◌⊎◌, slice_get, bit_and, option_map}
 use Rattle.std.proofs.Math.ListN.{get_or-append}
 use Rattle.std.proofs.Math.Seq.{get_or-append_seam, map-set_same}
@@ -13,19 +13,12 @@ use Rattle.roll_inputs.specs.Boards.{Inputs, count_of}
 use Rattle.roll_inputs.proofs.Changes.{same_rows}
 use Rattle.roll_inputs.proofs.Players.{changed_at, is_at}
 use Rattle.roll_laws.proofs.Known.{cell_confirmed, cell_predicted}
-use Rattle.roll_laws.proofs.Predicted.{masked_twice}
+use Rattle.roll_laws.proofs.Predicted.{masked_twice, word_of_cell}
+use Rattle.roll_inputs.proofs.Words.{last_word-push}
 use Rattle.roll_session.specs.Saves.{is_told}
 use Rattle.roll_session.specs.Standing.{rows_from}
 use Rattle.roll_session.proofs.Playing.{IsPlaying, count_is}
 use Rattle.roll_session.proofs.Retold.{player_next, row_from, slice_get-map}
-
-word_of_cell : (v w : ℕ) → Word v ≡ Word w → v ≡ w
-word_of_cell v w e = cc
-
-last_pushed : (words : List ℕ) (word : ℕ) → last_word (words ++ word ∷ []) ≡ word
-last_pushed [] word = refl
-last_pushed (v ∷ []) word = refl
-last_pushed (v ∷ w ∷ words) word = last_pushed (w ∷ words) word
 
 -- a player that has given one word more
 pub record HasGiven (old new : Player) (word : ℕ) : Type 0 where
@@ -55,7 +48,7 @@ module _ (old new : Player) (word : ℕ) (h : HasGiven old new word) where
       still : predicted new ≡ predicted old
       still =
           ap (λ (ws : List ℕ). bit_and (last_word ws) new.mask) h.words
-          ∙ ap (λ w. bit_and w new.mask) (last_pushed old.words word ∙ sym was)
+          ∙ ap (λ w. bit_and w new.mask) (last_word-push old.words word ∙ sym was)
           ∙ ap (bit_and (predicted old)) h.mask
           ∙ masked_twice (last_word old.words) old.mask
 

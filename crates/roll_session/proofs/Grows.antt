@@ -15,7 +15,6 @@ use Rattle.roll_frame.specs.declared.entry.Entry.{Entry}
 use Rattle.roll_frame.specs.declared.row.Cell.{Cell}
 use Rattle.roll_frame.specs.declared.settings.Settings.{Settings}
 use Rattle.roll_laws.specs.Sessions.{IsLog}
-use Rattle.roll_laws.proofs.Accepted.{timeline_none_given}
 use Rattle.roll_laws.proofs.Counting.{filter_takes}
 use Rattle.roll_laws.proofs.Fronts.{settled_is}
 use Rattle.roll_laws.proofs.Glue.{always_holds}
@@ -23,8 +22,10 @@ use Rattle.roll_laws.proofs.Known.{possible_from_fits, on_time_fits}
 use Rattle.roll_laws.proofs.KeptPaths.{live, settled_kept, rolled_on_time}
 use Rattle.roll_laws.proofs.Least.{pruning_loses_nothing}
 use Rattle.roll_laws.proofs.Prefixes.{in_prefixes}
-use Rattle.roll_laws.proofs.Saved.{In, in_either, has_in, in_has, begins, longest_at_least, length_timeline}
+use Rattle.roll_laws.proofs.Saved.{In, in_either, has_in, in_has, longest_at_least}
 use Rattle.roll_laws.proofs.Sound.{Sound, sound_played}
+use Rattle.roll_frame.proofs.Beginnings.{begins}
+use Rattle.roll_frame.proofs.Timelines.{length_timeline, timeline_none_given}
 use Rattle.roll_session.specs.Standing.{rows_from, settled_rows, from_start}
 use Rattle.roll_session.proofs.Rows.{longest_on, length-rows_from, settled-rows_from, take-rows_from}
 use Rattle.roll_session.proofs.Settles.{start_root}

@@ -1,37 +1,32 @@
 -- What the fields keep, from event to event.
-use Rattle.std.proofs.Common.{◌≡◌, ℕ, ◌+◌, ◌≤◌, List, [], ◌∷◌, ◌++◌, length, refl, ap, sym, ◌∙◌, subst, arith, length-append, Option, Some, None, map, eqb, false, true, Bool, cond}
+use Rattle.std.proofs.Common.{◌≡◌, ℕ, ◌+◌, ◌≤◌, List, [], ◌∷◌, ◌++◌, length, refl, ap, sym, ◌∙◌, subst, arith, Option, Some, None, map, eqb, false, true, Bool, cond}
 use Rattle.roll_frame.specs.Inputs.{disconnect_tests, local_tests, remote_tests, with_given, with_gone, with_words}
 use Rattle.roll_frame.specs.declared.entry.Entry.TheVariants.{Disconnect, Local, Remote}
 use Rattle.roll_frame.specs.declared.refusal.Refusal.TheVariants.{LogFull}
 use Rattle.roll_frame.specs.declared.row.Cell.TheVariants.{Word}
 use Rattle.roll_inputs.specs.Boards.{Inputs, disconnect_refusal, local_refusal, remote_refusal, with_player}
+use Rattle.roll_frame.proofs.Timelines.{length_timeline}
 use Rattle.roll_session.proofs.Between.{between_leaving, between_local, between_remote}
 use Rattle.roll_session.proofs.Playing.{count_reached, leaving_plays, local_plays, remote_plays}
 use Rattle.roll_session.specs.Saves.{with_gone_only, without_other}
-use Rattle.roll_inputs.specs.declared.heard.Heard.{Heard}
-use Rattle.roll_inputs.specs.declared.heard.Heard.TheVariants.{Repeated, Taken}
-use Rattle.std.specs.Global.{Vec}
-use Rattle.std.specs.Prelude.{◌-◌, max, vec_capacity, vec_len, ◌==◌, All, Result, Ok, Err, IfOk, IfSome, IsSomeAnd, drop, option_map}
+use Rattle.std.specs.Prelude.{◌==◌, All, Result, Ok, Err, IfOk, IfSome, IsSomeAnd, drop, option_map}
 use Rattle.std.specs.List.{AllByRecursion, find}
 use Rattle.std.proofs.lemmas.List.Elements.{recursion_from_All}
 use Rattle.std.proofs.Math.Seq.{drop-append_seam}
-use Rattle.roll_cert.specs.Told.{told}
-use Rattle.roll_cert.specs.declared.claim.Claim.{Claim}
+use Rattle.roll_frame.specs.declared.claim.Claim.{Claim}
 use Rattle.roll_frame.specs.Claims.{claim_of, path_from}
 use Rattle.roll_frame.specs.Core.{Roll, kept}
 use Rattle.roll_frame.specs.Order.{in_order}
 use Rattle.roll_frame.specs.declared.path.Path.{Path}
 use Rattle.roll_laws.proofs.Fair.{IsFair}
 use Rattle.roll_laws.proofs.Rolls.{last_is_fair}
-use Rattle.roll_laws.proofs.Saved.{length_timeline}
 use Rattle.roll_plan.proofs.Settled.{on, order_on}
 use Rattle.roll_plan.specs.Plans.{IsClaimOf, IsPlanOf, Made}
 use Rattle.roll_plan.specs.declared.plan.Plan.{Plan}
-use Rattle.roll_tree.specs.Kept.{Kept, held, path_of}
+use Rattle.roll_tree.specs.SavedStates.{SavedStates, state_named, path_of}
 use Rattle.roll_session.specs.Planned.{IsPlanOfRoll}
-use Rattle.roll_session.specs.Saves.{settled_by, settling}
 use Rattle.roll_session.specs.Standing.{from_start, made_from, settled_rows}
-use Rattle.roll_session.proofs.Between.{IsBetween, settled_kept}
+use Rattle.roll_session.proofs.Between.{IsBetween}
 use Rattle.roll_session.proofs.Planning.{plan_is, seen_claim}
 use Rattle.std.specs.Prelude.{nat_le, ◌==◌}
 use Rattle.std.proofs.lemmas.Bool.{le-leb}
@@ -40,7 +35,7 @@ use Rattle.std.proofs.lemmas.List.Elements.{All-cons, All-nil}
 use Rattle.std.proofs.lemmas.List.{append-nil}
 use Rattle.roll_frame.specs.Cells.{Rows}
 use Rattle.roll_frame.specs.Core.{Core, first_core, cost, settled, IsPlan}
-use Rattle.roll_frame.specs.Events.{CoreEvent, replay, applied, after, refusal, is_repeat, is_accepted, can_be_partial, all_given}
+use Rattle.roll_frame.specs.Events.{CoreEvent, replay, applied, refusal, is_repeat, is_accepted, can_be_partial, all_given}
 use Rattle.roll_frame.specs.Games.{Game}
 use Rattle.roll_frame.specs.Paths.{run}
 use Rattle.roll_frame.specs.Refusals.{first_refusal}
@@ -50,7 +45,7 @@ use Rattle.roll_frame.specs.declared.entry.Entry.{Entry}
 use Rattle.roll_frame.specs.declared.refusal.Refusal.{Refusal}
 use Rattle.roll_frame.specs.declared.settings.Settings.{Settings}
 use Rattle.roll_laws.specs.Sessions.{IsLog}
-use Rattle.roll_frame.specs.declared.entry.Entry.TheVariants.{Sync, Advance, Partial}
+use Rattle.roll_frame.specs.declared.entry.Entry.TheVariants.{Partial}
 use Rattle.roll_laws.proofs.Glue.{replay-push, log_played, always_holds, log_first, log_more}
 use Rattle.roll_laws.proofs.Starts.{starts_are_small, few_players}
 use Rattle.roll_laws.proofs.Bounds.{players_stay, frames_end, log_ends}
@@ -58,10 +53,10 @@ use Rattle.roll_laws.proofs.Least.{rolls_are_least}
 use Rattle.roll_laws.proofs.Logs.{log_is_counted}
 use Rattle.roll_inputs.specs.Boards.{first_inputs}
 use Rattle.roll_plan.specs.Plans.{Planned}
-use Rattle.roll_tree.specs.Kept.{Saved, paths_of}
+use Rattle.roll_tree.specs.SavedStates.{Saved, paths_of}
 use Rattle.roll_session.specs.Saves.{Standing}
 use Rattle.roll_session.specs.Seen.{Step, plain, IsLeast}
-use Rattle.roll_session.specs.Held.{HasRoom, Shows, IsKept, IsSession, IsSmall, planned_of}
+use Rattle.roll_session.specs.Held.{Shows, IsKept, IsSession, IsSmall, planned_of}
 
 pub replay-nil : (settings : Settings) → replay settings [] ≡ first_core settings
 unfolding replay
@@ -95,19 +90,9 @@ first_refusal-some (test ∷ tests) more why h = failed test.0 test.1 (first_ref
     failed true first rest all why f e = e
     failed false first rest all why f e = f e
 
--- one more event, which is taken
-pub after_taken : (settings : Settings) (game : Game) (log : List Entry) (event : CoreEvent) → is_repeat (replay settings log) event.entry ≡ false → refusal settings game (replay settings log) event ≡ None → replay settings (log ++ event.entry ∷ []) ≡ after settings game (replay settings log) event
-after_taken settings game log event h e = replay-push settings log event.entry ∙ sym (rw (h, e) refl)
-
 -- an event that no test refuses
 pub accepted : (settings : Settings) (game : Game) (core : Core) (event : CoreEvent) → is_repeat core event.entry ≡ false → refusal settings game core event ≡ None → is_accepted settings game core event ≡ true
 accepted settings game core event h e = rw (h, e) refl
-
-pub sync_accepted : (settings : Settings) (game : Game) (core : Core) → nat_le settings.log core.logged ≡ false → refusal settings game core (plain Sync) ≡ None
-sync_accepted settings game core h = rw h refl
-
-pub advance_accepted : (settings : Settings) (game : Game) (core : Core) → all_given core.players ≡ true → nat_le settings.log core.logged ≡ false → refusal settings game core (plain Advance) ≡ None
-advance_accepted settings game core g h = rw (g, h) refl
 
 pub partial_accepted : (settings : Settings) (game : Game) (core : Core) (m made : ℕ) → can_be_partial core m made ≡ true → nat_le settings.log core.logged ≡ false → refusal settings game core (plain (Partial m made)) ≡ None
 partial_accepted settings game core m made e h = rw (e, h) refl
@@ -132,14 +117,6 @@ first_refusal-none (test ∷ tests) b why h = passed test.0 test.1 (first_refusa
     passed true first rest h = cc
     passed false first rest h = rest h
 
--- a word that is taken was not taken before
-pub not_repeated : (b : Bool) (heard : Heard) → heard ≡ cond b Repeated Taken → heard ≡ Taken → b ≡ false
-not_repeated true heard e taken = absurd (other (sym e ∙ taken))
-  where
-    other : Repeated ≡ Taken → ⊥
-    other e = cc e
-not_repeated false heard e taken = refl
-
 -- tests of which none fails, of which these are the first
 pub first_refusal-front : (tests more : List (Bool × Refusal)) → first_refusal (tests ++ more) ≡ None → first_refusal tests ≡ None
 first_refusal-front [] more h = refl
@@ -154,7 +131,7 @@ if_ok (Ok x) P Q f h = f x h
 if_ok (Err e) P Q f h = h
 
 -- what holds of all states, of one that is held
-pub of_held : {N : Type 0} (P : Saved N → Type 0) (t : Kept N) (name : ℕ) (s : Saved N) → All P t.states → held t name ≡ Some s → P s
+pub of_held : {N : Type 0} (P : Saved N → Type 0) (t : SavedStates N) (name : ℕ) (s : Saved N) → All P t.states → state_named t name ≡ Some s → P s
 of_held {N = N} P t name s all e = go t.states (recursion_from_All P t.states all) e
   where
     go : (states : List (Saved N)) → AllByRecursion P states → find (λ u. u.name == name) states ≡ Some s → P s
@@ -172,18 +149,6 @@ paths_are settled base ps e = sym (ap (map (path_from base)) (order_on settled p
     each : (qs : List Rows) → map (path_from base) (map (on settled) qs) ≡ map (path_of base) qs
     each [] = refl
     each (q ∷ qs) = ap (λ (r : Rows). path_of base r ∷ map (path_from base) (map (on settled) qs)) (subst (λ n. drop n (settled ++ q) ≡ q) e (drop-append_seam settled q)) ∙ ap (λ (l : List Path). path_of base q ∷ l) (each qs)
-
--- a log with an entry more is another log
-pub is_longer : (log more : List Entry) (entry : Entry) → more ≡ log ++ entry ∷ [] → more ≡ log → ⊥
-is_longer log more entry e same = omega (arith, ap length e, ap length same, length-append log (entry ∷ []))
-
--- an event later there is room for one less
-pub room_after : {N : Type 0} (log more : Vec Entry) (saves cut after : Standing N) (reserved left n : ℕ) → HasRoom log saves (max reserved 1)
-    → vec_len more ≡ vec_len log + 1 → vec_capacity log ≤ vec_capacity more → left ≡ reserved - 1
-    → cut.inputs.frame ≤ saves.inputs.frame + 1 → cut.room ≡ saves.room → after.inputs ≡ record cut.inputs { settled = n } → cut.room ≤ after.room → HasRoom more after left
-room_after log more saves cut after reserved left n h len capacity less frame same inputs room =
-    let frames : after.inputs.frame ≡ cut.inputs.frame = ap (λ (i : Inputs). i.frame) inputs in
-    record { entries = omega (arith, h.entries, len, capacity, less); rows = omega (arith, h.rows, frames, frame, same, room, less) }
 
 module _ {S N : Type 0} (state_value : S → List ℕ) (snapshot_value : N → List ℕ) (step : Step) (opening : List ℕ) (settings : Settings) where
   -- the session after one more entry
@@ -205,116 +170,6 @@ module _ {S N : Type 0} (state_value : S → List ℕ) (snapshot_value : N → L
         small = is_small settings game (log ++ entry ∷ []) more;
       }
 
-  -- the session after a player's input
-  pub session_input : (log : List Entry) (entry : Entry) (saves cut after : Standing N) (planner : Planned) (current : Option S)
-      → IsSession state_value snapshot_value step opening settings log saves planner current
-      → (a : is_accepted settings (record { opening = opening; step = step }) (replay settings log) (plain entry) ≡ true)
-      → IsBetween snapshot_value step opening settings (replay settings log) entry cut
-      → after.inputs ≡ record cut.inputs { settled = cut.inputs.settled + settling cut } → after.tree.states ≡ settled_by cut (settling cut)
-      → (applied (replay settings log) entry).shown ≡ (replay settings log).shown → (applied (replay settings log) entry).last ≡ (replay settings log).last
-      → IsSession state_value snapshot_value step opening settings (log ++ entry ∷ []) after planner current
-  session_input log entry saves cut after planner current s a between inputs states shown last =
-      let game : Game = record { opening = opening; step = step } in
-      session_next log entry after planner current s.is_log a (settled_kept snapshot_value step opening settings game log s.is_log entry a cut after between inputs states)
-      (rw shown s.shows) (rw last s.plan)
-
-  -- the session with room for more settled rows
-  pub session_reserved : (log : List Entry) (saves more : Standing N) (planner : Planned) (current : Option S) → IsSession state_value snapshot_value step opening settings log saves planner current → more.inputs ≡ saves.inputs → more.tree ≡ saves.tree
-      → IsSession state_value snapshot_value step opening settings log more planner current
-  session_reserved log saves more planner current s inputs tree =
-      record {
-        is_log = s.is_log;
-        kept = record { inputs = inputs ∙ s.kept.inputs; kept_is = rw tree s.kept.kept_is; values = rw tree s.kept.values };
-        shows = s.shows;
-        plan = s.plan;
-        small = s.small;
-      }
-
-  module _ (log : List Entry) (saves : Standing N) (planner : Planned) (current : Option S) (s : IsSession state_value snapshot_value step opening settings log saves planner current) where
-    local_tested : (p : ℕ) → local_refusal saves.inputs p ≡ first_refusal (local_tests (replay settings log).players (replay settings log).frame settings.threshold settings.limit p)
-    local_tested p = ap (λ (i : Inputs). local_refusal i p) s.kept.inputs
-
-    -- a local word that is taken
-    pub local_between : (p word : ℕ) (cut : Standing N) → All (λ (q : Player). q.local ≡ true → q.gone ≡ false) saves.inputs.players → All (λ (q : Player). q.gone ≡ false → saves.inputs.settled ≤ length q.words) saves.inputs.players
-        → refusal settings (record { opening = opening; step = step }) (replay settings log) (plain (Local p word)) ≡ None
-        → cut.inputs ≡ with_player (with_given word) saves.inputs p → cut.tree.states ≡ without_other saves.inputs p (Word word) saves.tree.states → timeline cut.inputs.players saves.inputs.settled ≡ timeline saves.inputs.players saves.inputs.settled
-        → IsBetween snapshot_value step opening settings (replay settings log) (Local p word) cut
-    local_between p word cut stays ahead fine inputs states rows =
-        let core = replay settings log in
-        let free = local_tested p ∙ first_refusal-front (local_tests core.players core.frame settings.threshold settings.limit p) ((nat_le settings.log core.logged, LogFull) ∷ []) fine in
-        let it = local_plays saves.inputs p stays free in
-        between_local snapshot_value step opening settings core p word saves cut s.kept it (count_reached saves.inputs p it ahead) inputs states rows
-
-    -- a remote word's tests
-    pub remote_free : (p f word : ℕ) → refusal settings (record { opening = opening; step = step }) (replay settings log) (plain (Remote p f word)) ≡ None → remote_refusal saves.inputs p f ≡ None
-    remote_free p f word fine =
-        let core = replay settings log in
-        ap (λ (i : Inputs). remote_refusal i p f) s.kept.inputs ∙ first_refusal-front (remote_tests core.players (settled core) p f) ((nat_le settings.log core.logged, LogFull) ∷ []) fine
-
-    pub remote_refused : (p f word : ℕ) (why : Refusal) → remote_refusal saves.inputs p f ≡ Some why → refusal settings (record { opening = opening; step = step }) (replay settings log) (plain (Remote p f word)) ≡ Some why
-    remote_refused p f word why h =
-        let core = replay settings log in
-        first_refusal-some (remote_tests core.players (settled core) p f) ((nat_le settings.log core.logged, LogFull) ∷ []) why (sym (ap (λ (i : Inputs). remote_refusal i p f) s.kept.inputs) ∙ h)
-
-    -- a remote word that is taken
-    pub remote_between : (p f word : ℕ) (cut : Standing N) → All (λ (q : Player). q.gone ≡ false → saves.inputs.settled ≤ length q.words) saves.inputs.players
-        → refusal settings (record { opening = opening; step = step }) (replay settings log) (plain (Remote p f word)) ≡ None
-        → cut.inputs ≡ with_player (with_words (word ∷ [])) saves.inputs p → cut.tree.states ≡ without_other saves.inputs p (Word word) saves.tree.states → timeline cut.inputs.players saves.inputs.settled ≡ timeline saves.inputs.players saves.inputs.settled
-        → IsBetween snapshot_value step opening settings (replay settings log) (Remote p f word) cut
-    remote_between p f word cut ahead fine inputs states rows =
-        let it = remote_plays saves.inputs p f (remote_free p f word fine) in
-        between_remote snapshot_value step opening settings (replay settings log) p f word saves cut s.kept it (count_reached saves.inputs p it ahead) inputs states rows
-
-    -- a player who leaves
-    pub leaving_between : (p : ℕ) (cut : Standing N) → All (λ (q : Player). q.gone ≡ false → saves.inputs.settled ≤ length q.words) saves.inputs.players
-        → refusal settings (record { opening = opening; step = step }) (replay settings log) (plain (Disconnect p)) ≡ None
-        → cut.inputs ≡ with_player with_gone saves.inputs p → cut.tree.states ≡ with_gone_only saves.inputs p saves.tree.states → timeline cut.inputs.players saves.inputs.settled ≡ timeline saves.inputs.players saves.inputs.settled
-        → IsBetween snapshot_value step opening settings (replay settings log) (Disconnect p) cut
-    leaving_between p cut ahead fine inputs states rows =
-        let core = replay settings log in
-        let free = ap (λ (i : Inputs). disconnect_refusal i p) s.kept.inputs ∙ first_refusal-front (disconnect_tests core.players p) ((nat_le settings.log core.logged, LogFull) ∷ []) fine in
-        let it = leaving_plays saves.inputs p free in
-        between_leaving snapshot_value step opening settings core p saves cut s.kept it (count_reached saves.inputs p it ahead) inputs states rows
-
-    fair : (roll : Roll) → (replay settings log).last ≡ Some roll → IsFair settings.players roll
-    fair = always_holds (λ st core. (roll : Roll) → core.last ≡ Some roll → IsFair st.players roll) last_is_fair settings (record { opening = opening; step = step }) log s.is_log
-
-    -- the last claim
-    pub session_claim : (result : Result Claim Refusal) → IfOk result (λ claim. IfSome planner.last (λ made. IsClaimOf planner.players made (told claim)))
-        → IfOk result (λ claim. IfSome (replay settings log).last (λ roll. told claim ≡ claim_of settings.players roll))
-    session_claim result h =
-        if_ok result (λ claim. IfSome planner.last (λ made. IsClaimOf planner.players made (told claim))) (λ claim. IfSome (replay settings log).last (λ roll. told claim ≡ claim_of settings.players roll))
-        (λ claim made. seen_claim settings.players (replay settings log).last planner.last (told claim) (ap (λ (p : Planned). p.last) s.plan) fair
-        (subst (λ n. IfSome planner.last (λ made. IsClaimOf n made (told claim))) (ap (λ (p : Planned). p.players) s.plan) made)) h
-
-    -- the last plan
-    pub session_plan : {A : Type 0} (now : A → Plan) (result : Option A) → IfSome planner.last (λ made. IfSome result (λ a. IsPlanOf planner.players made (now a))) → IfSome (replay settings log).last (λ roll. IfSome result (λ a. IsPlanOfRoll settings.players roll (now a)))
-    session_plan now result h = go planner.last (replay settings log).last (ap (λ (p : Planned). p.last) s.plan) fair h
-      where
-        some : {A : Type 0} (a : Option A) (roll : Roll) (now : A → Plan) → IsFair settings.players roll → IfSome a (λ x. IsPlanOf planner.players (made_from roll) (now x)) → IfSome a (λ x. IsPlanOfRoll settings.players roll (now x))
-        some None roll now f h = tt
-        some (Some x) roll now f h = plan_is settings.players roll f (now x) (subst (λ n. IsPlanOf n (made_from roll) (now x)) (ap (λ (p : Planned). p.players) s.plan) h)
-
-        go : (m : Option Made) (o : Option Roll) → m ≡ option_map made_from o → ((roll : Roll) → o ≡ Some roll → IsFair settings.players roll) → IfSome m (λ made. IfSome result (λ a. IsPlanOf planner.players made (now a))) → IfSome o (λ roll. IfSome result (λ a. IsPlanOfRoll settings.players roll (now a)))
-        go m None e f h = tt
-        go m (Some roll) e f h = some result roll now (f roll refl) (subst (λ (n : Option Made). IfSome n (λ made. IfSome result (λ a. IsPlanOf planner.players made (now a)))) e h)
-
-    -- the snapshot of the settled state
-    pub session_root : (first : N) → IsSomeAnd (held saves.tree saves.tree.root) (λ u. (u.path ≡ []) × (u.snapshot ≡ first)) → snapshot_value first ≡ run step opening (settled_rows (replay settings log))
-    session_root first h = go (held saves.tree saves.tree.root) refl h
-      where
-        go : (o : Option (Saved N)) → held saves.tree saves.tree.root ≡ o → IsSomeAnd o (λ u. (u.path ≡ []) × (u.snapshot ≡ first)) → snapshot_value first ≡ run step opening (settled_rows (replay settings log))
-        go None e h = absurd h
-        go (Some u) e h =
-            let value = of_held (λ (v : Saved N). snapshot_value v.snapshot ≡ run step opening (settled_rows (replay settings log) ++ v.path)) saves.tree saves.tree.root u s.kept.values e in
-            ap snapshot_value (sym h.1) ∙ (value ∙ ap (run step opening) (ap (λ (q : Rows). settled_rows (replay settings log) ++ q) h.0 ∙ append-nil (settled_rows (replay settings log))))
-
-    -- the kept paths, as the tree gives them
-    pub session_kept : map (path_of saves.inputs.settled) (in_order (paths_of saves.tree)) ≡ map (path_from (settled (replay settings log))) (in_order (kept (replay settings log)))
-    session_kept =
-        let core = replay settings log in
-        rw s.kept.inputs (paths_are (settled_rows core) (settled core) (paths_of saves.tree) (length_timeline core.players (settled core)) ∙ ap (λ (ps : List Rows). map (path_from (settled core)) (in_order ps)) s.kept.kept_is)
-
   -- the session at the start
   pub session_first : (saves : Standing N) (state : S) (name : ℕ) (first : N) → start_refusal settings ≡ None → saves.inputs ≡ first_inputs settings → saves.tree.states ≡ record { name = name; path = []; snapshot = first } ∷ []
       → snapshot_value first ≡ opening → state_value state ≡ opening → IsSession state_value snapshot_value step opening settings [] saves (record { players = settings.players; last = None }) (Some state)
@@ -331,3 +186,84 @@ module _ {S N : Type 0} (state_value : S → List ℕ) (snapshot_value : N → L
         plan = rw (replay-nil settings) refl;
         small = is_small settings game [] (log_first settings game h);
       }
+
+module _ {S N : Type 0} {state_value : S → List ℕ} {snapshot_value : N → List ℕ} {step : Step} {opening : List ℕ} {settings : Settings} {log : List Entry} {saves : Standing N} {planner : Planned} {current : Option S} (s : IsSession state_value snapshot_value step opening settings log saves planner current) where
+  local_tested : (p : ℕ) → local_refusal saves.inputs p ≡ first_refusal (local_tests (replay settings log).players (replay settings log).frame settings.threshold settings.limit p)
+  local_tested p = ap (λ (i : Inputs). local_refusal i p) s.kept.inputs
+
+  -- a local word that is taken
+  pub local_between : (p word : ℕ) (cut : Standing N) → All (λ (q : Player). q.local ≡ true → q.gone ≡ false) saves.inputs.players → All (λ (q : Player). q.gone ≡ false → saves.inputs.settled ≤ length q.words) saves.inputs.players
+      → refusal settings (record { opening = opening; step = step }) (replay settings log) (plain (Local p word)) ≡ None
+      → cut.inputs ≡ with_player (with_given word) saves.inputs p → cut.tree.states ≡ without_other saves.inputs p (Word word) saves.tree.states → timeline cut.inputs.players saves.inputs.settled ≡ timeline saves.inputs.players saves.inputs.settled
+      → IsBetween snapshot_value step opening settings (replay settings log) (Local p word) cut
+  local_between p word cut stays ahead fine inputs states rows =
+      let core = replay settings log in
+      let free = local_tested p ∙ first_refusal-front (local_tests core.players core.frame settings.threshold settings.limit p) ((nat_le settings.log core.logged, LogFull) ∷ []) fine in
+      let it = local_plays saves.inputs p stays free in
+      between_local snapshot_value step opening settings core p word saves cut s.kept it (count_reached saves.inputs p it ahead) inputs states rows
+
+  -- a remote word's tests
+  pub remote_free : (p f word : ℕ) → refusal settings (record { opening = opening; step = step }) (replay settings log) (plain (Remote p f word)) ≡ None → remote_refusal saves.inputs p f ≡ None
+  remote_free p f word fine =
+      let core = replay settings log in
+      ap (λ (i : Inputs). remote_refusal i p f) s.kept.inputs ∙ first_refusal-front (remote_tests core.players (settled core) p f) ((nat_le settings.log core.logged, LogFull) ∷ []) fine
+
+  -- a remote word that is taken
+  pub remote_between : (p f word : ℕ) (cut : Standing N) → All (λ (q : Player). q.gone ≡ false → saves.inputs.settled ≤ length q.words) saves.inputs.players
+      → refusal settings (record { opening = opening; step = step }) (replay settings log) (plain (Remote p f word)) ≡ None
+      → cut.inputs ≡ with_player (with_words (word ∷ [])) saves.inputs p → cut.tree.states ≡ without_other saves.inputs p (Word word) saves.tree.states → timeline cut.inputs.players saves.inputs.settled ≡ timeline saves.inputs.players saves.inputs.settled
+      → IsBetween snapshot_value step opening settings (replay settings log) (Remote p f word) cut
+  remote_between p f word cut ahead fine inputs states rows =
+      let it = remote_plays saves.inputs p f (remote_free p f word fine) in
+      between_remote snapshot_value step opening settings (replay settings log) p f word saves cut s.kept it (count_reached saves.inputs p it ahead) inputs states rows
+
+  -- a player who leaves
+  pub leaving_between : (p : ℕ) (cut : Standing N) → All (λ (q : Player). q.gone ≡ false → saves.inputs.settled ≤ length q.words) saves.inputs.players
+      → refusal settings (record { opening = opening; step = step }) (replay settings log) (plain (Disconnect p)) ≡ None
+      → cut.inputs ≡ with_player with_gone saves.inputs p → cut.tree.states ≡ with_gone_only saves.inputs p saves.tree.states → timeline cut.inputs.players saves.inputs.settled ≡ timeline saves.inputs.players saves.inputs.settled
+      → IsBetween snapshot_value step opening settings (replay settings log) (Disconnect p) cut
+  leaving_between p cut ahead fine inputs states rows =
+      let core = replay settings log in
+      let free = ap (λ (i : Inputs). disconnect_refusal i p) s.kept.inputs ∙ first_refusal-front (disconnect_tests core.players p) ((nat_le settings.log core.logged, LogFull) ∷ []) fine in
+      let it = leaving_plays saves.inputs p free in
+      between_leaving snapshot_value step opening settings core p saves cut s.kept it (count_reached saves.inputs p it ahead) inputs states rows
+
+  fair : (roll : Roll) → (replay settings log).last ≡ Some roll → IsFair settings.players roll
+  fair = always_holds (λ st core. (roll : Roll) → core.last ≡ Some roll → IsFair st.players roll) last_is_fair settings (record { opening = opening; step = step }) log s.is_log
+
+  -- the last claim
+  pub session_claim : (result : Result Claim Refusal) → IfOk result (λ claim. IfSome planner.last (λ made. IsClaimOf planner.players made claim))
+      → IfOk result (λ claim. IfSome (replay settings log).last (λ roll. claim ≡ claim_of settings.players roll))
+  session_claim result h =
+      if_ok result (λ claim. IfSome planner.last (λ made. IsClaimOf planner.players made claim)) (λ claim. IfSome (replay settings log).last (λ roll. claim ≡ claim_of settings.players roll))
+      (λ claim made. seen_claim settings.players (replay settings log).last planner.last claim (ap (λ (p : Planned). p.last) s.plan) fair
+      (subst (λ n. IfSome planner.last (λ made. IsClaimOf n made claim)) (ap (λ (p : Planned). p.players) s.plan) made)) h
+
+  -- the last plan
+  pub session_plan : {A : Type 0} (now : A → Plan) (result : Option A) → IfSome planner.last (λ made. IfSome result (λ a. IsPlanOf planner.players made (now a))) → IfSome (replay settings log).last (λ roll. IfSome result (λ a. IsPlanOfRoll settings.players roll (now a)))
+  session_plan now result h = go planner.last (replay settings log).last (ap (λ (p : Planned). p.last) s.plan) fair h
+    where
+      some : {A : Type 0} (a : Option A) (roll : Roll) (now : A → Plan) → IsFair settings.players roll → IfSome a (λ x. IsPlanOf planner.players (made_from roll) (now x)) → IfSome a (λ x. IsPlanOfRoll settings.players roll (now x))
+      some None roll now f h = tt
+      some (Some x) roll now f h = plan_is settings.players roll f (now x) (subst (λ n. IsPlanOf n (made_from roll) (now x)) (ap (λ (p : Planned). p.players) s.plan) h)
+
+      go : (m : Option Made) (o : Option Roll) → m ≡ option_map made_from o → ((roll : Roll) → o ≡ Some roll → IsFair settings.players roll) → IfSome m (λ made. IfSome result (λ a. IsPlanOf planner.players made (now a))) → IfSome o (λ roll. IfSome result (λ a. IsPlanOfRoll settings.players roll (now a)))
+      go m None e f h = tt
+      go m (Some roll) e f h = some result roll now (f roll refl) (subst (λ (n : Option Made). IfSome n (λ made. IfSome result (λ a. IsPlanOf planner.players made (now a)))) e h)
+
+  -- the snapshot of the settled state
+  pub session_root : (name : ℕ) (first : N) → IsSomeAnd (state_named saves.tree name) (λ u. u.path ≡ []) → option_map (λ u. u.snapshot) (state_named saves.tree name) ≡ Some first → snapshot_value first ≡ run step opening (settled_rows (replay settings log))
+  session_root name first h there = go (state_named saves.tree name) refl h there
+    where
+      go : (o : Option (Saved N)) → state_named saves.tree name ≡ o → IsSomeAnd o (λ u. u.path ≡ []) → option_map (λ u. u.snapshot) o ≡ Some first → snapshot_value first ≡ run step opening (settled_rows (replay settings log))
+      go None e h there = absurd h
+      go (Some u) e h there =
+          let value = of_held (λ (v : Saved N). snapshot_value v.snapshot ≡ run step opening (settled_rows (replay settings log) ++ v.path)) saves.tree name u s.kept.values e in
+          let same : u.snapshot ≡ first = cc there in
+          ap snapshot_value (sym same) ∙ (value ∙ ap (run step opening) (ap (λ (q : Rows). settled_rows (replay settings log) ++ q) h ∙ append-nil (settled_rows (replay settings log))))
+
+  -- the kept paths, as the tree gives them
+  pub session_kept : map (path_of saves.inputs.settled) (in_order (paths_of saves.tree)) ≡ map (path_from (settled (replay settings log))) (in_order (kept (replay settings log)))
+  session_kept =
+      let core = replay settings log in
+      rw s.kept.inputs (paths_are (settled_rows core) (settled core) (paths_of saves.tree) (length_timeline core.players (settled core)) ∙ ap (λ (ps : List Rows). map (path_from (settled core)) (in_order ps)) s.kept.kept_is)

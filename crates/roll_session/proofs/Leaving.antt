@@ -7,7 +7,7 @@ use Rattle.roll_frame.specs.Cells.{Rows}
 use Rattle.roll_frame.specs.declared.limits.TheConstants.{PATH_LIMIT}
 use Rattle.roll_frame.specs.declared.row.Cell.TheVariants.{Gone}
 use Rattle.roll_laws.specs.Laws.{has_no_other}
-use Rattle.roll_tree.specs.Kept.{Saved, has_other}
+use Rattle.roll_tree.specs.SavedStates.{Saved, has_other}
 use Rattle.roll_session.proofs.Cuts.{gone_all, gone_step}
 use Rattle.roll_session.proofs.Filters.{filter_both}
 

@@ -1,11 +1,13 @@
 pub mod Holding
 pub mod Between
 pub mod Cuts
+pub mod Entering
+pub mod Answering
 pub mod Filters
 pub mod Foreseen
 pub mod Grows
 pub mod Leaving
-pub mod Performing
+pub mod Runs
 pub mod Planning
 pub mod Playing
 pub mod Retold

@@ -1,41 +1,37 @@
 -- The plans of rolls, from the settled frame on.
-use Rattle.std.proofs.Common.{◌≡◌, ℕ, zero, suc, ◌+◌, ◌-◌, ◌≤◌, List, [], ◌∷◌, ◌++◌, length, length-take, length-drop, map, take, drop, refl, sym, ap, subst, ◌∙◌, arith, inl, inr, Option, Some, None}
+use Rattle.std.proofs.Common.{◌≡◌, ℕ, suc, ◌+◌, ◌-◌, ◌≤◌, List, [], ◌∷◌, ◌++◌, length, length-take, length-drop, map, take, drop, refl, sym, ap, subst, ◌∙◌, arith, inl, inr, Option, Some, None}
 use Rattle.std.specs.Prelude.{IfSome, option_map, All}
 use Rattle.std.specs.List.{AllByRecursion, cons_option}
 use Rattle.std.proofs.lemmas.List.{take-append-drop}
 use Rattle.std.proofs.lemmas.List.Elements.{All-from_recursion}
-use Rattle.roll_frame.specs.declared.limits.TheConstants.{FRAME_LIMIT, PATH_LIMIT}
+use Rattle.std.proofs.Math.Seq.{drop-append_seam}
 use Rattle.roll_frame.specs.Cells.{Rows}
-use Rattle.roll_frame.specs.Claims.{Claim, AreRowsOf, claim_of, differ_of, differs_from, path_from}
+use Rattle.roll_frame.specs.declared.claim.Claim.{Claim}
+use Rattle.roll_frame.specs.Claims.{AreRowsOf, claim_of, differ_of, differs_from, path_from}
 use Rattle.roll_frame.specs.Core.{Core, Roll, settled, kept, depth}
 use Rattle.roll_frame.specs.Order.{in_order}
 use Rattle.roll_frame.specs.Paths.{longest}
 use Rattle.roll_frame.specs.Timeline.{Player, timeline}
-use Rattle.roll_laws.proofs.Fair.{Wide, IsFair}
+use Rattle.roll_laws.proofs.Fair.{Wide, IsFair, wide_drop}
 use Rattle.roll_laws.proofs.Rolls.{roll_of}
-use Rattle.roll_laws.proofs.Saved.{In, length_timeline, take_timeline}
-use Rattle.roll_tree.specs.Kept.{Kept, paths_of}
+use Rattle.roll_laws.proofs.Saved.{In}
+use Rattle.roll_tree.specs.SavedStates.{SavedStates, paths_of}
 use Rattle.roll_plan.specs.declared.plan.Plan.{Plan}
-use Rattle.roll_plan.specs.Plans.{CanPlan, IsClaimOf, IsPlanOf, Made, made_of, roll_of as planned_roll}
-use Rattle.roll_plan.proofs.Settled.{on, order_again, order_on}
+use Rattle.roll_plan.specs.Plans.{IsClaimOf, IsPlanOf, Made, made_of, roll_of as planned_roll}
+use Rattle.roll_plan.proofs.Settled.{on, order_on}
+use Rattle.roll_frame.proofs.Timelines.{length_timeline}
+use Rattle.roll_frame.proofs.Sorting.{order_again}
 use Rattle.roll_session.specs.Planned.{IsPlanOfRoll}
 use Rattle.roll_session.specs.Standing.{from_start, made_from, rows_from, settled_rows}
-
-drop_on : (settled path : Rows) → drop (length settled) (on settled path) ≡ path
-drop_on [] path = refl
-drop_on (row ∷ settled) path = drop_on settled path
 
 -- paths from frame 0 are the paths again past the settled rows
 pub drop_from_start : (settled : Rows) (ps : List Rows) → map (drop (length settled)) (from_start settled ps) ≡ ps
 drop_from_start settled [] = refl
-drop_from_start settled (p ∷ ps) = λ i. drop_on settled p i ∷ drop_from_start settled ps i
+drop_from_start settled (p ∷ ps) = λ i. drop-append_seam settled p i ∷ drop_from_start settled ps i
 
 -- rows of the timeline up to a frame
 rows_to : (players : List Player) (s m : ℕ) → s ≤ m → rows_from players s (m - s) ≡ drop s (timeline players m)
 rows_to players s m l = let e : s + (m - s) ≡ m = omega arith in ap (λ n. drop s (timeline players n)) e
-
-length_rows : (players : List Player) (s k : ℕ) → length (rows_from players s k) ≡ k
-length_rows players s k = omega (arith, length-drop s (timeline players (s + k)), length_timeline players (s + k))
 
 -- the plan of the next roll, of paths that are from the settled frame on
 pub made_is : (players : ℕ) (core : Core) (m : ℕ) (ps : List Rows) → IsFair players (roll_of core m) → from_start (settled_rows core) ps ≡ kept core
@@ -55,7 +51,7 @@ made_is players core m ps fair paths deep =
     λ i. record { base = settled core; kept = in_order (same i); time = rows i; from = sym deep i }
 
 -- so it is the plan that is made of the tree
-pub made_of_is : {S : Type 0} (players : ℕ) (core : Core) (m : ℕ) (ps : List Rows) (t : Kept S) → IsFair players (roll_of core m) → from_start (settled_rows core) ps ≡ kept core
+pub made_of_is : {S : Type 0} (players : ℕ) (core : Core) (m : ℕ) (ps : List Rows) (t : SavedStates S) → IsFair players (roll_of core m) → from_start (settled_rows core) ps ≡ kept core
     → depth core m ≡ settled core + longest ps (rows_from core.players (settled core) (m - settled core))
     → t.base ≡ settled core → paths_of t ≡ ps
     → made_of t (rows_from core.players (settled core) (m - settled core)) ≡ made_from (roll_of core m)
@@ -64,60 +60,27 @@ made_of_is players core m ps t fair paths deep base own =
     (λ i. record { base = base i; kept = in_order (own i); time = rows; from = base i + longest (own i) rows })
     ∙ made_is players core m ps fair paths deep
 
-drop_take : (k m : ℕ) (rows : Rows) → k ≤ m → drop k (take m rows) ≡ take (m - k) (drop k rows)
-drop_take zero m rows l = ap (λ j. take j rows) (omega arith)
-drop_take (suc k) zero rows l = absurd (omega arith)
-drop_take (suc k) (suc m) [] l = none (suc m - suc k)
-  where
-    none : (j : ℕ) → ◌≡◌ {A = Rows} [] (take j [])
-    none zero = refl
-    none (suc j) = refl
-drop_take (suc k) (suc m) (row ∷ rows) l = let e : m - k ≡ suc m - suc k = omega arith in drop_take k m rows (omega arith) ∙ ap (λ j. take j (drop k rows)) e
-
-wide_drop : (n k : ℕ) (rows : Rows) → Wide n rows → Wide n (drop k rows)
-wide_drop n zero rows w = w
-wide_drop n (suc k) [] w = tt
-wide_drop n (suc k) (row ∷ rows) w = wide_drop n k rows w.1
-
 wide_rows : (n : ℕ) (rows : Rows) → Wide n rows → AreRowsOf n rows
 wide_rows n rows w = All-from_recursion (λ row. length row ≡ n) rows w
-
--- fewer rows of the timeline are the first of more
-take_rows : (players : List Player) (s k n : ℕ) → k ≤ n → take k (rows_from players s n) ≡ rows_from players s k
-take_rows players s k n l =
-    let e : s + k - s ≡ k = omega arith in
-    ap (λ j. take j (rows_from players s n)) (sym e)
-    ∙ sym (drop_take s (s + k) (timeline players (s + n)) (omega arith))
-    ∙ ap (drop s) (take_timeline players (s + k) (s + n) (omega arith))
 
 -- the rows of paths are wide where those of the paths from frame 0 are
 paths_wide : (n : ℕ) (settled : Rows) (ps : List Rows) → ((q : Rows) → In q (from_start settled ps) → Wide n q) → AllByRecursion (AreRowsOf n) ps
 paths_wide n settled [] wide = tt
 paths_wide n settled (p ∷ ps) wide = (
-  wide_rows n p (subst (Wide n) (drop_on settled p) (wide_drop n (length settled) (on settled p) (wide (on settled p) (inl refl)))),
+  wide_rows n p (subst (Wide n) (drop-append_seam settled p) (wide_drop n (length settled) (on settled p) (wide (on settled p) (inl refl)))),
   paths_wide n settled ps (λ q i. wide q (inr i)),
 )
 
--- of a tree of such paths that was told the timeline's rows, the plan of the next roll can be made
-pub can_plan : {S : Type 0} (players : ℕ) (core : Core) (m : ℕ) (ps : List Rows) (t : Kept S) → IsFair players (roll_of core m) → from_start (settled_rows core) ps ≡ kept core
-    → t.base ≡ settled core → paths_of t ≡ ps → t.time ≡ rows_from core.players (settled core) (length t.time) → m ≤ settled core + length t.time
-    → CanPlan players t m (rows_from core.players (settled core) (m - settled core))
-can_plan players core m ps t fair paths base own time told =
+-- the rows of the next roll have a cell for each player
+pub time_wide : (players : ℕ) (core : Core) (m : ℕ) → IsFair players (roll_of core m) → AreRowsOf players (rows_from core.players (settled core) (m - settled core))
+time_wide players core m fair =
     let low : settled core ≤ depth core m = fair.low in
     let top : depth core m ≤ m = fair.top in
-    let lag : m ≤ settled core + PATH_LIMIT = fair.lag in
-    let small : settled core ≤ FRAME_LIMIT = fair.base in
-    let rows : Rows = rows_from core.players (settled core) (m - settled core) in
-    let long : length rows ≡ m - settled core = length_rows core.players (settled core) (m - settled core) in
-    let wide : Wide players (timeline core.players m) = fair.rows in
-    record {
-      base = omega arith;
-      few = omega arith;
-      end = omega arith;
-      told = sym (ap (λ n. take n t.time) long ∙ ap (take (m - settled core)) time ∙ take_rows core.players (settled core) (m - settled core) (length t.time) (omega arith));
-      time = subst (AreRowsOf players) (sym (rows_to core.players (settled core) m (omega arith))) (wide_rows players (drop (settled core) (timeline core.players m)) (wide_drop players (settled core) (timeline core.players m) wide));
-      paths = subst (λ (l : List Rows). All (AreRowsOf players) l) (sym own) (All-from_recursion (AreRowsOf players) ps (paths_wide players (settled_rows core) ps (λ q i. fair.kept_rows q (subst (In q) paths i))));
-    }
+    subst (AreRowsOf players) (sym (rows_to core.players (settled core) m (omega arith))) (wide_rows players (drop (settled core) (timeline core.players m)) (wide_drop players (settled core) (timeline core.players m) fair.rows))
+
+-- so have those of the kept paths
+pub kept_wide : (players : ℕ) (core : Core) (m : ℕ) (ps : List Rows) → IsFair players (roll_of core m) → from_start (settled_rows core) ps ≡ kept core → All (AreRowsOf players) ps
+kept_wide players core m ps fair paths = All-from_recursion (AreRowsOf players) ps (paths_wide players (settled_rows core) ps (λ q i. fair.kept_rows q (subst (In q) paths i)))
 
 -- paths whose first rows are these are those past them
 from_start_drop : (s : ℕ) (settled : Rows) (qs : List Rows) → ((q : Rows) → In q qs → take s q ≡ settled) → from_start settled (map (drop s) qs) ≡ qs

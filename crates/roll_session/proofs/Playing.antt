@@ -7,7 +7,7 @@ use Rattle.std.proofs.lemmas.Bool.Decides.{nat_tests}
 use Rattle.roll_frame.specs.Inputs.{disconnect_tests, local_tests, of_player, remote_tests}
 use Rattle.roll_frame.specs.Timeline.{Player}
 use Rattle.roll_inputs.specs.Boards.{Inputs, count_of, disconnect_refusal, local_refusal, remote_refusal}
-use Rattle.roll_laws.proofs.Accepted.{all_fail}
+use Rattle.roll_frame.proofs.Refused.{all_fail}
 
 -- there is a player of this number, who isn't gone
 pub record IsPlaying (players : List Player) (p : ℕ) : Type 0 where

@@ -20,8 +20,8 @@ use Rattle.roll_laws.proofs.Few.{rolls_fit}
 use Rattle.roll_laws.proofs.Glue.{always_holds}
 use Rattle.roll_laws.proofs.KeptPaths.{window_is_bounded}
 use Rattle.roll_laws.proofs.Rolls.{next_is_fair, roll_of}
-use Rattle.roll_plan.specs.Plans.{CanPlan, Planned, made_of}
-use Rattle.roll_tree.specs.Kept.{Kept, paths_of}
+use Rattle.roll_plan.specs.Plans.{Planned, made_of}
+use Rattle.roll_tree.specs.SavedStates.{paths_of}
 use Rattle.roll_session.specs.Held.{IsSession, Shows, planned_of}
 use Rattle.roll_session.specs.Saves.{HaveValues, Standing, rows_to, settled_by, settling, way_to}
 use Rattle.roll_session.specs.Seen.{Step, plain}
@@ -29,10 +29,9 @@ use Rattle.roll_session.specs.Standing.{made_from, rows_from, settled_rows}
 use Rattle.roll_session.proofs.Between.{IsBetween, between_advance, between_partial, between_sync, settled_kept}
 use Rattle.roll_session.proofs.Grows.{start_is}
 use Rattle.roll_session.proofs.Holding.{session_next}
-use Rattle.roll_session.proofs.Planning.{can_plan, made_of_is}
-use Rattle.roll_session.proofs.Rows.{length-rows_from}
+use Rattle.roll_session.proofs.Planning.{kept_wide, made_of_is, time_wide}
 
-module _ {S N : Type 0} (state_value : S → Value) (snapshot_value : N → Value) (step : Step) (opening : Value) (settings : Settings) (log : List Entry) (saves : Standing N) (planner : Planned) (current : Option S) (s : IsSession state_value snapshot_value step opening settings log saves planner current) where
+module _ {S N : Type 0} {state_value : S → Value} {snapshot_value : N → Value} {step : Step} {opening : Value} {settings : Settings} {log : List Entry} {saves : Standing N} {planner : Planned} {current : Option S} (s : IsSession state_value snapshot_value step opening settings log saves planner current) where
   settled_is : saves.inputs.settled ≡ settled (replay settings log)
   settled_is = ap (λ (i : Inputs). i.settled) s.kept.inputs
 
@@ -57,25 +56,15 @@ module _ {S N : Type 0} (state_value : S → Value) (snapshot_value : N → Valu
   fair : (m : ℕ) → (replay settings log).frame ≤ m → m ≤ (replay settings log).frame + 1 → IsFair settings.players (roll_of (replay settings log) m)
   fair m low high = always_holds (λ st c. (n : ℕ) → c.frame ≤ n → n ≤ c.frame + 1 → IsFair st.players (roll_of c n)) next_is_fair settings (record { opening = opening; step = step }) log s.is_log m low high
 
-  abbrev told : ℕ → Kept N
-  told m = record saves.tree { base = settled (replay settings log); time = rows_from (replay settings log).players (settled (replay settings log)) (m - settled (replay settings log)) }
-
-  rows_fit : (m : ℕ) → (replay settings log).frame ≤ m → m ≤ (replay settings log).frame + 1 → CanPlan settings.players (told m) m (rows_from (replay settings log).players (settled (replay settings log)) (m - settled (replay settings log)))
-  rows_fit m low high =
-      let players = (replay settings log).players in
-      let base = settled (replay settings log) in
-      let long = length-rows_from players base (m - base) in
-      can_plan settings.players (replay settings log) m (paths_of saves.tree) (told m) (fair m low high) s.kept.kept_is refl refl (ap (rows_from players base) (sym long)) (omega (arith, long))
-
   players_are : settings.players ≡ planner.players
   players_are = sym (ap (λ (p : Planned). p.players) s.plan)
 
   -- the rows of a roll have a cell for each player, and so have the paths
   pub time_fits : (m : ℕ) → (replay settings log).frame ≤ m → m ≤ (replay settings log).frame + 1 → AreRowsOf planner.players (rows_to saves.inputs m)
-  time_fits m low high = rw s.kept.inputs (subst (λ n. AreRowsOf n (rows_from (replay settings log).players (settled (replay settings log)) (m - settled (replay settings log)))) players_are (rows_fit m low high).time)
+  time_fits m low high = rw s.kept.inputs (subst (λ n. AreRowsOf n (rows_from (replay settings log).players (settled (replay settings log)) (m - settled (replay settings log)))) players_are (time_wide settings.players (replay settings log) m (fair m low high)))
 
   pub paths_fit : (m : ℕ) → (replay settings log).frame ≤ m → m ≤ (replay settings log).frame + 1 → All (AreRowsOf planner.players) (paths_of saves.tree)
-  paths_fit m low high = subst (λ n. All (AreRowsOf n) (paths_of saves.tree)) players_are (rows_fit m low high).paths
+  paths_fit m low high = subst (λ n. All (AreRowsOf n) (paths_of saves.tree)) players_are (kept_wide settings.players (replay settings log) m (paths_of saves.tree) (fair m low high) s.kept.kept_is)
 
   -- the plan that is taken down
   pub roll_plan : (m : ℕ) → (replay settings log).frame ≤ m → m ≤ (replay settings log).frame + 1 → saves.tree.base ≡ saves.inputs.settled

@@ -1,12 +1,10 @@
 -- A roll, one frame at a time, and what is taken down of it.
-use Rattle.std.proofs.Common.{◌≡◌, ℕ, zero, suc, ◌+◌, ◌-◌, ◌%◌, ◌^◌, ◌<◌, ◌≤◌, List, [], ◌∷◌, ◌++◌, length, take, refl, ap, sym, subst, ◌∙◌, arith, inl, inr, Bor, get_or, option_copied, is_some, Bool, true, false, cond, Option, Some, None, add-one, append-nil, append_assoc}
-use Rattle.std.specs.Prelude.{option_map, ◌⊎◌, ◌==◌, All, IfSome, IsSome, IsSomeAnd, nat_lt, if◌then◌else◌}
+use Rattle.std.proofs.Common.{◌≡◌, ℕ, suc, ◌+◌, ◌-◌, ◌^◌, ◌<◌, ◌≤◌, List, [], ◌∷◌, ◌++◌, length, take, refl, ap, sym, subst, ◌∙◌, arith, Bor, get_or, option_copied, is_some, Bool, true, false, cond, Option, Some, None, add-one, append-nil, append_assoc}
+use Rattle.std.specs.Prelude.{option_map, ◌==◌, All, IfSome, IsSome, IsSomeAnd, nat_lt, if◌then◌else◌}
 use Rattle.std.specs.List.{find}
 use Rattle.std.specs.Slice.{IsItemAt}
-use Rattle.std.proofs.Math.Seq.{get_or-append_seam}
-use Rattle.std.proofs.lemmas.Bool.{cases_lt}
 use Rattle.std.proofs.lemmas.Bool.Decides.{nat_tests}
-use Rattle.std.proofs.lemmas.List.{get_or_append_left, length-append, length-map, map-append}
+use Rattle.std.proofs.lemmas.List.{length-append, length-map, map-append}
 use Rattle.std.proofs.lemmas.List.Elements.{All-push, All-head, All-tail}
 use Rattle.std.proofs.lemmas.List.Sums.{fold_push}
 use Rattle.roll_frame.specs.declared.limits.TheConstants.{FRAME_LIMIT, PATH_LIMIT}
@@ -14,30 +12,17 @@ use Rattle.roll_frame.specs.declared.row.Cell.{Cell}
 use Rattle.roll_frame.specs.Cells.{Rows}
 use Rattle.roll_frame.specs.Claims.{AreRowsOf}
 use Rattle.roll_frame.specs.Games.{Value}
-use Rattle.roll_frame.specs.Paths.{contains, prefixes, run}
+use Rattle.roll_frame.specs.Paths.{contains, longest, prefixes, run}
 use Rattle.roll_frame.specs.Timeline.{Player, row_at, timeline}
-use Rattle.roll_laws.proofs.Saved.{length_timeline}
 use Rattle.roll_plan.specs.Plans.{CanPlan}
-use Rattle.roll_tree.specs.Kept.{CanGrow, Kept, Saved, held, paths_of, with_state}
+use Rattle.roll_tree.specs.SavedStates.{CanGrow, SavedStates, Saved, state_named, paths_of, time_to, with_state}
+use Rattle.roll_frame.proofs.Timelines.{timeline_row, length_timeline}
+use Rattle.roll_laws.proofs.Few.{length_prefixes}
 use Rattle.roll_session.specs.Saves.{HaveValues, Standing, rows_to, way_to}
 use Rattle.roll_session.specs.Standing.{rows_from}
 use Rattle.roll_session.proofs.Grows.{fresh}
+use Rattle.roll_session.proofs.Steps.{time_is}
 use Rattle.roll_session.proofs.Rows.{length-rows_from, rows_from-more, settled-rows_from, take-rows_from}
-
--- a row of the timeline, read by its place
-row_read : (players : List Player) (m t : ℕ) (d : List Cell) → t < m → get_or (timeline players m) t d ≡ row_at players t
-row_read players zero t d h = absurd (omega arith)
-row_read players (suc m) t d h = by_place (cases_lt t m) (row_read players m t d)
-  where
-    long : length (timeline players m) ≡ m
-    long = length_timeline players m
-
-    by_place : (t < m) ⊎ (m ≤ t) → (t < m → get_or (timeline players m) t d ≡ row_at players t) → get_or (timeline players m ++ row_at players m ∷ []) t d ≡ row_at players t
-    by_place (inl before) rest = get_or_append_left (timeline players m) (row_at players m ∷ []) d t (omega (arith, long)) ∙ rest before
-    by_place (inr last) rest =
-        let t_is : t ≡ length (timeline players m) = omega (arith, long) in
-        let m_is : t ≡ m = omega arith in
-        ap (λ (k : ℕ). get_or (timeline players m ++ row_at players m ∷ []) k d) t_is ∙ (get_or-append_seam (timeline players m) (row_at players m) [] d ∙ ap (row_at players) (sym m_is))
 
 -- a settled row, where there is one
 pub settled_read : (players : List Player) (settled frame : ℕ) (past : Rows) (o : Option (Bor (List Cell))) → past ≡ timeline players settled → IsItemAt past frame o → option_copied o ≡ (if nat_lt frame settled then Some (row_at players frame) else None)
@@ -51,24 +36,20 @@ settled_read players settled frame past o is read = go o read.0 read.1
     go (Some x) e h =
         let yes : nat_lt frame settled ≡ true = ap (nat_lt frame) (sym long) ∙ sym e in
         let below : frame < settled = grind (arith, nat_tests, yes) in
-        rw yes (ap Some (h ∙ (ap (λ (rows : Rows). get_or rows frame x.now) is ∙ row_read players settled frame x.now below)))
+        rw yes (ap Some (h ∙ (ap (λ (rows : Rows). get_or rows frame x.now) is ∙ timeline_row players settled frame x.now below)))
 
 module _ {S : Type 0} where
-  -- the rows that a tree was told of, up to a frame
-  pub told_rows : (t : Kept S) (players : List Player) (settled to : ℕ) → t.time ≡ rows_from players settled (length t.time) → settled ≤ to → to ≤ settled + length t.time → take (to - settled) t.time ≡ rows_from players settled (to - settled)
-  told_rows t players settled to told from far = ap (take (to - settled)) told ∙ take-rows_from players settled (length t.time) (to - settled) (omega (arith, far))
-
   -- the plan of a roll to there can be made
-  pub plan_fits : (t : Kept S) (players : List Player) (settled to count frame : ℕ) → t.base ≡ settled → t.time ≡ rows_from players settled (length t.time) → settled ≤ to → to ≤ settled + PATH_LIMIT → to ≤ settled + length t.time
-      → settled ≤ frame → frame ≤ FRAME_LIMIT → AreRowsOf count (rows_from players settled (to - settled)) → All (AreRowsOf count) (paths_of t) → CanPlan count t to (take (to - settled) t.time)
-  plan_fits t players settled to count frame base told from near far reached short time paths =
-      let rows = told_rows t players settled to told from far in
-      let long : length (take (to - settled) t.time) ≡ to - settled = ap length rows ∙ length-rows_from players settled (to - settled) in
+  pub plan_fits : (t : SavedStates S) (players : List Player) (settled start to count frame : ℕ) (base : t.base ≡ settled) (told : t.time ≡ rows_from players settled (length t.time)) (from : settled ≤ to) (far : to ≤ settled + length t.time)
+      → settled ≤ frame → frame ≤ FRAME_LIMIT → start ≡ settled + longest (paths_of t) (rows_from players settled (to - settled))
+      → AreRowsOf count (rows_from players settled (to - settled)) → All (AreRowsOf count) (paths_of t) → CanPlan count t start to
+  plan_fits t players settled start to count frame base told from far reached short starts time paths =
+      let rows : time_to t to ≡ rows_from players settled (to - settled) = time_is t players settled to base told from far in
       record {
         base = omega (arith, base, reached, short);
-        few = omega (arith, long, near);
-        end = omega (arith, long, base, from);
-        told = ap (λ n. take n t.time) (sym long);
+        from = omega (arith, base, from);
+        known = omega (arith, base, far);
+        starts = starts ∙ (λ i. sym base i + longest (paths_of t) (sym rows i));
         time = subst (AreRowsOf count) (sym rows) time;
         paths = paths;
       }
@@ -92,12 +73,8 @@ module _ {S : Type 0} where
       go false e rest = rest e
 
   -- the new state is held by its name
-  pub held_last : (t : Kept S) (u : Saved S) → held t u.name ≡ None → held (with_state t u) u.name ≡ Some u
+  pub held_last : (t : SavedStates S) (u : Saved S) → state_named t u.name ≡ None → state_named (with_state t u) u.name ≡ Some u
   held_last t u vacant = find_last (λ (s : Saved S). s.name == u.name) t.states u vacant (grind (arith, nat_tests))
-
-length_prefixes : (q : Rows) (d k : ℕ) → length (prefixes q d k) ≡ k
-length_prefixes q d zero = refl
-length_prefixes q d (suc k) = length-append (prefixes q d k) (take (d + suc k) q ∷ []) ∙ rw (length_prefixes q d k) (add-one k)
 
 -- one more of the timeline's prefixes
 prefixes_more : (players : List Player) (settled to d from frame : ℕ) → from ≡ settled + d → from ≤ frame → frame < to
@@ -128,7 +105,7 @@ pub record IsOnWay {S : Type 0} (value : S → Value) (step : Value → List Cel
   pub low : from ≤ frame
   pub high : frame ≤ to
   pub paths : paths_of now.tree ≡ paths_of old.tree ++ prefixes (rows_to old.inputs to) (way_to old to) (frame - from)
-  pub here : IsSomeAnd (held now.tree at) (λ u. u.path ≡ rows_from old.inputs.players old.inputs.settled (frame - old.inputs.settled))
+  pub here : IsSomeAnd (state_named now.tree at) (λ u. u.path ≡ rows_from old.inputs.players old.inputs.settled (frame - old.inputs.settled))
   pub values : (opening : Value) → HaveValues value step opening (timeline old.inputs.players old.inputs.settled) old.tree.states → HaveValues value step opening (timeline old.inputs.players old.inputs.settled) now.tree.states
   pub reached : (opening : Value) → HaveValues value step opening (timeline old.inputs.players old.inputs.settled) old.tree.states → state ≡ run step opening (timeline old.inputs.players frame)
 
@@ -148,18 +125,14 @@ if_some o u P e h = rw e at h
 snapshot_is : {S : Type 0} (o : Option (Saved S)) (u : Saved S) (snapshot : S) → option_map (λ (v : Saved S). v.snapshot) o ≡ Some snapshot → o ≡ Some u → u.snapshot ≡ snapshot
 snapshot_is o u snapshot h e = let same = rw e at h in cc same
 
--- one more turn, modulo 2^64
-pub one_turn : (old new next from frame : ℕ) → from ≤ frame → new % 2 ^ 64 ≡ (old + (frame - from)) % 2 ^ 64 → next ≡ (new + 1) % 2 ^ 64 → next % 2 ^ 64 ≡ (old + (frame + 1 - from)) % 2 ^ 64
-one_turn old new next from frame low h e = omega arith
-
 module _ {S : Type 0} (value : S → Value) (step : Value → List Cell → Value) (old : Standing S) (from to : ℕ) (start : from ≡ old.inputs.settled + way_to old to) where
   -- the state that the roll starts from
-  pub way_start : (at : ℕ) (snapshot : S) (state : Value) → from ≤ to → old.tree.base ≡ old.inputs.settled → IsSomeAnd (held old.tree at) (λ u. u.path ≡ rows_from old.inputs.players old.inputs.settled (way_to old to))
-      → option_map (λ u. u.snapshot) (held old.tree at) ≡ Some snapshot → state ≡ value snapshot → IsOnWay value step old old from to from at state
+  pub way_start : (at : ℕ) (snapshot : S) (state : Value) → from ≤ to → old.tree.base ≡ old.inputs.settled → IsSomeAnd (state_named old.tree at) (λ u. u.path ≡ rows_from old.inputs.players old.inputs.settled (way_to old to))
+      → option_map (λ u. u.snapshot) (state_named old.tree at) ≡ Some snapshot → state ≡ value snapshot → IsOnWay value step old old from to from at state
   way_start at snapshot state within base here found loaded =
       let none : from - from ≡ 0 = omega arith in
       let place : way_to old to ≡ from - old.inputs.settled = omega (arith, start) in
-      let s = some_is (held old.tree at) (λ u. u.path ≡ rows_from old.inputs.players old.inputs.settled (way_to old to)) here in
+      let s = some_is (state_named old.tree at) (λ u. u.path ≡ rows_from old.inputs.players old.inputs.settled (way_to old to)) here in
       record {
         inputs = refl;
         room = refl;
@@ -169,17 +142,17 @@ module _ {S : Type 0} (value : S → Value) (step : Value → List Cell → Valu
         paths = rw none (sym (append-nil (paths_of old.tree)));
         here = rw (sym place) here;
         values = λ opening h. h;
-        reached = λ opening h. loaded ∙ ap value (sym (snapshot_is (held old.tree at) s.0 snapshot found s.1)) ∙ (all_held (λ u. value u.snapshot ≡ run step opening (timeline old.inputs.players old.inputs.settled ++ u.path)) (λ u. u.name == at) old.tree.states s.0 h s.1 ∙ ap (run step opening) (ap (λ (q : Rows). timeline old.inputs.players old.inputs.settled ++ q) (s.2 ∙ ap (rows_from old.inputs.players old.inputs.settled) place) ∙ whole old.inputs.players old.inputs.settled from (omega (arith, start))));
+        reached = λ opening h. loaded ∙ ap value (sym (snapshot_is (state_named old.tree at) s.0 snapshot found s.1)) ∙ (all_held (λ u. value u.snapshot ≡ run step opening (timeline old.inputs.players old.inputs.settled ++ u.path)) (λ u. u.name == at) old.tree.states s.0 h s.1 ∙ ap (run step opening) (ap (λ (q : Rows). timeline old.inputs.players old.inputs.settled ++ q) (s.2 ∙ ap (rows_from old.inputs.players old.inputs.settled) place) ∙ whole old.inputs.players old.inputs.settled from (omega (arith, start))));
       }
 
   -- the next state fits
   pub can_grow : (now : Standing S) (frame at : ℕ) (state : Value) → IsOnWay value step old now from to frame at state → frame < to → to < 2 ^ 32 → to ≤ old.inputs.settled + PATH_LIMIT → CanGrow now.tree at (row_at now.inputs.players frame)
   can_grow now frame at state w high wide near =
-      let s = some_is (held now.tree at) (λ u. u.path ≡ rows_from old.inputs.players old.inputs.settled (frame - old.inputs.settled)) w.here in
+      let s = some_is (state_named now.tree at) (λ u. u.path ≡ rows_from old.inputs.players old.inputs.settled (frame - old.inputs.settled)) w.here in
       let place : way_to old to + (frame - from) + 1 ≡ frame + 1 - old.inputs.settled = omega (arith, start, w.low) in
-      let path_is : (u : Saved S) → held now.tree at ≡ Some u → u.path ≡ rows_from old.inputs.players old.inputs.settled (frame - old.inputs.settled) = λ u e. ap (λ (v : Saved S). v.path) (held_same (held now.tree at) u s.0 e s.1) ∙ s.2 in
+      let path_is : (u : Saved S) → state_named now.tree at ≡ Some u → u.path ≡ rows_from old.inputs.players old.inputs.settled (frame - old.inputs.settled) = λ u e. ap (λ (v : Saved S). v.path) (held_same (state_named now.tree at) u s.0 e s.1) ∙ s.2 in
       record {
-        kept = some_there (held now.tree at) s.0 s.1;
+        kept = some_there (state_named now.tree at) s.0 s.1;
         short = λ u e. omega (arith, ap length (path_is u e), length-rows_from old.inputs.players old.inputs.settled (frame - old.inputs.settled), near, start, w.low);
         frames = λ u e. omega (arith, ap length (path_is u e), length-rows_from old.inputs.players old.inputs.settled (frame - old.inputs.settled), w.base, wide, start, w.low);
         fresh = λ u e. rw (w.paths, w.inputs, path_is u e, next_rows old.inputs.players old.inputs.settled frame (omega (arith, start, w.low))) (subst (λ k. contains (paths_of old.tree ++ prefixes (rows_to old.inputs to) (way_to old to) (frame - from)) (rows_from old.inputs.players old.inputs.settled k) ≡ false) place (fresh old.inputs.players old.inputs.settled to (paths_of old.tree) (frame - from) (omega (arith, start, high, w.low))));
@@ -193,12 +166,12 @@ module _ {S : Type 0} (value : S → Value) (step : Value → List Cell → Valu
 
   -- one frame more
   pub way_more : (now new : Standing S) (frame at name : ℕ) (state state' : Value) (snapshot : S) (row : List Cell) → IsOnWay value step old now from to frame at state → frame < to → row ≡ row_at now.inputs.players frame → state' ≡ step state row → value snapshot ≡ step state row
-      → new.inputs ≡ now.inputs → new.room ≡ now.room → held now.tree name ≡ None → IfSome (held now.tree at) (λ u. new.tree ≡ with_state now.tree (record { name = name; path = u.path ++ row_at now.inputs.players frame ∷ []; snapshot = snapshot }))
+      → new.inputs ≡ now.inputs → new.room ≡ now.room → state_named now.tree name ≡ None → IfSome (state_named now.tree at) (λ u. new.tree ≡ with_state now.tree (record { name = name; path = u.path ++ row_at now.inputs.players frame ∷ []; snapshot = snapshot }))
       → IsOnWay value step old new from to (frame + 1) name state'
   way_more now new frame at name state state' snapshot row w high row_is state_is snap inputs room vacant added =
-      let s = some_is (held now.tree at) (λ u. u.path ≡ rows_from old.inputs.players old.inputs.settled (frame - old.inputs.settled)) w.here in
+      let s = some_is (state_named now.tree at) (λ u. u.path ≡ rows_from old.inputs.players old.inputs.settled (frame - old.inputs.settled)) w.here in
       let u : Saved S = record { name = name; path = s.0.path ++ row_at now.inputs.players frame ∷ []; snapshot = snapshot } in
-      let tree : new.tree ≡ with_state now.tree u = if_some (held now.tree at) s.0 (λ v. new.tree ≡ with_state now.tree (record { name = name; path = v.path ++ row_at now.inputs.players frame ∷ []; snapshot = snapshot })) s.1 added in
+      let tree : new.tree ≡ with_state now.tree u = if_some (state_named now.tree at) s.0 (λ v. new.tree ≡ with_state now.tree (record { name = name; path = v.path ++ row_at now.inputs.players frame ∷ []; snapshot = snapshot })) s.1 added in
       let low : old.inputs.settled ≤ frame = omega (arith, start, w.low) in
       let path : u.path ≡ rows_from old.inputs.players old.inputs.settled (frame + 1 - old.inputs.settled) = rw (w.inputs, s.2) (next_rows old.inputs.players old.inputs.settled frame low) in
       let led : (opening : Value) → HaveValues value step opening (timeline old.inputs.players old.inputs.settled) old.tree.states → step state row ≡ run step opening (timeline old.inputs.players (frame + 1)) =
@@ -206,7 +179,7 @@ module _ {S : Type 0} (value : S → Value) (step : Value → List Cell → Valu
       record {
         inputs = inputs ∙ w.inputs;
         room = room ∙ w.room;
-        base = ap (λ (t : Kept S). t.base) tree ∙ w.base;
+        base = ap (λ (t : SavedStates S). t.base) tree ∙ w.base;
         low = omega (arith, w.low);
         high = omega (arith, high);
         paths = ap paths_of tree ∙ map-append (λ (v : Saved S). v.path) now.tree.states (u ∷ []) ∙ rw (w.paths, path, prefixes_more old.inputs.players old.inputs.settled to (way_to old to) from frame start w.low high) (append_assoc (paths_of old.tree) (prefixes (rows_to old.inputs to) (way_to old to) (frame - from)) (rows_from old.inputs.players old.inputs.settled (frame + 1 - old.inputs.settled) ∷ []));

@@ -3,10 +3,12 @@ use Rattle.std.proofs.Common.{◌≡◌, ℕ, suc, ◌+◌, ◌-◌, ◌<◌, �
 use Rattle.std.specs.Prelude.{◌⊎◌, filter}
 use Rattle.std.proofs.lemmas.Bool.{false≢true, cases_Bool, cases_lt}
 use Rattle.std.proofs.lemmas.List.{length-drop, drop_all, drop-append-le, drop-take, take-append-drop, drop-drop, length-append}
-use Rattle.roll_frame.specs.Cells.{Rows, row_eq-Decides}
+use Rattle.roll_frame.specs.Cells.{Rows}
 use Rattle.roll_frame.specs.Paths.{begins_with, longest}
 use Rattle.roll_frame.specs.Timeline.{Player, row_at, timeline}
-use Rattle.roll_laws.proofs.Saved.{In, longest_at_least, length_timeline, take_timeline}
+use Rattle.roll_laws.proofs.Saved.{In, longest_at_least, take_timeline}
+use Rattle.roll_frame.proofs.Timelines.{length_timeline}
+use Rattle.roll_frame.proofs.Beginnings.{begins-behind}
 use Rattle.roll_session.specs.Standing.{rows_from, from_start}
 
 -- no rows
@@ -45,11 +47,6 @@ drop-rows_from players from count k = drop-drop k from (timeline players (from +
     go (inl h) = let e : from + count ≡ from + k + (count - k) = omega arith in ap (λ n. drop (from + k) (timeline players n)) e
     go (inr h) = none (from + count) (omega arith) ∙ sym (none (from + k + (count - k)) (omega arith))
 
--- rows that begin alike begin with one another as what follows does
-pub begins_append : (T q p : Rows) → begins_with (T ++ q) (T ++ p) ≡ begins_with q p
-begins_append [] q p = refl
-begins_append (row ∷ rows) q p = rw ((row_eq-Decides row row).1 refl) (begins_append rows q p)
-
 -- a path goes on from the rows
 pub in_start : (T p : Rows) (ps : List Rows) → In p ps → In (T ++ p) (from_start T ps)
 in_start T p [] h = absurd h
@@ -64,13 +61,13 @@ longest_after T [] q = omega arith
 longest_after T (p ∷ ps) q = go (cases_Bool (begins_with q p)) (longest_after T ps q)
   where
     go : (begins_with q p ≡ true) ⊎ (begins_with q p ≡ false) → max (length T) (longest (from_start T ps) (T ++ q)) ≡ length T + longest ps q → max (length T) (longest (from_start T (p ∷ ps)) (T ++ q)) ≡ length T + longest (p ∷ ps) q
-    go (inl e) rest = rw (begins_append T q p) (rw e (rw (length-append T p) (either_longest (length T) (length p) (longest ps q) (longest (from_start T ps) (T ++ q)) rest)))
-    go (inr e) rest = rw (begins_append T q p) (rw e rest)
+    go (inl e) rest = rw (begins-behind T q p) (rw e (rw (length-append T p) (either_longest (length T) (length p) (longest ps q) (longest (from_start T ps) (T ++ q)) rest)))
+    go (inr e) rest = rw (begins-behind T q p) (rw e rest)
 
 -- the longest of paths that go on from the same rows
 pub longest_on : (T : Rows) (ps : List Rows) (q : Rows) → In [] ps → longest (from_start T ps) (T ++ q) ≡ length T + longest ps q
 longest_on T ps q root =
-    let low = longest_at_least (from_start T ps) (T ++ q) (T ++ []) (in_start T [] ps root) (begins_append T q []) in
+    let low = longest_at_least (from_start T ps) (T ++ q) (T ++ []) (in_start T [] ps root) (begins-behind T q []) in
     omega (arith, longest_after T ps q, low, length-append T [])
 
 -- a test that all paths pass that begin the rows leaves the longest

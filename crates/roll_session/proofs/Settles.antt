@@ -21,10 +21,12 @@ use Rattle.roll_laws.proofs.Least.{settled_after}
 use Rattle.roll_laws.proofs.Prefixes.{filter_in}
 use Rattle.roll_laws.proofs.Pruned.{kept_more}
 use Rattle.roll_laws.proofs.Ruled.{long_begin_settled}
-use Rattle.roll_laws.proofs.Saved.{In, in_left, has_in, begins_is, begins_on_time, length_timeline}
+use Rattle.roll_laws.proofs.Saved.{In, in_left, has_in, begins_on_time}
 use Rattle.roll_laws.proofs.Sound.{Sound, Good, sound_played, step_any, staying}
+use Rattle.roll_frame.proofs.Beginnings.{begins_is, begins-behind}
+use Rattle.roll_frame.proofs.Timelines.{length_timeline}
 use Rattle.roll_session.specs.Standing.{rows_from, from_start}
-use Rattle.roll_session.proofs.Rows.{begins_append, longest_on, longest_some, length-rows_from, settled-rows_from}
+use Rattle.roll_session.proofs.Rows.{longest_on, longest_some, length-rows_from, settled-rows_from}
 
 -- up to where the timeline can settle: what is confirmed and reached
 abbrev pub until : Core → ℕ
@@ -78,8 +80,8 @@ begin_further T R (x ∷ xs) = go (cases_Bool (begins_with x R)) (begin_further 
     go (inl e) rest =
         let parts : R ++ drop (length R) x ≡ x = ap (λ (q : Rows). q ++ drop (length R) x) (begins_is x R e) ∙ take-append-drop (length R) x in
         let there : T ++ x ≡ (T ++ R) ++ drop (length R) x = ap (λ (q : Rows). T ++ q) (sym parts) ∙ sym (append_assoc T R (drop (length R) x)) in
-        rw (begins_append T x R) (rw e (cc (there, rest)))
-    go (inr e) rest = rw (begins_append T x R) (rw e rest)
+        rw (begins-behind T x R) (rw e (cc (there, rest)))
+    go (inr e) rest = rw (begins-behind T x R) (rw e rest)
 
 -- what the paths that were held tell of what is settled and kept after an entry
 pub record Settles (core next : Core) (ps : List Rows) : Type 0 where

@@ -1,22 +1,18 @@
 -- The timeline and the saved states after each step.
-use Rattle.std.proofs.Common.{◌≡◌, ℕ, ◌+◌, ◌-◌, ◌≤◌, List, [], ◌∷◌, ◌++◌, length, map, take, drop, min, refl, ap, sym, subst, ◌∙◌, arith, inl, inr, cond, Option, Some, None}
+use Rattle.std.proofs.Common.{◌≡◌, ℕ, ◌+◌, ◌-◌, ◌≤◌, List, [], ◌∷◌, ◌++◌, length, map, take, drop, min, refl, ap, sym, subst, ◌∙◌, arith, cond, Option, Some, None}
 use Rattle.std.specs.Prelude.{IfSome, IsSomeAnd, filter, vec_capacity}
 use Rattle.roll_frame.specs.Cells.{Rows}
 use Rattle.roll_frame.specs.Paths.{begins_with, longest}
 use Rattle.roll_frame.specs.Timeline.{Player, front, timeline}
 use Rattle.roll_inputs.specs.Boards.{Inputs, KeepsCells, count_of}
-use Rattle.roll_laws.proofs.Saved.{begins, longest_is}
-use Rattle.roll_tree.specs.Kept.{Kept, Saved, held, later, paths_of, time_to}
+use Rattle.roll_tree.specs.SavedStates.{SavedStates, Saved, state_named, later, paths_of, time_to}
 use Rattle.roll_tree.specs.Marks.{AreSameBut}
+use Rattle.roll_frame.proofs.Beginnings.{longest_within, begins}
 use Rattle.roll_session.specs.Saves.{IsInStep, Standing, settled_by, settling}
 use Rattle.roll_session.specs.Standing.{rows_from}
 use Rattle.roll_session.specs.declared.saves.Saves.TheInside.{Inside}
 use Rattle.roll_session.proofs.Retold.{same_but}
 use Rattle.roll_session.proofs.Rows.{drop-rows_from, length-rows_from, rows_from-none, settled-rows_from, take-rows_from}
-
--- the longest is no longer than the rows
-pub longest_short : (ps : List Rows) (q : Rows) → longest ps q ≤ length q
-longest_short ps q = elim (longest_is ps q) [ inl z ↦ omega (arith, z) | inr h ↦ h.1 ]
 
 some_and : {A : Type 0} (o : Option A) (P Q : A → Type 0) → ((x : A) → P x → Q x) → IsSomeAnd o P → IsSomeAnd o Q
 some_and None P Q f h = h
@@ -30,7 +26,7 @@ module _ {S : Type 0} where
       (same_but s.board.players new.players p s.board.settled (length s.tree.time) keeps)
 
   -- after an input, where the tree was told the timeline again
-  pub retold : (s : Inside S) (new : Inputs) (t : Kept S) → IsInStep s → new.settled ≡ s.board.settled → new.frame ≡ s.board.frame → timeline new.players s.board.settled ≡ timeline s.board.players s.board.settled
+  pub retold : (s : Inside S) (new : Inputs) (t : SavedStates S) → IsInStep s → new.settled ≡ s.board.settled → new.frame ≡ s.board.frame → timeline new.players s.board.settled ≡ timeline s.board.players s.board.settled
       → t.base ≡ s.tree.base → t.time ≡ rows_from new.players new.settled (length s.tree.time) → IsInStep (record { board = new; past = s.past; tree = t })
   retold s new t i settled frame rows base time =
       record {
@@ -41,10 +37,10 @@ module _ {S : Type 0} where
       }
 
   -- a tree that is settled at the state of this name and path
-  abbrev pub settled_with : Kept S → ℕ → Rows → Kept S
+  abbrev pub settled_with : SavedStates S → ℕ → Rows → SavedStates S
   settled_with t node q = record { base = t.base + length q; root = node; time = drop (length q) t.time; states = map (later (length q)) (filter (λ u. begins_with u.path q) t.states) }
 
-  module _ (t : Kept S) (players : List Player) (s to : ℕ) (base : t.base ≡ s) (told : t.time ≡ rows_from players s (length t.time)) (from : s ≤ to) (far : to ≤ s + length t.time) where
+  module _ (t : SavedStates S) (players : List Player) (s to : ℕ) (base : t.base ≡ s) (told : t.time ≡ rows_from players s (length t.time)) (from : s ≤ to) (far : to ≤ s + length t.time) where
     -- the rows that a tree was told, up to a frame
     pub time_is : time_to t to ≡ rows_from players s (to - s)
     time_is = rw base (ap (take (to - s)) told ∙ take-rows_from players s (length t.time) (to - s) (omega (arith, far)))
@@ -52,11 +48,11 @@ module _ {S : Type 0} where
     -- how far its paths begin them
     pub longest_there : s + longest (paths_of t) (time_to t to) ≤ to
     longest_there =
-        let short = longest_short (paths_of t) (time_to t to) in
+        let short = longest_within (paths_of t) (time_to t to) in
         omega (arith, short, ap length time_is, length-rows_from players s (to - s), from)
 
     first_rows : take (longest (paths_of t) (time_to t to)) (time_to t to) ≡ rows_from players s (longest (paths_of t) (rows_from players s (to - s)))
-    first_rows = rw time_is (take-rows_from players s (to - s) (longest (paths_of t) (rows_from players s (to - s))) (omega (arith, longest_short (paths_of t) (rows_from players s (to - s)), length-rows_from players s (to - s))))
+    first_rows = rw time_is (take-rows_from players s (to - s) (longest (paths_of t) (rows_from players s (to - s))) (omega (arith, longest_within (paths_of t) (rows_from players s (to - s)), length-rows_from players s (to - s))))
 
     -- the first rows that it was told, up to the deepest state
     pub first_told : take (longest (paths_of t) (time_to t to)) t.time ≡ rows_from players s (longest (paths_of t) (rows_from players s (to - s)))
@@ -64,25 +60,25 @@ module _ {S : Type 0} where
         let n : ℕ = longest (paths_of t) (rows_from players s (to - s)) in
         ap (λ (q : Rows). take (longest (paths_of t) q) t.time) time_is
         ∙ ap (take n) told
-        ∙ take-rows_from players s (length t.time) n (omega (arith, far, longest_short (paths_of t) (rows_from players s (to - s)), length-rows_from players s (to - s)))
+        ∙ take-rows_from players s (length t.time) n (omega (arith, far, longest_within (paths_of t) (rows_from players s (to - s)), length-rows_from players s (to - s)))
 
     -- the rows of the deepest state on the timeline
-    pub deepest_is : (node : ℕ) → IsSomeAnd (held t node) (λ u. u.path ≡ take (longest (paths_of t) (time_to t to)) (time_to t to)) → IsSomeAnd (held t node) (λ u. u.path ≡ rows_from players s (longest (paths_of t) (rows_from players s (to - s))))
-    deepest_is node h = some_and (held t node) (λ u. u.path ≡ take (longest (paths_of t) (time_to t to)) (time_to t to)) (λ u. u.path ≡ rows_from players s (longest (paths_of t) (rows_from players s (to - s)))) (λ u e. e ∙ first_rows) h
+    pub deepest_is : (node : ℕ) → IsSomeAnd (state_named t node) (λ u. u.path ≡ take (longest (paths_of t) (time_to t to)) (time_to t to)) → IsSomeAnd (state_named t node) (λ u. u.path ≡ rows_from players s (longest (paths_of t) (rows_from players s (to - s))))
+    deepest_is node h = some_and (state_named t node) (λ u. u.path ≡ take (longest (paths_of t) (time_to t to)) (time_to t to)) (λ u. u.path ≡ rows_from players s (longest (paths_of t) (rows_from players s (to - s)))) (λ u e. e ∙ first_rows) h
 
   -- the deepest state on the timeline's way to a frame: its frame, and its rows
-  pub record IsDeepest (players : List Player) (s to : ℕ) (t : Kept S) (node end n : ℕ) : Type 0 where
+  pub record IsDeepest (players : List Player) (s to : ℕ) (t : SavedStates S) (node end n : ℕ) : Type 0 where
     pub end_is : end ≡ s + n
     pub within : s + n ≤ to
     pub rows : take n t.time ≡ rows_from players s n
-    pub path : IsSomeAnd (held t node) (λ u. u.path ≡ rows_from players s n)
+    pub path : IsSomeAnd (state_named t node) (λ u. u.path ≡ rows_from players s n)
 
   -- of a tree that was told the timeline so far
-  pub deepest_told : (players : List Player) (s to : ℕ) (was t : Kept S) (node end : ℕ) → was.base ≡ s → t ≡ record was { time = t.time } → t.time ≡ rows_from players s (length t.time) → s ≤ to → to ≤ s + length t.time
-      → IsSomeAnd (held t node) (λ u. u.path ≡ take (longest (paths_of t) (time_to t to)) (time_to t to)) → end ≡ t.base + longest (paths_of t) (time_to t to)
+  pub deepest_told : (players : List Player) (s to : ℕ) (was t : SavedStates S) (node end : ℕ) → was.base ≡ s → t ≡ record was { time = t.time } → t.time ≡ rows_from players s (length t.time) → s ≤ to → to ≤ s + length t.time
+      → IsSomeAnd (state_named t node) (λ u. u.path ≡ take (longest (paths_of t) (time_to t to)) (time_to t to)) → end ≡ t.base + longest (paths_of t) (time_to t to)
       → IsDeepest players s to t node end (longest (paths_of was) (rows_from players s (to - s)))
   deepest_told players s to was t node end is same told from far path length_is =
-      let base : t.base ≡ s = ap (λ (k : Kept S). k.base) same ∙ is in
+      let base : t.base ≡ s = ap (λ (k : SavedStates S). k.base) same ∙ is in
       let paths : paths_of t ≡ paths_of was = ap paths_of same in
       let there = longest_there t players s to base told from far in
       subst (λ (ps : List Rows). IsDeepest players s to t node end (longest ps (rows_from players s (to - s)))) paths
@@ -94,8 +90,8 @@ module _ {S : Type 0} where
       })
 
   -- a tree that was settled at the state of a path
-  pub settled_at : (t new : Kept S) (node : ℕ) (q : Rows) → IsSomeAnd (held t node) (λ u. u.path ≡ q) → IfSome (held t node) (λ u. new ≡ settled_with t node u.path) → new ≡ settled_with t node q
-  settled_at t new node q = go (held t node)
+  pub settled_at : (t new : SavedStates S) (node : ℕ) (q : Rows) → IsSomeAnd (state_named t node) (λ u. u.path ≡ q) → IfSome (state_named t node) (λ u. new ≡ settled_with t node u.path) → new ≡ settled_with t node q
+  settled_at t new node q = go (state_named t node)
     where
       go : (o : Option (Saved S)) → IsSomeAnd o (λ u. u.path ≡ q) → IfSome o (λ u. new ≡ settled_with t node u.path) → new ≡ settled_with t node q
       go None h e = absurd h
@@ -118,7 +114,7 @@ module _ {S : Type 0} where
   pub nothing_settles : (st : Standing S) → min (front st.inputs.players) st.inputs.frame ≡ st.inputs.settled → settling st ≡ 0
   nothing_settles st e =
       let to = min (front st.inputs.players) st.inputs.frame in
-      omega (arith, longest_short (paths_of st.tree) (rows_from st.inputs.players st.inputs.settled (to - st.inputs.settled)), length-rows_from st.inputs.players st.inputs.settled (to - st.inputs.settled), e)
+      omega (arith, longest_within (paths_of st.tree) (rows_from st.inputs.players st.inputs.settled (to - st.inputs.settled)), length-rows_from st.inputs.players st.inputs.settled (to - st.inputs.settled), e)
 
   -- and the states stay
   pub none_settled : (st : Standing S) → settled_by st 0 ≡ st.tree.states

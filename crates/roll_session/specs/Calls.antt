@@ -1,12 +1,16 @@
 -- The events that calls stand for.
-use Rattle.std.specs.Prelude.{◌≡◌, ◌⊎◌, ◌+◌, ◌%◌, ◌^◌, ℕ, List, [], ◌∷◌, map, take, slice_get, Some, if◌then◌else◌}
-use Rattle.roll_frame.specs.Core.{Core, cost}
-use Rattle.roll_frame.specs.Events.{CoreEvent, after, is_accepted, played_from}
-use Rattle.roll_frame.specs.Games.{Game}
-use Rattle.roll_frame.specs.declared.settings.Settings.{Settings}
+use Rattle.std.specs.Prelude.{◌≡◌, ◌+◌, ℕ, Bool, true, false, List, ◌++◌, map, max, take, slice_get, Option, Some, None, Result, Ok, Err}
+use Rattle.roll_frame.specs.Core.{Core}
+use Rattle.roll_frame.specs.Events.{CoreEvent, is_repeat}
 use Rattle.roll_frame.specs.declared.entry.Entry.{Entry}
 use Rattle.roll_frame.specs.declared.entry.Entry.TheVariants.{Local, Remote, Disconnect, Sync, Advance}
-use Rattle.roll_session.specs.Seen.{Step, Seen, core_of, game_of, plain, IsPartial}
+use Rattle.roll_frame.specs.declared.refusal.Refusal.{Refusal}
+use Rattle.roll_frame.specs.declared.reply.Reply.{Reply}
+use Rattle.roll_frame.specs.declared.reply.Reply.TheVariants.{Done, Taken, Repeated, Disconnected}
+use Rattle.roll_inputs.specs.declared.heard.Heard.{Heard}
+use Rattle.roll_inputs.specs.declared.heard.Heard.TheVariants.{Taken as HeardNow, Repeated as HeardBefore}
+use Rattle.roll_session.specs.Answered.{replies_to, IsPlayed, IsShort}
+use Rattle.roll_session.specs.Seen.{Step, Seen, core_of, plain, refusal_of}
 use Rattle.roll_session.specs.declared.event.Call.{Call}
 use Rattle.roll_session.specs.declared.event.Call.TheVariants.{Local as LocalCall, Remote as RemoteCall, Disconnect as DisconnectCall, Sync as SyncCall, Advance as AdvanceCall}
 
@@ -23,38 +27,53 @@ event_of call = plain (entry_of call)
 abbrev pub events_of : List Call → List CoreEvent
 events_of calls = map event_of calls
 
--- the game refused in the roll of a call: what the session then is
-abbrev pub IsCutShort : Step → Seen → Seen → Call → Type 0
-IsCutShort step old new SyncCall = IsPartial step old new Sync (core_of old).frame
-IsCutShort step old new AdvanceCall = IsPartial step old new Advance ((core_of old).frame + 1)
-IsCutShort step old new call = ⊥
+-- the calls that give a player's input
+abbrev pub IsInput : Call → Type 0
+IsInput (LocalCall player word) = Unit {0}
+IsInput (RemoteCall player frame word) = Unit {0}
+IsInput (DisconnectCall player) = Unit {0}
+IsInput SyncCall = ⊥
+IsInput AdvanceCall = ⊥
 
--- how many frames an accepted entry advances the game
-abbrev pub turns_by : Core → Entry → ℕ
-turns_by core Sync = cost core core.frame
-turns_by core Advance = cost core (core.frame + 1)
-turns_by core entry = 0
+-- the frame that a call rolls to
+abbrev pub IsRollTo : Core → Call → ℕ → Type 0
+IsRollTo core SyncCall to = to ≡ core.frame
+IsRollTo core AdvanceCall to = to ≡ core.frame + 1
+IsRollTo core call to = ⊥
 
--- how many frames an event advances the game: a refused one none
-abbrev pub turns_of : Settings → Game → Core → CoreEvent → ℕ
-turns_of settings game core event = if is_accepted settings game core event then turns_by core event.entry else 0
+-- a remote word was taken, or taken before
+abbrev pub heard_reply : Heard → Reply
+heard_reply HeardNow = Taken
+heard_reply HeardBefore = Repeated
 
--- how many frames any events advance the game
-abbrev pub turns_from : Settings → Game → Core → List CoreEvent → ℕ
-turns_from settings game core [] = 0
-turns_from settings game core (event ∷ events) = turns_of settings game core event + turns_from settings game (after settings game core event) events
+-- the reply to a player's input that was taken, or taken before
+abbrev pub input_reply : Call → Heard → Reply
+input_reply (RemoteCall player frame word) heard = heard_reply heard
+input_reply (DisconnectCall player) heard = Disconnected player
+input_reply call heard = Done
 
--- the session after these calls, where none of them ran out of memory
-pub record IsMade (step : Step) (old new : Seen) (calls : List Call) : Type 0 where
-  pub settings : new.settings ≡ old.settings
-  pub opening : new.opening ≡ old.opening
-  pub core : core_of new ≡ played_from old.settings (game_of step old) (core_of old) (events_of calls)
-  pub turns : new.turns % 2 ^ 64 ≡ (old.turns + turns_from old.settings (game_of step old) (core_of old) (events_of calls)) % 2 ^ 64
-  pub refused : new.refused ≡ old.refused
+-- the rules accept a call
+pub record IsAllowed (step : Step) (s : Seen) (call : Call) : Type 0 where
+  pub new : is_repeat (core_of s) (entry_of call) ≡ false
+  pub accepted : refusal_of step s (entry_of call) ≡ None
 
--- the session after a first part of these calls was made, and the next one, if any, ran out of memory
-pub record IsEndedEarly (step : Step) (old new : Seen) (calls : List Call) : Type 0 where
+-- a call is let in, with room for its entry, or it repeats a word
+abbrev pub IsAdmitted : Step → Seen → Seen → Call → Heard → Type 0
+IsAdmitted step old new call HeardNow = IsAllowed step old call × (new ≡ record old { reserved = max old.reserved 1 })
+IsAdmitted step old new call HeardBefore = (is_repeat (core_of old) (entry_of call) ≡ true) × (new ≡ old)
+
+-- what is judged of an event that repeats a word, or not, and that a test is against, or none
+abbrev pub judged : Bool → Option Refusal → Result Heard Refusal
+judged true test = Ok HeardBefore
+judged false None = Ok HeardNow
+judged false (Some why) = Err why
+
+-- memory ran out for one of these calls, after those before it were made, whose replies were added
+pub record IsEndedEarly (step : Step) (old new : Seen) (calls : List Call) (first all : List Reply) : Type 0 where
   pub count : ℕ
   pub before : Seen
-  pub made : IsMade step old before (take count calls)
-  pub left : (new ≡ before) ⊎ ((call : Call) × (slice_get calls count ≡ Some call) × IsCutShort step before new call)
+  pub made : IsPlayed step old before (events_of (take count calls))
+  pub replies : all ≡ first ++ replies_to step old (events_of (take count calls))
+  pub call : Call
+  pub next : slice_get calls count ≡ Some call
+  pub short : IsShort step before new (event_of call)

@@ -12,7 +12,7 @@ use Rattle.roll_frame.specs.declared.limits.TheConstants.{PLAYER_LIMIT, FRAME_LI
 use Rattle.roll_inputs.specs.Boards.{Inputs}
 use Rattle.roll_laws.specs.Sessions.{IsLog}
 use Rattle.roll_plan.specs.Plans.{Planned}
-use Rattle.roll_tree.specs.Kept.{paths_of}
+use Rattle.roll_tree.specs.SavedStates.{paths_of}
 use Rattle.roll_session.specs.Saves.{Standing, HaveValues}
 use Rattle.roll_session.specs.Seen.{Step}
 use Rattle.roll_session.specs.Standing.{from_start, made_from, settled_rows}

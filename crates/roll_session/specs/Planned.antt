@@ -1,8 +1,7 @@
 -- The plan of a roll.
-use Rattle.std.specs.Prelude.{◌≡◌, ℕ, ◌-◌, map}
+use Rattle.std.specs.Prelude.{◌≡◌, ℕ, ◌-◌}
 use Rattle.roll_frame.specs.Claims.{claim_of}
 use Rattle.roll_frame.specs.Core.{Roll}
-use Rattle.roll_cert.specs.Told.{entry_of}
 use Rattle.roll_plan.specs.declared.plan.Plan.{Plan}
 
 -- the numbers of a roll, and the entries of its claim
@@ -10,4 +9,4 @@ pub record IsPlanOfRoll (players : ℕ) (roll : Roll) (plan : Plan) : Type 0 whe
   pub to : plan.to ≡ roll.to
   pub from : plan.from ≡ roll.from
   pub rerun : plan.rerun ≡ roll.to - roll.from
-  pub differs : map entry_of plan.differs.items ≡ (claim_of players roll).differs
+  pub differs : plan.differs.items ≡ (claim_of players roll).differs

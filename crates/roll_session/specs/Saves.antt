@@ -1,5 +1,5 @@
 -- The timeline and the saved states as a session sees them, and what their fields keep.
-use Rattle.std.specs.Prelude.{◌≡◌, ℕ, ◌-◌, ◌≤◌, List, ◌++◌, length, filter, map, drop, min, not, vec_capacity, All, Bool, true, Some, slice_get}
+use Rattle.std.specs.Prelude.{◌≡◌, ℕ, ◌+◌, ◌-◌, ◌≤◌, List, [], ◌∷◌, ◌++◌, length, filter, map, drop, min, not, vec_capacity, All, Bool, true, false, Some, None, slice_get}
 use Rattle.std.specs.Option.{option_eq, option_map_or}
 use Rattle.std.specs.List.{list_all}
 use Rattle.roll_frame.specs.declared.row.Cell.{Cell}
@@ -8,16 +8,19 @@ use Rattle.roll_frame.specs.Cells.{Rows, cell_eq}
 use Rattle.roll_frame.specs.Paths.{begins_with, longest, run}
 use Rattle.roll_frame.specs.Games.{Value}
 use Rattle.roll_frame.specs.Timeline.{timeline, front}
-use Rattle.roll_inputs.specs.Boards.{Inputs, count_of}
+use Rattle.roll_inputs.specs.Boards.{Inputs, count_of, disconnect_refusal, local_refusal, remote_refusal, with_player}
+use Rattle.roll_frame.specs.Inputs.{is_repeated, with_given, with_gone, with_none_given, with_words}
+use Rattle.roll_frame.specs.declared.entry.Entry.{Entry}
+use Rattle.roll_frame.specs.declared.entry.Entry.TheVariants.{Local, Remote, Disconnect, Advance}
 use Rattle.roll_laws.specs.Laws.{has_no_other}
-use Rattle.roll_tree.specs.Kept.{Kept, Saved, has_other, later, paths_of}
+use Rattle.roll_tree.specs.SavedStates.{SavedStates, Saved, has_other, later, paths_of}
 use Rattle.roll_session.specs.Standing.{rows_from}
 use Rattle.roll_session.specs.declared.saves.Saves.TheInside.{Inside}
 
 -- the inputs, the saved states, and how many settled rows there is room for
 pub record Standing (S : Type 0) : Type 0 where
   pub inputs : Inputs
-  pub tree : Kept S
+  pub tree : SavedStates S
   pub room : ℕ
 
 -- the fields tell of one timeline
@@ -31,6 +34,25 @@ pub record IsInStep {S : Type 0} (s : Inside S) : Type 0 where
 abbrev pub is_told : Rows → ℕ → ℕ → ℕ → Bool
 is_told time place player word = option_map_or (λ row. option_eq cell_eq (slice_get row player) (Some (Word word))) (slice_get time place) true
 
+-- the inputs after a player's input
+abbrev pub taken_inputs : Inputs → Entry → Inputs
+taken_inputs inputs (Local p word) = with_player (with_given word) inputs p
+taken_inputs inputs (Remote p f word) = with_player (with_words (word ∷ [])) inputs p
+taken_inputs inputs (Disconnect p) = with_player with_gone inputs p
+taken_inputs inputs entry = inputs
+
+-- a player's input that the inputs have no test against
+abbrev pub IsFree : Inputs → Entry → Type 0
+IsFree inputs (Local p word) = local_refusal inputs p ≡ None
+IsFree inputs (Remote p f word) = (is_repeated inputs.players p f word ≡ false) × (remote_refusal inputs p f ≡ None)
+IsFree inputs (Disconnect p) = disconnect_refusal inputs p ≡ None
+IsFree inputs entry = ⊥
+
+-- the inputs after a roll's entry: an advance goes to the next frame
+abbrev pub stepped_inputs : Inputs → Entry → Inputs
+stepped_inputs inputs Advance = record inputs { frame = inputs.frame + 1; players = map with_none_given inputs.players }
+stepped_inputs inputs entry = inputs
+
 -- the timeline's rows from the settled frame to this one
 abbrev pub rows_to : Inputs → ℕ → Rows
 rows_to inputs to = rows_from inputs.players inputs.settled (to - inputs.settled)
@@ -43,6 +65,13 @@ module _ {S : Type 0} where
   -- the states whose paths have player p gone from the frame of its next word on
   abbrev pub with_gone_only : Inputs → ℕ → List (Saved S) → List (Saved S)
   with_gone_only inputs p states = filter (λ s. list_all (has_no_other (p - 1) Gone) (drop (count_of inputs.players p - inputs.settled) s.path)) states
+
+  -- the states that a player's input leaves
+  abbrev pub taken_states : Inputs → Entry → List (Saved S) → List (Saved S)
+  taken_states inputs (Local p word) states = without_other inputs p (Word word) states
+  taken_states inputs (Remote p f word) states = without_other inputs p (Word word) states
+  taken_states inputs (Disconnect p) states = with_gone_only inputs p states
+  taken_states inputs entry states = states
 
   -- how far past the settled rows the deepest saved state lies on the timeline's way to a frame
   abbrev pub way_to : Standing S → ℕ → ℕ

@@ -1,23 +1,22 @@
 -- A session as its callers see it: how it was opened, its log, its game's counts, and what is reserved. The rest follows from
 -- these.
-use Rattle.std.specs.Prelude.{◌≡◌, ◌⊎◌, ◌≤◌, ◌+◌, ◌-◌, ◌%◌, ◌^◌, ℕ, List, [], ◌∷◌, ◌++◌, length, Option, None}
+use Rattle.std.specs.Prelude.{◌≤◌, ℕ, List, [], length, Option}
 use Rattle.roll_frame.specs.declared.refusal.Refusal.{Refusal}
 use Rattle.roll_frame.specs.declared.row.Cell.{Cell}
 use Rattle.roll_frame.specs.declared.entry.Entry.{Entry}
-use Rattle.roll_frame.specs.declared.entry.Entry.TheVariants.{Partial}
 use Rattle.roll_frame.specs.declared.settings.Settings.{Settings}
 use Rattle.roll_frame.specs.Cells.{Rows}
 use Rattle.roll_frame.specs.Games.{Value, Game}
 use Rattle.roll_frame.specs.Core.{Core, IsPlan, cost}
 use Rattle.roll_frame.specs.Events.{CoreEvent, refusal, replay}
-use Rattle.roll_game.specs.Counts.{next_count}
+use Rattle.roll_game.specs.declared.counts.Counts.{Counts}
 
 pub record Seen : Type 0 where
   pub settings : Settings
   pub opening : Value
   pub log : List Entry
-  pub turns : ℕ
-  pub refused : ℕ
+  -- what its game was asked for
+  pub counts : Counts
   -- for how many events more there is room for certain
   pub reserved : ℕ
 
@@ -40,18 +39,6 @@ plain entry = record { entry = entry; value = [] }
 abbrev pub refusal_of : Step → Seen → Entry → Option Refusal
 refusal_of step s entry = refusal s.settings (game_of step s) (core_of s) (plain entry)
 
--- one more entry in the log, and one event less that there is room for
-abbrev pub with_entry : Seen → Entry → Seen
-with_entry s entry = record s { log = s.log ++ entry ∷ []; reserved = s.reserved - 1 }
-
 -- no plan to m, from whichever state was ever saved, runs fewer rows than the roll does
 abbrev pub IsLeast : Core → ℕ → Type 0
 IsLeast core m = (path rows : Rows) → IsPlan core m path rows → cost core m ≤ length rows
-
--- the game refused in a roll of this event to m: what was saved by then stays, and no finished row is forgotten
-pub record IsPartial (step : Step) (old new : Seen) (entry : Entry) (m : ℕ) : Type 0 where
-  pub accepted : refusal_of step old entry ≡ None
-  pub made : ℕ
-  pub few : made ≤ cost (core_of old) m
-  pub logged : new ≡ record (with_entry old (Partial m made)) { turns = new.turns; refused = next_count old.refused }
-  pub turns : (new.turns % 2 ^ 64 ≡ (old.turns + made) % 2 ^ 64) ⊎ (new.turns % 2 ^ 64 ≡ (old.turns + (made + 1)) % 2 ^ 64)

@@ -1,5 +1,8 @@
 //! What a session is asked, and what it answers.
-use roll_frame::Refusal;
+ghost use Rattle.std.specs.Prelude.{◌≡◌};
+ghost use Rattle.roll_session.specs.Calls.{entry_of};
+
+use roll_frame::{Entry, Refusal};
 use roll_game::RawGame;
 
 /// A call of a session, with what it is given. Players are numbered from 1.
@@ -15,6 +18,29 @@ pub enum Call {
     Sync,
     /// `advance_frame`
     Advance,
+}
+
+impl Call {
+    /// What the log keeps of the call where it is accepted.
+    pub fn entry(self) -> Entry
+        ensures { result ≡ entry_of self }
+    {
+        match self {
+            Call::Local { player, word } => Entry::Local { player, word },
+            Call::Remote {
+                player,
+                frame,
+                word,
+            } => Entry::Remote {
+                player,
+                frame,
+                word,
+            },
+            Call::Disconnect { player } => Entry::Disconnect { player },
+            Call::Sync => Entry::Sync,
+            Call::Advance => Entry::Advance,
+        }
+    }
 }
 
 /// Where a step to the next frame led: the new frame, the length of the path that its roll started from, and how many

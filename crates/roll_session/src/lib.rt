@@ -10,8 +10,4 @@ mod session;
 pub use event::{Call, Reached, StartFault};
 pub use roll_inputs::Heard;
 pub use roll_plan::Plan;
-pub use run::{Played, play};
 pub use session::{Parts, Session};
-
-#[cfg(test)]
-mod tests;

@@ -1,12 +1,14 @@
 //! The roll: from the best saved state to a frame, saving each state on the way.
-ghost use Rattle.std.specs.Prelude.{◌≡◌, ◌⊎◌, ◌<◌, ◌≤◌, ◌+◌, ◌-◌, ◌%◌, ◌^◌, ◌++◌, length, All, IfOk, IfErr, OnOk, OnErr, IsSomeAnd, Some, None, is_ok};
+ghost use Rattle.std.specs.Prelude.{◌≡◌, ◌⊎◌, ◌<◌, ◌≤◌, ◌+◌, ◌-◌, ◌++◌, length, All, IfOk, IfErr, OnOk, OnErr, IsSomeAnd, Some, None, true, false};
 ghost use Rattle.roll_frame.specs.Claims.{AreRowsOf};
 ghost use Rattle.roll_frame.specs.Games.{Value};
-ghost use Rattle.roll_frame.specs.Paths.{longest, prefixes, run};
+ghost use Rattle.roll_frame.specs.Paths.{prefixes, run};
 ghost use Rattle.roll_frame.specs.Timeline.{timeline};
-ghost use Rattle.roll_game.specs.Counts.{next_count, refusals_after};
+ghost use Rattle.roll_game.specs.Counts.{counted, rolled};
+ghost use Rattle.roll_game.specs.declared.counts.Call.TheVariants.{Save as Stores, Advance as Steps};
 ghost use Rattle.roll_plan.specs.Plans.{made_of};
-ghost use Rattle.roll_tree.specs.Kept.{held, paths_of};
+ghost use Rattle.roll_tree.specs.SavedStates.{state_named, paths_of};
+ghost use Rattle.roll_session.specs.Answered.{IsRefusedAt};
 ghost use Rattle.roll_session.specs.Saves.{HaveValues, rows_to, way_to};
 ghost use Rattle.roll_session.specs.Standing.{rows_from};
 
@@ -23,8 +25,8 @@ fn advance_and_save<G: Game>(
 ) -> Result<G::Snapshot, NoMemory>
     ensures snapshot { IfOk result (λ snapshot. G.snapshot_value snapshot ≡ G.step (G.state_value state.old) row.now) }
     ensures state { OnOk result (G.state_value state.new ≡ G.step (G.state_value state.old) row.now) }
-    ensures turns { G.turn_count game.new ≡ next_count (G.turn_count game.old) }
-    ensures refused { G.refusal_count game.new ≡ refusals_after (is_ok result) (G.refusal_count game.old) }
+    ensures counts { OnOk result (G.call_counts game.new ≡ counted Stores true (counted Steps true (G.call_counts game.old))) }
+    ensures refused { OnErr result ((G.call_counts game.new ≡ counted Steps false (G.call_counts game.old)) ⊎ (G.call_counts game.new ≡ counted Stores false (counted Steps true (G.call_counts game.old)))) }
 {
     game.advance(state, row)?;
     game.save(state)
@@ -43,26 +45,25 @@ fn run_on<G: Game>(
     requires from { from ≡ saves.old.inputs.settled + way_to saves.old to }
     requires within { from ≤ to }
     requires near { to ≤ saves.old.inputs.settled + PATH_LIMIT }
-    requires start { IsSomeAnd (held saves.old.tree start) (λ s. s.path ≡ rows_from saves.old.inputs.players saves.old.inputs.settled (way_to saves.old to)) }
+    requires start { IsSomeAnd (state_named saves.old.tree start) (λ s. s.path ≡ rows_from saves.old.inputs.players saves.old.inputs.settled (way_to saves.old to)) }
     requires fits { length saves.old.tree.states + (to - from) ≤ TREE_LIMIT }
     ensures inputs { saves.new.inputs ≡ saves.old.inputs }
     ensures room { saves.new.room ≡ saves.old.room }
     ensures paths { OnOk result (paths_of saves.new.tree ≡ paths_of saves.old.tree ++ prefixes (rows_to saves.old.inputs to) (way_to saves.old to) (to - from)) }
     ensures values { (opening : Value) → HaveValues G.snapshot_value G.step opening (timeline saves.old.inputs.players saves.old.inputs.settled) saves.old.tree.states → HaveValues G.snapshot_value G.step opening (timeline saves.old.inputs.players saves.old.inputs.settled) saves.new.tree.states }
     ensures state { IfOk result (λ state. (opening : Value) → HaveValues G.snapshot_value G.step opening (timeline saves.old.inputs.players saves.old.inputs.settled) saves.old.tree.states → G.state_value state ≡ run G.step opening (timeline saves.old.inputs.players to)) }
-    ensures turns { OnOk result (G.turn_count game.new % 2 ^ 64 ≡ (G.turn_count game.old + (to - from)) % 2 ^ 64) }
-    ensures refused { G.refusal_count game.new ≡ refusals_after (is_ok result) (G.refusal_count game.old) }
+    ensures counts { OnOk result (G.call_counts game.new ≡ rolled (to - from) (G.call_counts game.old)) }
     ensures made { IfErr result (λ made. made ≤ to - from) }
     ensures partial { IfErr result (λ made. paths_of saves.new.tree ≡ paths_of saves.old.tree ++ prefixes (rows_to saves.old.inputs to) (way_to saves.old to) made) }
-    ensures none_forgotten { IfErr result (λ made. (G.turn_count game.new % 2 ^ 64 ≡ (G.turn_count game.old + made) % 2 ^ 64) ⊎ (G.turn_count game.new % 2 ^ 64 ≡ (G.turn_count game.old + (made + 1)) % 2 ^ 64)) }
+    ensures refused { IfErr result (λ made. IsRefusedAt made (G.call_counts game.old) (G.call_counts game.new)) }
 {
-    let Ok(loaded) = game.load(saves.snapshot(start)) else {
+    let Ok(loaded) = game.load(saves.tree().get(start)) else {
         return Err(0);
     };
     let mut state = loaded;
     let mut at = start;
     for frame in from..to {
-        let row = saves.row(frame);
+        let row = saves.board().row(frame);
         let Ok(snapshot) = advance_and_save(game, &mut state, &row) else {
             return Err(frame - from);
         };
@@ -99,16 +100,15 @@ pub fn roll<G: Game>(
     ensures values { (opening : Value) → HaveValues G.snapshot_value G.step opening (timeline saves.old.inputs.players saves.old.inputs.settled) saves.old.tree.states → HaveValues G.snapshot_value G.step opening (timeline saves.old.inputs.players saves.old.inputs.settled) saves.new.tree.states }
     ensures state { IfOk result (λ rolled. (opening : Value) → HaveValues G.snapshot_value G.step opening (timeline saves.old.inputs.players saves.old.inputs.settled) saves.old.tree.states → G.state_value rolled.state ≡ run G.step opening (timeline saves.old.inputs.players to)) }
     ensures plan { OnOk result (planner.new ≡ record planner.old { last = Some (made_of saves.old.tree (rows_to saves.old.inputs to)) }) }
-    ensures turns { OnOk result (G.turn_count game.new % 2 ^ 64 ≡ (G.turn_count game.old + (to - saves.old.inputs.settled - way_to saves.old to)) % 2 ^ 64) }
-    ensures refused { G.refusal_count game.new ≡ refusals_after (is_ok result) (G.refusal_count game.old) }
+    ensures counts { OnOk result (G.call_counts game.new ≡ rolled (to - saves.old.inputs.settled - way_to saves.old to) (G.call_counts game.old)) }
     ensures made { IfErr result (λ made. made ≤ to - saves.old.inputs.settled - way_to saves.old to) }
     ensures partial { IfErr result (λ made. paths_of saves.new.tree ≡ paths_of saves.old.tree ++ prefixes (rows_to saves.old.inputs to) (way_to saves.old to) made) }
-    ensures none_forgotten { IfErr result (λ made. (G.turn_count game.new % 2 ^ 64 ≡ (G.turn_count game.old + made) % 2 ^ 64) ⊎ (G.turn_count game.new % 2 ^ 64 ≡ (G.turn_count game.old + (made + 1)) % 2 ^ 64)) }
+    ensures refused { IfErr result (λ made. IsRefusedAt made (G.call_counts game.old) (G.call_counts game.new)) }
     ensures no_plan { OnErr result (planner.new ≡ record planner.old { last = None }) }
 {
     saves.laws();
     let (start, from) = saves.deepest(to);
-    saves.plan(planner, to);
+    saves.plan(planner, from, to);
     match run_on(game, saves, start, from, to) {
         Ok(state) => Ok(Rolled { state, from }),
         Err(made) => {

@@ -1,23 +1,23 @@
 //! The timeline, and the saved states beside it.
-ghost use Rattle.std.specs.Prelude.{◌≡◌, ℕ, ◌+◌, ◌-◌, ◌≤◌, ◌<◌, ◌∷◌, ◌++◌, [], length, map, filter, drop, min, None, Some, IfOk, IfErr, OnOk, OnErr, IfSome, IsSome, IsSomeAnd, All, option_map, true, false, not, nat_lt, IsTrue, vec_capacity, if◌then◌else◌};
+ghost use Rattle.std.specs.Prelude.{◌≡◌, ◌+◌, ◌-◌, ◌≤◌, ◌<◌, ◌∷◌, ◌++◌, [], length, map, filter, drop, None, Some, IfOk, IfErr, OnOk, OnErr, IfSome, IsSomeAnd, All, true, false, nat_lt, IsTrue, vec_capacity, if◌then◌else◌};
 ghost use Rattle.std.specs.List.{list_all};
 ghost use Rattle.roll_frame.specs.Claims.{AreRowsOf};
 ghost use Rattle.roll_frame.specs.Events.{all_given};
 ghost use Rattle.roll_frame.specs.Inputs.{is_repeated, with_given, with_gone, with_none_given, with_words};
-ghost use Rattle.roll_frame.specs.Order.{in_order};
 ghost use Rattle.roll_frame.specs.Paths.{longest};
 ghost use Rattle.roll_frame.specs.Timeline.{front, row_at, timeline};
+ghost use Rattle.roll_frame.specs.declared.entry.Entry.TheVariants.{Advance as Advances};
 ghost use Rattle.roll_frame.specs.declared.row.Cell.TheVariants.{Gone};
 ghost use Rattle.roll_inputs.specs.Boards.{disconnect_refusal, local_refusal, remote_refusal, with_player};
 ghost use Rattle.roll_laws.specs.Laws.{has_no_other};
 ghost use Rattle.roll_plan.specs.Plans.{made_of};
-ghost use Rattle.roll_tree.specs.Kept.{CanGrow, held, path_of, paths_of, with_state};
+ghost use Rattle.roll_tree.specs.SavedStates.{CanGrow, state_named, paths_of, with_state};
 ghost use Rattle.roll_tree.specs.Marks.{AreSameBut};
 ghost use Rattle.roll_session.specs.Standing.{rows_from};
-ghost use Rattle.roll_session.specs.Saves.{is_told, rows_to, settled_by, settling, with_gone_only, without_other};
+ghost use Rattle.roll_session.specs.Saves.{is_told, rows_to, settled_by, settling, stepped_inputs, taken_inputs, taken_states, with_gone_only, without_other, IsFree};
 
 use arrayvec::ArrayVec;
-use roll_frame::{Cell, FRAME_LIMIT, PATH_LIMIT, Path, Refusal, Row, TREE_LIMIT};
+use roll_frame::{Cell, Entry, FRAME_LIMIT, PATH_LIMIT, Path, Refusal, Row, TREE_LIMIT};
 use roll_inputs::{Board, Heard};
 use roll_plan::Planner;
 use roll_tree::Tree;
@@ -126,6 +126,42 @@ impl<S> Saves<S> {
         cut_words(&mut self.tree, player, count);
     }
 
+    /// Takes a player's input.
+    pub fn take(&mut self, entry: &Entry)
+    where
+        S: Drop,
+        requires { IsFree self.old.inputs entry.now }
+        ensures inputs { self.new.inputs ≡ taken_inputs self.old.inputs entry.now }
+        ensures states { self.new.tree.states ≡ taken_states self.old.inputs entry.now self.old.tree.states }
+        ensures rows { timeline self.new.inputs.players self.old.inputs.settled ≡ timeline self.old.inputs.players self.old.inputs.settled }
+        ensures room { self.new.room ≡ self.old.room }
+    {
+        match entry {
+            Entry::Local { player, word } => self.give(*player, *word),
+            Entry::Remote {
+                player,
+                frame,
+                word,
+            } => self.hear(*player, *frame, *word),
+            Entry::Disconnect { player } => self.leave(*player),
+            _ => {}
+        }
+    }
+
+    /// Goes on after a roll for this entry.
+    pub fn step_on(&mut self, entry: &Entry)
+        requires given { entry.now ≡ Advances → IsTrue (all_given self.old.inputs.players) }
+        requires near { self.old.inputs.frame ≤ self.old.inputs.settled + self.old.inputs.threshold }
+        requires room { self.old.inputs.frame < self.old.room }
+        ensures inputs { self.new.inputs ≡ stepped_inputs self.old.inputs entry.now }
+        ensures tree { self.new.tree ≡ self.old.tree }
+        ensures room { self.new.room ≡ self.old.room }
+    {
+        if let Entry::Advance = entry {
+            self.next();
+        }
+    }
+
     /// Begins the next frame, with no word given.
     pub fn next(&mut self)
         requires given { IsTrue (all_given self.old.inputs.players) }
@@ -169,7 +205,7 @@ impl<S> Saves<S> {
         ensures tree { self.new.tree ≡ record self.old.tree { time = self.new.tree.time } }
         ensures told { to ≤ self.old.inputs.settled + length self.new.tree.time }
         ensures room { self.new.room ≡ self.old.room }
-        ensures node { IsSomeAnd (held self.old.tree result.0) (λ s. s.path ≡ rows_from self.old.inputs.players self.old.inputs.settled (longest (paths_of self.old.tree) (rows_to self.old.inputs to))) }
+        ensures node { IsSomeAnd (state_named self.old.tree result.0) (λ s. s.path ≡ rows_from self.old.inputs.players self.old.inputs.settled (longest (paths_of self.old.tree) (rows_to self.old.inputs to))) }
         ensures length { result.1 ≡ self.old.inputs.settled + longest (paths_of self.old.tree) (rows_to self.old.inputs to) }
         ensures within { result.1 ≤ to }
     {
@@ -187,8 +223,8 @@ impl<S> Saves<S> {
         requires few { length self.old.tree.states < TREE_LIMIT }
         ensures inputs { self.new.inputs ≡ self.old.inputs }
         ensures room { self.new.room ≡ self.old.room }
-        ensures vacant { held self.old.tree result ≡ None }
-        ensures added { IfSome (held self.old.tree parent) (λ s. self.new.tree ≡ with_state self.old.tree (record { name = result; path = s.path ++ row_at self.old.inputs.players frame ∷ []; snapshot = snapshot })) }
+        ensures vacant { state_named self.old.tree result ≡ None }
+        ensures added { IfSome (state_named self.old.tree parent) (λ s. self.new.tree ≡ with_state self.old.tree (record { name = result; path = s.path ++ row_at self.old.inputs.players frame ∷ []; snapshot = snapshot })) }
     {
         let row = self.board.row(frame);
         match self.tree.insert(parent, row, snapshot) {
@@ -197,47 +233,31 @@ impl<S> Saves<S> {
         }
     }
 
-    /// Takes down the plan of a roll to a frame, which the tree was told of.
-    pub fn plan(&self, planner: &mut Planner, to: u32)
+    /// Takes down the plan of a roll to a frame, which the tree was told of, from where its deepest state there ends.
+    pub fn plan(&self, planner: &mut Planner, start: u32, to: u32)
         requires from { self.now.inputs.settled ≤ to }
-        requires near { to ≤ self.now.inputs.settled + PATH_LIMIT }
         requires told { to ≤ self.now.inputs.settled + length self.now.tree.time }
+        requires start { start ≡ self.now.inputs.settled + longest (paths_of self.now.tree) (rows_to self.now.inputs to) }
         requires time { AreRowsOf planner.old.players (rows_to self.now.inputs to) }
         requires paths { All (AreRowsOf planner.old.players) (paths_of self.now.tree) }
         ensures { planner.new ≡ record planner.old { last = Some (made_of self.now.tree (rows_to self.now.inputs to)) } }
     {
         self.board.laws();
-        let count = (to - self.board.settled()) as usize;
-        planner.plan(&self.tree, to, &self.tree.time()[..count]);
+        planner.plan(&self.tree, start, to);
     }
 
-    /// The current frame.
-    pub fn frame(&self) -> u32
-        ensures { result ≡ self.now.inputs.frame }
+    /// The inputs.
+    pub fn board(&self) -> &Board
+        ensures { result.now ≡ self.now.inputs }
     {
-        self.board.frame()
+        &self.board
     }
 
-    /// The settled frame.
-    pub fn settled(&self) -> u32
-        ensures { result ≡ self.now.inputs.settled }
+    /// The saved states.
+    pub fn tree(&self) -> &Tree<S>
+        ensures { result.now ≡ self.now.tree }
     {
-        self.board.settled()
-    }
-
-    /// Whether each local player has given its word of this frame.
-    pub fn ready(&self) -> bool
-        ensures { result ≡ all_given self.now.inputs.players }
-    {
-        self.board.ready()
-    }
-
-    /// The timeline's row of a frame.
-    pub fn row(&self, frame: u32) -> Row
-        requires { self.now.inputs.settled ≤ frame }
-        ensures { result ≡ row_at self.now.inputs.players frame }
-    {
-        self.board.row(frame)
+        &self.tree
     }
 
     /// A settled row. None from the settled frame on.
@@ -245,42 +265,6 @@ impl<S> Saves<S> {
         ensures { result ≡ (if nat_lt frame self.now.inputs.settled then Some (row_at self.now.inputs.players frame) else None) }
     {
         self.past.get(frame).copied()
-    }
-
-    /// Why a local word would be refused now, if it would.
-    pub fn local_refusal(&self, player: u8) -> Option<Refusal>
-        ensures { result ≡ local_refusal self.now.inputs player }
-    {
-        self.board.local_refusal(player)
-    }
-
-    /// Why a disconnect would be refused now, if it would.
-    pub fn disconnect_refusal(&self, player: u8) -> Option<Refusal>
-        ensures { result ≡ disconnect_refusal self.now.inputs player }
-    {
-        self.board.disconnect_refusal(player)
-    }
-
-    /// The snapshot of a saved state.
-    pub fn snapshot(&self, node: usize) -> &S
-        requires { IsSome (held self.now.tree node) }
-        ensures { option_map (λ s. s.snapshot) (held self.now.tree node) ≡ Some result.now }
-    {
-        self.tree.get(node)
-    }
-
-    /// The snapshot of the state that the settled rows lead to.
-    pub fn root(&self) -> &S
-        ensures { IsSomeAnd (held self.now.tree self.now.tree.root) (λ s. (s.path ≡ []) × (s.snapshot ≡ result.now)) }
-    {
-        self.tree.get(self.tree.root())
-    }
-
-    /// The paths of the saved states, in their order.
-    pub fn kept(&self, alloc: Global) -> Result<Vec<Path>, AllocError>
-        ensures { IfOk result (λ paths. paths.items ≡ map (path_of self.now.inputs.settled) (in_order (paths_of self.now.tree))) }
-    {
-        self.tree.kept(alloc)
     }
 
     /// What holds of the timeline and the saved states. It does nothing.
@@ -395,6 +379,6 @@ fn append(past: &mut Vec<Row>, rows: &[Row])
     ensures capacity { vec_capacity past.old ≤ vec_capacity past.new }
 {
     for row in rows {
-        past.push(*row).unwrap();
+        past.push_reserved(*row);
     }
 }

@@ -1,25 +1,27 @@
 //! The session.
-ghost use Rattle.std.specs.Prelude.{◌≡◌, ◌≢◌, ◌≤◌, ◌<◌, ◌+◌, ◌-◌, ◌%◌, ◌^◌, ◌⊎◌, ◌∷◌, [], ◌++◌, true, false, not, map, max, length, vec_capacity, vec_len, nat_le, nat_lt, IfOk, OnOk, IfErr, OnErr, IfSome, is_none, OnSome, option_map, unwrap_or, option_copied, None, Some, if◌then◌else◌};
-ghost use Rattle.roll_cert.specs.Told.{told};
-ghost use Rattle.roll_frame.specs.Claims.{claim_of, path_from};
-ghost use Rattle.roll_frame.specs.Core.{cost, depth, kept as kept_of, settled as settled_frame};
-ghost use Rattle.roll_frame.specs.Events.{all_given as are_all_given};
-ghost use Rattle.roll_frame.specs.Inputs.{is_repeated};
+ghost use Rattle.std.specs.Prelude.{◌≡◌, ℕ, ◌≤◌, ◌<◌, ◌+◌, ◌-◌, ◌∷◌, [], ◌++◌, true, false, map, max, vec_capacity, vec_len, nat_lt, IfOk, OnOk, IfErr, OnErr, IfSome, is_none, unwrap_or, option_copied, None, Some, if◌then◌else◌};
+ghost use Rattle.roll_frame.specs.Claims.{claim_of, path_from, IsRight};
+ghost use Rattle.roll_frame.specs.Core.{depth, kept as kept_of, settled as settled_frame};
+ghost use Rattle.roll_frame.specs.Events.{answer, is_repeat, tests_of};
+ghost use Rattle.roll_frame.specs.Refusals.{first_refusal};
 ghost use Rattle.roll_frame.specs.Order.{in_order};
 ghost use Rattle.roll_frame.specs.Paths.{run as run_of};
 ghost use Rattle.roll_frame.specs.Settings.{start_refusal};
 ghost use Rattle.roll_frame.specs.Timeline.{row_at as row_of, timeline};
-ghost use Rattle.roll_frame.specs.declared.entry.Entry.TheVariants.{Local as Gives, Remote as Tells, Disconnect as Leaves, Sync as Syncs, Advance as Advances};
-ghost use Rattle.roll_game.specs.Counts.{next_count};
+ghost use Rattle.roll_game.specs.Counts.{counted};
+ghost use Rattle.roll_game.specs.declared.counts.Call.TheVariants.{Load as Loads, Copy as Copies};
+ghost use Rattle.roll_laws.specs.Sessions.{IsLog};
 ghost use Rattle.roll_session.specs.Held.{HasRoom, Shows};
 ghost use Rattle.roll_session.specs.Planned.{IsPlanOfRoll};
-ghost use Rattle.roll_session.specs.Seen.{core_of, refusal_of, with_entry, IsLeast, IsPartial};
+ghost use Rattle.roll_session.specs.Answered.{counts_by, replied, with_entries, IsAnswered, IsPartial};
+ghost use Rattle.roll_session.specs.Calls.{entry_of, event_of, heard_reply, input_reply, judged, IsAdmitted, IsAllowed, IsInput, IsRollTo};
+ghost use Rattle.roll_session.specs.Seen.{core_of, game_of, IsLeast};
+ghost use Rattle.roll_session.specs.Started.{IsGivenBack};
 
-use crate::event::{Reached, StartFault};
+use crate::event::{Call, Reached, StartFault};
 use crate::roll::{Rolled, roll};
 use crate::saves::Saves;
-use roll_cert::Claim;
-use roll_frame::{Entry, Event, Path, Refusal, Row, Settings};
+use roll_frame::{Claim, Entry, Event, Path, Refusal, Reply, Row, Settings};
 use roll_game::Game;
 use roll_inputs::{Board, Heard};
 use roll_plan::{Plan, Planner};
@@ -46,7 +48,7 @@ impl<G: Game> Model for Session<G> {
 
     ghost Value = { Seen };
 
-    ghost view = { λ s. record { settings = s.settings; opening = G.snapshot_value s.opening; log = s.log.items; turns = G.turn_count s.game; refused = G.refusal_count s.game; reserved = s.reserved } };
+    ghost view = { λ s. record { settings = s.settings; opening = G.snapshot_value s.opening; log = s.log.items; counts = G.call_counts s.game; reserved = s.reserved } };
 
     ghost invariant = { λ s. IsSession G.state_value G.snapshot_value G.step (G.snapshot_value s.opening) s.settings s.log.items s.saves s.planner s.current × HasRoom s.log s.saves s.reserved };
 }
@@ -60,11 +62,10 @@ impl<G: Game> Session<G> {
         settings: Settings,
     ) -> Result<Session<G>, StartFault<G>>
         ensures accepted { OnOk result (start_refusal settings ≡ None) }
-        ensures session { IfOk result (λ session. session ≡ record { settings = settings; opening = G.snapshot_value opening; log = []; turns = G.turn_count game; refused = G.refusal_count game; reserved = 0 }) }
+        ensures session { IfOk result (λ session. session ≡ record { settings = settings; opening = G.snapshot_value opening; log = []; counts = counted Loads true (counted Copies true (G.call_counts game)); reserved = 0 }) }
         ensures refused { IfErr result (λ fault. fault.why ≡ unwrap_or (start_refusal settings) Refusal.NoMemory) }
         ensures opening_back { IfErr result (λ fault. fault.opening ≡ opening) }
-        ensures turns_back { IfErr result (λ fault. G.turn_count fault.game ≡ G.turn_count game) }
-        ensures refused_back { IfErr result (λ fault. (G.refusal_count fault.game ≡ G.refusal_count game) ⊎ ((start_refusal settings ≡ None) × (G.refusal_count fault.game ≡ next_count (G.refusal_count game)))) }
+        ensures game_back { IfErr result (λ fault. IsGivenBack (start_refusal settings) (G.call_counts game) (G.call_counts fault.game)) }
     {
         let board = match Board::new(alloc, &settings) {
             Ok(board) => board,
@@ -98,205 +99,164 @@ impl<G: Game> Session<G> {
 
     /// The row of this frame. Rolls back where a prediction was wrong.
     pub fn synchronize_input(&mut self) -> Result<Row, Refusal>
-        ensures accepted { OnOk result (refusal_of G.step self.old Syncs ≡ None) }
-        ensures row { IfOk result (λ row. row ≡ row_of (core_of self.old).players (core_of self.old).frame) }
-        ensures log { OnOk result (self.new ≡ record (with_entry self.old Syncs) { turns = self.new.turns }) }
-        ensures turns { OnOk result (self.new.turns % 2 ^ 64 ≡ (self.old.turns + cost (core_of self.old) (core_of self.old).frame) % 2 ^ 64) }
-        ensures least { OnOk result (IsLeast (core_of self.old) (core_of self.old).frame) }
-        ensures refused { IfErr result (λ why. why ≡ unwrap_or (refusal_of G.step self.old Syncs) Refusal.NoMemory) }
-        ensures reserved { OnErr result (refusal_of G.step self.old Syncs ≡ None → (self.old.reserved ≡ 0) ⊎ IsPartial G.step self.old self.new Syncs (core_of self.old).frame) }
-        ensures left { OnErr result ((self.new ≡ self.old) ⊎ IsPartial G.step self.old self.new Syncs (core_of self.old).frame) }
+        ensures answered { IsAnswered G.step self.old self.new (event_of Call.Sync) (replied (λ row. Reply.Synchronized row) result) }
+        ensures least { IsLeast (core_of self.old) (core_of self.old).frame }
     {
-        if self.is_full() {
-            return Err(Refusal::LogFull);
-        }
-        make_room(&mut self.log, &mut self.saves, self.reserved, 1)?;
         self.saves.laws();
-        let frame = self.saves.frame();
-        let row = self.saves.row(frame);
-        match roll(&mut self.game, &mut self.saves, &mut self.planner, frame) {
-            Ok(Rolled { state, .. }) => {
-                self.saves.settle();
-                self.current = Some(state);
-                enter(&mut self.log, &mut self.reserved, Entry::Sync);
-                Ok(row)
-            }
-            Err(made) => {
-                self.saves.settle();
-                self.current = None;
-                let entry = Entry::Partial {
-                    to: frame,
-                    kept: made,
-                };
-                enter(&mut self.log, &mut self.reserved, entry);
-                Err(Refusal::NoMemory)
-            }
-        }
+        let board = self.saves.board();
+        let frame = board.frame();
+        let row = board.row(frame);
+        self.roll_to(Call::Sync, frame)?;
+        Ok(row)
     }
 
     /// The next frame. Rolls back where a prediction was wrong.
     pub fn advance_frame(&mut self) -> Result<Reached, Refusal>
-        ensures accepted { OnOk result (refusal_of G.step self.old Advances ≡ None) }
-        ensures reached { IfOk result (λ reached. reached ≡ record { frame = (core_of self.old).frame + 1; from = depth (core_of self.old) ((core_of self.old).frame + 1); rerun = cost (core_of self.old) ((core_of self.old).frame + 1) }) }
-        ensures log { OnOk result (self.new ≡ record (with_entry self.old Advances) { turns = self.new.turns }) }
-        ensures turns { OnOk result (self.new.turns % 2 ^ 64 ≡ (self.old.turns + cost (core_of self.old) ((core_of self.old).frame + 1)) % 2 ^ 64) }
-        ensures least { OnOk result (IsLeast (core_of self.old) ((core_of self.old).frame + 1)) }
-        ensures refused { IfErr result (λ why. why ≡ unwrap_or (refusal_of G.step self.old Advances) Refusal.NoMemory) }
-        ensures reserved { OnErr result (refusal_of G.step self.old Advances ≡ None → (self.old.reserved ≡ 0) ⊎ IsPartial G.step self.old self.new Advances ((core_of self.old).frame + 1)) }
-        ensures left { OnErr result ((self.new ≡ self.old) ⊎ IsPartial G.step self.old self.new Advances ((core_of self.old).frame + 1)) }
+        ensures answered { IsAnswered G.step self.old self.new (event_of Call.Advance) (replied (λ reached. Reply.Reached reached.frame reached.from reached.rerun) result) }
+        ensures least { IsLeast (core_of self.old) ((core_of self.old).frame + 1) }
     {
-        if !self.saves.ready() {
-            return Err(Refusal::LocalInputMissing);
-        }
-        if self.is_full() {
-            return Err(Refusal::LogFull);
-        }
-        make_room(&mut self.log, &mut self.saves, self.reserved, 1)?;
         self.saves.laws();
-        let next = self.saves.frame() + 1;
-        match roll(&mut self.game, &mut self.saves, &mut self.planner, next) {
-            Ok(Rolled { state, from }) => {
-                self.saves.next();
-                self.saves.settle();
-                self.current = Some(state);
-                enter(&mut self.log, &mut self.reserved, Entry::Advance);
-                Ok(Reached {
-                    frame: next,
-                    from,
-                    rerun: next - from,
-                })
-            }
-            Err(made) => {
-                self.saves.settle();
-                self.current = None;
-                let entry = Entry::Partial {
-                    to: next,
-                    kept: made,
-                };
-                enter(&mut self.log, &mut self.reserved, entry);
-                Err(Refusal::NoMemory)
-            }
-        }
+        let next = self.saves.board().frame() + 1;
+        let from = self.roll_to(Call::Advance, next)?;
+        Ok(Reached {
+            frame: next,
+            from,
+            rerun: next - from,
+        })
     }
 
     /// Gives a local player's word of this frame.
     pub fn add_local_input(&mut self, player: u8, word: u32) -> Result<(), Refusal>
-        ensures accepted { OnOk result (refusal_of G.step self.old (Gives player word) ≡ None) }
-        ensures log { OnOk result (self.new ≡ with_entry self.old (Gives player word)) }
-        ensures refused { IfErr result (λ why. why ≡ unwrap_or (refusal_of G.step self.old (Gives player word)) Refusal.NoMemory) }
-        ensures reserved { OnErr result (refusal_of G.step self.old (Gives player word) ≡ None → self.old.reserved ≡ 0) }
-        ensures unchanged { OnErr result (self.new ≡ self.old) }
+        ensures { IsAnswered G.step self.old self.new (event_of (Call.Local player word)) (replied (λ done. Reply.Done) result) }
     {
-        self.judge_local(player, word)?;
-        make_room(&mut self.log, &mut self.saves, self.reserved, 1)?;
-        self.saves.laws();
-        self.saves.give(player, word);
-        self.saves.settle();
-        let entry = Entry::Local { player, word };
-        enter(&mut self.log, &mut self.reserved, entry);
+        self.take(Call::Local { player, word })?;
         Ok(())
     }
 
     /// Takes the next word of a remote player, or sees that it was taken before.
     pub fn remote_input(&mut self, player: u8, frame: u32, word: u32) -> Result<Heard, Refusal>
-        ensures accepted { IfOk result (λ heard. heard ≡ Heard.Taken → refusal_of G.step self.old (Tells player frame word) ≡ None) }
-        ensures heard { IfOk result (λ heard. heard ≡ (if is_repeated (core_of self.old).players player frame word then Heard.Repeated else Heard.Taken)) }
-        ensures log { IfOk result (λ heard. self.new ≡ (if is_repeated (core_of self.old).players player frame word then self.old else with_entry self.old (Tells player frame word))) }
-        ensures refused { IfErr result (λ why. why ≡ unwrap_or (refusal_of G.step self.old (Tells player frame word)) Refusal.NoMemory) }
-        ensures new { OnErr result (is_repeated (core_of self.old).players player frame word ≡ false) }
-        ensures reserved { OnErr result (refusal_of G.step self.old (Tells player frame word) ≡ None → self.old.reserved ≡ 0) }
-        ensures unchanged { OnErr result (self.new ≡ self.old) }
+        ensures { IsAnswered G.step self.old self.new (event_of (Call.Remote player frame word)) (replied heard_reply result) }
     {
-        let Heard::Taken = self.judge_remote(player, frame, word)? else {
-            return Ok(Heard::Repeated);
-        };
-        make_room(&mut self.log, &mut self.saves, self.reserved, 1)?;
-        self.saves.laws();
-        self.saves.hear(player, frame, word);
-        self.saves.settle();
-        let entry = Entry::Remote {
+        self.take(Call::Remote {
             player,
             frame,
             word,
-        };
-        enter(&mut self.log, &mut self.reserved, entry);
-        Ok(Heard::Taken)
+        })
     }
 
     /// A remote player leaves.
     pub fn disconnect_player(&mut self, player: u8) -> Result<Event, Refusal>
-        ensures accepted { OnOk result (refusal_of G.step self.old (Leaves player) ≡ None) }
+        ensures answered { IsAnswered G.step self.old self.new (event_of (Call.Disconnect player)) (replied (λ event. Reply.Disconnected player) result) }
         ensures event { IfOk result (λ event. event ≡ Event.DisconnectedFromPeer player) }
-        ensures log { OnOk result (self.new ≡ with_entry self.old (Leaves player)) }
-        ensures refused { IfErr result (λ why. why ≡ unwrap_or (refusal_of G.step self.old (Leaves player)) Refusal.NoMemory) }
-        ensures reserved { OnErr result (refusal_of G.step self.old (Leaves player) ≡ None → self.old.reserved ≡ 0) }
-        ensures unchanged { OnErr result (self.new ≡ self.old) }
     {
-        self.judge_leaving(player)?;
-        make_room(&mut self.log, &mut self.saves, self.reserved, 1)?;
-        self.saves.laws();
-        self.saves.leave(player);
-        self.saves.settle();
-        let entry = Entry::Disconnect { player };
-        enter(&mut self.log, &mut self.reserved, entry);
+        self.take(Call::Disconnect { player })?;
         Ok(Event::DisconnectedFromPeer { player })
     }
 
-    /// What a remote word is answered, unless it is refused.
-    fn judge_remote(&self, player: u8, frame: u32, word: u32) -> Result<Heard, Refusal>
-        ensures heard { IfOk result (λ heard. heard ≡ (if is_repeated (core_of self.now).players player frame word then Heard.Repeated else Heard.Taken)) }
-        ensures accepted { IfOk result (λ heard. heard ≡ Heard.Taken → refusal_of G.step self.now (Tells player frame word) ≡ None) }
-        ensures new { OnErr result (is_repeated (core_of self.now).players player frame word ≡ false) }
-        ensures refused { IfErr result (λ why. refusal_of G.step self.now (Tells player frame word) ≡ Some why) }
+    /// Takes a player's input, or sees that it was taken before.
+    fn take(&mut self, call: Call) -> Result<Heard, Refusal>
+        requires input { IsInput call }
+        ensures { IsAnswered G.step self.old self.new (event_of call) (replied (λ heard. input_reply call heard) result) }
     {
-        match self.saves.remote_reply(player, frame, word) {
+        match self.admit(call)? {
+            Heard::Taken => {
+                self.take_in(call);
+                Ok(Heard::Taken)
+            }
+            Heard::Repeated => Ok(Heard::Repeated),
+        }
+    }
+
+    /// Rolls to the call's frame, and says where the roll started.
+    fn roll_to(&mut self, call: Call, to: u32) -> Result<u32, Refusal>
+        requires to { IsRollTo (core_of self.old) call to }
+        ensures answered { IsAnswered G.step self.old self.new (event_of call) (replied (λ from. answer (core_of self.old) (entry_of call)) result) }
+        ensures from { IfOk result (λ from. from ≡ depth (core_of self.old) to) }
+        ensures within { IfOk result (λ from. from ≤ to) }
+        ensures least { IsLeast (core_of self.old) to }
+    {
+        self.laws();
+        self.admit(call)?;
+        self.roll_on(call, to)
+    }
+
+    /// Judges a call, and makes sure that there is room for its entry.
+    fn admit(&mut self, call: Call) -> Result<Heard, Refusal>
+        ensures heard { IfOk result (λ heard. IsAdmitted G.step self.old self.new call heard) }
+        ensures refused { IfErr result (λ why. IsAnswered G.step self.old self.new (event_of call) (Reply.Refused why)) }
+    {
+        match self.judge(call) {
+            Ok(Heard::Taken) => {
+                self.reserve_log(1)?;
+                Ok(Heard::Taken)
+            }
             Ok(Heard::Repeated) => Ok(Heard::Repeated),
-            Ok(Heard::Taken) if self.is_full() => Err(Refusal::LogFull),
-            Ok(Heard::Taken) => Ok(Heard::Taken),
             Err(why) => Err(why),
         }
     }
 
-    /// Whether a remote player may leave.
-    fn judge_leaving(&self, player: u8) -> Result<(), Refusal>
-        ensures accepted { OnOk result (refusal_of G.step self.now (Leaves player) ≡ None) }
-        ensures refused { IfErr result (λ why. refusal_of G.step self.now (Leaves player) ≡ Some why) }
+    /// What the rules say of a call, apart from a full log.
+    fn judge(&self, call: Call) -> Result<Heard, Refusal>
+        ensures { result ≡ judged (is_repeat (core_of self.now) (entry_of call)) (first_refusal (tests_of self.now.settings (game_of G.step self.now) (core_of self.now) [] (entry_of call))) }
     {
-        match self.saves.disconnect_refusal(player) {
-            Some(why) => Err(why),
-            None => self.judge_log(),
-        }
+        let board = self.saves.board();
+        let refusal = match call {
+            Call::Local { player, .. } => board.local_refusal(player),
+            Call::Remote {
+                player,
+                frame,
+                word,
+            } => return self.saves.remote_reply(player, frame, word),
+            Call::Disconnect { player } => board.disconnect_refusal(player),
+            Call::Advance if !board.ready() => Some(Refusal::LocalInputMissing),
+            Call::Sync | Call::Advance => None,
+        };
+        refusal.map_or(Ok(Heard::Taken), Err)
     }
 
-    /// Whether a local player may give a word now.
-    fn judge_local(&self, player: u8, word: u32) -> Result<(), Refusal>
-        ensures accepted { OnOk result (refusal_of G.step self.now (Gives player word) ≡ None) }
-        ensures refused { IfErr result (λ why. refusal_of G.step self.now (Gives player word) ≡ Some why) }
+    /// Takes a player's input that the rules accept.
+    fn take_in(&mut self, call: Call)
+        requires input { IsInput call }
+        requires allowed { IsAllowed G.step self.old call }
+        requires room { 1 ≤ self.old.reserved }
+        ensures { self.new ≡ with_entries self.old (entry_of call ∷ []) self.old.counts }
     {
-        match self.saves.local_refusal(player) {
-            Some(why) => Err(why),
-            None => self.judge_log(),
-        }
+        self.saves.laws();
+        let entry = call.entry();
+        self.saves.take(&entry);
+        self.saves.settle();
+        enter(&mut self.log, &mut self.reserved, entry);
     }
 
-    /// Whether the log has room for an event.
-    fn judge_log(&self) -> Result<(), Refusal>
-        ensures room { OnOk result (nat_le self.now.settings.log (core_of self.now).logged ≡ false) }
-        ensures full { OnErr result (nat_le self.now.settings.log (core_of self.now).logged ≡ true) }
-        ensures why { IfErr result (λ why. why ≡ Refusal.LogFull) }
+    /// Rolls to the frame of a call that the rules accept, and says where the roll started.
+    fn roll_on(&mut self, call: Call, to: u32) -> Result<u32, Refusal>
+        requires to { IsRollTo (core_of self.old) call to }
+        requires allowed { IsAllowed G.step self.old call }
+        requires room { 1 ≤ self.old.reserved }
+        ensures entered { OnOk result (self.new ≡ with_entries self.old (entry_of call ∷ []) (counts_by (core_of self.old) (entry_of call) self.old.counts)) }
+        ensures from { IfOk result (λ from. from ≡ depth (core_of self.old) to) }
+        ensures within { IfOk result (λ from. from ≤ to) }
+        ensures cut { OnErr result (IsPartial self.old self.new to) }
+        ensures why { IfErr result (λ why. why ≡ Refusal.NoMemory) }
     {
-        if self.is_full() {
-            Err(Refusal::LogFull)
-        } else {
-            Ok(())
+        self.saves.laws();
+        match roll(&mut self.game, &mut self.saves, &mut self.planner, to) {
+            Ok(Rolled { state, from }) => {
+                let entry = call.entry();
+                self.saves.step_on(&entry);
+                self.saves.settle();
+                self.current = Some(state);
+                enter(&mut self.log, &mut self.reserved, entry);
+                Ok(from)
+            }
+            Err(made) => {
+                self.saves.settle();
+                self.current = None;
+                let cut = Entry::Partial { to, made };
+                enter(&mut self.log, &mut self.reserved, cut);
+                Err(Refusal::NoMemory)
+            }
         }
-    }
-
-    /// Whether the log has room for no event.
-    fn is_full(&self) -> bool
-        ensures { result ≡ nat_le self.now.settings.log (core_of self.now).logged }
-    {
-        self.log.len() >= self.settings.log as usize
     }
 
     /// Makes room for so many more events: while the game refuses nothing, none of them is refused for want of memory.
@@ -321,6 +281,14 @@ impl<G: Game> Session<G> {
         Ok(())
     }
 
+    /// The log is one that events of a session that starts leave: so each law of `roll_laws` holds of the session's core.
+    pub fn laws(&self)
+        ensures log { IsLog self.now.settings (game_of G.step self.now) self.now.log }
+        ensures least { (m : ℕ) → IsLeast (core_of self.now) m }
+    {
+        self.saves.laws();
+    }
+
     /// The accepted events.
     pub fn log(&self) -> &[Entry]
         ensures { result.now ≡ self.now.log }
@@ -332,7 +300,7 @@ impl<G: Game> Session<G> {
     pub fn frame(&self) -> u32
         ensures { result ≡ (core_of self.now).frame }
     {
-        self.saves.frame()
+        self.saves.board().frame()
     }
 
     /// The state that is shown.
@@ -346,7 +314,7 @@ impl<G: Game> Session<G> {
     pub fn settled(&self) -> usize
         ensures { result ≡ settled_frame (core_of self.now) }
     {
-        self.saves.settled() as usize
+        self.saves.board().settled() as usize
     }
 
     /// A settled row: it never changes. None from the settled frame on.
@@ -360,7 +328,8 @@ impl<G: Game> Session<G> {
     pub fn settled_state(&self) -> &G::Snapshot
         ensures { G.snapshot_value result.now ≡ run_of G.step self.now.opening (timeline (core_of self.now).players (settled_frame (core_of self.now))) }
     {
-        self.saves.root()
+        let tree = self.saves.tree();
+        tree.get(tree.root())
     }
 
     /// The plan of the last roll. None at first, and after a roll that the game refused, until one succeeds.
@@ -377,7 +346,8 @@ impl<G: Game> Session<G> {
     ///
     /// `NoPlan` where there is no last plan, else `NoMemory` where the allocator has no room.
     pub fn claim(&self, alloc: Global) -> Result<Claim, Refusal>
-        ensures claim { IfOk result (λ claim. IfSome (core_of self.now).last (λ roll. told claim ≡ claim_of self.now.settings.players roll)) }
+        ensures claim { IfOk result (λ claim. IfSome (core_of self.now).last (λ roll. claim ≡ claim_of self.now.settings.players roll)) }
+        ensures right { IfOk result (λ claim. IsRight claim) }
         ensures made { OnOk result (is_none (core_of self.now).last ≡ false) }
         ensures refused { IfErr result (λ why. why ≡ (if is_none (core_of self.now).last then Refusal.NoPlan else Refusal.NoMemory)) }
     {
@@ -393,15 +363,15 @@ impl<G: Game> Session<G> {
         ensures kept { IfOk result (λ paths. paths.items ≡ map (path_from (settled_frame (core_of self.now))) (in_order (kept_of (core_of self.now)))) }
         ensures refused { IfErr result (λ why. why ≡ Refusal.NoMemory) }
     {
-        Ok(self.saves.kept(alloc)?)
+        self.saves.laws();
+        Ok(self.saves.tree().kept(alloc)?)
     }
 
     /// Takes the session apart.
     pub fn into_parts(self) -> Parts<G>
         ensures opening { G.snapshot_value result.opening ≡ self.opening }
         ensures shown { Shows G.state_value G.step self.opening (core_of self).shown result.shown }
-        ensures turns { G.turn_count result.game ≡ self.turns }
-        ensures refused { G.refusal_count result.game ≡ self.refused }
+        ensures counts { G.call_counts result.game ≡ self.counts }
     {
         Parts {
             game: self.game,
@@ -412,8 +382,7 @@ impl<G: Game> Session<G> {
 
     /// The game, as it was handed in or advanced since.
     pub fn game(&self) -> &G
-        ensures turns { G.turn_count result.now ≡ self.now.turns }
-        ensures refused { G.refusal_count result.now ≡ self.now.refused }
+        ensures { G.call_counts result.now ≡ self.now.counts }
     {
         &self.game
     }
@@ -438,7 +407,7 @@ fn make_room<S>(
         return Ok(());
     }
     log.reserve(events as usize)?;
-    let rows = saves.frame() as usize + events as usize;
+    let rows = saves.board().frame() as usize + events as usize;
     saves.reserve(rows)
 }
 
@@ -450,7 +419,7 @@ fn enter(log: &mut Vec<Entry>, reserved: &mut u32, entry: Entry)
     ensures capacity { vec_capacity log.old ≤ vec_capacity log.new }
     ensures reserved { reserved.new ≡ reserved.old - 1 }
 {
-    log.push(entry).unwrap();
+    log.push_reserved(entry);
     *reserved = reserved.saturating_sub(1);
 }
 

@@ -6,12 +6,12 @@ use Rattle.roll_cli.proofs.engine.push_output.Goals as goal
 
 pub returns-in-Ok-clause-written : goal.returns-in-Ok-clause-written
 returns-in-Ok-clause-written g c =
-    let whole = written_started g.G.Shown.text_of g.G.Game.step c.in-Ok.session c.args.commands.now c.args.settings (g.G.RawGame.snapshot_value c.args.opening) (g.G.RawGame.turn_count c.args.game) (g.G.RawGame.refusal_count c.args.game) c.in-Ok.ensures.session c.in-Ok.ensures.accepted in
+    let whole = written_started g.G.Shown.text_of g.G.Game.step c.in-Ok.session c.args.commands.now c.args.settings (g.G.RawGame.snapshot_value c.args.opening) _ c.in-Ok.ensures.session c.in-Ok.ensures.accepted in
     on_ok_weaker c.push_replies.result (λ h. h ∙ ap (λ t. c.args.out.now.items ++ t) whole) c.push_replies.ensures.written
 
 pub returns-in-Ok-clause-refused : goal.returns-in-Ok-clause-refused
 returns-in-Ok-clause-refused g c =
-    let whole = refusals_started g.G.Game.step c.in-Ok.session c.args.commands.now c.args.settings (g.G.RawGame.snapshot_value c.args.opening) (g.G.RawGame.turn_count c.args.game) (g.G.RawGame.refusal_count c.args.game) c.in-Ok.ensures.session c.in-Ok.ensures.accepted in
+    let whole = refusals_started g.G.Game.step c.in-Ok.session c.args.commands.now c.args.settings (g.G.RawGame.snapshot_value c.args.opening) _ c.in-Ok.ensures.session c.in-Ok.ensures.accepted in
     IfOk-weaker c.push_replies.result _ _ (λ refused h. h ∙ whole) c.push_replies.ensures.refused
 
 pub returns-in-Err-clause-written : goal.returns-in-Err-clause-written

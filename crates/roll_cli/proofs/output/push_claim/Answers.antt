@@ -1,5 +1,4 @@
 use Rattle.std.proofs.Common.{◌∙◌, ◌++◌, sym, ap}
-use Rattle.roll_cert.specs.Told.{told}
 use Rattle.roll_session.specs.Seen.{core_of}
 use Rattle.roll_cli.proofs.Claimed.{claimed, no_roll_made, unclaimed}
 use Rattle.roll_cli.proofs.output.push_claim.Goals as goal
@@ -9,7 +8,7 @@ returns-in_ok-extend_from_slice-in-Ok-clause-written g c =
     c.in_ok-extend_from_slice-in-Ok.ensures.items
     ∙ ap (λ t. c.args.out.now.items ++ t)
     (c.deref.ensures.value ∙ c.in_ok-text-in-Ok.ensures
-    ∙ claimed c.args.session.now.settings (core_of c.args.session.now) (told c.in-Ok.claim) c.in-Ok.ensures.claim c.in-Ok.ensures.made)
+    ∙ claimed c.args.session.now.settings (core_of c.args.session.now) c.in-Ok.claim c.in-Ok.ensures.claim c.in-Ok.ensures.made)
 
 pub returns-in_ok-push_reply-in-Err-NoPlan-clause-written : goal.returns-in_ok-push_reply-in-Err-NoPlan-clause-written
 returns-in_ok-push_reply-in-Err-NoPlan-clause-written g c =

@@ -4,7 +4,6 @@ use Rattle.std.proofs.lemmas.Grind.{common_steps}
 use Rattle.roll_frame.specs.Games.{Value, Game}
 use Rattle.roll_session.specs.Seen.{Seen, core_of, game_of}
 use Rattle.roll_cli.specs.Output.{after_command}
-use Rattle.roll_cli.proofs.Asked.{as_many_players}
 use Rattle.roll_cli.proofs.Written.{one_counted, one_written}
 use Rattle.roll_cli.proofs.output.push_replies.Goals as goal
 use Rattle.roll_cli.proofs.output.push_replies.Goals.{then-branch, else-branch}
@@ -27,7 +26,6 @@ loop-command-preserved g c =
     record {
       settings = e.settings ∙ now.settings;
       opening = e.opening ∙ now.opening;
-      players = rw (core, as_many_players first.settings game (core_of old) c.command-item.result) now.players;
       written = one_written g.G.Shown.text_of first.settings game (core_of old) (core_of new) c.command-item.result _ _ c.loop-command.out.items c.push_played.new.out.items _ rest (e.written ∙ rw (now.settings, same_game) refl) core now.written;
       counted = one_counted first.settings game (core_of old) (core_of new) c.command-item.result _ _ c.loop-command.refused c.if-branch.refused _ c.in_ok-push_played.field-0 rest (e.refused ∙ rw (now.settings, same_game) refl) count core now.counted;
       few = elim c.if-branch.branch [ then-branch w ↦ omega (arith, w.refused-is, now.few) | else-branch w ↦ omega (arith, w.refused-is, now.few) ];

@@ -1,5 +1,4 @@
-use Rattle.std.proofs.Common.{◌≡◌, ◌≤◌, ◌+◌, ◌++◌, drop, length}
-use Rattle.roll_frame.specs.declared.limits.TheConstants.{PLAYER_LIMIT}
+use Rattle.std.proofs.Common.{◌≡◌, ◌≤◌, ◌+◌, ◌++◌, drop}
 use Rattle.roll_session.specs.Seen.{core_of, game_of}
 use Rattle.roll_cli.specs.Output.{refusals_from, written_from}
 use Rattle.roll_cli.proofs.output.push_replies.Given as goal
@@ -9,7 +8,6 @@ abbrev pub invariant-loop-command : goal.invariant-loop-command
 invariant-loop-command g l = record {
   settings : l.session.settings ≡ l.fn.session.settings;
   opening : l.session.opening ≡ l.fn.session.opening;
-  players : length (core_of l.session).players ≤ PLAYER_LIMIT;
   written : l.out.items ++ written_from g.G.Shown.text_of l.fn.session.settings (game_of g.G.Game.step l.fn.session) (core_of l.session) (drop l.command-index l.commands)
       ≡ l.fn.out.items ++ written_from g.G.Shown.text_of l.fn.session.settings (game_of g.G.Game.step l.fn.session) (core_of l.fn.session) l.commands;
   counted : l.refused + refusals_from l.fn.session.settings (game_of g.G.Game.step l.fn.session) (core_of l.session) (drop l.command-index l.commands)

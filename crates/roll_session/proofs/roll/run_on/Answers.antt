@@ -1,15 +1,14 @@
-use Rattle.std.proofs.Common.{◌≡◌, ◌-◌, ◌%◌, ◌^◌, ◌∙◌, ℕ, ap, arith}
+use Rattle.std.proofs.Common.{◌≡◌, suc, ◌+◌, ◌-◌, refl, arith}
 use Rattle.roll_frame.specs.declared.limits.TheConstants.{TREE_LIMIT}
-use Rattle.roll_session.proofs.Rolling.{can_grow, one_turn, still_few, way_more, way_start}
+use Rattle.roll_session.proofs.Rolling.{can_grow, still_few, way_more, way_start}
 use Rattle.roll_session.proofs.roll.run_on.Goals as goal
 
 pub loop-frame-init : goal.loop-frame-init
 loop-frame-init g c =
     let none : c.args.from - c.args.from ≡ 0 = omega arith in
     record {
-      way = way_start g.G.RawGame.snapshot_value g.G.Game.step c.args.saves.now c.args.from c.args.to c.requires.from c.args.start c.snapshot.result.now (g.G.RawGame.state_value c.in-Ok.loaded) c.requires.within c.requires.base c.requires.start c.snapshot.ensures c.in-Ok.ensures.value;
-      turns = rw (none, c.in-Ok.ensures.turns) (ap (λ (n : ℕ). n % 2 ^ 64) (omega arith));
-      refused = c.in-Ok.ensures.refused;
+      way = way_start g.G.RawGame.snapshot_value g.G.Game.step c.args.saves.now c.args.from c.args.to c.requires.from c.args.start c.get.result.now (g.G.RawGame.state_value c.in-Ok.loaded) c.requires.within c.requires.base c.requires.start (rw c.tree.ensures at c.get.ensures) c.in-Ok.ensures.value;
+      counts = rw none c.in-Ok.ensures.counts;
     }
 
 pub grow-at-requires-clause-fits : goal.grow-at-requires-clause-fits
@@ -26,7 +25,8 @@ loop-frame-preserved g c =
     record {
       way =
           way_more g.G.RawGame.snapshot_value g.G.Game.step c.args.saves.now c.args.from c.args.to c.requires.from c.loop-frame.saves c.grow-at.new.self c.loop-frame.frame c.loop-frame.at c.grow-at.result (g.G.RawGame.state_value c.loop-frame.state) (g.G.RawGame.state_value c.advance_and_save.new.state)
-          c.in-Ok-advance_and_save.snapshot c.row-row.result now.way (omega (arith, c.loop-frame-test.true)) c.row-row.ensures c.in-Ok-advance_and_save.ensures.state c.in-Ok-advance_and_save.ensures.snapshot c.grow-at.ensures.inputs c.grow-at.ensures.room c.grow-at.ensures.vacant c.grow-at.ensures.added;
-      turns = one_turn _ (g.G.RawGame.turn_count c.loop-frame.game) _ c.args.from c.loop-frame.frame now.way.low now.turns c.advance_and_save.ensures.turns;
-      refused = c.in-Ok-advance_and_save.ensures.refused ∙ now.refused;
+          c.in-Ok-advance_and_save.snapshot c.row-row.result now.way (omega (arith, c.loop-frame-test.true)) (rw c.board.ensures at c.row-row.ensures) c.in-Ok-advance_and_save.ensures.state c.in-Ok-advance_and_save.ensures.snapshot c.grow-at.ensures.inputs c.grow-at.ensures.room c.grow-at.ensures.vacant c.grow-at.ensures.added;
+      counts =
+          let one : c.loop-frame.frame + 1 - c.args.from ≡ suc (c.loop-frame.frame - c.args.from) = omega (arith, now.way.low) in
+          rw (one, c.in-Ok-advance_and_save.ensures.counts, now.counts) refl;
     }

@@ -1,8 +1,9 @@
 use Rattle.std.proofs.Common.{◌≡◌, ◌∙◌, ℕ, List, sym, ap, arith, length, Bor}
 use Rattle.std.proofs.lemmas.List.{length-map}
 use Rattle.roll_text.specs.Numbers.{list_of}
+use Rattle.roll_text.proofs.Joined.{text_at}
 use Rattle.roll_cli.specs.Headers.{header_fields}
-use Rattle.roll_cli.proofs.Headings.{fields_with, text_at, version_read, with_masks, without_masks}
+use Rattle.roll_cli.proofs.Headings.{fields_with, version_read, with_masks, without_masks}
 use Rattle.roll_cli.proofs.header.Header.from_fields.Goals as goal
 
 pub returns-in-len10-clause-complete : goal.returns-in-len10-clause-complete

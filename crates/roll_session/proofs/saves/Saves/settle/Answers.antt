@@ -2,8 +2,8 @@ use Rattle.std.proofs.Common.{◌≡◌, ◌+◌, ◌-◌, ◌∙◌, ◌++◌, 
 use Rattle.roll_frame.specs.Cells.{Rows}
 use Rattle.roll_frame.specs.Paths.{begins_with, longest}
 use Rattle.roll_frame.specs.Timeline.{front}
-use Rattle.roll_laws.proofs.Saved.{length_timeline}
-use Rattle.roll_tree.specs.Kept.{Kept, Saved, later, paths_of}
+use Rattle.roll_tree.specs.SavedStates.{SavedStates, Saved, later, paths_of}
+use Rattle.roll_frame.proofs.Timelines.{length_timeline}
 use Rattle.roll_session.specs.Saves.{Standing, rows_to, settled_by, settling}
 use Rattle.roll_session.specs.Standing.{rows_from}
 use Rattle.roll_session.proofs.Rows.{length-rows_from}
@@ -57,14 +57,14 @@ invariant_of-self g c =
     let long = ap length rows ∙ length-rows_from i.board.players i.board.settled n in
     let k = length c.reach.new.tree.time in
     let long' = length-rows_from i.board.players i.board.settled n in
-    let base : c.reach.new.tree.base ≡ i.board.settled = ap (λ (t : Kept g.row.S.Denot). t.base) c.reach.ensures.same ∙ c.self.invariant.base in
+    let base : c.reach.new.tree.base ≡ i.board.settled = ap (λ (t : SavedStates g.row.S.Denot). t.base) c.reach.ensures.same ∙ c.self.invariant.base in
     let tree = settled_at c.reach.new.tree c.settle_at.new.self c.deepest-node.result.0 (rows_from i.board.players i.board.settled n) deep.path c.settle_at.ensures in
     settled_step i (record { board = c.settle.new.self; past = c.append.new.past; tree = c.settle_at.new.self }) n k c.self.invariant
     (c.settle.ensures ∙ ap (λ m. record i.board { settled = m }) deep.end_is)
     (c.append.ensures.items ∙ ap (λ (q : Rows). i.past.items ++ q) rows)
     c.append.ensures.capacity
-    (ap (λ (t : Kept g.row.S.Denot). t.base) tree ∙ omega (arith, base, long'))
-    (ap (λ (t : Kept g.row.S.Denot). t.time) tree ∙ (ap (λ m. drop m c.reach.new.tree.time) long' ∙ ap (drop n) c.reach.ensures.told))
+    (ap (λ (t : SavedStates g.row.S.Denot). t.base) tree ∙ omega (arith, base, long'))
+    (ap (λ (t : SavedStates g.row.S.Denot). t.time) tree ∙ (ap (λ m. drop m c.reach.new.tree.time) long' ∙ ap (drop n) c.reach.ensures.told))
 
 pub returns-clause-inputs : goal.returns-clause-inputs
 returns-clause-inputs g c =
@@ -86,10 +86,10 @@ returns-clause-states g c =
     let to : c.min-to.result ≡ min (front i.board.players) i.board.frame = c.min-to.ensures ∙ rw (c.front.ensures, c.frame.ensures) refl in
     let long' = length-rows_from i.board.players i.board.settled n in
     let tree = settled_at c.reach.new.tree c.settle_at.new.self c.deepest-node.result.0 (rows_from i.board.players i.board.settled n) deep.path c.settle_at.ensures in
-    let same = ap (λ (t : Kept g.row.S.Denot). t.states) c.reach.ensures.same in
+    let same = ap (λ (t : SavedStates g.row.S.Denot). t.states) c.reach.ensures.same in
     let states = i.tree.states in
     rw (← c.self.view_is)
-    (ap (λ (t : Kept g.row.S.Denot). t.states) tree
+    (ap (λ (t : SavedStates g.row.S.Denot). t.states) tree
     ∙ (ap (λ (ss : List (Saved g.row.S.Denot)). map (later (length (rows_from i.board.players i.board.settled n))) (filter (λ (s : Saved g.row.S.Denot). begins_with s.path (rows_from i.board.players i.board.settled n)) ss)) same
     ∙ (ap (λ m. map (later m) (filter (λ (s : Saved g.row.S.Denot). begins_with s.path (rows_from i.board.players i.board.settled n)) states)) long'
     ∙ ap (λ m. map (later (longest (paths_of i.tree) (rows_to i.board m))) (filter (λ (s : Saved g.row.S.Denot). begins_with s.path (rows_from i.board.players i.board.settled (longest (paths_of i.tree) (rows_to i.board m)))) states)) to)))

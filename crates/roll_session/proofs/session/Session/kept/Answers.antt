@@ -1,8 +1,10 @@
+use Rattle.std.proofs.Common.{◌≡◌, ◌∙◌, map}
+use Rattle.roll_frame.specs.Order.{in_order}
+use Rattle.roll_tree.specs.SavedStates.{path_of, paths_of}
 use Rattle.roll_session.proofs.Holding.{session_kept}
 use Rattle.roll_session.proofs.session.Session.kept.Goals as goal
 
-pub returns : goal.returns
-returns g c =
-    let s = c.self.inside in
-    let same = session_kept g.G.RawGame.state_value g.G.RawGame.snapshot_value g.G.Game.step (g.G.RawGame.snapshot_value s.opening) s.settings s.log.items s.saves s.planner s.current c.self.invariant.0 in
-    rw (← c.self.view_is, ← same) (record { kept = c.in_ok-kept.ensures; refused = tt })
+pub returns-clause-kept : goal.returns-clause-kept
+returns-clause-kept g c =
+    let listed : c.in_ok-kept.field-0.items ≡ map (path_of c.tree.result.now.base) (in_order (paths_of c.tree.result.now)) = c.in_ok-kept.ensures in
+    rw (← c.self.view_is) ((rw (c.tree.ensures, c.laws.ensures.base) at listed) ∙ session_kept c.self.invariant.0)

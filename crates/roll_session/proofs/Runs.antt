@@ -1,0 +1,88 @@
+-- What lists of events, and of calls, make of a session.
+use Rattle.std.proofs.Common.{◌≡◌, ℕ, ◌+◌, ◌-◌, ◌<◌, length, take, get_or, List, [], ◌∷◌, ◌++◌, refl, ap, sym, ◌∙◌, subst, arith, append-nil, length-append, true, false, Some, None}
+use Rattle.std.proofs.lemmas.List.{append_assoc, map-append, take_more}
+use Rattle.roll_frame.specs.Core.{Core}
+use Rattle.roll_frame.specs.Events.{CoreEvent, after, answer, is_accepted, is_repeat, log_from, played_from}
+use Rattle.roll_frame.specs.Games.{Game}
+use Rattle.roll_frame.specs.declared.entry.Entry.{Entry}
+use Rattle.roll_frame.specs.declared.refusal.Refusal.{Refusal}
+use Rattle.roll_frame.specs.declared.reply.Reply.{Reply}
+use Rattle.roll_frame.specs.declared.reply.Reply.TheVariants.{Refused, Repeated}
+use Rattle.roll_frame.specs.declared.settings.Settings.{Settings}
+use Rattle.roll_game.specs.declared.counts.Counts.{Counts}
+use Rattle.roll_laws.proofs.Appended.{log_from-append, played_from-append, replies_from-append}
+use Rattle.roll_laws.proofs.Glue.{replay-push}
+use Rattle.roll_session.specs.Answered.{counts_by, counts_from, replies_to, with_entries, IsPlayed, IsReplied}
+use Rattle.roll_session.specs.Calls.{event_of, events_of}
+use Rattle.roll_session.specs.Seen.{Step, Seen, core_of, game_of, plain, refusal_of}
+use Rattle.roll_session.specs.declared.event.Call.{Call}
+
+counts_from-append : (settings : Settings) (game : Game) (core : Core) (events more : List CoreEvent) (counts : Counts)
+    → counts_from settings game core (events ++ more) counts ≡ counts_from settings game (played_from settings game core events) more (counts_from settings game core events counts)
+counts_from-append settings game core [] more counts = refl
+counts_from-append settings game core (first ∷ events) more counts = counts_from-append settings game (after settings game core first) events more _
+
+-- no entry was added
+none_added : (s : Seen) → s ≡ with_entries s [] s.counts
+none_added s = let same : s.reserved ≡ s.reserved - 0 = omega arith in λ i. record s { log = sym (append-nil s.log) i; reserved = same i }
+
+-- no event came
+pub played_none : (step : Step) (s : Seen) → IsPlayed step s s []
+played_none step s = record { seen = none_added s; core = refl }
+
+-- one event came, which was accepted, or wasn't
+played_one : (step : Step) (old new : Seen) (event : CoreEvent) → is_accepted old.settings (game_of step old) (core_of old) event ≡ true → new ≡ with_entries old (event.entry ∷ []) (counts_by (core_of old) event.entry old.counts) → IsPlayed step old new (event ∷ [])
+played_one step old new event e h = record { seen = rw e h; core = rw e (ap core_of h ∙ replay-push old.settings old.log event.entry) }
+
+played_not : (step : Step) (s : Seen) (event : CoreEvent) → is_accepted s.settings (game_of step s) (core_of s) event ≡ false → IsPlayed step s s (event ∷ [])
+played_not step s event e = record { seen = rw e (none_added s); core = rw e refl }
+
+module _ (step : Step) (old : Seen) (entry : Entry) where
+  pub replied_accepted : (new : Seen) → is_repeat (core_of old) entry ≡ false → refusal_of step old entry ≡ None → new ≡ with_entries old (entry ∷ []) (counts_by (core_of old) entry old.counts) → IsReplied step old new (plain entry) (answer (core_of old) entry)
+  replied_accepted new fresh fine h =
+      record { said_is = rw (fresh, fine) refl; played = played_one step old new (plain entry) (rw (fresh, fine) refl) h }
+
+  pub replied_refused : (why : Refusal) → is_repeat (core_of old) entry ≡ false → refusal_of step old entry ≡ Some why → IsReplied step old old (plain entry) (Refused why)
+  replied_refused why fresh tested = record { said_is = rw (fresh, tested) refl; played = played_not step old (plain entry) (rw (fresh, tested) refl) }
+
+  pub replied_repeated : is_repeat (core_of old) entry ≡ true → IsReplied step old old (plain entry) Repeated
+  replied_repeated again = record { said_is = rw again refl; played = played_not step old (plain entry) (rw again refl) }
+
+-- some events came, and then more
+pub played_more : (step : Step) (old mid new : Seen) (events more : List CoreEvent) → IsPlayed step old mid events → IsPlayed step mid new more → IsPlayed step old new (events ++ more)
+played_more step old mid new events more a b =
+    let settings : mid.settings ≡ old.settings = ap (λ (s : Seen). s.settings) a.seen in
+    let opening : mid.opening ≡ old.opening = ap (λ (s : Seen). s.opening) a.seen in
+    let game : Game = game_of step old in
+    let core : Core = played_from old.settings game (core_of old) events in
+    let first : List Entry = log_from old.settings game (core_of old) events in
+    let rest : List Entry = log_from old.settings game core more in
+    let log : log_from mid.settings (game_of step mid) (core_of mid) more ≡ rest = rw (a.core, settings, opening) refl in
+    let counts : counts_from mid.settings (game_of step mid) (core_of mid) more mid.counts ≡ counts_from old.settings game core more mid.counts = rw (a.core, settings, opening) refl in
+    let asked : Counts = counts_from old.settings game core more (counts_from old.settings game (core_of old) events old.counts) in
+    record {
+      seen = b.seen
+          ∙ (λ i. with_entries mid (log i) (counts i))
+          ∙ ap (λ (m : Seen). with_entries m rest (counts_from old.settings game core more m.counts)) a.seen
+          ∙ (λ i. record old { log = append_assoc old.log first rest i; counts = asked; reserved = less first rest i })
+          ∙ (λ i. with_entries old (sym (log_from-append old.settings game (core_of old) events more) i) (sym (counts_from-append old.settings game (core_of old) events more old.counts) i));
+      core = b.core ∙ rw (a.core, settings, opening) (sym (played_from-append old.settings game (core_of old) events more));
+    }
+  where
+    less : (xs ys : List Entry) → old.reserved - length xs - length ys ≡ old.reserved - length (xs ++ ys)
+    less xs ys = let n = length-append xs ys in omega (arith, n)
+
+-- some calls were made, and one more
+module _ (step : Step) (old mid new : Seen) (calls : List Call) (k : ℕ) (d : Call) (within : k < length calls) (said : Reply) (made : IsPlayed step old mid (events_of (take k calls))) (one : IsReplied step mid new (event_of (get_or calls k d)) said) where
+  next_events : events_of (take (k + 1) calls) ≡ events_of (take k calls) ++ event_of (get_or calls k d) ∷ []
+  next_events = ap events_of (take_more calls k d within) ∙ map-append event_of (take k calls) (get_or calls k d ∷ [])
+
+  pub played_push : IsPlayed step old new (events_of (take (k + 1) calls))
+  played_push = subst (IsPlayed step old new) (sym next_events) (played_more step old mid new (events_of (take k calls)) (event_of (get_or calls k d) ∷ []) made one.played)
+
+  pub replies_push : replies_to step old (events_of (take (k + 1) calls)) ≡ replies_to step old (events_of (take k calls)) ++ said ∷ []
+  replies_push =
+      let settings : mid.settings ≡ old.settings = ap (λ (s : Seen). s.settings) made.seen in
+      let opening : mid.opening ≡ old.opening = ap (λ (s : Seen). s.opening) made.seen in
+      ap (replies_to step old) next_events ∙ replies_from-append old.settings (game_of step old) (core_of old) (events_of (take k calls)) (event_of (get_or calls k d) ∷ [])
+      ∙ ap (λ (r : Reply). replies_to step old (events_of (take k calls)) ++ r ∷ []) (sym (one.said_is ∙ rw (made.core, settings, opening) refl))
