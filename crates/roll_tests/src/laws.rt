@@ -1,0 +1,32 @@
+//! What whoever holds a session knows of it by the laws, without its fields.
+ghost use Rattle.std.specs.Prelude.{◌≡◌, ◌≤◌, ◌+◌, ℕ, Some, OnOk, length, vec_capacity, vec_len};
+ghost use Rattle.roll_frame.specs.Core.{kept, settled};
+ghost use Rattle.roll_frame.specs.declared.row.Cell.{Cell};
+ghost use Rattle.roll_laws.specs.Laws.{known_cell, most_kept};
+ghost use Rattle.roll_session.specs.Seen.{core_of};
+
+use roll_frame::Reply;
+use roll_game::{Game, NoMemory};
+use roll_session::{Call, Session};
+
+/// A session keeps few states, whatever was asked of it.
+pub fn keeps_few<G: Game>(session: &Session<G>)
+    ensures { length (kept (core_of session.now)) ≤ most_kept session.now.settings.profile }
+{
+    session.laws();
+}
+
+/// Makes the calls. The settled frame doesn't fall, and each cell that is known stays as it is, so a settled row does.
+pub fn goes_on<G: Game>(
+    session: &mut Session<G>,
+    calls: &[Call],
+    replies: &mut Vec<Reply>,
+) -> Result<(), NoMemory>
+    requires { vec_len replies.old + length calls.now ≤ vec_capacity replies.old }
+    ensures settled { OnOk result (settled (core_of session.old) ≤ settled (core_of session.new)) }
+    ensures known { OnOk result ((place t : ℕ) (cell : Cell) → known_cell (core_of session.old).players place t ≡ Some cell → known_cell (core_of session.new).players place t ≡ Some cell) }
+{
+    session.laws();
+    session.run(calls, replies)?;
+    Ok(())
+}
