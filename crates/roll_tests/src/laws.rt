@@ -16,7 +16,7 @@ pub fn keeps_few<G: Game>(session: &Session<G>)
     session.laws();
 }
 
-/// Makes the calls. The settled frame doesn't fall, and each cell that is known stays as it is, so a settled row does.
+/// Makes the calls. The settled frame doesn't fall, and each cell that is known stays as it is.
 pub fn goes_on<G: Game>(
     session: &mut Session<G>,
     calls: &[Call],
