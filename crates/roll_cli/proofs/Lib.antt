@@ -8,3 +8,4 @@ pub mod Written
 pub mod Claimed
 pub mod Played
 pub mod Starts
+pub mod Ended

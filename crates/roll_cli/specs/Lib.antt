@@ -6,3 +6,4 @@ pub mod Output
 pub mod Calls
 pub mod Faults
 pub mod Certified
+pub mod Programs

@@ -20,6 +20,7 @@ use Rattle.roll_frame.specs.declared.refusal.Refusal.TheVariants.{PlayerOutOfRan
 use Rattle.roll_frame.specs.declared.reply.Reply.{Reply}
 use Rattle.roll_frame.specs.declared.reply.Reply.TheVariants.{Refused, Done, Taken, Repeated, Disconnected, Synchronized, Reached, Grafted}
 use Rattle.roll_frame.specs.declared.settings.Settings.{Settings}
+use Rattle.roll_game.specs.Tally.{tally_step}
 use Rattle.roll_session.specs.Seen.{plain}
 use Rattle.roll_text.specs.Lines.{ended, text_of}
 use Rattle.roll_cli.specs.declared.command.Command.{Command}
@@ -114,6 +115,9 @@ output texts game play = output_under texts (settings_of play.setup) game play.c
 
 abbrev pub refusals : Game → Play → ℕ
 refusals game play = refusals_under (settings_of play.setup) game play.commands
+
+abbrev pub tally_game : Game
+tally_game = record { opening = 0 ∷ []; step = tally_step }
 
 -- the ship duel has as many ships as the script players
 abbrev pub duel_game : ℕ → Game

@@ -1,9 +1,9 @@
 //! Claims that are checked, from a reader to a writer.
-ghost use Rattle.std.specs.Prelude.{◌≡◌, ◌≢◌, ◌⊎◌, ◌+◌, ◌++◌, ℕ, List, Err, IfErr, IfOk, IfSome, OnOk, string_bytes};
+ghost use Rattle.std.specs.Prelude.{◌≡◌, ◌≢◌, ◌⊎◌, ◌+◌, ◌++◌, ℕ, Bool, List, Err, IfErr, IfOk, IfSome, OnOk, string_bytes};
 ghost use Rattle.std.specs.Io.KnownBytes.{Appends};
 ghost use Rattle.roll_frame.specs.Claims.{IsRight};
 ghost use Rattle.roll_text.specs.Lines.{ended, text_of};
-ghost use Rattle.roll_text.specs.Streams.{IsBadAt};
+ghost use Rattle.roll_text.specs.Streams.{AppendsPart, IsBadAt};
 ghost use Rattle.roll_text.specs.declared.streams.TheConstants.{TEXT_LIMIT};
 ghost use Rattle.roll_cert.specs.Texts.{IsClaimText, IsSized, claim_lines};
 ghost use Rattle.roll_cli.specs.Certified.{IsAnswer, IsCertified, right_line, wrong_line};
@@ -30,7 +30,8 @@ pub fn certify<R: Read, W: Write>(
     ensures written { IfOk result (λ right. IfSome (R.remaining reader.old) (λ text.
         (written : List ℕ) × IsCertified text written right × Appends (W.contents writer.old) (W.contents writer.new) written)) }
     ensures unreadable { (line : ℕ) → result ≡ Err (Unreadable line) → IfSome (R.remaining reader.old) (IsBadAt IsClaimText line) }
-    ensures readable { result ≡ Err CannotWrite → IfSome (R.remaining reader.old) IsClaimText }
+    ensures cut { result ≡ Err CannotWrite → IfSome (R.remaining reader.old) (λ text.
+        (whole : List ℕ) × (right : Bool) × IsCertified text whole right × AppendsPart (W.contents writer.old) (W.contents writer.new) whole) }
     ensures untouched { IfErr result (λ fault. (fault ≡ CannotWrite) ⊎ (writer.new ≡ writer.old)) }
     ensures taken { TakesAtMost (TEXT_LIMIT + 1) (R.remaining reader.old) (R.remaining reader.new) }
 {
@@ -66,6 +67,7 @@ fn fault(why: Refusal) -> PlayFault
 /// Writes the answer to a claim at once.
 fn write_answer<W: Write>(alloc: Global, writer: &mut W, claim: &Claim) -> Result<bool, PlayFault>
     ensures written { IfOk result (λ right. (line : List ℕ) × IsAnswer claim.now right line × Appends (W.contents writer.old) (W.contents writer.new) (ended line)) }
+    ensures cut { result ≡ Err CannotWrite → (right : Bool) × (line : List ℕ) × IsAnswer claim.now right line × AppendsPart (W.contents writer.old) (W.contents writer.new) (ended line) }
     ensures fault { IfErr result (λ fault. (fault ≡ CannotWrite) ⊎ ((fault ≡ NoMemory) × (writer.new ≡ writer.old))) }
 {
     let mut out = String::new(alloc);

@@ -2,7 +2,7 @@
 ghost use Rattle.std.specs.Prelude.{◌≡◌, ◌≢◌, ◌⊎◌, ◌<◌, ◌+◌, ◌^◌, ◌++◌, ℕ, List, Err, IfErr, IfOk, IfSome, OnOk, length};
 ghost use Rattle.std.specs.Io.KnownBytes.{Appends};
 ghost use Rattle.roll_text.specs.Lines.{ended, text_of as text_of_lines};
-ghost use Rattle.roll_text.specs.Streams.{IsBadAt};
+ghost use Rattle.roll_text.specs.Streams.{AppendsPart, IsBadAt};
 ghost use Rattle.roll_text.specs.declared.streams.TheConstants.{TEXT_LIMIT};
 ghost use Rattle.roll_cli.specs.Faults.{TakesAtMost};
 ghost use Rattle.roll_cli.specs.Output.{IsOutput, duel_output, duel_refusals, output, output_under, refusals, refusals_under, refused_line};
@@ -19,22 +19,40 @@ use roll_game::NoMemory as GameFault;
 use roll_session::Session;
 use roll_text::{ReadFault, WriteFault, read_all, write_all};
 use std::alloc::{AllocError, Global};
+use std::error::Error;
+use std::fmt::{self, Display, Formatter};
 use std::io::{Read, Write};
-use thiserror::Error;
 
-/// Why a script was not played to its end.
-#[derive(Clone, Copy, Debug, PartialEq, Eq, Error)]
+/// Why a text was not played or certified to its end.
+#[derive(Clone, Copy, Debug, PartialEq, Eq)]
 pub enum PlayFault {
     /// The first line that can't be read, counted from 1; 0 where the text is too long.
-    #[error("unreadable: line {0}")]
     Unreadable(u64),
-    #[error("out of memory")]
+    /// A growth was refused. Nothing was written.
     NoMemory,
-    #[error("cannot read")]
+    /// The reader failed, if only because it was interrupted. Nothing was written.
     Read,
-    #[error("cannot write")]
+    /// The writer failed, if only because it was interrupted, or took nothing, with a part of the output unwritten.
     Write,
 }
+
+impl Display for PlayFault {
+    ghost use Rattle.std.specs.Prelude.{Some};
+    ghost use Rattle.roll_cli.specs.Faults.{fault_text};
+
+    ghost output = { λ fault. Some (fault_text fault) };
+
+    fn fmt<W: fmt::Write>(&self, f: &mut Formatter<W>) -> fmt::Result {
+        match self {
+            PlayFault::Unreadable(line) => write!(f, "unreadable: line {line}"),
+            PlayFault::NoMemory => f.write_str("out of memory"),
+            PlayFault::Read => f.write_str("cannot read"),
+            PlayFault::Write => f.write_str("cannot write"),
+        }
+    }
+}
+
+impl Error for PlayFault {}
 
 impl From<AllocError> for PlayFault {
     ghost from_gives = { λ _ fault. fault ≡ NoMemory };
@@ -105,7 +123,8 @@ pub fn play<G: Shown + Drop, R: Read, W: Write>(
     ensures written { IfOk result (λ refused. IfSome (R.remaining reader.old) (λ text.
         (written : List ℕ) × IsOutput (output G.text_of (record { opening = G.snapshot_value opening; step = G.step })) (refusals (record { opening = G.snapshot_value opening; step = G.step })) text written refused × Appends (W.contents writer.old) (W.contents writer.new) written)) }
     ensures unreadable { (line : ℕ) → result ≡ Err (Unreadable line) → IfSome (R.remaining reader.old) (IsBadAt IsScript line) }
-    ensures readable { result ≡ Err CannotWrite → IfSome (R.remaining reader.old) IsScript }
+    ensures cut { result ≡ Err CannotWrite → IfSome (R.remaining reader.old) (λ text.
+        (whole : List ℕ) × (refused : ℕ) × IsOutput (output G.text_of (record { opening = G.snapshot_value opening; step = G.step })) (refusals (record { opening = G.snapshot_value opening; step = G.step })) text whole refused × AppendsPart (W.contents writer.old) (W.contents writer.new) whole) }
     ensures untouched { IfErr result (λ fault. (fault ≡ CannotWrite) ⊎ (writer.new ≡ writer.old)) }
     ensures taken { TakesAtMost (TEXT_LIMIT + 1) (R.remaining reader.old) (R.remaining reader.new) }
 {
@@ -123,7 +142,8 @@ pub fn play_duel<R: Read, W: Write>(
     ensures written { IfOk result (λ refused. IfSome (R.remaining reader.old) (λ text.
         (written : List ℕ) × IsOutput duel_output duel_refusals text written refused × Appends (W.contents writer.old) (W.contents writer.new) written)) }
     ensures unreadable { (line : ℕ) → result ≡ Err (Unreadable line) → IfSome (R.remaining reader.old) (IsBadAt IsScript line) }
-    ensures readable { result ≡ Err CannotWrite → IfSome (R.remaining reader.old) IsScript }
+    ensures cut { result ≡ Err CannotWrite → IfSome (R.remaining reader.old) (λ text.
+        (whole : List ℕ) × (refused : ℕ) × IsOutput duel_output duel_refusals text whole refused × AppendsPart (W.contents writer.old) (W.contents writer.new) whole) }
     ensures untouched { IfErr result (λ fault. (fault ≡ CannotWrite) ⊎ (writer.new ≡ writer.old)) }
     ensures taken { TakesAtMost (TEXT_LIMIT + 1) (R.remaining reader.old) (R.remaining reader.new) }
 {
@@ -157,6 +177,7 @@ fn write_played<G: Shown + Drop, W: Write>(
     requires few { length script.now.commands.items < 2 ^ 32 }
     ensures written { OnOk result (Appends (W.contents writer.old) (W.contents writer.new) (output G.text_of (record { opening = G.snapshot_value opening; step = G.step }) (play_of script.now))) }
     ensures refused { IfOk result (λ refused. refused ≡ refusals (record { opening = G.snapshot_value opening; step = G.step }) (play_of script.now)) }
+    ensures cut { result ≡ Err CannotWrite → AppendsPart (W.contents writer.old) (W.contents writer.new) (output G.text_of (record { opening = G.snapshot_value opening; step = G.step }) (play_of script.now)) }
     ensures fault { IfErr result (λ fault. (fault ≡ CannotWrite) ⊎ ((fault ≡ NoMemory) × (writer.new ≡ writer.old))) }
 {
     let mut out = Vec::new(alloc);
@@ -172,6 +193,7 @@ fn write_duel<W: Write>(alloc: Global, writer: &mut W, script: &Script) -> Resul
     requires few { length script.now.commands.items < 2 ^ 32 }
     ensures written { OnOk result (Appends (W.contents writer.old) (W.contents writer.new) (duel_output (play_of script.now))) }
     ensures refused { IfOk result (λ refused. refused ≡ duel_refusals (play_of script.now)) }
+    ensures cut { result ≡ Err CannotWrite → AppendsPart (W.contents writer.old) (W.contents writer.new) (duel_output (play_of script.now)) }
     ensures fault { IfErr result (λ fault. (fault ≡ CannotWrite) ⊎ ((fault ≡ NoMemory) × (writer.new ≡ writer.old))) }
 {
     let Ok(duel) = Duel::new(alloc, script.header.players as u8) else {
@@ -189,6 +211,7 @@ fn write_not_started<W: Write>(
 ) -> Result<u32, PlayFault>
     ensures written { OnOk result (Appends (W.contents writer.old) (W.contents writer.new) (ended (refused_line why))) }
     ensures refused { IfOk result (λ refused. refused ≡ 1) }
+    ensures cut { result ≡ Err CannotWrite → AppendsPart (W.contents writer.old) (W.contents writer.new) (ended (refused_line why)) }
     ensures fault { IfErr result (λ fault. (fault ≡ CannotWrite) ⊎ ((fault ≡ NoMemory) × (writer.new ≡ writer.old))) }
 {
     let mut out = Vec::new(alloc);

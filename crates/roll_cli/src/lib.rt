@@ -6,6 +6,7 @@ mod command;
 mod engine;
 mod header;
 mod output;
+mod program;
 mod script;
 mod shown;
 
@@ -13,5 +14,6 @@ pub use certificate::certify;
 pub use command::Command;
 pub use engine::{PlayFault, play, play_duel};
 pub use header::{Header, Version};
+pub use program::{Ending, GameName, Task, run};
 pub use script::{Script, ScriptFault};
 pub use shown::Shown;

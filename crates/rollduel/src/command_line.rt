@@ -5,6 +5,7 @@ ghost use Rattle.rollduel.specs.Requests.{IsGame, IsInput, IsTask};
 
 use crate::help;
 use clap::{Arg, ArgMatches, Command, Error};
+use roll_cli::{GameName, Task};
 use std::alloc::{AllocError, Global};
 
 /// What is to be done with a text.
@@ -12,14 +13,6 @@ use std::alloc::{AllocError, Global};
 pub struct Request<'a> {
     pub input: Input<'a>,
     pub task: Task,
-}
-
-#[derive(Clone, Copy, Debug, PartialEq, Eq)]
-pub enum Task {
-    /// The text is a script, to be played with this game.
-    Play(Game),
-    /// The text is a claim, to be checked.
-    Certify,
 }
 
 /// Where the text is.
@@ -30,12 +23,6 @@ pub enum Input<'a> {
     File(&'a str),
 }
 
-#[derive(Clone, Copy, Debug, PartialEq, Eq)]
-pub enum Game {
-    Tally,
-    Duel,
-}
-
 /// Reads the words, of which the first is the program's name. The error is a fault of usage, or help that was asked
 /// for.
 pub fn read<'a>(alloc: Global, words: &'a [String]) -> Result<Request<'a>, Error> {
@@ -44,7 +31,7 @@ pub fn read<'a>(alloc: Global, words: &'a [String]) -> Result<Request<'a>, Error
         Some((name, found)) => Ok(request_of(name, found)),
         None => Ok(Request {
             input: Input::Standard,
-            task: Task::Play(Game::Tally),
+            task: Task::Play(GameName::Tally),
         }),
     }
 }
@@ -78,12 +65,12 @@ fn input_of<'a>(found: &ArgMatches<'a>) -> Input<'a>
     }
 }
 
-fn game_of(found: &ArgMatches<'_>) -> Game
+fn game_of(found: &ArgMatches<'_>) -> GameName
     ensures { IsGame (first_value (found_of found.now) (codes "game")) result }
 {
     match found.get_str(GAME) {
-        Some("duel") => Game::Duel,
-        _ => Game::Tally,
+        Some("duel") => GameName::Duel,
+        _ => GameName::Tally,
     }
 }
 

@@ -1,5 +1,6 @@
-use crate::command_line::{self, Game, Input, Request, Task};
+use crate::command_line::{self, Input, Request};
 use clap::error::ErrorKind;
+use roll_cli::{GameName, Task};
 use std::alloc::{AllocError, Global};
 use std::test::Fail;
 
@@ -16,8 +17,8 @@ fn words(alloc: Global, line: &str) -> Result<Vec<String>, AllocError> {
 fn reads_requests(rt: HostRuntime) -> Result<(), Fail> {
     let alloc = rt.alloc();
     let file = Input::File("a.roll");
-    let tally = Task::Play(Game::Tally);
-    let duel = Task::Play(Game::Duel);
+    let tally = Task::Play(GameName::Tally);
+    let duel = Task::Play(GameName::Duel);
     let lines = [
         ("rollduel", Input::Standard, tally),
         ("rollduel play a.roll", file, tally),

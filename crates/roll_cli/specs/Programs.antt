@@ -1,0 +1,43 @@
+-- What the program does with a text, and how it ends.
+use Rattle.std.specs.Prelude.{◌≡◌, ◌==◌, ℕ, List, Bool, if◌then◌else◌, Option, Some, None, ⊤}
+use Rattle.std.specs.Io.KnownBytes.{Appends}
+use Rattle.roll_cert.specs.Texts.{IsClaimText}
+use Rattle.roll_text.specs.Streams.{AppendsPart, IsBadAt}
+use Rattle.roll_cli.specs.declared.engine.PlayFault.{PlayFault}
+use Rattle.roll_cli.specs.declared.engine.PlayFault.TheVariants.{Unreadable, NoMemory, Read, Write}
+use Rattle.roll_cli.specs.declared.program.Ending.{Ending}
+use Rattle.roll_cli.specs.declared.program.GameName.TheVariants.{Tally, Duel}
+use Rattle.roll_cli.specs.declared.program.Task.{Task}
+use Rattle.roll_cli.specs.declared.program.Task.TheVariants.{Play, Certify}
+use Rattle.roll_cli.specs.Certified.{IsCertified}
+use Rattle.roll_cli.specs.Output.{IsOutput, output, refusals, tally_game, duel_output, duel_refusals}
+use Rattle.roll_cli.specs.Plays.{IsScript}
+use Rattle.roll_cli.specs.Shown.{tally_text}
+
+-- the texts that a task can read
+abbrev pub IsReadable : Task → List ℕ → Type 0
+IsReadable (Play game) text = IsScript text
+IsReadable Certify text = IsClaimText text
+
+-- what a task writes of a text that it can read, and whether all is well: no reply is a refusal, or the claim
+-- is right
+abbrev pub IsDone : Task → List ℕ → List ℕ → Bool → Type 0
+IsDone (Play Tally) text written well = (refused : ℕ) × IsOutput (output tally_text tally_game) (refusals tally_game) text written refused × (well ≡ (refused == 0))
+IsDone (Play Duel) text written well = (refused : ℕ) × IsOutput duel_output duel_refusals text written refused × (well ≡ (refused == 0))
+IsDone Certify text written well = IsCertified text written well
+
+-- a fault of a task: a line is named that can't be read, and a writer that failed has a front of what is to be
+-- written, but not all of it
+abbrev pub IsFault : Task → List ℕ → Option (List ℕ) → Option (List ℕ) → PlayFault → Type 0
+IsFault task text old new (Unreadable line) = IsBadAt (IsReadable task) line text
+IsFault task text old new NoMemory = ⊤
+IsFault task text old new Read = ⊤
+IsFault task text old new Write = (written : List ℕ) × (well : Bool) × IsDone task text written well × AppendsPart old new written
+
+-- how the program ends for a task and a text, where these bytes were written before and after
+abbrev pub EndsBy : Task → List ℕ → Option (List ℕ) → Option (List ℕ) → ℕ → Option PlayFault → Type 0
+EndsBy task text old new status None = (written : List ℕ) × (well : Bool) × IsDone task text written well × Appends old new written × (status ≡ (if well then 0 else 1))
+EndsBy task text old new status (Some fault) = (status ≡ 2) × IsFault task text old new fault
+
+abbrev pub Ends : Task → List ℕ → Option (List ℕ) → Option (List ℕ) → Ending → Type 0
+Ends task text old new ending = EndsBy task text old new ending.status ending.fault

@@ -1,0 +1,134 @@
+//! What the program does with a text, and how it ends.
+ghost use Rattle.std.specs.Prelude.{◌≡◌, ◌⊎◌, ◌+◌, ◌==◌, ℕ, List, Err, IfErr, IfOk, IfSome, None, Some};
+ghost use Rattle.std.specs.Io.KnownBytes.{Appends};
+ghost use Rattle.roll_text.specs.Streams.{AppendsPart, IsBadAt};
+ghost use Rattle.roll_text.specs.declared.streams.TheConstants.{TEXT_LIMIT};
+ghost use Rattle.roll_cli.specs.Faults.{TakesAtMost};
+ghost use Rattle.roll_cli.specs.Output.{IsOutput, output, refusals, tally_game};
+ghost use Rattle.roll_cli.specs.Plays.{IsScript};
+ghost use Rattle.roll_cli.specs.Programs.{Ends, IsDone, IsFault};
+ghost use Rattle.roll_cli.specs.Shown.{tally_text};
+ghost use Rattle.roll_cli.specs.declared.engine.PlayFault.TheVariants.{Unreadable, Write as CannotWrite};
+ghost use Rattle.roll_cli.specs.declared.program.Task.TheVariants.{Play};
+
+use crate::certificate::certify;
+use crate::engine::{PlayFault, play, play_duel};
+use roll_game::Tally;
+use std::alloc::Global;
+use std::io::{Read, Write};
+
+/// What is to be done with a text.
+#[derive(Clone, Copy, Debug, PartialEq, Eq)]
+pub enum Task {
+    /// The text is a script, to be played with this game.
+    Play(GameName),
+    /// The text is a claim, to be checked.
+    Certify,
+}
+
+/// The games that a script can be played with.
+#[derive(Clone, Copy, Debug, PartialEq, Eq)]
+pub enum GameName {
+    Tally,
+    Duel,
+}
+
+/// How the program ends.
+#[derive(Clone, Copy, Debug, PartialEq, Eq)]
+pub struct Ending {
+    /// The exit status: 0; 1 where a reply was a refusal or a claim isn't right; 2 after a fault.
+    pub status: u8,
+    /// What is told on standard error.
+    pub fault: Option<PlayFault>,
+}
+
+impl From<PlayFault> for Ending {
+    ghost use Rattle.std.specs.Prelude.{◌≡◌, Some};
+
+    ghost from_gives = { λ fault ending. ending ≡ record { status = 2; fault = Some fault } };
+
+    fn from(fault: PlayFault) -> Ending {
+        Ending {
+            status: 2,
+            fault: Some(fault),
+        }
+    }
+}
+
+/// Does what a task asks for with the text that a reader holds, and answers how the program ends.
+///
+/// At most 1,048,577 bytes are read. Nothing is written unless the whole text can be read.
+pub fn run<R: Read, W: Write>(alloc: Global, task: Task, reader: &mut R, writer: &mut W) -> Ending
+    ensures ends { IfSome (R.remaining reader.old) (λ text. Ends task text (W.contents writer.old) (W.contents writer.new) result) }
+    ensures status { IfSome result.fault (λ fault. result.status ≡ 2) }
+    ensures untouched { IfSome result.fault (λ fault. (fault ≡ CannotWrite) ⊎ (writer.new ≡ writer.old)) }
+    ensures taken { TakesAtMost (TEXT_LIMIT + 1) (R.remaining reader.old) (R.remaining reader.new) }
+{
+    match perform(alloc, task, reader, writer) {
+        Ok(true) => Ending {
+            status: 0,
+            fault: None,
+        },
+        Ok(false) => Ending {
+            status: 1,
+            fault: None,
+        },
+        Err(fault) => Ending::from(fault),
+    }
+}
+
+/// Whether all is well: no reply is a refusal, or the claim is right.
+fn perform<R: Read, W: Write>(
+    alloc: Global,
+    task: Task,
+    reader: &mut R,
+    writer: &mut W,
+) -> Result<bool, PlayFault>
+    ensures done { IfOk result (λ well. IfSome (R.remaining reader.old) (λ text.
+        (written : List ℕ) × IsDone task text written well × Appends (W.contents writer.old) (W.contents writer.new) written)) }
+    ensures fault { IfErr result (λ fault. IfSome (R.remaining reader.old) (λ text. IsFault task text (W.contents writer.old) (W.contents writer.new) fault)) }
+    ensures untouched { IfErr result (λ fault. (fault ≡ CannotWrite) ⊎ (writer.new ≡ writer.old)) }
+    ensures taken { TakesAtMost (TEXT_LIMIT + 1) (R.remaining reader.old) (R.remaining reader.new) }
+{
+    match task {
+        Task::Play(game) => play_named(alloc, game, reader, writer),
+        Task::Certify => certify(alloc, reader, writer),
+    }
+}
+
+/// Plays a script with the game of this name, and answers whether no reply is a refusal.
+fn play_named<R: Read, W: Write>(
+    alloc: Global,
+    game: GameName,
+    reader: &mut R,
+    writer: &mut W,
+) -> Result<bool, PlayFault>
+    ensures done { IfOk result (λ well. IfSome (R.remaining reader.old) (λ text.
+        (written : List ℕ) × IsDone (Play game) text written well × Appends (W.contents writer.old) (W.contents writer.new) written)) }
+    ensures fault { IfErr result (λ fault. IfSome (R.remaining reader.old) (λ text. IsFault (Play game) text (W.contents writer.old) (W.contents writer.new) fault)) }
+    ensures untouched { IfErr result (λ fault. (fault ≡ CannotWrite) ⊎ (writer.new ≡ writer.old)) }
+    ensures taken { TakesAtMost (TEXT_LIMIT + 1) (R.remaining reader.old) (R.remaining reader.new) }
+{
+    let refused = match game {
+        GameName::Tally => play_tally(alloc, reader, writer)?,
+        GameName::Duel => play_duel(alloc, reader, writer)?,
+    };
+    Ok(refused == 0)
+}
+
+fn play_tally<R: Read, W: Write>(
+    alloc: Global,
+    reader: &mut R,
+    writer: &mut W,
+) -> Result<u32, PlayFault>
+    ensures written { IfOk result (λ refused. IfSome (R.remaining reader.old) (λ text.
+        (written : List ℕ) × IsOutput (output tally_text tally_game) (refusals tally_game) text written refused × Appends (W.contents writer.old) (W.contents writer.new) written)) }
+    ensures unreadable { (line : ℕ) → result ≡ Err (Unreadable line) → IfSome (R.remaining reader.old) (IsBadAt IsScript line) }
+    ensures cut { result ≡ Err CannotWrite → IfSome (R.remaining reader.old) (λ text.
+        (whole : List ℕ) × (refused : ℕ) × IsOutput (output tally_text tally_game) (refusals tally_game) text whole refused × AppendsPart (W.contents writer.old) (W.contents writer.new) whole) }
+    ensures untouched { IfErr result (λ fault. (fault ≡ CannotWrite) ⊎ (writer.new ≡ writer.old)) }
+    ensures taken { TakesAtMost (TEXT_LIMIT + 1) (R.remaining reader.old) (R.remaining reader.new) }
+{
+    let (game, helper) = (Tally::new(), Tally::new());
+    play(alloc, reader, writer, game, Tally::opening(), helper)
+}
