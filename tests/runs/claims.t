@@ -117,3 +117,16 @@ Texts that can't be read: the line of each is named, and nothing else is written
   $ certify 'rollcert 2\nplayers 5\nbase 0\nfrom 0\ntime 1\n1,0,0,0,2\nkept 1\n-\ndiffers 0\n\n'
   rollduel: unreadable: line 10
   [2]
+
+A text that is as long as can be, and one that is too long.
+
+  $ { echo 'rollcert 1'; head -c 1048565 /dev/zero | tr '\0' ' '; } > long
+  $ wc -c < long
+  1048576
+  $ rollduel certify long
+  rollduel: unreadable: line 2
+  [2]
+  $ echo >> long
+  $ rollduel certify long
+  rollduel: unreadable: line 0
+  [2]

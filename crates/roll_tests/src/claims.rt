@@ -1,4 +1,4 @@
-//! Claims: the greatest ones, the words of their flaws, and texts that come back as they were.
+//! Claims: the greatest ones, and texts that come back as they were.
 use crate::examples::{AHEAD, row};
 use crate::shared::{FIVE, path};
 use roll_cert::{Flaw, check, read, write};
@@ -62,21 +62,6 @@ fn checks_more_states_than_a_tree_has(rt: HostRuntime) -> Result<(), Fail> {
 }
 
 #[test]
-fn prints_flaws(rt: HostRuntime) -> Result<(), Fail> {
-    for (flaw, text) in [
-        (Flaw::Shape, "shape"),
-        (Flaw::FromNotKept, "from not kept"),
-        (Flaw::Range(0), "range 0"),
-        (Flaw::Equal(1), "equal 1"),
-        (Flaw::Twice(20), "twice 20"),
-        (Flaw::Missing(255), "missing 255"),
-    ] {
-        assert_eq!(rt; format!(in rt.alloc(); "{flaw}")?.as_str(), text);
-    }
-    Ok(())
-}
-
-#[test]
 fn checks_wide_claims_a_thousand_times(rt: HostRuntime) -> Result<(), Fail> {
     let claim = widest(rt.alloc(), 256)?;
     let start = Instant::now(&rt)?;
@@ -108,5 +93,15 @@ fn writes_what_was_read(rt: HostRuntime) -> Result<(), Fail> {
     ] {
         assert_eq!(rt; rewritten(rt.alloc(), text)?.as_slice(), text);
     }
+    Ok(())
+}
+
+#[test]
+fn writes_the_greatest_claim_as_it_was(rt: HostRuntime) -> Result<(), Fail> {
+    let claim = widest(rt.alloc(), 256)?;
+    let text = write(rt.alloc(), &claim)?;
+    assert!(rt; text.len() > 255 * 24 * b"1,3 ".len());
+    assert_eq!(rt; check(&read(rt.alloc(), &text)?), Ok(()));
+    assert_eq!(rt; rewritten(rt.alloc(), &text)?.as_slice(), text.as_slice());
     Ok(())
 }

@@ -6,8 +6,6 @@
 #![tactic(auto)]
 
 #[cfg(test)]
-mod certify;
-#[cfg(test)]
 mod claims;
 #[cfg(test)]
 mod duel;
@@ -20,7 +18,9 @@ mod growths;
 #[cfg(test)]
 mod laws;
 #[cfg(test)]
-mod scripts;
+mod messages;
+#[cfg(test)]
+mod program;
 #[cfg(test)]
 mod session;
 #[cfg(test)]

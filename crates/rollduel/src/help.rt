@@ -8,8 +8,8 @@ under way: it predicts them, and where a prediction turns out wrong, it goes bac
 frames again. A script stands for the players and the network, so that this can be followed line
 by line. Without a command a script is read from standard input, and the game is tally.
 
-A claim says of one rollback that none could have run fewer frames. It can be checked without
-the session that made it: `rollduel certify --help` tells how.";
+A claim says of one rollback that none from a saved state that it lists would have run fewer
+frames. It can be checked without the session that made it: `rollduel certify --help` tells how.";
 
 pub const PLAY: &str = "Plays a script, and prints what the session answers to each line";
 
@@ -61,8 +61,9 @@ pub const CERTIFY: &str = "Checks the claim of a rollback, and prints whether it
 pub const CLAIM: &str = "\
 A rollback starts from a saved state and runs frames up to some frame. The fewer frames it runs the
 better, so it should start from the longest saved path that agrees with the inputs by now. A claim
-is the proof that it did: it lists the inputs, all paths of saved states, and for each longer path
-a place where it differs from the inputs. Its lines are:
+is the proof that it did: it lists the inputs, the paths of saved states, and for each longer path
+a place where it differs from the inputs. It speaks of the paths that it lists; a claim that `C`
+prints in a script lists all that were kept. Its lines are:
 
   rollcert 1         2 where there are 5 to 8 players
   players P
