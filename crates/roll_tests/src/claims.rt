@@ -2,6 +2,7 @@
 use crate::examples::{AHEAD, row};
 use crate::shared::{FIVE, path};
 use roll_cert::{Flaw, check, read, write};
+use roll_cli::certify;
 use roll_frame::{Claim, Differ, Items, PATH_LIMIT, Refusal};
 use std::alloc::Global;
 use std::test::Fail;
@@ -103,5 +104,9 @@ fn writes_the_greatest_claim_as_it_was(rt: HostRuntime) -> Result<(), Fail> {
     assert!(rt; text.len() > 255 * 24 * b"1,3 ".len());
     assert_eq!(rt; check(&read(rt.alloc(), &text)?), Ok(()));
     assert_eq!(rt; rewritten(rt.alloc(), &text)?.as_slice(), text.as_slice());
+    let mut out: Vec<u8> = Vec::new(rt.alloc());
+    let right = certify(rt.alloc(), &mut text.as_slice(), &mut out);
+    assert_eq!(rt; right, Ok(true));
+    assert_eq!(rt; out.as_slice(), b"yes: from 0 to 24 rerun 24\n".as_slice());
     Ok(())
 }
