@@ -1,6 +1,7 @@
 -- Two ships are the same if the numbers of both are.
 use Rattle.std.proofs.Common.{◌≡◌, Bool, true, false, eqb, int_eq, refl, subst}
 use Rattle.std.specs.Prelude.{◌&&◌, Decides}
+use Rattle.std.proofs.lemmas.Bool.{and_parts}
 use Rattle.std.proofs.lemmas.Bool.Decides.{Decides-eqb, Decides-int_eq}
 use Rattle.roll_duel.specs.declared.ship.Ship.{Ship}
 
@@ -8,18 +9,14 @@ abbrev pub ship_eq : Ship → Ship → Bool
 ship_eq a b =
     eqb a.x b.x && (eqb a.y b.y && (int_eq a.vx b.vx && (int_eq a.vy b.vy && (eqb a.heading b.heading && (eqb a.cool b.cool && eqb a.hits b.hits)))))
 
-both_true : (p q : Bool) → (p && q) ≡ true → (p ≡ true) × (q ≡ true)
-both_true true q h = (refl, h)
-both_true false q h = cc
-
 ship_same : (a b : Ship) → ship_eq a b ≡ true → a ≡ b
 ship_same a b h =
-    let x = both_true (eqb a.x b.x) (eqb a.y b.y && (int_eq a.vx b.vx && (int_eq a.vy b.vy && (eqb a.heading b.heading && (eqb a.cool b.cool && eqb a.hits b.hits))))) h in
-    let y = both_true (eqb a.y b.y) (int_eq a.vx b.vx && (int_eq a.vy b.vy && (eqb a.heading b.heading && (eqb a.cool b.cool && eqb a.hits b.hits)))) x.1 in
-    let vx = both_true (int_eq a.vx b.vx) (int_eq a.vy b.vy && (eqb a.heading b.heading && (eqb a.cool b.cool && eqb a.hits b.hits))) y.1 in
-    let vy = both_true (int_eq a.vy b.vy) (eqb a.heading b.heading && (eqb a.cool b.cool && eqb a.hits b.hits)) vx.1 in
-    let heading = both_true (eqb a.heading b.heading) (eqb a.cool b.cool && eqb a.hits b.hits) vy.1 in
-    let cool = both_true (eqb a.cool b.cool) (eqb a.hits b.hits) heading.1 in
+    let x = and_parts (eqb a.x b.x) (eqb a.y b.y && (int_eq a.vx b.vx && (int_eq a.vy b.vy && (eqb a.heading b.heading && (eqb a.cool b.cool && eqb a.hits b.hits))))) h in
+    let y = and_parts (eqb a.y b.y) (int_eq a.vx b.vx && (int_eq a.vy b.vy && (eqb a.heading b.heading && (eqb a.cool b.cool && eqb a.hits b.hits)))) x.1 in
+    let vx = and_parts (int_eq a.vx b.vx) (int_eq a.vy b.vy && (eqb a.heading b.heading && (eqb a.cool b.cool && eqb a.hits b.hits))) y.1 in
+    let vy = and_parts (int_eq a.vy b.vy) (eqb a.heading b.heading && (eqb a.cool b.cool && eqb a.hits b.hits)) vx.1 in
+    let heading = and_parts (eqb a.heading b.heading) (eqb a.cool b.cool && eqb a.hits b.hits) vy.1 in
+    let cool = and_parts (eqb a.cool b.cool) (eqb a.hits b.hits) heading.1 in
     λ i. record {
       x = (Decides-eqb a.x b.x).0 x.0 i;
       y = (Decides-eqb a.y b.y).0 y.0 i;

@@ -1,7 +1,7 @@
 -- What a bullet does to the ships, one after another.
 use Rattle.std.proofs.Common.{◌≡◌, ℕ, zero, suc, ◌+◌, ◌<◌, ◌≤◌, Bool, true, false, cond, List, [], ◌∷◌, length, get_or, take, drop, set, refl, sym, ap, ◌∙◌, arith, add-one, add-zero, get_or-drop, subst}
 use Rattle.std.specs.Prelude.{◌||◌, not, ◌&&◌, nat_lt, fold, All}
-use Rattle.std.proofs.lemmas.Bool.{lt-ltb, le-ltb}
+use Rattle.std.proofs.lemmas.Bool.{lt-ltb, le-ltb, or_parts}
 use Rattle.std.proofs.lemmas.List.Elements.{All-set}
 use Rattle.std.proofs.lemmas.List.{take_more}
 use Rattle.std.proofs.lemmas.Grind.{fold-append}
@@ -10,17 +10,13 @@ use Rattle.roll_duel.specs.declared.bullet.Bullet.{Bullet}
 use Rattle.roll_duel.specs.Ranges.{IsBullet}
 use Rattle.roll_duel.specs.Bullets.{hits, hit, hits_any, struck, remains}
 
-neither : (p q : Bool) → (p || q) ≡ false → (p ≡ false) × (q ≡ false)
-neither true q h = cc
-neither false q h = (refl, h)
-
 -- one ship more that the bullet doesn't hit
 missed_more : (b : Bullet) (n m : ℕ) (ships : List Ship) (i : ℕ) (y : Ship) → i < length ships → y ≡ get_or ships i y → m ≡ n + i → hits b m y ≡ false → hits_any b n (take i ships) ≡ false → hits_any b n (take (suc i) ships) ≡ false
 missed_more b n m [] i y l is e miss h = absurd (omega arith)
 missed_more b n m (s ∷ ships) zero y l is e miss h =
     let at : n ≡ m = omega arith in let missed : hits b n s ≡ false = cc in rw missed refl
 missed_more b n m (s ∷ ships) (suc i) y l is e miss h =
-    let both = neither (hits b n s) (hits_any b (n + 1) (take i ships)) h in
+    let both = or_parts (hits b n s) (hits_any b (n + 1) (take i ships)) h in
     rw both.0 (missed_more b (n + 1) m ships i y (omega arith) is (omega arith) miss both.1)
 
 pub missed_next : (b : Bullet) (ships : List Ship) (i : ℕ) (y : Ship) → i < length ships → y ≡ get_or ships i y → hits b (i + 1) y ≡ false → hits_any b 1 (take i ships) ≡ false → hits_any b 1 (take (i + 1) ships) ≡ false
@@ -30,7 +26,7 @@ missed_next b ships i y l is miss h = rw add-one (missed_more b 1 (i + 1) ships 
 pub missed_all : (b : Bullet) (n : ℕ) (ships : List Ship) → hits_any b n ships ≡ false → struck b n ships ≡ ships
 missed_all b n [] h = refl
 missed_all b n (s ∷ ships) h =
-    let both = neither (hits b n s) (hits_any b (n + 1) ships) h in
+    let both = or_parts (hits b n s) (hits_any b (n + 1) ships) h in
     rw (both.0, missed_all b (n + 1) ships both.1) refl
 
 -- the first ship that it hits
@@ -40,7 +36,7 @@ hits_first b n m (s ∷ ships) zero y l is e strikes h =
     let at : n ≡ m = omega arith in let struck_it : hits b n s ≡ true = cc in
     (rw struck_it (ap (λ (z : Ship). hit z ∷ ships) (sym is)), rw struck_it refl)
 hits_first b n m (s ∷ ships) (suc i) y l is e strikes h =
-    let both = neither (hits b n s) (hits_any b (n + 1) (take i ships)) h in
+    let both = or_parts (hits b n s) (hits_any b (n + 1) (take i ships)) h in
     let rest = hits_first b (n + 1) m ships i y (omega arith) is (omega arith) strikes both.1 in
     (rw (both.0, rest.0) refl, rw (both.0, rest.1) refl)
 

@@ -2,7 +2,7 @@
 use Rattle.std.proofs.Common.{◌≡◌, ℕ, zero, suc, ◌+◌, ◌-◌, ◌<◌, ◌≤◌, List, [], ◌∷◌, length, refl, sym, subst, arith, Bool, true, false, eqb, Option, Some, None}
 use Rattle.std.specs.Prelude.{not, slice_get, slice_index_or, All}
 use Rattle.std.specs.Option.{option_map_or}
-use Rattle.std.proofs.lemmas.Bool.{false≢true}
+use Rattle.std.proofs.lemmas.Bool.{false≢true, not-false}
 use Rattle.std.proofs.lemmas.Bool.Decides.{nat_tests}
 use Rattle.roll_frame.specs.Inputs.{disconnect_tests, local_tests, of_player, remote_tests}
 use Rattle.roll_frame.specs.Timeline.{Player}
@@ -36,10 +36,6 @@ passed test players (suc place) h =
     go None e h = absurd (false≢true h)
     go (Some player) e h = record { place = place; number = omega arith; player = player; is_there = e; holds = h }
 
-was_not : (b : Bool) → not b ≡ false → b ≡ true
-was_not true h = refl
-was_not false h = absurd (false≢true (sym h))
-
 -- no player passes a test of that number
 missed : (test : Player → Bool) (players : List Player) (place : ℕ) (player : Player) → slice_get players place ≡ Some player → of_player test players (place + 1) ≡ false → test player ≡ false
 missed test players place player e h =
@@ -61,7 +57,7 @@ module _ (inputs : Inputs) (p : ℕ) where
   pub local_plays : All (λ (q : Player). q.local ≡ true → q.gone ≡ false) inputs.players → local_refusal inputs p ≡ None → IsPlaying inputs.players p
   local_plays stays h =
       let fails = all_fail (local_tests inputs.players inputs.frame inputs.threshold inputs.limit p) h in
-      let it = passed (λ player. player.local) inputs.players p (was_not (of_player (λ player. player.local) inputs.players p) fails.0) in
+      let it = passed (λ player. player.local) inputs.players p (not-false (of_player (λ player. player.local) inputs.players p) fails.0) in
       record { place = it.place; number = it.number; player = it.player; is_there = it.is_there; here = of_all (λ (q : Player). q.local ≡ true → q.gone ≡ false) inputs.players it.place it.player stays it.is_there it.holds }
 
   remote_here : (it : Passes (λ player. not player.local) inputs.players p) → of_player (λ player. player.gone) inputs.players p ≡ false → IsPlaying inputs.players p
@@ -72,13 +68,13 @@ module _ (inputs : Inputs) (p : ℕ) where
   pub remote_plays : (f : ℕ) → remote_refusal inputs p f ≡ None → IsPlaying inputs.players p
   remote_plays f h =
       let fails = all_fail (remote_tests inputs.players inputs.settled p f) h in
-      remote_here (passed (λ player. not player.local) inputs.players p (was_not (of_player (λ player. not player.local) inputs.players p) fails.0)) fails.1.0
+      remote_here (passed (λ player. not player.local) inputs.players p (not-false (of_player (λ player. not player.local) inputs.players p) fails.0)) fails.1.0
 
   -- a player who leaves was there
   pub leaving_plays : disconnect_refusal inputs p ≡ None → IsPlaying inputs.players p
   leaving_plays h =
       let fails = all_fail (disconnect_tests inputs.players p) h in
-      remote_here (passed (λ player. not player.local) inputs.players p (was_not (of_player (λ player. not player.local) inputs.players p) fails.0)) fails.1.0
+      remote_here (passed (λ player. not player.local) inputs.players p (not-false (of_player (λ player. not player.local) inputs.players p) fails.0)) fails.1.0
 
   pub count_is : (it : IsPlaying inputs.players p) → count_of inputs.players p ≡ length it.player.words
   count_is it =

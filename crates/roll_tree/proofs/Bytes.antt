@@ -3,7 +3,7 @@ use Rattle.std.proofs.Common.{◌≡◌, ◌≢◌, ◌⊎◌, ℕ, zero, suc, �
 use Rattle.std.specs.Prelude.{slice_get}
 use Rattle.std.specs.Int.{bit_at, bit_not}
 use Rattle.std.specs.Option.{option_eq, option_and_then}
-use Rattle.std.proofs.lemmas.Bool.{cases_eq, cases_lt, false≢true}
+use Rattle.std.proofs.lemmas.Bool.{cases_eq, cases_lt, false≢true, not-false, not-true}
 use Rattle.std.proofs.lemmas.Nat.Bits.{bit_at-zero, bit_at_clear_other, bit_at_above, bit_at_and, same_from_bits}
 use Rattle.roll_frame.specs.declared.row.Cell.{Cell}
 use Rattle.roll_frame.specs.declared.row.Cell.TheVariants.{Word, Gone}
@@ -22,14 +22,6 @@ same_options test words first second both (Some (Word v)) (Some (Word w)) = word
 same_options test words first second both (Some (Word v)) (Some Gone) = first v
 same_options test words first second both (Some Gone) (Some (Word w)) = second w
 same_options test words first second both (Some Gone) (Some Gone) = both
-
-not_true : (b : Bool) → not b ≡ true → b ≡ false
-not_true true h = absurd (false≢true h)
-not_true false h = refl
-
-not_false : (b : Bool) → not b ≡ false → b ≡ true
-not_false true h = refl
-not_false false h = absurd (false≢true (sym h))
 
 -- clearing one bit of a byte leaves the others
 pub cleared_other : (marks place : ℕ) → marks < 2 ^ 8 → place < 8 → (other : ℕ) → other ≢ place → bit_at (bit_and marks (bit_not w8 (1 * 2 ^ place % 2 ^ 8))) other ≡ bit_at marks other
@@ -63,9 +55,9 @@ least_at [] (d ∷ ds) zero here before = refl
 least_at [] (d ∷ ds) (suc place) here before = absurd (false≢true (sym (before 0 (omega arith))))
 least_at (c ∷ cs) [] zero here before = refl
 least_at (c ∷ cs) [] (suc place) here before = absurd (false≢true (sym (before 0 (omega arith))))
-least_at (c ∷ cs) (d ∷ ds) zero here before = rw (not_true (cell_eq c d) here) refl
+least_at (c ∷ cs) (d ∷ ds) zero here before = rw (not-true (cell_eq c d) here) refl
 least_at (c ∷ cs) (d ∷ ds) (suc place) here before =
-    rw (not_false (cell_eq c d) (before 0 (omega arith)), least_at cs ds place here (λ k h. before (suc k) (omega (arith, h)))) refl
+    rw (not-false (cell_eq c d) (before 0 (omega arith)), least_at cs ds place here (λ k h. before (suc k) (omega (arith, h)))) refl
 
 -- rows that differ nowhere are the same
 none_at : (row there : List Cell) → ((k : ℕ) → differ_at row there k ≡ false) → row ≡ there
@@ -73,7 +65,7 @@ none_at [] [] all = refl
 none_at [] (d ∷ ds) all = absurd (false≢true (sym (all 0)))
 none_at (c ∷ cs) [] all = absurd (false≢true (sym (all 0)))
 none_at (c ∷ cs) (d ∷ ds) all =
-    let first = (cell_eq-Decides c d).0 (not_false (cell_eq c d) (all 0)) in
+    let first = (cell_eq-Decides c d).0 (not-false (cell_eq c d) (all 0)) in
     let rest = none_at cs ds (λ k. all (suc k)) in
     rw (first, rest) refl
 

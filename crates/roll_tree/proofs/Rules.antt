@@ -5,7 +5,7 @@ use Rattle.std.specs.List.{filter}
 use Rattle.std.specs.Option.{option_map_or}
 use Rattle.std.proofs.Math.Seq.{drop-append_seam}
 use Rattle.std.proofs.lemmas.Option.{none-some}
-use Rattle.std.proofs.lemmas.Bool.{cases_eq, false≢true, or_left, eqb-true, eq-eqb}
+use Rattle.std.proofs.lemmas.Bool.{and_parts, cases_eq, false≢true, or_left, eqb-true, eq-eqb}
 use Rattle.std.proofs.Math.Bool.{and-false}
 use Rattle.slab.specs.Slab.{Slab, get, slab_len}
 use Rattle.roll_frame.specs.declared.limits.TheConstants.{TREE_LIMIT}
@@ -29,10 +29,6 @@ length-filter live (n ∷ names) = go (live n) (length-filter live names)
     go : (b : Bool) → length (filter live names) ≤ length names → length (cond b (n ∷ filter live names) (filter live names)) ≤ length (n ∷ names)
     go true ih = omega (arith, ih)
     go false ih = omega (arith, ih)
-
-and_first : (a b : Bool) → (a && b) ≡ true → a ≡ true
-and_first true b h = refl
-and_first false b h = h
 
 module _ {S : Type 0} (t : Inside S) (top : ℕ) (first : Node S) (rule : Rule) (passes : Saved S → Bool) where
   abbrev state : ℕ → Node S → Saved S
@@ -107,7 +103,7 @@ module _ {S : Type 0} (t : Inside S) (top : ℕ) (first : Node S) (rule : Rule) 
           above name node found differs alive None none = absurd (false≢true (sym (is.lone name node found differs none) ∙ sym (live_is name node found) ∙ alive))
           above name node found differs alive (Some e) edge_is =
               let up = with_edge t.base t.nodes.slots tree.links name node e found edge_is in
-              (up.0, live_is up.0.edge.parent up.0.parent up.0.parent_is ∙ and_first (passes (state up.0.edge.parent up.0.parent)) (allows rule node.end up.0.edge.row) (sym (is.step name node found differs up.0) ∙ sym (live_is name node found) ∙ alive))
+              (up.0, live_is up.0.edge.parent up.0.parent up.0.parent_is ∙ (and_parts (passes (state up.0.edge.parent up.0.parent)) (allows rule node.end up.0.edge.row) (sym (is.step name node found differs up.0) ∙ sym (live_is name node found) ∙ alive)).0)
 
       -- the states that are left, as they are seen from the top
       pub left_states : states_at first.end new.slots kept ≡ map (later (length (path_at t.base t.nodes.slots first))) (filter passes (states_at t.base t.nodes.slots t.order.items))
