@@ -1,15 +1,12 @@
 -- Worked examples, by computation.
 use Rattle.std.proofs.Common.{◌≡◌, ℕ, zero, suc, List, [], ◌∷◌, ◌++◌, refl, Some, None}
 use Rattle.roll_frame.specs.Cells.{Rows}
-use Rattle.roll_frame.specs.Core.{first_core}
 use Rattle.roll_frame.specs.Settings.{start_refusal}
-use Rattle.roll_frame.specs.declared.path.Path.{Path}
-use Rattle.roll_frame.specs.declared.row.Cell.{Cell}
 use Rattle.roll_frame.specs.declared.settings.Settings.{Settings}
 use Rattle.roll_frame.specs.declared.profile.Profile.TheVariants.{Ggpo, Wide}
 use Rattle.roll_frame.specs.declared.refusal.Refusal.TheVariants.{InvalidRequest, PlayerOutOfRange}
 use Rattle.roll_frame.specs.declared.row.Cell.TheVariants.{Word, Gone}
-use Rattle.roll_laws.proofs.Scripts.{Command, G, B, C, L, R, D, S, A, Line, ok, taken, repeated, refused, gone, job, kept, added, claim, at, tally, do_graft, lines, rest, full, two}
+use Rattle.roll_laws.proofs.Scripts.{Command, G, B, C, L, R, D, S, A, H, Line, ok, taken, repeated, refused, gone, job, kept, added, claim, at, tally, do_command, fresh, lines, rest, row_of, path_of, full, two}
 
 -- two frames, and what they print
 abbrev frames : List Command
@@ -17,12 +14,6 @@ frames = L 1 1 ∷ A ∷ L 1 1 ∷ A ∷ []
 
 abbrev shown : List Line
 shown = ok ∷ at 1 0 1 0 1 ∷ ok ∷ at 2 1 1 0 11 ∷ []
-
-abbrev row_of : ℕ → ℕ → List Cell
-row_of a b = Word a ∷ Word b ∷ []
-
-abbrev path_of : ℕ → Rows → Path
-path_of base rows = record { base = base; rows = record { items = rows } }
 
 abbrev times : ℕ → List Command → List Command
 times zero commands = []
@@ -80,8 +71,8 @@ pub dead_branch :
     ≡ shown ++ job 0 2 ∷ job 1 2 ∷ taken ∷ added 0 ∷ at 2 0 2 1 121 ∷ refused 112 ∷ []
 dead_branch = refl
 
-pub guess_of_local_player : lines (two 0 full) (L 1 1 ∷ G 2 1 (0 ∷ []) ∷ B 0 ∷ A ∷ []) ≡ ok ∷ job 0 1 ∷ added 1 ∷ at 1 1 0 0 1 ∷ []
-guess_of_local_player = refl
+pub guess_of_prediction : lines (two 0 full) (L 1 1 ∷ G 2 1 (0 ∷ []) ∷ B 0 ∷ A ∷ []) ≡ ok ∷ job 0 1 ∷ added 1 ∷ at 1 1 0 0 1 ∷ []
+guess_of_prediction = refl
 
 pub refusals_in_order :
     lines (two 0 full) (L 2 1 ∷ A ∷ L 1 1 ∷ L 1 1 ∷ R 1 0 1 ∷ D 1 ∷ G 5 1 (0 ∷ []) ∷ C ∷ B 7 ∷ [])
@@ -90,8 +81,7 @@ refusals_in_order = refl
 
 -- the reply to a branch made by hand, whose first state has this number, grafted on a fresh session
 abbrev by_hand : ℕ → Rows → ℕ → Rows → Line
-by_hand base path number rows =
-    (do_graft (two 0 full) tally (record { core = first_core (two 0 full); jobs = [] }) (Some (record { path = path_of base path; rows = rows }, number ∷ []))).1
+by_hand base path number rows = (do_command (two 0 full) tally (fresh (two 0 full)) (H base path number rows)).1
 
 abbrev zeros : ℕ → Rows
 zeros zero = []

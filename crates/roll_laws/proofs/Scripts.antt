@@ -1,8 +1,12 @@
 -- Scripts of a small game, and what is printed for them, by the definitions alone.
-use Rattle.std.proofs.Common.{ℕ, zero, suc, ◌+◌, ◌*◌, ◌%◌, ◌-◌, List, [], ◌∷◌, ◌++◌, length, Option, Some, None}
-use Rattle.std.specs.Prelude.{slice_get}
+use Rattle.std.proofs.Common.{ℕ, zero, suc, ◌-◌, List, [], ◌∷◌, ◌++◌, length, map, fold, Option, Some, None}
+use Rattle.std.specs.Prelude.{slice_get, slice_set}
 use Rattle.std.specs.Option.{option_map_or}
+use Rattle.roll_game.specs.Tally.{tally_step}
 use Rattle.roll_frame.specs.declared.claim.Claim.{Claim}
+use Rattle.roll_frame.specs.declared.claim.Differ.{Differ}
+use Rattle.roll_frame.specs.declared.path.Path.{Path}
+use Rattle.roll_frame.specs.Cells.{Rows}
 use Rattle.roll_frame.specs.Claims.{claim_of}
 use Rattle.roll_frame.specs.Codes.{code_of}
 use Rattle.roll_frame.specs.Core.{Core, first_core, settled}
@@ -18,30 +22,20 @@ use Rattle.roll_frame.specs.declared.entry.Entry.{Entry}
 use Rattle.roll_frame.specs.declared.refusal.Refusal.{Refusal}
 use Rattle.roll_frame.specs.declared.row.Cell.{Cell}
 use Rattle.roll_frame.specs.declared.settings.Settings.{Settings}
-use Rattle.roll_frame.specs.declared.row.Cell.TheVariants.{Word, Gone}
+use Rattle.roll_frame.specs.declared.row.Cell.TheVariants.{Word}
 use Rattle.roll_frame.specs.declared.profile.Profile.TheVariants.{Ggpo}
-use Rattle.roll_frame.specs.declared.entry.Entry.TheVariants.{Local, Remote, Disconnect, Sync, Advance, Graft}
-
--- what player p adds to the number: p times the word, or 5 where it is gone
-abbrev pub part : ℕ → Cell → ℕ
-part p (Word word) = p * word
-part p Gone = 5
-
-abbrev pub parts : ℕ → List Cell → ℕ
-parts p [] = 0
-parts p (cell ∷ cells) = part p cell + parts (suc p) cells
-
-abbrev pub tally_step : Value → List Cell → Value
-tally_step [] row = []
-tally_step (s ∷ rest) row = (10 * s + parts 1 row) % 1000000 ∷ []
+use Rattle.roll_frame.specs.declared.entry.Entry.TheVariants.{Local, Remote, Disconnect, Sync, Advance, Graft, Partial}
 
 abbrev pub tally : Game
 tally = record { opening = 0 ∷ []; step = tally_step }
 
+-- what a script asks for: an event; a guess; the graft of a job's branch; the graft of a branch made by hand, whose
+-- first state has this value; the claim
 pub data Command : Type 0 where
   Do : (entry : Entry) → Command
   G : (player until : ℕ) (words : List ℕ) → Command
   B : (job : ℕ) → Command
+  ByHand : (branch : Branch) (value : Value) → Command
   C : Command
 
 pub data Line : Type 0 where
@@ -57,9 +51,10 @@ pub data Line : Type 0 where
   claim : (claim : Claim) → Line
   nothing : Line
 
+-- the core, and the jobs that were made, each with the value of the state that it starts from; none where it was taken
 pub record Play : Type 0 where
   pub core : Core
-  pub jobs : List (Branch × Value)
+  pub jobs : List (Option (Branch × Value))
 
 abbrev pub state_of : Game → Core → Value
 state_of game core = option_map_or (λ rows. run game.step game.opening rows) core.shown []
@@ -84,21 +79,26 @@ do_event settings game play event =
 
 abbrev pub give_job : Play → Option (Branch × Value) → Play × Line
 give_job play None = (play, kept)
-give_job play (Some found) = (record play { jobs = play.jobs ++ found ∷ [] }, job (length play.jobs) (length found.0.rows))
+give_job play (Some found) = (record play { jobs = play.jobs ++ Some found ∷ [] }, job (length play.jobs) (length found.0.rows))
 
 abbrev pub do_guess : Settings → Game → Play → ℕ → ℕ → List ℕ → Option Refusal → Play × Line
 do_guess settings game play p until words (Some why) = (play, refused (code_of why))
 do_guess settings game play p until words None =
     give_job play (option_map_or (λ branch. Some (branch, run game.step game.opening (start_of play.core branch))) (guessed_job play.core p words until) None)
 
-abbrev pub do_graft : Settings → Game → Play → Option (Branch × Value) → Play × Line
-do_graft settings game play None = (play, refused 120)
-do_graft settings game play (Some found) = do_event settings game play (record { entry = Graft 0 found.0.path (record { items = found.0.rows }); value = found.1 })
+abbrev pub do_graft : Settings → Game → Play → Branch → Value → Play × Line
+do_graft settings game play branch value = do_event settings game play (record { entry = Graft 0 branch.path (record { items = branch.rows }); value = value })
+
+-- a job is taken away, whatever becomes of its branch
+abbrev pub do_job : Settings → Game → Play → ℕ → Option (Branch × Value) → Play × Line
+do_job settings game play k None = (play, refused 120)
+do_job settings game play k (Some found) = do_graft settings game (record play { jobs = slice_set play.jobs k None }) found.0 found.1
 
 abbrev pub do_command : Settings → Game → Play → Command → Play × Line
 do_command settings game play (Do entry) = do_event settings game play (record { entry = entry; value = [] })
 do_command settings game play (G p until words) = do_guess settings game play p until words (first_refusal (guess_tests settings.limit play.core p words until))
-do_command settings game play (B k) = do_graft settings game play (slice_get play.jobs k)
+do_command settings game play (B k) = do_job settings game play k (option_map_or (λ job. job) (slice_get play.jobs k) None)
+do_command settings game play (ByHand branch value) = do_graft settings game play branch value
 do_command settings game play C = (play, option_map_or (λ roll. claim (claim_of settings.players roll)) play.core.last (refused 117))
 
 abbrev pub lines_from : Settings → Game → Play → List Command → List Line
@@ -107,8 +107,15 @@ lines_from settings game play (command ∷ commands) =
     let done : Play × Line = do_command settings game play command in
     done.1 ∷ lines_from settings game done.0 commands
 
+abbrev pub fresh : Settings → Play
+fresh settings = record { core = first_core settings; jobs = [] }
+
 abbrev pub lines : Settings → List Command → List Line
-lines settings commands = lines_from settings tally (record { core = first_core settings; jobs = [] }) commands
+lines settings commands = lines_from settings tally (fresh settings) commands
+
+-- the path of the state that is shown after a script
+abbrev pub shown_after : Settings → List Command → Option Rows
+shown_after settings commands = (fold (λ play command. (do_command settings tally play command).0) (fresh settings) commands).core.shown
 
 abbrev pub full : ℕ
 full = 4294967295
@@ -131,6 +138,29 @@ S = Do Sync
 
 abbrev pub D : ℕ → Command
 D p = Do (Disconnect p)
+
+-- a roll to this frame that the game refused, after so many new states
+abbrev pub P : ℕ → ℕ → Command
+P to made = Do (Partial to made)
+
+abbrev pub path_of : ℕ → Rows → Path
+path_of base rows = record { base = base; rows = record { items = rows } }
+
+-- the graft of a branch made by hand: its path's base and own rows, the number of its first state, and its rows
+abbrev pub H : ℕ → Rows → ℕ → Rows → Command
+H base path number rows = ByHand (record { path = path_of base path; rows = rows }) (number ∷ [])
+
+-- a row of two players who are there
+abbrev pub row_of : ℕ → ℕ → List Cell
+row_of a b = Word a ∷ Word b ∷ []
+
+abbrev pub differ : ℕ → ℕ → ℕ → Differ
+differ state t p = record { state = state; frame = t; player = p }
+
+-- a claim by its players, its base, its time, its kept paths' rows from the base on, its start and its entries
+abbrev pub claimed : ℕ → ℕ → Rows → List Rows → ℕ → List Differ → Line
+claimed players base time paths from differs =
+    claim (record { players = players; base = base; time = time; kept = map (path_of base) paths; from = from; differs = differs })
 
 abbrev pub at : ℕ → ℕ → ℕ → ℕ → ℕ → Line
 at n from rerun settled state = frame n from rerun settled (state ∷ [])
