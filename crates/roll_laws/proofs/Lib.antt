@@ -2,6 +2,7 @@ pub mod Accepted
 pub mod Ahead
 pub mod Appended
 pub mod Bounds
+pub mod BranchExamples
 pub mod Counting
 pub mod Examples
 pub mod Fair
@@ -9,12 +10,14 @@ pub mod Few
 pub mod Fronts
 pub mod FullTrees
 pub mod Glue
+pub mod GuessExamples
 pub mod Jobs
 pub mod KeptPaths
 pub mod Known
 pub mod Least
 pub mod Logs
 pub mod Ordered
+pub mod PartialExamples
 pub mod Peers
 pub mod Plans
 pub mod Predicted
