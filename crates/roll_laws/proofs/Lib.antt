@@ -23,6 +23,8 @@ pub mod Plans
 pub mod Predicted
 pub mod Prefixes
 pub mod Pruned
+pub mod RandomBranches
+pub mod RandomClaims
 pub mod RandomScripts
 pub mod Right
 pub mod Rolls
