@@ -3,6 +3,7 @@ pub mod Ahead
 pub mod Appended
 pub mod Bounds
 pub mod BranchExamples
+pub mod ClaimExamples
 pub mod Counting
 pub mod Examples
 pub mod Fair
@@ -26,6 +27,7 @@ pub mod Pruned
 pub mod RandomBranches
 pub mod RandomClaims
 pub mod RandomScripts
+pub mod ReplyExamples
 pub mod Right
 pub mod Rolls
 pub mod Saved

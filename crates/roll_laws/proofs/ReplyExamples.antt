@@ -1,0 +1,42 @@
+-- The replies to events and the log that they leave, by computation, with what a script's lines don't print.
+use Rattle.std.proofs.Common.{◌≡◌, List, [], ◌∷◌, refl}
+use Rattle.roll_frame.specs.Core.{first_core}
+use Rattle.roll_frame.specs.Events.{CoreEvent, replies_from, log_of}
+use Rattle.roll_frame.specs.declared.entry.Entry.{Entry}
+use Rattle.roll_frame.specs.declared.entry.Entry.TheVariants.{Local, Remote, Disconnect, Sync, Advance, Graft, Partial}
+use Rattle.roll_frame.specs.declared.refusal.Refusal.TheVariants.{InvalidPlayer, InvalidRequest, NoMemory}
+use Rattle.roll_frame.specs.declared.reply.Reply.TheVariants.{Refused, Done, Taken, Repeated, Disconnected, Synchronized, Reached, Grafted}
+use Rattle.roll_frame.specs.declared.row.Cell.TheVariants.{Word, Gone}
+use Rattle.roll_frame.specs.declared.settings.Settings.{Settings}
+use Rattle.roll_laws.proofs.Scripts.{tally, path_of, row_of, full, two}
+
+-- player 1's word 1 is predicted as 0
+abbrev masked : Settings
+masked = record (two 0 full) { masks = 2 ∷ full ∷ [] }
+
+abbrev event : Entry → CoreEvent
+event entry = record { entry = entry; value = [] }
+
+-- a graft whose first state is the opening
+abbrev grafted : CoreEvent
+grafted = record { entry = Graft 7 (path_of 0 []) (record { items = row_of 1 3 ∷ row_of 1 4 ∷ [] }); value = 0 ∷ [] }
+
+abbrev events : List CoreEvent
+events =
+    event (Local 1 1) ∷ event Advance ∷ event (Local 1 1) ∷ event Advance ∷ event (Remote 2 0 3) ∷ event (Remote 2 0 3) ∷ event (Partial 2 3) ∷ event (Partial 2 1) ∷ event Sync ∷ grafted
+    ∷ event (Local 2 5) ∷ event (Disconnect 2) ∷ event Sync ∷ event (Local 1 1) ∷ event Advance ∷ []
+
+-- a synchronize replies with the row of the frame, not with the last one that was run: player 1's next word is predicted
+-- as 0, and was 1. An advance replies with the new frame, the start and the cost
+pub replies_to_events :
+    replies_from masked tally (first_core masked) events
+    ≡ Done ∷ Reached 1 0 1 ∷ Done ∷ Reached 2 1 1 ∷ Taken ∷ Repeated ∷ Refused InvalidRequest ∷ Refused NoMemory ∷ Synchronized (row_of 0 3) ∷ Grafted 1
+    ∷ Refused InvalidPlayer ∷ Disconnected 2 ∷ Synchronized (Word 0 ∷ Gone ∷ []) ∷ Done ∷ Reached 3 2 1 ∷ []
+replies_to_events = refl
+
+-- the log has the accepted events in their order, a partial roll among them: none that was refused or repeated
+pub log_of_events :
+    log_of masked tally events
+    ≡ Local 1 1 ∷ Advance ∷ Local 1 1 ∷ Advance ∷ Remote 2 0 3 ∷ Partial 2 1 ∷ Sync ∷ Graft 7 (path_of 0 []) (record { items = row_of 1 3 ∷ row_of 1 4 ∷ [] })
+    ∷ Disconnect 2 ∷ Sync ∷ Local 1 1 ∷ Advance ∷ []
+log_of_events = refl
