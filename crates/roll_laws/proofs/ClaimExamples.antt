@@ -3,7 +3,7 @@ use Rattle.std.proofs.Common.{◌≡◌, ℕ, List, [], ◌∷◌, ◌++◌, ref
 use Rattle.roll_frame.specs.declared.row.Cell.{Cell}
 use Rattle.roll_frame.specs.declared.row.Cell.TheVariants.{Word, Gone}
 use Rattle.roll_frame.specs.declared.settings.Settings.{Settings}
-use Rattle.roll_laws.proofs.Scripts.{Command, C, L, R, S, A, H, P, Line, ok, taken, refused, added, at, lines, rest, claimed, differ, row_of, full, two}
+use Rattle.roll_laws.proofs.Scripts.{Command, C, L, R, D, S, A, H, P, Line, ok, taken, refused, gone, added, at, lines, rest, claimed, differ, row_of, full, two}
 
 -- three players, of whom the first is local
 abbrev three : Settings
@@ -35,7 +35,7 @@ pub least_places : lines three (branched ++ C ∷ []) ≡ branched_lines ++ clai
 least_places = refl
 
 -- the claim stays until the next roll, whatever comes and is saved meanwhile: it isn't that of what is kept now
-pub claim_stays : rest 6 (lines three (branched ++ R 2 0 3 ∷ H 0 [] 0 (cells 0 3 9 ∷ []) ∷ C ∷ [])) ≡ taken ∷ added 1 ∷ claim_of_two ∷ []
+pub claim_stays : rest 6 (lines three (branched ++ R 2 0 3 ∷ H 0 [] 0 (cells 0 3 9 ∷ []) ∷ D 3 ∷ L 1 5 ∷ C ∷ [])) ≡ taken ∷ added 1 ∷ gone 3 ∷ ok ∷ claim_of_two ∷ []
 claim_stays = refl
 
 -- with a settled row: the lists begin behind it, and frames still count from 0. A path that a word has ruled out isn't

@@ -103,7 +103,10 @@ abbrev remotes : ℕ → List Command
 remotes zero = []
 remotes (suc n) = remotes n ++ R 2 n 0 ∷ []
 
-pub full_input_queue : rest 127 (lines (two 0 full) (remotes 129 ++ L 1 0 ∷ A ∷ R 2 128 0 ∷ [])) ≡ taken ∷ refused 105 ∷ ok ∷ at 1 0 1 1 0 ∷ taken ∷ []
+-- a full queue comes last: a word that leaves a gap, or is confirmed otherwise, or repeated, isn't refused for it
+pub full_input_queue :
+    rest 127 (lines (two 0 full) (remotes 129 ++ R 2 129 0 ∷ R 2 5 1 ∷ R 2 5 0 ∷ L 1 0 ∷ A ∷ R 2 128 0 ∷ []))
+    ≡ taken ∷ refused 105 ∷ refused 103 ∷ refused 104 ∷ repeated ∷ ok ∷ at 1 0 1 1 0 ∷ taken ∷ []
 full_input_queue = refl
 
 abbrev one : Settings
@@ -111,6 +114,28 @@ one = record (two 0 full) { players = 1; limit = 2 }
 
 pub frame_limit : rest 4 (lines one (L 1 0 ∷ A ∷ L 1 0 ∷ A ∷ L 1 0 ∷ [])) ≡ refused 106 ∷ []
 frame_limit = refl
+
+-- the threshold comes before the last frame
+pub threshold_and_limit :
+    lines (record (two 0 full) { limit = 1; threshold = 1 }) (L 1 0 ∷ A ∷ L 1 0 ∷ R 2 0 0 ∷ L 1 0 ∷ [])
+    ≡ ok ∷ at 1 0 1 0 0 ∷ refused 4 ∷ taken ∷ refused 106 ∷ []
+threshold_and_limit = refl
+
+-- a player who has left repeats nothing, and leaves no gap
+pub gone_player : lines (two 0 full) (R 2 0 3 ∷ D 2 ∷ R 2 0 3 ∷ R 2 0 4 ∷ R 2 5 1 ∷ []) ≡ taken ∷ gone 2 ∷ refused 9 ∷ refused 9 ∷ refused 9 ∷ []
+gone_player = refl
+
+-- a repeated word is no event, so a full log doesn't refuse it; and a full log comes after all other tests
+pub repeated_in_full_log :
+    lines (record (two 0 full) { log = 1 }) (R 2 0 3 ∷ R 2 0 3 ∷ R 2 0 4 ∷ R 2 2 3 ∷ A ∷ D 1 ∷ L 2 0 ∷ R 2 1 3 ∷ D 2 ∷ L 1 0 ∷ [])
+    ≡ taken ∷ repeated ∷ refused 104 ∷ refused 103 ∷ refused 101 ∷ refused 2 ∷ refused 2 ∷ refused 114 ∷ refused 114 ∷ refused 114 ∷ []
+repeated_in_full_log = refl
+
+-- the settled frame is never past the frame: two rows are confirmed and saved, and settled one by one as frames pass
+pub settled_up_to_frame :
+    lines (two 1 full) (L 1 5 ∷ R 2 0 0 ∷ R 2 1 0 ∷ H 0 [] 0 (row_of 0 0 ∷ row_of 5 0 ∷ []) ∷ S ∷ A ∷ L 1 7 ∷ A ∷ [])
+    ≡ ok ∷ taken ∷ taken ∷ added 2 ∷ at 0 0 0 0 0 ∷ at 1 1 0 1 0 ∷ ok ∷ at 2 2 0 2 5 ∷ []
+settled_up_to_frame = refl
 
 pub full_log : lines (record (two 0 full) { log = 2 }) (L 1 0 ∷ A ∷ S ∷ []) ≡ ok ∷ at 1 0 1 0 0 ∷ refused 114 ∷ []
 full_log = refl
@@ -151,6 +176,16 @@ pub limits_out_of_range :
     start_refusal (record (two 0 full) { limit = 0 }) ∷ start_refusal (record (two 0 full) { limit = 1048577 }) ∷ start_refusal (record (two 0 full) { log = 0 }) ∷ start_refusal (record (two 0 full) { log = 16777217 }) ∷ []
     ≡ Some InvalidRequest ∷ Some InvalidRequest ∷ Some InvalidRequest ∷ Some InvalidRequest ∷ []
 limits_out_of_range = refl
+
+-- nine players, and a threshold of 16, of the wide profile
+pub wide_out_of_range : start_refusal (record five { players = 9 }) ∷ start_refusal (record five { threshold = 16 }) ∷ [] ≡ Some PlayerOutOfRange ∷ Some InvalidRequest ∷ []
+wide_out_of_range = refl
+
+-- at each limit: four players, and eight of the wide profile; a delay of a second local player; one frame, one entry
+pub sessions_start_at_limits :
+    start_refusal (record (two 0 full) { players = 4 }) ∷ start_refusal (record five { players = 8 }) ∷ start_refusal (record (two 8 full) { local = 3; delays = 8 ∷ 8 ∷ [] }) ∷ start_refusal (record (two 0 full) { limit = 1; log = 1; threshold = 1 }) ∷ []
+    ≡ None ∷ None ∷ None ∷ None ∷ []
+sessions_start_at_limits = refl
 
 pub sessions_start : start_refusal (two 8 1) ∷ start_refusal one ∷ start_refusal five ∷ [] ≡ None ∷ None ∷ None ∷ []
 sessions_start = refl

@@ -19,7 +19,7 @@ pub guess_of_24_words : lines (two 0 full) (G 2 24 (countdown 24) ∷ G 2 24 (co
 guess_of_24_words = refl
 
 -- the end of a guess counts from the settled frame, here 1: it isn't past that, or 25 rows past it, in the refused ones;
--- the job of the last one starts at the kept state of frame 1, not at that of frame 2, which has another row 1
+-- the job of the last one starts at the kept state of frame 1: that of frame 2 came from another row
 pub guess_past_settled :
     lines (two 0 full) (L 1 1 ∷ A ∷ L 1 1 ∷ A ∷ R 2 0 0 ∷ S ∷ G 2 1 (5 ∷ []) ∷ G 2 25 (5 ∷ []) ∷ G 2 26 (5 ∷ []) ∷ G 2 2 (5 ∷ []) ∷ [])
     ≡ ok ∷ at 1 0 1 0 1 ∷ ok ∷ at 2 1 1 0 11 ∷ taken ∷ at 2 2 0 1 11 ∷ refused 11 ∷ job 0 8 ∷ refused 11 ∷ job 1 1 ∷ []
