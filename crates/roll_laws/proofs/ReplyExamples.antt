@@ -1,10 +1,12 @@
 -- The replies to events and the log that they leave, by computation, with what a script's lines don't print.
-use Rattle.std.proofs.Common.{◌≡◌, List, [], ◌∷◌, refl}
+use Rattle.std.proofs.Common.{◌≡◌, List, [], ◌∷◌, map, refl}
+use Rattle.roll_frame.specs.Codes.{code_of, event_code_of}
 use Rattle.roll_frame.specs.Core.{first_core}
 use Rattle.roll_frame.specs.Events.{CoreEvent, replies_from, log_of}
 use Rattle.roll_frame.specs.declared.entry.Entry.{Entry}
 use Rattle.roll_frame.specs.declared.entry.Entry.TheVariants.{Local, Remote, Disconnect, Sync, Advance, Graft, Partial}
-use Rattle.roll_frame.specs.declared.refusal.Refusal.TheVariants.{InvalidPlayer, InvalidRequest, NoMemory}
+use Rattle.roll_frame.specs.declared.event.Event.TheVariants.{DisconnectedFromPeer, TimeSync}
+use Rattle.roll_frame.specs.declared.refusal.Refusal.TheVariants.{InvalidPlayer, PlayerOutOfRange, PredictionThreshold, PlayerDisconnected, TooManySpectators, InvalidRequest, LocalInputMissing, InputTwice, Gap, Conflict, QueueFull, FrameLimit, NoMemory, Stranger, TooFar, Late, Orphan, Dead, TreeFull, LogFull, QueueRefused, Stopped, NoPlan, Unreadable, Full, NoJob}
 use Rattle.roll_frame.specs.declared.reply.Reply.TheVariants.{Refused, Done, Taken, Repeated, Disconnected, Synchronized, Reached, Grafted}
 use Rattle.roll_frame.specs.declared.row.Cell.TheVariants.{Word, Gone}
 use Rattle.roll_frame.specs.declared.settings.Settings.{Settings}
@@ -40,3 +42,19 @@ pub log_of_events :
     ≡ Local 1 1 ∷ Advance ∷ Local 1 1 ∷ Advance ∷ Remote 2 0 3 ∷ Partial 2 1 ∷ Sync ∷ Graft 7 (path_of 0 []) (record { items = row_of 1 3 ∷ row_of 1 4 ∷ [] })
     ∷ Disconnect 2 ∷ Sync ∷ Local 1 1 ∷ Advance ∷ []
 log_of_events = refl
+
+-- the number of each refusal, those of no script too, and of each event to the caller
+pub numbers_of_refusals :
+    map code_of (InvalidPlayer ∷ PlayerOutOfRange ∷ PredictionThreshold ∷ PlayerDisconnected ∷ TooManySpectators ∷ InvalidRequest ∷ [])
+    ≡ 2 ∷ 3 ∷ 4 ∷ 9 ∷ 10 ∷ 11 ∷ []
+numbers_of_refusals = refl
+
+pub numbers_past_hundred :
+    map code_of
+    (LocalInputMissing ∷ InputTwice ∷ Gap ∷ Conflict ∷ QueueFull ∷ FrameLimit ∷ NoMemory ∷ Stranger ∷ TooFar ∷ Late
+    ∷ Orphan ∷ Dead ∷ TreeFull ∷ LogFull ∷ QueueRefused ∷ Stopped ∷ NoPlan ∷ Unreadable 5 ∷ Full ∷ NoJob ∷ [])
+    ≡ 101 ∷ 102 ∷ 103 ∷ 104 ∷ 105 ∷ 106 ∷ 107 ∷ 108 ∷ 109 ∷ 110 ∷ 111 ∷ 112 ∷ 113 ∷ 114 ∷ 115 ∷ 116 ∷ 117 ∷ 118 ∷ 119 ∷ 120 ∷ []
+numbers_past_hundred = refl
+
+pub numbers_of_events : event_code_of (DisconnectedFromPeer 2) ∷ event_code_of (TimeSync 3) ∷ [] ≡ 1004 ∷ 1005 ∷ []
+numbers_of_events = refl
