@@ -78,6 +78,14 @@ pub width_in_rows :
     ≡ refused 108 ∷ refused 108 ∷ added 2 ∷ []
 width_in_rows = refl
 
+-- a base past the settled frame is refused though the frame is further on, and the timeline's rows lead to a kept state
+-- with this number: those rows may change. The same path by its own rows is let in
+pub base_past_settled :
+    after_frames (H 1 [] 1 (row_of 1 5 ∷ []) ∷ H 2 [] 11 (row_of 1 5 ∷ []) ∷ H 0 (row_of 1 0 ∷ []) 1 (row_of 1 5 ∷ []) ∷ [])
+    ++ after_settled (H 2 [] 11 (row_of 1 5 ∷ []) ∷ H 1 [] 1 (row_of 1 5 ∷ []) ∷ [])
+    ≡ refused 108 ∷ refused 108 ∷ added 1 ∷ refused 108 ∷ added 1 ∷ []
+base_past_settled = refl
+
 -- The tests in their order. A base past the settled frame, and another width, come before too many rows
 pub stranger_before_too_far : lines (two 0 full) (H 1 (zeros 24) 0 (zeros 1) ∷ H 0 (narrow ∷ zeros 23) 0 (zeros 1) ∷ H 0 (zeros 24) 0 (broad ∷ []) ∷ []) ≡ refused 108 ∷ refused 108 ∷ refused 108 ∷ []
 stranger_before_too_far = refl
