@@ -18,6 +18,12 @@ countdown (suc k) = k ∷ countdown k
 pub guess_of_24_words : lines (two 0 full) (G 2 24 (countdown 24) ∷ G 2 24 (countdown 25) ∷ G 2 1 (countdown 1) ∷ G 2 1 [] ∷ []) ≡ job 0 8 ∷ refused 11 ∷ job 1 1 ∷ refused 11 ∷ []
 guess_of_24_words = refl
 
+-- the same with a settled row, which is a confirmed word too: the words of a guess are counted by themselves
+pub guess_of_24_words_past_settled :
+    lines (two 0 full) (L 1 1 ∷ A ∷ R 2 0 0 ∷ S ∷ G 2 25 (countdown 24) ∷ G 2 25 (countdown 25) ∷ [])
+    ≡ ok ∷ at 1 0 1 0 1 ∷ taken ∷ at 1 1 0 1 1 ∷ job 0 8 ∷ refused 11 ∷ []
+guess_of_24_words_past_settled = refl
+
 -- the end of a guess counts from the settled frame, here 1: it isn't past that, or 25 rows past it, in the refused ones;
 -- the job of the last one starts at the kept state of frame 1: that of frame 2 came from another row
 pub guess_past_settled :
