@@ -36,6 +36,12 @@ pub replies_to_events :
     ∷ Refused InvalidPlayer ∷ Disconnected 2 ∷ Synchronized (Word 0 ∷ Gone ∷ []) ∷ Done ∷ Reached 3 2 1 ∷ []
 replies_to_events = refl
 
+-- the row of frame 1, where those of frames 0 to 2 are 1,3 and 0,4 and 0,5: neither the one before nor the one after
+pub row_of_the_frame :
+    replies_from masked tally (first_core masked) (event (Local 1 1) ∷ event Advance ∷ event (Remote 2 0 3) ∷ event (Remote 2 1 4) ∷ event (Remote 2 2 5) ∷ event Sync ∷ [])
+    ≡ Done ∷ Reached 1 0 1 ∷ Taken ∷ Taken ∷ Taken ∷ Synchronized (row_of 0 4) ∷ []
+row_of_the_frame = refl
+
 -- the log has the accepted events in their order, a partial roll among them: none that was refused or repeated
 pub log_of_events :
     log_of masked tally events
