@@ -10,6 +10,7 @@ late_word = L 1 1 ∷ A ∷ L 1 1 ∷ A ∷ R 2 0 3 ∷ []
 abbrev then : List Command → List Line
 then commands = rest 5 (lines (two 0 full) (late_word ++ commands))
 
+-- the roll that isn't refused
 pub whole_roll : then (S ∷ []) ≡ at 2 0 2 1 77 ∷ []
 whole_roll = refl
 
