@@ -1,6 +1,7 @@
 -- Rows that others begin with.
 use Rattle.std.proofs.Common.{◌≡◌, ◌≤◌, List, [], ◌∷◌, ◌++◌, length, length-take, take, Bool, true, false, refl, ap, arith}
-use Rattle.roll_frame.specs.Cells.{Rows, row_eq-Decides, rows_eq-Decides}
+use Rattle.roll_frame.specs.Cells.{Rows}
+use Rattle.roll_frame.specs.Impls.Equal.{row_eq-Decides, rows_eq-Decides}
 use Rattle.roll_frame.specs.Paths.{begins_with, longest}
 
 -- rows begin with their own first rows, and with no others

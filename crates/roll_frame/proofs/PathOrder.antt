@@ -1,17 +1,22 @@
--- Paths of the same base are ordered as their own rows are, and those that tie are the same.
+-- Rows of paths have a total order. Paths of the same base are ordered as their own rows are, and those that tie are the same.
 use Rattle.std.proofs.Common.{◌≡◌, ℕ, ◌+◌, length, true, refl, ap, ◌∙◌, arith}
-use Rattle.std.specs.Cmp.{tied_itself}
+use Rattle.std.specs.Cmp.{IsTotalOrder, tied_itself}
 use Rattle.std.specs.Cmp.Lexicographic.{slice_cmp}
 use Rattle.std.specs.Ordering.{nat_cmp, is_eq, ordering_then}
 use Rattle.std.specs.declared.cmp.Ordering.{Ordering}
 use Rattle.std.specs.declared.cmp.Ordering.TheVariants.{Less, Equal, Greater}
 use Rattle.std.proofs.lemmas.Bool.Decides.{nat_tests}
-use Rattle.std.proofs.lemmas.Cmp.{nat_cmp_total}
+use Rattle.std.proofs.lemmas.Cmp.{on_total, then_total, lists_total, nat_cmp_total}
 use Rattle.roll_frame.specs.declared.path.Path.{Path}
-use Rattle.roll_frame.specs.Cells.{Rows, path_eq-Decides}
+use Rattle.roll_frame.specs.Cells.{Rows}
 use Rattle.roll_frame.specs.Claims.{path_from}
 use Rattle.roll_frame.specs.Order.{row_cmp, rows_cmp, path_cmp}
-use Rattle.roll_frame.specs.Ties.{path_cmp_ties}
+use Rattle.roll_frame.specs.Impls.Equal.{path_eq-Decides}
+use Rattle.roll_frame.specs.Impls.Total.{row_cmp_total}
+use Rattle.roll_frame.specs.Impls.Ties.{path_cmp_ties}
+
+pub rows_cmp_total : IsTotalOrder rows_cmp
+rows_cmp_total = then_total (on_total (λ (rows : Rows). length rows) nat_cmp_total) (lists_total row_cmp_total)
 
 pub nat_cmp-plus : (base m n : ℕ) → nat_cmp (base + m) (base + n) ≡ nat_cmp m n
 nat_cmp-plus base m n = grind (arith, nat_tests)

@@ -3,7 +3,8 @@ use Rattle.std.proofs.Common.{◌≡◌, ℕ, zero, suc, ◌+◌, ◌≤◌, Lis
 use Rattle.std.specs.Prelude.{option_map, slice_get}
 use Rattle.std.specs.Option.{option_map_or, option_and_then, option_or}
 use Rattle.roll_frame.specs.declared.row.Cell.{Cell}
-use Rattle.roll_frame.specs.Cells.{Rows, cell_eq, cell_eq-Decides}
+use Rattle.roll_frame.specs.Cells.{Rows, cell_eq}
+use Rattle.roll_frame.specs.Impls.Equal.{cell_eq-Decides}
 use Rattle.roll_frame.specs.Claims.{place_of, least_place}
 
 -- a row and itself differ nowhere

@@ -12,8 +12,8 @@ use Rattle.std.proofs.lemmas.List.Sorted.{IsPermutation-refl, IsPermutation-cons
 use Rattle.std.proofs.lemmas.List.Sums.{sum_by-cons}
 use Rattle.std.proofs.lemmas.List.{length-map}
 use Rattle.roll_frame.specs.Cells.{Rows}
-use Rattle.roll_frame.specs.Order.{rows_cmp, rows_cmp_total, placed, in_order}
-use Rattle.roll_frame.proofs.PathOrder.{same_rows}
+use Rattle.roll_frame.specs.Order.{rows_cmp, placed, in_order}
+use Rattle.roll_frame.proofs.PathOrder.{rows_cmp_total, same_rows}
 
 not_after : (r s : Ordering) → s ≡ ordering_reverse r → is_lt r ≡ false → is_gt s ≡ false
 not_after Less s e h = absurd (false≢true (sym h))

@@ -2,7 +2,6 @@ pub mod Cells
 pub mod Words
 pub mod Packed
 pub mod Order
-pub mod Ties
 pub mod Codes
 pub mod Refusals
 pub mod Timeline
@@ -16,3 +15,4 @@ pub mod Events
 pub mod Guess
 pub mod Claims
 pub mod Advice
+pub mod Impls

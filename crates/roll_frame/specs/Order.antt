@@ -1,10 +1,8 @@
 -- The orders of cells, rows and paths.
 use Rattle.std.specs.Prelude.{ℕ, ◌+◌, List, [], ◌∷◌, length, if◌then◌else◌}
-use Rattle.std.specs.Cmp.{IsTotalOrder}
 use Rattle.std.specs.Cmp.Lexicographic.{slice_cmp}
 use Rattle.std.specs.Ordering.{nat_cmp, on, then_cmp, is_lt}
 use Rattle.std.specs.declared.cmp.Ordering.{Ordering}
-use Rattle.std.proofs.lemmas.Cmp.{on_total, then_total, lists_total, nat_cmp_total}
 use Rattle.roll_frame.specs.declared.row.Cell.{Cell}
 use Rattle.roll_frame.specs.declared.path.Path.{Path}
 use Rattle.roll_frame.specs.Words.{word_of, bit_of}
@@ -29,18 +27,6 @@ frames_of p = p.base + length p.rows.items
 -- fewer frames first, then the smaller base, and then the earliest row that differs decides
 abbrev pub path_cmp : Path → Path → Ordering
 path_cmp = then_cmp (then_cmp (on frames_of nat_cmp) (on (λ (p : Path). p.base) nat_cmp)) (on (λ (p : Path). p.rows.items) (slice_cmp row_cmp))
-
-pub cell_cmp_total : IsTotalOrder cell_cmp
-cell_cmp_total = then_total (on_total word_of nat_cmp_total) (on_total bit_of nat_cmp_total)
-
-pub row_cmp_total : IsTotalOrder row_cmp
-row_cmp_total = lists_total cell_cmp_total
-
-pub rows_cmp_total : IsTotalOrder rows_cmp
-rows_cmp_total = then_total (on_total (λ (rows : Rows). length rows) nat_cmp_total) (lists_total row_cmp_total)
-
-pub path_cmp_total : IsTotalOrder path_cmp
-path_cmp_total = then_total (then_total (on_total frames_of nat_cmp_total) (on_total (λ (p : Path). p.base) nat_cmp_total)) (on_total (λ (p : Path). p.rows.items) (lists_total row_cmp_total))
 
 -- a path put before the first greater one
 abbrev pub placed : Rows → List Rows → List Rows

@@ -60,8 +60,9 @@ impl Path {
 }
 
 impl PartialOrd for Path {
-    ghost use Rattle.roll_frame.specs.Order.{path_cmp, path_cmp_total};
-    ghost use Rattle.roll_frame.specs.Ties.{path_cmp_ties};
+    ghost use Rattle.roll_frame.specs.Order.{path_cmp};
+    ghost use Rattle.roll_frame.specs.Impls.Total.{path_cmp_total};
+    ghost use Rattle.roll_frame.specs.Impls.Ties.{path_cmp_ties};
 
     ghost partial_cmp = { as_partial_cmp path_cmp };
 
@@ -73,8 +74,9 @@ impl PartialOrd for Path {
 }
 
 impl Ord for Path {
-    ghost use Rattle.roll_frame.specs.Order.{path_cmp, path_cmp_total};
-    ghost use Rattle.roll_frame.specs.Ties.{path_cmp_ties};
+    ghost use Rattle.roll_frame.specs.Order.{path_cmp};
+    ghost use Rattle.roll_frame.specs.Impls.Total.{path_cmp_total};
+    ghost use Rattle.roll_frame.specs.Impls.Ties.{path_cmp_ties};
 
     ghost cmp = { path_cmp };
 

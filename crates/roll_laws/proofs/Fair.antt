@@ -5,7 +5,8 @@ use Rattle.std.specs.List.{AllByRecursion, cons_option, list_any}
 use Rattle.std.specs.Ordering.{is_lt}
 use Rattle.std.proofs.lemmas.Bool.{false≢true, cases_Bool, cases_lt, or_left, or_right, and_from, and_parts, leb-true, ltb-true, lt-ltb, le-leb, eq-eqb, ne_eqb}
 use Rattle.std.proofs.lemmas.List.Elements.{All-from_recursion}
-use Rattle.roll_frame.specs.Cells.{cell_eq, cell_eq-Decides, Rows}
+use Rattle.roll_frame.specs.Cells.{cell_eq, Rows}
+use Rattle.roll_frame.specs.Impls.Equal.{cell_eq-Decides}
 use Rattle.roll_frame.specs.declared.claim.Differ.{Differ}
 use Rattle.roll_frame.specs.Claims.{IsDeeper, IsTrueEntry, IsRight, AreRowsOf, is_for, cell_in, cell_of_row, place_of, least_place, is_passed, is_start, differ_of, differs_from, path_from, claim_of, target_of}
 use Rattle.roll_frame.specs.Core.{Roll}

@@ -3,7 +3,8 @@ use Rattle.std.proofs.Common.{None, ◌≡◌, ℕ, zero, suc, ◌+◌, ◌-◌,
 use Rattle.std.specs.Prelude.{◌⊎◌, not, filter, nat_le, nat_lt, ◌&&◌, ◌||◌, ◌==◌}
 use Rattle.std.proofs.lemmas.Bool.{false≢true, cases_lt, not-false, not-true, and_parts, and_from, and_cases, or_cases, leb-true, le-leb, ltb-false, eqb-true, not_from_false, false_from_ne_true}
 use Rattle.std.proofs.lemmas.List.Elements.{filter-append}
-use Rattle.roll_frame.specs.Cells.{rows_eq, rows_eq-Decides, Rows}
+use Rattle.roll_frame.specs.Cells.{rows_eq, Rows}
+use Rattle.roll_frame.specs.Impls.Equal.{rows_eq-Decides}
 use Rattle.roll_frame.specs.Core.{Core, first_core, is_possible, settled, kept, is_live, depth, cost, rolled_paths}
 use Rattle.roll_frame.specs.Events.{CoreEvent, all_given, tests_of, applied, after, played_from, played, branch_of}
 use Rattle.roll_frame.specs.Games.{Game, Value}

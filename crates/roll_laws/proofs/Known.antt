@@ -2,7 +2,8 @@
 use Rattle.std.proofs.Common.{◌≡◌, ℕ, zero, suc, ◌+◌, ◌<◌, ◌≤◌, List, [], ◌∷◌, length, get_or, refl, sym, Bool, true, false, arith, ltb, take, subst, inl, inr}
 use Rattle.std.specs.Prelude.{◌⊎◌, not, ◌||◌}
 use Rattle.std.proofs.lemmas.Bool.{false≢true, and_parts, and_from, ltb-true, ltb-false, lt-ltb, le-ltb, or_parts, or_left, or_right}
-use Rattle.roll_frame.specs.Cells.{cell_eq, cell_eq-Decides, Rows}
+use Rattle.roll_frame.specs.Cells.{cell_eq, Rows}
+use Rattle.roll_frame.specs.Impls.Equal.{cell_eq-Decides}
 use Rattle.roll_frame.specs.Core.{is_known, cell_possible, row_possible, possible_from}
 use Rattle.roll_frame.specs.Timeline.{Player, predicted, cell_at, row_at}
 use Rattle.roll_frame.specs.declared.row.Cell.{Cell}

@@ -2,7 +2,8 @@
 use Rattle.std.proofs.Common.{◌≡◌, ℕ, zero, suc, ◌+◌, ◌≤◌, List, [], ◌∷◌, ◌++◌, length, map, refl, ap, sym, ◌∙◌, Bool, true, false, arith, take, subst, inl, inr, length-take, max}
 use Rattle.std.specs.Prelude.{◌⊎◌}
 use Rattle.std.proofs.lemmas.Bool.{false≢true, or_cases, or_left, or_right}
-use Rattle.roll_frame.specs.Cells.{rows_eq, rows_eq-Decides, Rows}
+use Rattle.roll_frame.specs.Cells.{rows_eq, Rows}
+use Rattle.roll_frame.specs.Impls.Equal.{rows_eq-Decides}
 use Rattle.roll_frame.specs.Paths.{begins_with, longest, contains}
 use Rattle.roll_frame.specs.Timeline.{Player, row_at, timeline}
 use Rattle.roll_frame.proofs.Beginnings.{begins, begins_is}

@@ -5,8 +5,9 @@ use Rattle.std.specs.Ordering.{nat_cmp, is_lt, ordering_then}
 use Rattle.std.specs.declared.cmp.Ordering.{Ordering}
 use Rattle.std.proofs.lemmas.Cmp.{tied_itself}
 use Rattle.roll_frame.specs.Cells.{Rows}
-use Rattle.roll_frame.specs.Order.{row_cmp, row_cmp_total, rows_cmp, rows_cmp_total, in_order}
-use Rattle.roll_frame.proofs.PathOrder.{nat_cmp-plus, same_rows}
+use Rattle.roll_frame.specs.Order.{row_cmp, rows_cmp, in_order}
+use Rattle.roll_frame.specs.Impls.Total.{row_cmp_total}
+use Rattle.roll_frame.proofs.PathOrder.{rows_cmp_total, nat_cmp-plus, same_rows}
 use Rattle.roll_frame.proofs.Sorting.{order_permutes, order_sorted, sorted-map, sorted_once}
 use Rattle.std.proofs.lemmas.List.Sorted.{IsPermutation-map, IsPermutation-sym, IsPermutation-trans}
 

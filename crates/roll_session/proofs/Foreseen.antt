@@ -5,7 +5,7 @@ use Rattle.std.proofs.Math.ListN.{get_or-append}
 use Rattle.std.proofs.Math.Seq.{get_or-append_seam, map-set_same}
 use Rattle.std.proofs.lemmas.Bool.{cases_lt}
 use Rattle.std.proofs.lemmas.Option.{get_or_from_slice_get}
-use Rattle.roll_frame.specs.Cells.{cell_eq-Decides}
+use Rattle.roll_frame.specs.Impls.Equal.{cell_eq-Decides}
 use Rattle.roll_frame.specs.Inputs.{changed, player_at}
 use Rattle.roll_frame.specs.Timeline.{Player, cell_at, last_word, predicted, row_at, timeline}
 use Rattle.roll_frame.specs.declared.row.Cell.TheVariants.{Word}

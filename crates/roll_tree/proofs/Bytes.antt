@@ -8,7 +8,8 @@ use Rattle.std.proofs.lemmas.Nat.Bits.{bit_at-zero, bit_at_clear_other, bit_at_a
 use Rattle.roll_frame.specs.declared.row.Cell.{Cell}
 use Rattle.roll_frame.specs.declared.row.Cell.TheVariants.{Word, Gone}
 use Rattle.std.proofs.lemmas.Option.{slice_get_past, slice_get-get_or}
-use Rattle.roll_frame.specs.Cells.{Rows, cell_eq, cell_eq-Decides}
+use Rattle.roll_frame.specs.Cells.{Rows, cell_eq}
+use Rattle.roll_frame.specs.Impls.Equal.{cell_eq-Decides}
 use Rattle.roll_frame.specs.Claims.{cell_of_row, place_of}
 use Rattle.roll_frame.proofs.Places.{place_of-same}
 use Rattle.roll_tree.specs.Marks.{differ_at, differs, bit_of, AreMarks, AreSameBut}

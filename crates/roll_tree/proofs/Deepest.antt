@@ -7,7 +7,8 @@ use Rattle.std.proofs.lemmas.List.{get_or-take}
 use Rattle.std.proofs.lemmas.Option.{same_Some, slice_get-get_or}
 use Rattle.std.proofs.lemmas.Bool.{eqb-true, eq-eqb}
 use Rattle.roll_frame.specs.declared.row.Cell.{Cell}
-use Rattle.roll_frame.specs.Cells.{Rows, row_eq, row_eq-Decides}
+use Rattle.roll_frame.specs.Cells.{Rows, row_eq}
+use Rattle.roll_frame.specs.Impls.Equal.{row_eq-Decides}
 use Rattle.roll_frame.specs.Paths.{longest}
 use Rattle.roll_tree.specs.Marks.{AreMarks}
 use Rattle.roll_tree.specs.SavedStates.{SavedStates, state_named, paths_of, time_to}

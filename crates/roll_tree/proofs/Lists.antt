@@ -5,7 +5,8 @@ use Rattle.std.specs.List.{find}
 use Rattle.std.proofs.lemmas.List.{take_all}
 use Rattle.std.proofs.lemmas.Option.{none-some, same_Some}
 use Rattle.std.proofs.lemmas.Bool.{cases_Bool, false≢true, or_cases, or_left, or_right}
-use Rattle.roll_frame.specs.Cells.{Rows, rows_eq, rows_eq-Decides}
+use Rattle.roll_frame.specs.Cells.{Rows, rows_eq}
+use Rattle.roll_frame.specs.Impls.Equal.{rows_eq-Decides}
 use Rattle.roll_frame.specs.Paths.{begins_with, contains, longest}
 use Rattle.roll_frame.proofs.Beginnings.{longest_within, begins}
 use Rattle.roll_tree.specs.SavedStates.{Saved, SavedStates, state_named, paths_of}

@@ -6,7 +6,8 @@ use Rattle.std.specs.declared.cmp.Ordering.{Ordering}
 use Rattle.std.proofs.lemmas.List.Sorted.{IsPermutation-map, IsPermutation-sym, IsPermutation-trans}
 use Rattle.roll_frame.specs.declared.path.Path.{Path}
 use Rattle.roll_frame.specs.Cells.{Rows}
-use Rattle.roll_frame.specs.Order.{rows_cmp, path_cmp, path_cmp_total, in_order}
+use Rattle.roll_frame.specs.Order.{rows_cmp, path_cmp, in_order}
+use Rattle.roll_frame.specs.Impls.Total.{path_cmp_total}
 use Rattle.roll_frame.proofs.PathOrder.{path_cmp-same_base, same_path}
 use Rattle.roll_frame.proofs.Sorting.{order_permutes, order_sorted, sorted-map, sorted_once}
 use Rattle.roll_tree.specs.SavedStates.{path_of}

@@ -8,7 +8,8 @@ use Rattle.std.proofs.lemmas.Option.{none-some, same_Some}
 use Rattle.std.specs.Prelude.{All}
 use Rattle.std.proofs.lemmas.List.Elements.{All-cons}
 use Rattle.roll_frame.specs.declared.limits.TheConstants.{PATH_LIMIT}
-use Rattle.roll_frame.specs.Cells.{Rows, rows_eq, rows_eq-Decides}
+use Rattle.roll_frame.specs.Cells.{Rows, rows_eq}
+use Rattle.roll_frame.specs.Impls.Equal.{rows_eq-Decides}
 use Rattle.roll_frame.specs.Paths.{begins_with, contains, longest}
 use Rattle.roll_tree.specs.SavedStates.{Saved, SavedStates, state_named, paths_of, IsClosed, IsDistinct}
 use Rattle.roll_tree.specs.Layout.{has_name, node_at, rows_to, saved_of, state_at, kept_of, AreLinked, AreOrdered, IsTree}

@@ -6,7 +6,8 @@ use Rattle.std.proofs.lemmas.List.{take_more, take_all, reverse-append, reverse-
 use Rattle.std.proofs.lemmas.Option.{none-some, same_Some}
 use Rattle.std.proofs.lemmas.Bool.{cases_eq, cases_lt, false≢true, eqb-true, eq-eqb, and_parts}
 use Rattle.roll_frame.specs.declared.row.Cell.{Cell}
-use Rattle.roll_frame.specs.Cells.{Rows, row_eq, row_eq-Decides}
+use Rattle.roll_frame.specs.Cells.{Rows, row_eq}
+use Rattle.roll_frame.specs.Impls.Equal.{row_eq-Decides}
 use Rattle.roll_frame.specs.Paths.{begins_with, longest}
 use Rattle.roll_frame.proofs.Beginnings.{begins, begins_is}
 use Rattle.roll_tree.specs.Layout.{has_name, node_at, AreLinked, AreDistinct, IsAfter, AreOrdered, IsTree}

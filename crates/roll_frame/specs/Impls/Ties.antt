@@ -9,8 +9,10 @@ use Rattle.std.proofs.Common.{ap, sym, ◌∙◌}
 use Rattle.roll_frame.specs.declared.row.Cell.{Cell}
 use Rattle.roll_frame.specs.declared.row.Cell.TheVariants.{Word, Gone}
 use Rattle.roll_frame.specs.declared.path.Path.{Path}
-use Rattle.roll_frame.specs.Cells.{Rows, cell_eq, row_eq, rows_eq, path_eq, path_eq-Decides}
-use Rattle.roll_frame.specs.Order.{cell_cmp, row_cmp, path_cmp, path_cmp_total, frames_of}
+use Rattle.roll_frame.specs.Cells.{Rows, cell_eq, row_eq, rows_eq, path_eq}
+use Rattle.roll_frame.specs.Impls.Equal.{path_eq-Decides}
+use Rattle.roll_frame.specs.Order.{cell_cmp, row_cmp, path_cmp, frames_of}
+use Rattle.roll_frame.specs.Impls.Total.{path_cmp_total}
 
 then_Equal : (o : Ordering) → is_eq (ordering_then o Equal) ≡ is_eq o
 then_Equal Less = refl
