@@ -78,11 +78,10 @@ cost core m = m - depth core m
 abbrev pub rolled_paths : Core → ℕ → ℕ → List Rows
 rolled_paths core m j = prefixes (timeline core.players m) (depth core m) j
 
--- the core after a roll to m
+-- the core after a roll to m, but for the paths that it adds
 abbrev pub rolled : Core → ℕ → Core
 rolled core m =
     record core {
-      ever = core.ever ++ rolled_paths core m (cost core m);
       shown = Some (timeline core.players m);
       last = Some (record { to = m; from = depth core m; time = timeline core.players m; settled = settled core; kept = kept core });
     }

@@ -63,17 +63,7 @@ is_repeat core entry = false
 abbrev pub is_accepted : Settings → Game → Core → CoreEvent → Bool
 is_accepted settings game core event = not (is_repeat core event.entry) && is_none (refusal settings game core event)
 
--- what an accepted entry changes
-abbrev pub changed_by : Core → Entry → Core
-changed_by core (Local p word) = record core { players = changed (with_given word) core.players p }
-changed_by core (Remote p f word) = record core { players = changed (with_words (word ∷ [])) core.players p }
-changed_by core (Disconnect p) = record core { players = changed with_gone core.players p }
-changed_by core Sync = rolled core core.frame
-changed_by core Advance = record (rolled core (core.frame + 1)) { frame = core.frame + 1; players = map with_none_given core.players }
-changed_by core (Graft ticket path rows) = record core { ever = core.ever ++ new_paths core (branch_of path rows) }
-changed_by core (Partial to made) = record core { ever = core.ever ++ rolled_paths core to made; shown = None; last = None }
-
--- the paths that an accepted entry saves
+-- the paths that an accepted entry adds
 abbrev pub added_by : Core → Entry → List Rows
 added_by core Sync = rolled_paths core core.frame (cost core core.frame)
 added_by core Advance = rolled_paths core (core.frame + 1) (cost core (core.frame + 1))
@@ -81,9 +71,19 @@ added_by core (Graft ticket path rows) = new_paths core (branch_of path rows)
 added_by core (Partial to made) = rolled_paths core to made
 added_by core entry = []
 
--- the core after an accepted entry, which is counted
+-- the core after an accepted entry, but for the paths that it adds and the count of the log
+abbrev pub changed_by : Core → Entry → Core
+changed_by core (Local p word) = record core { players = changed (with_given word) core.players p }
+changed_by core (Remote p f word) = record core { players = changed (with_words (word ∷ [])) core.players p }
+changed_by core (Disconnect p) = record core { players = changed with_gone core.players p }
+changed_by core Sync = rolled core core.frame
+changed_by core Advance = record (rolled core (core.frame + 1)) { frame = core.frame + 1; players = map with_none_given core.players }
+changed_by core (Graft ticket path rows) = core
+changed_by core (Partial to made) = record core { shown = None; last = None }
+
+-- the core after an accepted entry
 abbrev pub applied : Core → Entry → Core
-applied core entry = record (changed_by core entry) { logged = core.logged + 1 }
+applied core entry = record (changed_by core entry) { ever = core.ever ++ added_by core entry; logged = core.logged + 1 }
 
 -- the core that a log leads to. A log has no values, so its grafts aren't judged again
 unfoldable pub replay : Settings → List Entry → Core

@@ -3,6 +3,7 @@ use Rattle.std.proofs.Common.{◌≡◌, ℕ, suc, ◌+◌, ◌-◌, ◌<◌, �
 use Rattle.std.specs.Prelude.{◌⊎◌, not, nat_le, nat_lt, ◌&&◌, ◌||◌, ◌==◌}
 use Rattle.std.specs.List.{list_any}
 use Rattle.std.proofs.lemmas.Bool.{false≢true, cases_Bool, not-false, not-true, and_parts, or_cases, or_parts, leb-false, ltb-false, eqb-false, eqb-true}
+use Rattle.std.proofs.lemmas.List.{append-nil}
 use Rattle.std.proofs.Math.ListN.{length-replicate}
 use Rattle.roll_frame.specs.Cells.{Rows}
 use Rattle.roll_frame.specs.Core.{Core, first_core, is_possible, settled, kept, depth, cost, rolled_paths}
@@ -118,7 +119,7 @@ few_next core new (p ∷ ps) f n h =
 pub bounded_step : (settings : Settings) (game : Game) (core : Core) (from : Value) (entry : Entry) → settings.threshold ≤ 15 → Sound settings core → Bounded settings core → AllFail (tests_of settings game core from entry) → core.logged < settings.log → settled core ≤ settled (applied core entry) → Bounded settings (applied core entry)
 bounded_step settings game core from (Local p word) small s b h room f =
     let local = not-false _ h.0 in
-    bounded_players settings core (applied core (Local p word)) b f refl refl refl room
+    bounded_players settings core (applied core (Local p word)) b f refl (append-nil core.ever) refl room
     (changed_each (HasFew core) (with_given word) core.players p
     (λ x e k.
     let l : x.local ≡ true = of_player_is (λ player. player.local) core.players p x true e local in
@@ -128,7 +129,7 @@ bounded_step settings game core from (Local p word) small s b h room f =
     (changed_each (λ x. x.given ≡ true → core.frame < settings.limit) (with_given word) core.players p (λ x e k g. let ne = eqb-false core.frame settings.limit h.1.1.1.0 in omega (arith, b.frames)) b.below)
 bounded_step settings game core from (Remote p n word) small s b h room f =
     let remote = not-false _ h.0 in
-    bounded_players settings core (applied core (Remote p n word)) b f refl refl refl room
+    bounded_players settings core (applied core (Remote p n word)) b f refl (append-nil core.ever) refl room
     (changed_each (HasFew core) (with_words (word ∷ [])) core.players p
     (λ x e k.
     let l : x.local ≡ false = not-true x.local (of_player_is (λ player. not player.local) core.players p x true e remote) in
@@ -137,7 +138,7 @@ bounded_step settings game core from (Remote p n word) small s b h room f =
     b.queues)
     (changed_each (λ x. x.given ≡ true → core.frame < settings.limit) (with_words (word ∷ [])) core.players p (λ x e k. k) b.below)
 bounded_step settings game core from (Disconnect p) small s b h room f =
-    bounded_players settings core (applied core (Disconnect p)) b f refl refl refl room
+    bounded_players settings core (applied core (Disconnect p)) b f refl (append-nil core.ever) refl room
     (changed_each (HasFew core) with_gone core.players p (λ x e k. k) b.queues)
     (changed_each (λ x. x.given ≡ true → core.frame < settings.limit) with_gone core.players p (λ x e k. k) b.below)
 bounded_step settings game core from Sync small s b h room f =

@@ -2,6 +2,7 @@
 use Rattle.std.proofs.Common.{None, ◌≡◌, ℕ, zero, suc, ◌+◌, ◌-◌, ◌<◌, ◌≤◌, List, [], ◌∷◌, ◌++◌, length, take, refl, ap, sym, ◌∙◌, Bool, true, false, arith, subst, inl, inr, min, length-take, length-append}
 use Rattle.std.specs.Prelude.{◌⊎◌, not, filter, nat_le, nat_lt, ◌&&◌, ◌||◌, ◌==◌}
 use Rattle.std.proofs.lemmas.Bool.{false≢true, cases_lt, not-false, not-true, and_parts, and_from, and_cases, or_cases, leb-true, le-leb, ltb-false, eqb-true, not_from_false, false_from_ne_true}
+use Rattle.std.proofs.lemmas.List.{append-nil}
 use Rattle.std.proofs.lemmas.List.Elements.{filter-append}
 use Rattle.roll_frame.specs.Cells.{rows_eq, Rows}
 use Rattle.roll_frame.specs.Impls.Equal.{rows_eq-Decides}
@@ -159,9 +160,9 @@ few_grafted settings old new branch few o f t e =
     )
 
 few_step : (settings : Settings) (game : Game) (core : Core) (from : Value) (entry : Entry) → Sound settings core → Few settings core → AllFail (tests_of settings game core from entry) → Onward core (applied core entry) → settled core ≤ settled (applied core entry) → Few settings (applied core entry)
-few_step settings game core from (Local p word) s few h o f = few_same settings core (applied core (Local p word)) few o f refl
-few_step settings game core from (Remote p n word) s few h o f = few_same settings core (applied core (Remote p n word)) few o f refl
-few_step settings game core from (Disconnect p) s few h o f = few_same settings core (applied core (Disconnect p)) few o f refl
+few_step settings game core from (Local p word) s few h o f = few_same settings core (applied core (Local p word)) few o f (append-nil core.ever)
+few_step settings game core from (Remote p n word) s few h o f = few_same settings core (applied core (Remote p n word)) few o f (append-nil core.ever)
+few_step settings game core from (Disconnect p) s few h o f = few_same settings core (applied core (Disconnect p)) few o f (append-nil core.ever)
 few_step settings game core from Sync s few h o f = few_rolled settings core (applied core Sync) core.frame (cost core core.frame) few o f (omega arith) (omega arith) refl
 few_step settings game core from Advance s few h o f = few_rolled settings core (applied core Advance) (core.frame + 1) (cost core (core.frame + 1)) few o f (omega arith) (omega arith) refl
 few_step settings game core from (Graft ticket path rows) s few h o f = few_grafted settings core (applied core (Graft ticket path rows)) (branch_of path rows) few o f h.1.1.1.1.1.1.1.0 refl

@@ -1,15 +1,14 @@
 -- Rolls are least, and pruning loses nothing.
 use Rattle.std.specs.Prelude.{filter, min}
 use Rattle.std.proofs.lemmas.Bool.{false≢true, cases_Bool}
-use Rattle.std.proofs.lemmas.List.{append-nil, length-take-le}
+use Rattle.std.proofs.lemmas.List.{length-take-le}
 use Rattle.std.proofs.lemmas.List.Elements.{filter-append}
 use Rattle.roll_frame.specs.Cells.{Rows}
 use Rattle.roll_frame.specs.Core.{Core, kept, settled, is_live, depth}
-use Rattle.roll_frame.specs.Events.{added_by, CoreEvent, is_accepted, applied, after, played}
+use Rattle.roll_frame.specs.Events.{added_by, CoreEvent, is_accepted, after, played}
 use Rattle.roll_frame.specs.Games.{Game}
 use Rattle.roll_frame.specs.Paths.{begins_with, longest}
 use Rattle.roll_frame.specs.Timeline.{front, timeline}
-use Rattle.roll_frame.specs.declared.entry.Entry.{Entry}
 use Rattle.roll_frame.specs.declared.settings.Settings.{Settings}
 use Rattle.roll_frame.proofs.Beginnings.{begins}
 use Rattle.roll_frame.proofs.Timelines.{length_timeline}
@@ -19,7 +18,6 @@ use Rattle.roll_laws.proofs.Counting.{filter_takes, filter_skips}
 use Rattle.std.proofs.Common.{None, ◌≡◌, ℕ, ◌+◌, ◌≤◌, List, [], ◌∷◌, ◌++◌, length, take, refl, ap, sym, ◌∙◌, Bool, true, false, arith, inl, inr, subst, length-append}
 use Rattle.std.specs.Prelude.{◌⊎◌}
 use Rattle.std.proofs.Math.Seq.{take-append_seam}
-use Rattle.roll_frame.specs.declared.entry.Entry.TheVariants.{Local, Remote, Disconnect, Sync, Advance, Graft, Partial}
 use Rattle.roll_laws.proofs.Saved.{In, in_left, in_right, in_either, has_in, IsLength, longest_is, longest_at_least, take_timeline, timeline_on_time, time_begins}
 use Rattle.roll_laws.proofs.Fronts.{Onward, settled_onward, settled_is, depth_is, depth_at_least}
 use Rattle.roll_laws.proofs.Accepted.{after_accepted}
@@ -69,15 +67,6 @@ filter_twice p r (x ∷ xs) f = go (cases_Bool (r x)) (cases_Bool (p x)) (filter
     go (inr a) (inl b) h = absurd (false≢true (sym a ∙ f x b))
     go (inr a) (inr b) h = filter_skips p x xs b ∙ h ∙ ap (filter p) (sym (filter_skips r x xs a))
 
-ever_grows : (core : Core) (entry : Entry) → (applied core entry).ever ≡ core.ever ++ added_by core entry
-ever_grows core (Local p word) = sym (append-nil core.ever)
-ever_grows core (Remote p f word) = sym (append-nil core.ever)
-ever_grows core (Disconnect p) = sym (append-nil core.ever)
-ever_grows core Sync = refl
-ever_grows core Advance = refl
-ever_grows core (Graft ticket path rows) = refl
-ever_grows core (Partial to made) = refl
-
 kept_grows : (old new : Core) (made : List Rows) → Onward old new → settled old ≤ settled new → new.ever ≡ old.ever ++ made → kept new ≡ filter (is_live (settled new) new.players) (kept old ++ made)
 kept_grows old new made o f e =
     let test : Rows → Bool = is_live (settled new) new.players in
@@ -118,7 +107,7 @@ grows settings game events event h a =
     record {
       onward = g.0;
       sound = g.1;
-      ever = ap (λ (c : Core). c.ever) (after_accepted settings game core event a) ∙ ever_grows core event.entry;
+      ever = ap (λ (c : Core). c.ever) (after_accepted settings game core event a);
       up = settled_onward core new g.0 s.root (staying new.players g.1.stays g.1.has_local);
     }
 

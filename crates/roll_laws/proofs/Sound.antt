@@ -3,6 +3,7 @@ use Rattle.std.proofs.Common.{◌≡◌, ℕ, zero, suc, ◌+◌, ◌-◌, ◌<�
 use Rattle.std.specs.Prelude.{◌⊎◌, not, ◌&&◌, ◌||◌}
 use Rattle.std.specs.List.{list_any}
 use Rattle.std.proofs.lemmas.Bool.{false≢true, cases_Bool, cases_lt, not-false, not-true, not_from_false, and_parts, and_from, or_cases, leb-false}
+use Rattle.std.proofs.lemmas.List.{append-nil}
 use Rattle.roll_frame.specs.Cells.{Rows}
 use Rattle.roll_frame.specs.Core.{Core, first_core, is_possible, settled, kept, is_live, depth, cost, rolled_paths}
 use Rattle.roll_frame.specs.Events.{CoreEvent, all_given, tests_of, applied, after, played_from, played, branch_of}
@@ -76,11 +77,11 @@ Good settings old new = Onward old new × Sound settings new
 
 players_good : (settings : Settings) (core : Core) (entry : Entry) (news : List Player) → Sound settings core
     → AllLater core.players news → Each Stays news → Each (Paced settings core) news
-    → Good settings core (record core { players = news; logged = core.logged + 1 })
+    → Good settings core (record core { players = news; ever = core.ever ++ []; logged = core.logged + 1 })
 players_good settings core entry news s l stays given =
-    let new : Core = record core { players = news; logged = core.logged + 1 } in
-    let o : Onward core new = record { players = l; ever = λ q h. h; frame = omega arith } in
-    (o, sound_onward settings core new s o stays s.closed refl given)
+    let new : Core = record core { players = news; ever = core.ever ++ []; logged = core.logged + 1 } in
+    let o : Onward core new = record { players = l; ever = λ q h. in_left q core.ever [] h; frame = omega arith } in
+    (o, sound_onward settings core new s o stays (subst Closed (sym (append-nil core.ever)) s.closed) refl given)
 
 ever_good : (settings : Settings) (core new : Core) (more : List Rows) → Sound settings core → new.players ≡ core.players → new.frame ≡ core.frame → new.ever ≡ core.ever ++ more → Closed (core.ever ++ more) → Good settings core new
 ever_good settings core new more s p f e closed =
