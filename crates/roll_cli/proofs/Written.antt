@@ -5,7 +5,7 @@ use Rattle.std.proofs.lemmas.Bool.{false≢true}
 use Rattle.std.specs.Fmt.{decimal}
 use Rattle.std.specs.Option.{option_map_or}
 use Rattle.roll_frame.specs.Cells.{Rows}
-use Rattle.roll_frame.specs.Core.{Core, Roll, settled}
+use Rattle.roll_frame.specs.Core.{Core, Roll, end_of, settled}
 use Rattle.roll_frame.specs.Games.{Game}
 use Rattle.roll_frame.specs.Paths.{run}
 use Rattle.roll_frame.specs.declared.row.Cell.{Cell}
@@ -37,7 +37,7 @@ some_rows value step x (Some rows) state h = (rows, refl, h)
 abbrev line_with : Texts → Game → ℕ → ℕ → Option Roll → Option Rows → List ℕ
 line_with texts game frame base last shown =
     option_map_or (λ roll. option_map_or (λ rows.
-    codes "frame " ++ (decimal frame ++ (codes " from " ++ (decimal roll.from ++ (codes " rerun " ++ (decimal (roll.to - roll.from) ++ (codes " settled " ++ (decimal base ++ (codes " state " ++ texts (run game.step game.opening rows))))))))))
+    codes "frame " ++ (decimal frame ++ (codes " from " ++ (decimal roll.from ++ (codes " rerun " ++ (decimal (end_of roll - roll.from) ++ (codes " settled " ++ (decimal base ++ (codes " state " ++ texts (run game.step game.opening rows))))))))))
     shown []) last []
 
 line_is : (texts : Texts) (game : Game) (core : Core) → frame_line texts game core ≡ line_with texts game core.frame (settled core) core.last core.shown
@@ -67,7 +67,7 @@ rolled_line value texts game core players plan state frame base some is h f b =
     let rows = some_rows value game.step game.opening core.shown state h in
     ap (λ n. codes "frame " ++ (decimal frame ++ (codes " from " ++ (decimal n ++ (codes " rerun " ++ (decimal plan.rerun ++ (codes " settled " ++ (decimal base ++ (codes " state " ++ texts (value state)))))))))) roll.2.from
     ∙ ap (λ n. codes "frame " ++ (decimal frame ++ (codes " from " ++ (decimal roll.0.from ++ (codes " rerun " ++ (decimal n ++ (codes " settled " ++ (decimal base ++ (codes " state " ++ texts (value state)))))))))) roll.2.rerun
-    ∙ ap (λ x. codes "frame " ++ (decimal frame ++ (codes " from " ++ (decimal roll.0.from ++ (codes " rerun " ++ (decimal (roll.0.to - roll.0.from) ++ (codes " settled " ++ (decimal base ++ (codes " state " ++ texts x))))))))) rows.2
+    ∙ ap (λ x. codes "frame " ++ (decimal frame ++ (codes " from " ++ (decimal roll.0.from ++ (codes " rerun " ++ (decimal (end_of roll.0 - roll.0.from) ++ (codes " settled " ++ (decimal base ++ (codes " state " ++ texts x))))))))) rows.2
     ∙ ap (λ n. line_with texts game n base (Some roll.0) (Some rows.0)) f
     ∙ ap (λ n. line_with texts game core.frame n (Some roll.0) (Some rows.0)) b
     ∙ sym (line_is texts game core

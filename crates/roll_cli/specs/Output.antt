@@ -8,7 +8,7 @@ use Rattle.roll_duel.specs.Bytes.{bytes_of, step}
 use Rattle.roll_duel.specs.Frame.{opening_of}
 use Rattle.roll_frame.specs.Claims.{claim_of}
 use Rattle.roll_frame.specs.Codes.{code_of}
-use Rattle.roll_frame.specs.Core.{Core, first_core, settled}
+use Rattle.roll_frame.specs.Core.{Core, end_of, first_core, settled}
 use Rattle.roll_frame.specs.Events.{after, reply}
 use Rattle.roll_frame.specs.Games.{Value, Game}
 use Rattle.roll_frame.specs.Paths.{run}
@@ -40,7 +40,7 @@ refused_line why = codes "refused " ++ decimal (code_of why)
 unfoldable pub frame_line : Texts → Game → Core → List ℕ
 frame_line texts game core =
     option_map_or (λ roll. option_map_or (λ rows.
-    codes "frame " ++ (decimal core.frame ++ (codes " from " ++ (decimal roll.from ++ (codes " rerun " ++ (decimal (roll.to - roll.from) ++ (codes " settled " ++ (decimal (settled core) ++ (codes " state " ++ texts (run game.step game.opening rows))))))))))
+    codes "frame " ++ (decimal core.frame ++ (codes " from " ++ (decimal roll.from ++ (codes " rerun " ++ (decimal (end_of roll - roll.from) ++ (codes " settled " ++ (decimal (settled core) ++ (codes " state " ++ texts (run game.step game.opening rows))))))))))
     core.shown []) core.last []
 
 -- the line of a reply, without its end, and the core after its event

@@ -10,7 +10,7 @@ use Rattle.roll_frame.specs.declared.claim.Differ.{Differ}
 use Rattle.roll_frame.specs.Cells.{Rows, cell_eq}
 use Rattle.roll_frame.specs.Paths.{begins_with}
 use Rattle.roll_frame.specs.Order.{frames_of, in_order}
-use Rattle.roll_frame.specs.Core.{Roll}
+use Rattle.roll_frame.specs.Core.{Roll, end_of}
 
 -- the frame that the roll went to
 abbrev pub target_of : Claim → ℕ
@@ -86,7 +86,7 @@ least_place t rows others = None
 
 -- whether a roll passed over a path: deeper than its start, and not past its end
 abbrev pub is_passed : Roll → Rows → Bool
-is_passed roll path = nat_lt roll.from (length path) && nat_le (length path) roll.to
+is_passed roll path = nat_lt roll.from (length path) && nat_le (length path) (end_of roll)
 
 -- the entry of a path that was passed over, which is at this place of the kept ones
 abbrev pub differ_of : Roll → ℕ → Rows → Option Differ

@@ -7,14 +7,17 @@ use Rattle.roll_frame.specs.Timeline.{Player, cell_at, timeline, front}
 use Rattle.roll_frame.specs.Paths.{contains, longest, prefixes}
 use Rattle.roll_frame.specs.Settings.{first_players}
 
--- the last roll: where it ended, the length of the path that it started from, the timeline's rows up to
--- its end, and the settled frame and the kept paths from before it
+-- the last roll: the length of the path that it started from, the timeline's rows up to its end, and the
+-- settled frame and the kept paths from before it
 pub record Roll : Type 0 where
-  pub to : ℕ
   pub from : ℕ
   pub time : Rows
   pub settled : ℕ
   pub kept : List Rows
+
+-- the frame that a roll ended at
+abbrev pub end_of : Roll → ℕ
+end_of roll = length roll.time
 
 -- all that the replies depend on. ever has the paths of all states that were ever saved; shown is the
 -- path of the state shown; logged counts the log's entries
@@ -83,7 +86,7 @@ abbrev pub rolled : Core → ℕ → Core
 rolled core m =
     record core {
       shown = Some (timeline core.players m);
-      last = Some (record { to = m; from = depth core m; time = timeline core.players m; settled = settled core; kept = kept core });
+      last = Some (record { from = depth core m; time = timeline core.players m; settled = settled core; kept = kept core });
     }
 
 -- a plan of a roll to m: a saved path, and rows that lead on from it to the timeline's first m. It costs

@@ -9,7 +9,7 @@ use Rattle.roll_frame.specs.Cells.{cell_eq, Rows}
 use Rattle.roll_frame.specs.Impls.Equal.{cell_eq-Decides}
 use Rattle.roll_frame.specs.declared.claim.Differ.{Differ}
 use Rattle.roll_frame.specs.Claims.{IsDeeper, IsTrueEntry, IsRight, AreRowsOf, is_for, cell_in, cell_of_row, place_of, least_place, is_passed, is_start, differ_of, differs_from, path_from, claim_of, target_of}
-use Rattle.roll_frame.specs.Core.{Roll}
+use Rattle.roll_frame.specs.Core.{Roll, end_of}
 use Rattle.roll_frame.specs.Order.{frames_of, rows_cmp, placed, in_order}
 use Rattle.roll_frame.specs.Paths.{begins_with}
 use Rattle.roll_frame.specs.declared.limits.TheConstants.{PATH_LIMIT}
@@ -28,17 +28,16 @@ Wide n rows = AllByRecursion (λ row. length row ≡ n) rows
 pub record IsFair (n : ℕ) (roll : Roll) : Type 0 where
   pub some : 1 ≤ n
   pub few : n ≤ 8
-  pub to_is : length roll.time ≡ roll.to
   pub low : roll.settled ≤ roll.from
-  pub top : roll.from ≤ roll.to
-  pub lag : roll.to ≤ roll.settled + PATH_LIMIT
+  pub top : roll.from ≤ end_of roll
+  pub lag : end_of roll ≤ roll.settled + PATH_LIMIT
   pub base : roll.settled ≤ 1048576
   pub rows : Wide n roll.time
   pub start : In (take roll.from roll.time) roll.kept
   pub kept_rows : (q : Rows) → In q roll.kept → Wide n q
   pub kept_low : (q : Rows) → In q roll.kept → roll.settled ≤ length q
   pub kept_settled : (q : Rows) → In q roll.kept → take roll.settled q ≡ take roll.settled roll.time
-  pub kept_off : (q : Rows) → In q roll.kept → roll.from < length q → length q ≤ roll.to → begins_with roll.time q ≡ false
+  pub kept_off : (q : Rows) → In q roll.kept → roll.from < length q → length q ≤ end_of roll → begins_with roll.time q ≡ false
 
 -- two rows are one, or differ at a first place
 record Apart (n : ℕ) (cs ds : List Cell) (p : ℕ) : Type 0 where
@@ -159,10 +158,10 @@ abbrev entry_at : ℕ → ℕ → ℕ → Differ
 entry_at s f p = record { state = s; frame = f; player = suc p }
 
 module _ (n : ℕ) (roll : Roll) (fair : IsFair n roll) where
-  deeper_parts : (q : Rows) → is_passed roll q ≡ true → (roll.from < length q) × (length q ≤ roll.to)
+  deeper_parts : (q : Rows) → is_passed roll q ≡ true → (roll.from < length q) × (length q ≤ end_of roll)
   deeper_parts q e =
-      let b = and_parts (nat_lt roll.from (length q)) (nat_le (length q) roll.to) e in
-      (ltb-true roll.from (length q) b.0, leb-true (length q) roll.to b.1)
+      let b = and_parts (nat_lt roll.from (length q)) (nat_le (length q) (end_of roll)) e in
+      (ltb-true roll.from (length q) b.0, leb-true (length q) (end_of roll) b.1)
 
   entry_none : (s : ℕ) (q : Rows) → is_passed roll q ≡ false → differ_of roll s q ≡ None
   entry_none s q e = rw e refl
@@ -173,9 +172,9 @@ module _ (n : ℕ) (roll : Roll) (fair : IsFair n roll) where
   off : (q : Rows) → In q roll.kept → is_passed roll q ≡ true → (f p : ℕ) × Off 0 n q roll.time f p
   off q i e =
       let d = deeper_parts q e in
-      go d (paths_off 0 n q roll.time (omega (arith, d.1, fair.to_is)) (fair.kept_rows q i) fair.rows)
+      go d (paths_off 0 n q roll.time (omega (arith, d.1)) (fair.kept_rows q i) fair.rows)
     where
-      go : (roll.from < length q) × (length q ≤ roll.to) → ((least_place 0 q roll.time ≡ None) × (q ≡ take (length q) roll.time)) ⊎ ((f p : ℕ) × Off 0 n q roll.time f p) → (f p : ℕ) × Off 0 n q roll.time f p
+      go : (roll.from < length q) × (length q ≤ end_of roll) → ((least_place 0 q roll.time ≡ None) × (q ≡ take (length q) roll.time)) ⊎ ((f p : ℕ) × Off 0 n q roll.time f p) → (f p : ℕ) × Off 0 n q roll.time f p
       go d (inr o) = o
       go d (inl o) = absurd (false≢true (sym (fair.kept_off q i d.0 d.1) ∙ begins roll.time q o.1))
 
@@ -189,7 +188,7 @@ module _ (n : ℕ) (roll : Roll) (fair : IsFair n roll) where
       let place : suc p - 1 ≡ p = omega arith in
       record {
         on_path = record {
-          deeper = (omega (arith, d.0), omega (arith, d.1, fair.to_is, fair.low, fair.top));
+          deeper = (omega (arith, d.0), omega (arith, d.1, fair.low, fair.top));
           from = past;
           below = omega (arith, o.frame);
           first = omega arith;
@@ -329,7 +328,7 @@ module _ (n : ℕ) (roll : Roll) (fair : IsFair n roll) where
   fair_is_right =
       let time_long : length (drop roll.settled roll.time) ≡ length roll.time - roll.settled = length-drop roll.settled roll.time in
       let q : Rows = take roll.from roll.time in
-      let q_long : length q ≡ roll.from = omega (arith, length-take roll.from roll.time, fair.to_is, fair.top) in
+      let q_long : length q ≡ roll.from = omega (arith, length-take roll.from roll.time, fair.top) in
       let past : roll.settled + (roll.from - roll.settled) ≡ roll.from = omega (arith, fair.low) in
       let cut : drop roll.settled q ≡ take (roll.from - roll.settled) (drop roll.settled roll.time) = ap (λ j. drop roll.settled (take j roll.time)) (sym past) ∙ drop-take roll.settled (roll.from - roll.settled) roll.time in
       let own_long : length (drop roll.settled q) ≡ roll.from - roll.settled = omega (arith, length-drop roll.settled q) in
@@ -338,14 +337,14 @@ module _ (n : ℕ) (roll : Roll) (fair : IsFair n roll) where
           base = fair.base;
           some = fair.some;
           few = fair.few;
-          short = omega (arith, fair.to_is, fair.lag);
+          short = omega (arith, fair.lag);
           time = All-from_recursion (λ row. length row ≡ n) (drop roll.settled roll.time) (wide_drop n roll.settled roll.time fair.rows);
           kept = All-from_recursion (λ path. (path.base ≡ roll.settled) × AreRowsOf n path.rows.items) (map (path_from roll.settled) (in_order roll.kept)) (kept_shape (in_order roll.kept) (λ p i. in_ordered p roll.kept i));
         };
         start = any_in (is_start (claim_of n roll)) (path_from roll.settled) (in_order roll.kept) q (ordered_in q roll.kept fair.start)
             (and_from (nat_eq (frames_of (path_from roll.settled q)) roll.from && nat_le roll.from (target_of (claim_of n roll))) (begins_with (drop roll.settled roll.time) (drop roll.settled q))
             (and_from (nat_eq (frames_of (path_from roll.settled q)) roll.from) (nat_le roll.from (target_of (claim_of n roll)))
-            (eq-eqb (frames_of (path_from roll.settled q)) roll.from (omega (arith, fair.low))) (le-leb roll.from (target_of (claim_of n roll)) (omega (arith, fair.to_is, fair.top, fair.low))))
+            (eq-eqb (frames_of (path_from roll.settled q)) roll.from (omega (arith, fair.low))) (le-leb roll.from (target_of (claim_of n roll)) (omega (arith, fair.top, fair.low))))
             (begins (drop roll.settled roll.time) (drop roll.settled q) (cut ∙ ap (λ j. take j (drop roll.settled roll.time)) (sym own_long))));
         entries = claim_entries (IsTrueEntry (claim_of n roll)) (true_entry n roll fair);
         once = λ place path e deeper.
@@ -357,7 +356,7 @@ module _ (n : ℕ) (roll : Roll) (fair : IsFair n roll) where
             let b : roll.settled + length (drop roll.settled u.0) ≤ roll.settled + length (drop roll.settled roll.time) = deep.1 in
             let low : roll.settled ≤ length u.0 = fair.kept_low u.0 i in
             one_named (in_order roll.kept) 0 place place u.0 (omega arith) u.1
-            (and_from (nat_lt roll.from (length u.0)) (nat_le (length u.0) roll.to) (lt-ltb roll.from (length u.0) (omega arith)) (le-leb (length u.0) roll.to (omega (arith, fair.to_is, fair.low, fair.top))))
+            (and_from (nat_lt roll.from (length u.0)) (nat_le (length u.0) (end_of roll)) (lt-ltb roll.from (length u.0) (omega arith)) (le-leb (length u.0) (end_of roll) (omega (arith, fair.low, fair.top))))
             (λ p j. in_ordered p roll.kept j);
       }
 

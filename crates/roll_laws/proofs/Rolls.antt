@@ -37,7 +37,7 @@ fits_wide t ps (row ∷ rows) h = (row_wide t ps row h.0, fits_wide (suc t) ps r
 
 -- the roll to m
 abbrev pub roll_of : Core → ℕ → Roll
-roll_of core m = record { to = m; from = depth core m; time = timeline core.players m; settled = settled core; kept = kept core }
+roll_of core m = record { from = depth core m; time = timeline core.players m; settled = settled core; kept = kept core }
 
 abbrev Small : Settings → Core → Type 0
 Small settings core = (1 ≤ length core.players) × (length core.players ≤ 8) × (settings.threshold ≤ 15) × (settings.limit ≤ 1048576)
@@ -50,10 +50,9 @@ roll_fair settings core m s b small l u =
     record {
       some = small.0;
       few = small.1;
-      to_is = length_timeline core.players m;
       low = low;
-      top = d.0;
-      lag = omega (arith, s.lag, small.2);
+      top = omega (arith, d.0, length_timeline core.players m);
+      lag = omega (arith, s.lag, small.2, length_timeline core.players m);
       base = omega (arith, f.0, b.frames, small.3);
       rows = fits_wide 0 core.players (timeline core.players m) (on_time_fits 0 core.players (timeline core.players m) (timeline_on_time core.players m));
       start = subst (λ (q : Rows). In q (kept core)) (sym (take_timeline core.players (depth core m) m d.0)) (has_in (kept core) (timeline core.players (depth core m)) (start_kept settings core m s l));

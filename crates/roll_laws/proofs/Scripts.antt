@@ -9,7 +9,7 @@ use Rattle.roll_frame.specs.declared.path.Path.{Path}
 use Rattle.roll_frame.specs.Cells.{Rows}
 use Rattle.roll_frame.specs.Claims.{claim_of}
 use Rattle.roll_frame.specs.Codes.{code_of}
-use Rattle.roll_frame.specs.Core.{Core, first_core, settled}
+use Rattle.roll_frame.specs.Core.{Core, end_of, first_core, settled}
 use Rattle.roll_frame.specs.Events.{CoreEvent, after, reply}
 use Rattle.roll_frame.specs.declared.reply.Reply.{Reply}
 use Rattle.roll_frame.specs.declared.reply.Reply.TheVariants.{Refused, Done, Taken, Repeated, Disconnected, Synchronized, Reached, Grafted}
@@ -60,7 +60,7 @@ abbrev pub state_of : Game → Core → Value
 state_of game core = option_map_or (λ rows. run game.step game.opening rows) core.shown []
 
 abbrev pub rolled_line : Game → Core → Line
-rolled_line game core = option_map_or (λ roll. frame roll.to roll.from (roll.to - roll.from) (settled core) (state_of game core)) core.last nothing
+rolled_line game core = option_map_or (λ roll. frame (end_of roll) roll.from (end_of roll - roll.from) (settled core) (state_of game core)) core.last nothing
 
 abbrev pub said : Game → Core → Reply → Line
 said game core (Refused why) = refused (code_of why)

@@ -68,10 +68,9 @@ module _ (players : ℕ) (made : Made) (fit : IsFit players made) where
       record {
         some = fit.some;
         few = fit.few;
-        to_is = length-append settled made.time ∙ ap (λ n. n + length made.time) e;
         low = omega (arith, fit.from_is);
-        top = omega (arith, fit.from_is, start.1);
-        lag = omega (arith, fit.short);
+        top = omega (arith, fit.from_is, start.1, length-append settled made.time, e);
+        lag = omega (arith, fit.short, length-append settled made.time, e);
         base = fit.base;
         rows = wide_on players settled made.time w (wide_of made.time fit.time);
         start = subst (λ (q : Rows). In q (map (on settled) made.kept)) (sym (ap (λ n. take n (on settled made.time)) (fit.from_is ∙ ap (λ n. n + longest made.kept made.time) (sym e)) ∙ take-append-add settled made.time (longest made.kept made.time))) (in_map (on settled) (take (longest made.kept made.time) made.time) made.kept start.0);

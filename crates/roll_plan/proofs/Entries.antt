@@ -22,10 +22,10 @@ entry_for made state path =
 
 entry_on : (made : Made) (settled : Rows) (state : ℕ) (path : Rows) → length settled ≡ made.base → differ_of (roll_of settled made) state (on settled path) ≡ entry_for made state path
 entry_on made settled state path e =
-    let long : length (on settled path) ≡ made.base + length path = length-append settled path ∙ ap (λ n. n + length path) e in
+    let long : (rows : Rows) → length (on settled rows) ≡ made.base + length rows = λ rows. length-append settled rows ∙ ap (λ n. n + length rows) e in
     let base : 0 + length settled ≡ made.base = omega (arith, e) in
     let places : least_place 0 (on settled path) (on settled made.time) ≡ least_place made.base path made.time = least_place-behind settled path made.time 0 ∙ ap (λ n. least_place n path made.time) base in
-    ap (λ n. cond (nat_lt made.from n && nat_le n (made.base + length made.time)) (option_map (λ place. record { state = state; frame = place.0; player = place.1 }) (least_place 0 (on settled path) (on settled made.time))) None) long
+    (λ i. cond (nat_lt made.from (long path i) && nat_le (long path i) (long made.time i)) (option_map (λ place. record { state = state; frame = place.0; player = place.1 }) (least_place 0 (on settled path) (on settled made.time))) None)
     ∙ ap (λ o. cond (passes made path) (option_map (λ place. record { state = state; frame = place.0; player = place.1 }) o) None) places
 
 -- they are those of the plan's roll, whatever the settled rows

@@ -31,7 +31,6 @@ made_of t rows = record { base = t.base; kept = in_order (paths_of t); time = ro
 abbrev pub roll_of : Rows → Made → Roll
 roll_of settled made =
     record {
-      to = made.base + length made.time;
       from = made.from;
       time = settled ++ made.time;
       settled = made.base;

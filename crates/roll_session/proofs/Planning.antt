@@ -44,7 +44,7 @@ pub made_is : (players : ℕ) (core : Core) (m : ℕ) (ps : List Rows) → IsFai
     } ≡ made_from (roll_of core m)
 made_is players core m ps fair paths deep =
     let low : settled core ≤ depth core m = fair.low in
-    let top : depth core m ≤ m = fair.top in
+    let top : depth core m ≤ m = omega (arith, fair.top, length_timeline core.players m) in
     let rows : rows_from core.players (settled core) (m - settled core) ≡ drop (settled core) (timeline core.players m) = rows_to core.players (settled core) m (omega arith) in
     let same : ps ≡ map (drop (settled core)) (kept core) =
     sym (drop_from_start (settled_rows core) ps) ∙ ap (λ n. map (drop n) (from_start (settled_rows core) ps)) (length_timeline core.players (settled core)) ∙ ap (map (drop (settled core))) paths in
@@ -75,7 +75,7 @@ paths_wide n settled (p ∷ ps) wide = (
 pub time_wide : (players : ℕ) (core : Core) (m : ℕ) → IsFair players (roll_of core m) → AreRowsOf players (rows_from core.players (settled core) (m - settled core))
 time_wide players core m fair =
     let low : settled core ≤ depth core m = fair.low in
-    let top : depth core m ≤ m = fair.top in
+    let top : depth core m ≤ m = omega (arith, fair.top, length_timeline core.players m) in
     subst (AreRowsOf players) (sym (rows_to core.players (settled core) m (omega arith))) (wide_rows players (drop (settled core) (timeline core.players m)) (wide_drop players (settled core) (timeline core.players m) fair.rows))
 
 -- so have those of the kept paths
@@ -91,18 +91,16 @@ from_start_drop s settled (q ∷ qs) same =
 
 -- a roll, its kept paths in order
 abbrev pub ordered_roll : Roll → Roll
-ordered_roll roll = record { to = roll.to; from = roll.from; time = roll.time; settled = roll.settled; kept = in_order roll.kept }
+ordered_roll roll = record { from = roll.from; time = roll.time; settled = roll.settled; kept = in_order roll.kept }
 
 -- the roll of a roll's plan is the roll, its kept paths in order
 pub roll_is : (players : ℕ) (roll : Roll) → IsFair players roll → planned_roll (take roll.settled roll.time) (made_from roll) ≡ ordered_roll roll
 roll_is players roll fair =
     let settled : Rows = take roll.settled roll.time in
-    let past : length (drop roll.settled roll.time) ≡ length roll.time - roll.settled = length-drop roll.settled roll.time in
-    let to : roll.settled + length (drop roll.settled roll.time) ≡ roll.to = omega (arith, fair.to_is, fair.low, fair.top) in
     let time : settled ++ drop roll.settled roll.time ≡ roll.time = take-append-drop roll.settled roll.time in
     let paths : map (on settled) (in_order (map (drop roll.settled) roll.kept)) ≡ in_order roll.kept =
     sym (order_on settled (map (drop roll.settled) roll.kept)) ∙ ap in_order (from_start_drop roll.settled settled roll.kept fair.kept_settled) in
-    λ i. record { to = to i; from = roll.from; time = time i; settled = roll.settled; kept = paths i }
+    λ i. record { from = roll.from; time = time i; settled = roll.settled; kept = paths i }
 
 differs_ordered : (roll : Roll) (s : ℕ) (ps : List Rows) → differs_from (ordered_roll roll) s ps ≡ differs_from roll s ps
 differs_ordered roll s [] = refl
@@ -127,7 +125,7 @@ pub planned_claim_is : (players : ℕ) (roll : Roll) → IsFair players roll →
 planned_claim_is players roll fair = ap (claim_of players) (roll_is players roll fair) ∙ claim_ordered players roll
 
 settled_long : (players : ℕ) (roll : Roll) → IsFair players roll → length (take roll.settled roll.time) ≡ roll.settled
-settled_long players roll fair = omega (arith, length-take roll.settled roll.time, fair.to_is, fair.low, fair.top)
+settled_long players roll fair = omega (arith, length-take roll.settled roll.time, fair.low, fair.top)
 
 -- the claim of a roll's plan is the roll's
 pub claim_is : (players : ℕ) (roll : Roll) → IsFair players roll → (claim : Claim) → IsClaimOf players (made_from roll) claim → claim ≡ claim_of players roll
@@ -140,9 +138,9 @@ plan_is players roll fair plan is =
     let to : plan.to ≡ roll.settled + length (drop roll.settled roll.time) = is.to in
     let from : plan.from ≡ roll.from = is.from in
     record {
-      to = omega (arith, fair.to_is, fair.low, fair.top);
+      to = omega (arith, fair.low, fair.top);
       from = from;
-      rerun = omega (arith, is.rerun, fair.to_is, fair.low, fair.top);
+      rerun = omega (arith, is.rerun, fair.low, fair.top);
       differs = is.differs (take roll.settled roll.time) (settled_long players roll fair) ∙ ap (λ (c : Claim). c.differs) (planned_claim_is players roll fair);
     }
 
