@@ -11,6 +11,7 @@ mod path;
 mod profile;
 mod refusal;
 mod reply;
+mod route;
 mod row;
 mod settings;
 
@@ -27,5 +28,6 @@ pub use path::Path;
 pub use profile::Profile;
 pub use refusal::Refusal;
 pub use reply::Reply;
+pub use route::Route;
 pub use row::{Cell, Row};
 pub use settings::Settings;

@@ -1,5 +1,5 @@
 -- What a game was asked for, in counts modulo 2^64.
-use Rattle.std.specs.Prelude.{ℕ, zero, suc, ◌+◌, ◌%◌, ◌^◌, Bool, true, false}
+use Rattle.std.specs.Prelude.{◌≡◌, ◌⊎◌, ℕ, zero, suc, ◌+◌, ◌%◌, ◌^◌, Bool, true, false}
 use Rattle.roll_game.specs.declared.counts.Call.{Call}
 use Rattle.roll_game.specs.declared.counts.Call.TheVariants.{Load, Save, Copy, Advance}
 use Rattle.roll_game.specs.declared.counts.Counts.{Counts}
@@ -32,3 +32,10 @@ stepped (suc n) c = counted Save true (counted Advance true (stepped n c))
 -- the counts after a roll of so many frames that was granted: it loads once
 abbrev pub rolled : ℕ → Counts → Counts
 rolled n c = stepped n (counted Load true c)
+
+-- what a roll asked of the game that refused after so many new states: the load was refused, or the next advance, or the
+-- save after it
+abbrev pub IsRefusedAt : ℕ → Counts → Counts → Type 0
+IsRefusedAt made old new =
+    ((made ≡ 0) × (new ≡ counted Load false old))
+    ⊎ ((new ≡ counted Advance false (rolled made old)) ⊎ (new ≡ counted Save false (counted Advance true (rolled made old))))

@@ -4,9 +4,11 @@
 mod counts;
 mod game;
 mod refusing;
+mod steps;
 mod tally;
 
 pub use counts::{Call, Counts};
 pub use game::{Game, NoMemory, RawGame};
 pub use refusing::Refusing;
+pub use steps::advance_and_save;
 pub use tally::Tally;

@@ -10,8 +10,7 @@ use Rattle.roll_frame.specs.declared.refusal.Refusal.TheVariants.{NoMemory}
 use Rattle.roll_frame.specs.declared.reply.Reply.{Reply}
 use Rattle.roll_frame.specs.declared.reply.Reply.TheVariants.{Refused}
 use Rattle.roll_frame.specs.declared.settings.Settings.{Settings}
-use Rattle.roll_game.specs.Counts.{counted, rolled}
-use Rattle.roll_game.specs.declared.counts.Call.TheVariants.{Load as Loads, Save as Stores, Advance as Steps}
+use Rattle.roll_game.specs.Counts.{IsRefusedAt, rolled}
 use Rattle.roll_game.specs.declared.counts.Counts.{Counts}
 use Rattle.roll_session.specs.Seen.{Step, Seen, core_of, game_of}
 
@@ -44,13 +43,6 @@ pub record IsPlayed (step : Step) (old new : Seen) (events : List CoreEvent) : T
 pub record IsReplied (step : Step) (old new : Seen) (event : CoreEvent) (said : Reply) : Type 0 where
   pub said_is : said ≡ reply old.settings (game_of step old) (core_of old) event
   pub played : IsPlayed step old new (event ∷ [])
-
--- what a roll asked of the game that refused after so many new states: the load was refused, or the next advance, or the
--- save after it
-abbrev pub IsRefusedAt : ℕ → Counts → Counts → Type 0
-IsRefusedAt made old new =
-    ((made ≡ 0) × (new ≡ counted Loads false old))
-    ⊎ ((new ≡ counted Steps false (rolled made old)) ⊎ (new ≡ counted Stores false (counted Steps true (rolled made old))))
 
 -- the game refused in a roll to this frame: what was saved by then stays, and no finished row is forgotten
 pub record IsPartial (old new : Seen) (to : ℕ) : Type 0 where

@@ -4,33 +4,16 @@ ghost use Rattle.roll_frame.specs.Claims.{AreRowsOf};
 ghost use Rattle.roll_frame.specs.Games.{Value};
 ghost use Rattle.roll_frame.specs.Paths.{prefixes, run};
 ghost use Rattle.roll_frame.specs.Timeline.{timeline};
-ghost use Rattle.roll_game.specs.Counts.{counted, rolled};
-ghost use Rattle.roll_game.specs.declared.counts.Call.TheVariants.{Save as Stores, Advance as Steps};
+ghost use Rattle.roll_game.specs.Counts.{IsRefusedAt, rolled};
 ghost use Rattle.roll_plan.specs.Plans.{made_of};
 ghost use Rattle.roll_tree.specs.SavedStates.{state_named, paths_of};
-ghost use Rattle.roll_session.specs.Answered.{IsRefusedAt};
 ghost use Rattle.roll_session.specs.Saves.{HaveValues, rows_to, way_to};
 ghost use Rattle.roll_session.specs.Standing.{rows_from};
 
 use crate::saves::Saves;
 use roll_frame::{FRAME_LIMIT, PATH_LIMIT, Row, TREE_LIMIT};
-use roll_game::{Game, NoMemory};
+use roll_game::{Game, advance_and_save};
 use roll_plan::Planner;
-
-/// Advances by a row, and saves the state that this led to.
-fn advance_and_save<G: Game>(
-    game: &mut G,
-    state: &mut G::State,
-    row: &Row,
-) -> Result<G::Snapshot, NoMemory>
-    ensures snapshot { IfOk result (λ snapshot. G.snapshot_value snapshot ≡ G.step (G.state_value state.old) row.now) }
-    ensures state { OnOk result (G.state_value state.new ≡ G.step (G.state_value state.old) row.now) }
-    ensures counts { OnOk result (G.call_counts game.new ≡ counted Stores true (counted Steps true (G.call_counts game.old))) }
-    ensures refused { OnErr result ((G.call_counts game.new ≡ counted Steps false (G.call_counts game.old)) ⊎ (G.call_counts game.new ≡ counted Stores false (counted Steps true (G.call_counts game.old)))) }
-{
-    game.advance(state, row)?;
-    game.save(state)
-}
 
 /// Loads a saved state on the timeline's way to a frame, and advances to there, saving each state. Where the game
 /// refuses, it says how many states were saved.

@@ -1,0 +1,10 @@
+//! Branches: rows that are run ahead of a session, from a state that it saved, by any engine of the same game.
+#![tactic(auto)]
+
+mod branch;
+mod job;
+mod running;
+
+pub use branch::{Branch, Done, Parts};
+pub use job::Job;
+pub use running::extend;
