@@ -2,15 +2,13 @@
 use Rattle.std.specs.Prelude.{ℕ, ◌+◌, List, [], ◌∷◌, ◌++◌, length, map, fold, not, Bool, false, ◌&&◌, ◌||◌, nat_le, ◌==◌, Option, None, is_none, if◌then◌else◌}
 use Rattle.std.specs.Option.{option_map_or}
 use Rattle.std.specs.List.{list_any}
-use Rattle.arrayvec.specs.ArrayVec.{ArrayVec}
-use Rattle.roll_frame.specs.declared.row.Cell.{Cell}
-use Rattle.roll_frame.specs.declared.path.Path.{Path}
 use Rattle.roll_frame.specs.declared.entry.Entry.{Entry}
 use Rattle.roll_frame.specs.declared.entry.Entry.TheVariants.{Local, Remote, Disconnect, Sync, Advance, Graft, Partial}
 use Rattle.roll_frame.specs.declared.refusal.Refusal.{Refusal}
 use Rattle.roll_frame.specs.declared.refusal.Refusal.TheVariants.{LocalInputMissing, NoMemory, InvalidRequest, LogFull}
 use Rattle.roll_frame.specs.declared.reply.Reply.{Reply}
 use Rattle.roll_frame.specs.declared.reply.Reply.TheVariants.{Refused, Done, Taken, Repeated, Disconnected, Synchronized, Reached, Grafted}
+use Rattle.roll_frame.specs.declared.route.Route.{Route}
 use Rattle.roll_frame.specs.declared.settings.Settings.{Settings}
 use Rattle.roll_frame.specs.Refusals.{first_refusal}
 use Rattle.roll_frame.specs.Cells.{Rows}
@@ -28,8 +26,8 @@ pub record CoreEvent : Type 0 where
   pub value : Value
 
 -- the branch of a log's entry
-abbrev pub branch_of : Path → ArrayVec (List Cell) → Branch
-branch_of path rows = record { path = path; rows = rows.items }
+abbrev pub branch_of : Route → Branch
+branch_of route = record { path = route.path; rows = route.rows.items }
 
 -- whether each local player has given its word of this frame
 abbrev pub all_given : List Player → Bool
@@ -47,7 +45,7 @@ tests_of settings game core value (Remote p f word) = remote_tests core.players 
 tests_of settings game core value (Disconnect p) = disconnect_tests core.players p
 tests_of settings game core value Sync = []
 tests_of settings game core value Advance = (not (all_given core.players), LocalInputMissing) ∷ []
-tests_of settings game core value (Graft ticket path rows) = graft_tests game (open_to_branches settings.profile) core value (branch_of path rows)
+tests_of settings game core value (Graft ticket route) = graft_tests game (open_to_branches settings.profile) core value (branch_of route)
 tests_of settings game core value (Partial to made) = (not (can_be_partial core to made), InvalidRequest) ∷ []
 
 -- each event is refused where the log is full, after its own tests
@@ -67,7 +65,7 @@ is_accepted settings game core event = not (is_repeat core event.entry) && is_no
 abbrev pub added_by : Core → Entry → List Rows
 added_by core Sync = rolled_paths core core.frame (cost core core.frame)
 added_by core Advance = rolled_paths core (core.frame + 1) (cost core (core.frame + 1))
-added_by core (Graft ticket path rows) = new_paths core (branch_of path rows)
+added_by core (Graft ticket route) = new_paths core (branch_of route)
 added_by core (Partial to made) = rolled_paths core to made
 added_by core entry = []
 
@@ -78,7 +76,7 @@ changed_by core (Remote p f word) = record core { players = changed (with_words 
 changed_by core (Disconnect p) = record core { players = changed with_gone core.players p }
 changed_by core Sync = rolled core core.frame
 changed_by core Advance = record (rolled core (core.frame + 1)) { frame = core.frame + 1; players = map with_none_given core.players }
-changed_by core (Graft ticket path rows) = core
+changed_by core (Graft ticket route) = core
 changed_by core (Partial to made) = record core { shown = None; last = None }
 
 -- the core after an accepted entry
@@ -117,7 +115,7 @@ answer core (Remote p f word) = Taken
 answer core (Disconnect p) = Disconnected p
 answer core Sync = Synchronized (row_at core.players core.frame)
 answer core Advance = Reached (core.frame + 1) (depth core (core.frame + 1)) (cost core (core.frame + 1))
-answer core (Graft ticket path rows) = Grafted (length (new_paths core (branch_of path rows)))
+answer core (Graft ticket route) = Grafted (length (new_paths core (branch_of route)))
 answer core (Partial to made) = Refused NoMemory
 
 abbrev pub reply : Settings → Game → Core → CoreEvent → Reply

@@ -1,9 +1,6 @@
 //! The log's entries.
 use crate::boxed::Boxed;
-use crate::limits::BRANCH_LIMIT;
-use crate::path::Path;
-use crate::row::Row;
-use arrayvec::ArrayVec;
+use crate::route::Route;
 
 /// An accepted event of a session, as its log keeps it. Players are numbered from 1.
 #[derive(Debug, Drop)]
@@ -27,12 +24,10 @@ pub enum Entry {
     Sync,
     /// A roll to the next frame, which becomes the current one.
     Advance,
-    /// A branch: the path of the state that it starts from, and the rows that were run. They lie apart, since a log has
-    /// many entries, and few of these.
+    /// A branch: its job's number, and where it ran. Its route lies apart, since a log has many entries, and few of these.
     Graft {
         ticket: u64,
-        path: Boxed<Path>,
-        rows: Boxed<ArrayVec<Row, BRANCH_LIMIT>>,
+        route: Boxed<Route>,
     },
     /// The game refused in a roll to a frame, after so many new states were saved.
     Partial {

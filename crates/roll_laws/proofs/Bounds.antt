@@ -159,9 +159,9 @@ bounded_step settings game core from Advance small s b h room f =
     advanced : (q : Rows) → In q core.ever ⊎ In q (rolled_paths core (core.frame + 1) (cost core (core.frame + 1))) → length q ≤ settled (applied core Advance) + 24
     advanced q (inl i) = omega (arith, b.short q i, f)
     advanced q (inr i) = omega (arith, s.lag, small, f, rolled_short core (core.frame + 1) (cost core (core.frame + 1)) q i)
-bounded_step settings game core from (Graft ticket path rows) small s b h room f =
-    bounded_paths settings core (applied core (Graft ticket path rows)) (new_paths core (branch_of path rows)) b f refl refl refl refl room
-    (λ q i. omega (arith, grafted_short core (branch_of path rows) q i, ltb-false (settled core + 24) (length (whole_of core (branch_of path rows))) h.1.1.0))
+bounded_step settings game core from (Graft ticket route) small s b h room f =
+    bounded_paths settings core (applied core (Graft ticket route)) (new_paths core (branch_of route)) b f refl refl refl refl room
+    (λ q i. omega (arith, grafted_short core (branch_of route) q i, ltb-false (settled core + 24) (length (whole_of core (branch_of route))) h.1.1.0))
 bounded_step settings game core from (Partial to made) small s b h room f =
     let can = and_parts (to == core.frame || (to == core.frame + 1 && all_given core.players)) (nat_le made (cost core to)) (not-false _ h.0) in
     bounded_paths settings core (applied core (Partial to made)) (rolled_paths core to made) b f refl refl refl refl room

@@ -165,7 +165,7 @@ few_step settings game core from (Remote p n word) s few h o f = few_same settin
 few_step settings game core from (Disconnect p) s few h o f = few_same settings core (applied core (Disconnect p)) few o f (append-nil core.ever)
 few_step settings game core from Sync s few h o f = few_rolled settings core (applied core Sync) core.frame (cost core core.frame) few o f (omega arith) (omega arith) refl
 few_step settings game core from Advance s few h o f = few_rolled settings core (applied core Advance) (core.frame + 1) (cost core (core.frame + 1)) few o f (omega arith) (omega arith) refl
-few_step settings game core from (Graft ticket path rows) s few h o f = few_grafted settings core (applied core (Graft ticket path rows)) (branch_of path rows) few o f h.1.1.1.1.1.1.1.0 refl
+few_step settings game core from (Graft ticket route) s few h o f = few_grafted settings core (applied core (Graft ticket route)) (branch_of route) few o f h.1.1.1.1.1.1.1.0 refl
 few_step settings game core from (Partial to made) s few h o f =
     let can = and_parts (to == core.frame || (to == core.frame + 1 && all_given core.players)) (nat_le made (cost core to)) (not-false _ h.0) in
     few_rolled settings core (applied core (Partial to made)) to made few o f (near (or_cases (to == core.frame) (to == core.frame + 1 && all_given core.players) can.0)) (leb-true made (cost core to) can.1) refl

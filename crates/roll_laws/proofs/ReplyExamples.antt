@@ -21,7 +21,7 @@ event entry = record { entry = entry; value = [] }
 
 -- a graft whose first state is the opening
 abbrev grafted : CoreEvent
-grafted = record { entry = Graft 7 (path_of 0 []) (record { items = row_of 1 3 ∷ row_of 1 4 ∷ [] }); value = 0 ∷ [] }
+grafted = record { entry = Graft 7 (record { path = path_of 0 []; rows = record { items = row_of 1 3 ∷ row_of 1 4 ∷ [] } }); value = 0 ∷ [] }
 
 abbrev events : List CoreEvent
 events =
@@ -45,7 +45,7 @@ row_of_the_frame = refl
 -- the log has the accepted events in their order, a partial roll among them: none that was refused or repeated
 pub log_of_events :
     log_of masked tally events
-    ≡ Local 1 1 ∷ Advance ∷ Local 1 1 ∷ Advance ∷ Remote 2 0 3 ∷ Partial 2 1 ∷ Sync ∷ Graft 7 (path_of 0 []) (record { items = row_of 1 3 ∷ row_of 1 4 ∷ [] })
+    ≡ Local 1 1 ∷ Advance ∷ Local 1 1 ∷ Advance ∷ Remote 2 0 3 ∷ Partial 2 1 ∷ Sync ∷ Graft 7 (record { path = path_of 0 []; rows = record { items = row_of 1 3 ∷ row_of 1 4 ∷ [] } })
     ∷ Disconnect 2 ∷ Sync ∷ Local 1 1 ∷ Advance ∷ []
 log_of_events = refl
 

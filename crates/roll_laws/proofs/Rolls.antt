@@ -84,7 +84,7 @@ fine_rolls settings core Sync f small roll e =
 fine_rolls settings core Advance f small roll e =
     subst (IsFair settings.players) (same_roll (roll_of core (core.frame + 1)) roll e)
     (subst (λ (n : ℕ). IsFair n (roll_of core (core.frame + 1))) f.players (roll_fair settings core (core.frame + 1) f.sound f.bounded small (omega arith) (omega arith)))
-fine_rolls settings core (Graft ticket path rows) f small roll e = f.rolls roll e
+fine_rolls settings core (Graft ticket route) f small roll e = f.rolls roll e
 fine_rolls settings core (Partial to made) f small roll e = absurd (no_roll roll e)
 
 fine_any : (settings : Settings) (game : Game) (core : Core) (event : CoreEvent) → start_refusal settings ≡ None → Fine settings core → Fine settings (after settings game core event)

@@ -87,7 +87,7 @@ do_guess settings game play p until words None =
     give_job play (option_map_or (λ branch. Some (branch, run game.step game.opening (start_of play.core branch))) (guessed_job play.core p words until) None)
 
 abbrev pub do_graft : Settings → Game → Play → Branch → Value → Play × Line
-do_graft settings game play branch value = do_event settings game play (record { entry = Graft 0 branch.path (record { items = branch.rows }); value = value })
+do_graft settings game play branch value = do_event settings game play (record { entry = Graft 0 (record { path = branch.path; rows = record { items = branch.rows } }); value = value })
 
 -- a job is taken away, whatever becomes of its branch
 abbrev pub do_job : Settings → Game → Play → ℕ → Option (Branch × Value) → Play × Line

@@ -217,8 +217,8 @@ step settings game core from (Disconnect p) s h =
 step settings game core from Sync s h =
     ever_good settings core (applied core Sync) (rolled_paths core core.frame (cost core core.frame)) s refl refl refl (rolled_closed core core.frame (cost core core.frame) s.root s.closed)
 step settings game core from Advance s h = advance_good settings core s (not-false _ h.0)
-step settings game core from (Graft ticket path rows) s h =
-    ever_good settings core (applied core (Graft ticket path rows)) (new_paths core (branch_of path rows)) s refl refl refl (grafted_closed core (branch_of path rows) s.closed (not-false _ h.1.1.1.1.1.0))
+step settings game core from (Graft ticket route) s h =
+    ever_good settings core (applied core (Graft ticket route)) (new_paths core (branch_of route)) s refl refl refl (grafted_closed core (branch_of route) s.closed (not-false _ h.1.1.1.1.1.0))
 step settings game core from (Partial to made) s h =
     ever_good settings core (applied core (Partial to made)) (rolled_paths core to made) s refl refl refl (rolled_closed core to made s.root s.closed)
 

@@ -48,7 +48,7 @@ taken_frame inputs (Remote p f word) = omega arith
 taken_frame inputs (Disconnect p) = omega arith
 taken_frame inputs Sync = omega arith
 taken_frame inputs Advance = omega arith
-taken_frame inputs (Graft ticket path rows) = omega arith
+taken_frame inputs (Graft ticket route) = omega arith
 taken_frame inputs (Partial to made) = omega arith
 
 pub stepped_frame : (inputs : Inputs) (entry : Entry) → (stepped_inputs inputs entry).frame ≤ inputs.frame + 1
@@ -57,7 +57,7 @@ stepped_frame inputs (Local p word) = omega arith
 stepped_frame inputs (Remote p f word) = omega arith
 stepped_frame inputs (Disconnect p) = omega arith
 stepped_frame inputs Sync = omega arith
-stepped_frame inputs (Graft ticket path rows) = omega arith
+stepped_frame inputs (Graft ticket route) = omega arith
 stepped_frame inputs (Partial to made) = omega arith
 
 -- what is so of a roll to the current frame and of one to the next is so of each call that rolls

@@ -6,6 +6,7 @@ use Rattle.std.specs.Ordering.{nat_cmp, is_eq, eq_by_cmp, ordering_then}
 use Rattle.std.specs.declared.cmp.Ordering.{Ordering}
 use Rattle.std.specs.declared.cmp.Ordering.TheVariants.{Less, Equal, Greater}
 use Rattle.std.proofs.Common.{ap, sym, ◌∙◌}
+use Rattle.std.proofs.lemmas.Bool.{and_from}
 use Rattle.roll_frame.specs.declared.row.Cell.{Cell}
 use Rattle.roll_frame.specs.declared.row.Cell.TheVariants.{Word, Gone}
 use Rattle.roll_frame.specs.declared.path.Path.{Path}
@@ -55,13 +56,10 @@ last_two Equal Equal c h = (refl, h)
 last_two Equal Greater c h = (cc, cc)
 last_two Greater b c h = (cc, cc)
 
-both_true : (s t : Bool) → s ≡ true → t ≡ true → (s && t) ≡ true
-both_true s t e h = rw (e, h)
-
 pub path_cmp_ties : (p q : Path) → path_eq p q ≡ eq_by_cmp path_cmp p q
 path_cmp_ties p q =
     both_ways (path_eq p q) (eq_by_cmp path_cmp p q)
     (λ h. ap is_eq (sym (ap (path_cmp p) ((path_eq-Decides p q).0 h)) ∙ tied_itself path_cmp_total p))
     (λ h.
     let t = last_two (nat_cmp (frames_of p) (frames_of q)) (nat_cmp p.base q.base) (slice_cmp row_cmp p.rows.items q.rows.items) h in
-    both_true (nat_eq p.base q.base) (rows_eq p.rows.items q.rows.items) (unsigned_ties p.base q.base ∙ t.0) (rows_ties p.rows.items q.rows.items ∙ t.1))
+    and_from (nat_eq p.base q.base) (rows_eq p.rows.items q.rows.items) (unsigned_ties p.base q.base ∙ t.0) (rows_ties p.rows.items q.rows.items ∙ t.1))
