@@ -35,3 +35,4 @@ pub mod Scripts
 pub mod Sound
 pub mod Starts
 pub mod Ruled
+pub mod Grafted

@@ -3,6 +3,7 @@
 #![tactic(auto)]
 
 ghost use Rattle.roll_laws.specs.Laws.{StartsAreSmall, KnownCellsStay, SettledNeverFalls, ImpossibleStays, WordsRuleOut, LeavingRulesOut, LongBeginSettled, PrefixesAreSaved, SavedOnce, KeptBeginSettled, KeptArePrefixed, StartIsKept, RolledIsTimeOrDead, WindowIsBounded, CostIsSmall, FewAreKept, RollsFit, PeersAgree, RollIsPlan, RollsAreLeast, ClaimsAreRight, OrderKeepsAll, ClaimsNameLeast, DeeperDiffer, PruningLosesNothing, KeptAfter, SettledAfter, GuessedCells, JobsStartKept, LogReplays, LogIsCounted, KeptAreShort, QueuesAreShort, FramesEnd, LogEnds, PlayersStay};
+ghost use Rattle.roll_laws.specs.Grafted.{NewPathsRun};
 
 /// A session that starts has sizes within the profile's limits.
 pub fn starts_are_small()
@@ -182,4 +183,9 @@ pub fn log_ends()
 /// The players stay as many as the settings say.
 pub fn players_stay()
     ensures { PlayersStay }
+{}
+
+/// A graft adds the branch's prefixes past the longest kept one, up to the longest possible one.
+pub fn new_paths_run()
+    ensures { NewPathsRun }
 {}

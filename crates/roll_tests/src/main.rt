@@ -6,6 +6,8 @@
 #![tactic(auto)]
 
 #[cfg(test)]
+mod branch;
+#[cfg(test)]
 mod claims;
 #[cfg(test)]
 mod duel;
