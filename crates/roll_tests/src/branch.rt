@@ -20,7 +20,13 @@ fn job<G: Game<Snapshot = u32>>(
         run.push(*row);
     }
     let room = Vec::with_capacity(alloc, rows.len())?;
-    let route = Boxed::new(alloc, Route { path: base, rows: run })?;
+    let route = Boxed::new(
+        alloc,
+        Route {
+            path: base,
+            rows: run,
+        },
+    )?;
     Ok(Job::new(route, from, room))
 }
 
