@@ -30,4 +30,3 @@ module _ {S : Type 0} (value : S → Value) (step : Value → List Cell → Valu
 pub ran_more : (step : Value → List Cell → Value) (from : Value) (rows : Rows) (k : ℕ) (row : List Cell) → k < length rows → row ≡ get_or rows k row → run step from (take (k + 1) rows) ≡ step (run step from (take k rows)) row
 ran_more step from rows k row below at =
     ap (run step from) (take_more rows k row below) ∙ fold_push step from (take k rows) (get_or rows k row) ∙ ap (step (run step from (take k rows))) (sym at)
-

@@ -6,32 +6,17 @@ use crate::route::Route;
 #[derive(Debug, Drop)]
 pub enum Entry {
     /// A local word, of the frame the session is at.
-    Local {
-        player: u8,
-        word: u32,
-    },
+    Local { player: u8, word: u32 },
     /// A remote word.
-    Remote {
-        player: u8,
-        frame: u32,
-        word: u32,
-    },
+    Remote { player: u8, frame: u32, word: u32 },
     /// The player has left.
-    Disconnect {
-        player: u8,
-    },
+    Disconnect { player: u8 },
     /// A roll to the current frame.
     Sync,
     /// A roll to the next frame, which becomes the current one.
     Advance,
     /// A branch: its job's number, and where it ran. Its route lies apart, since a log has many entries, and few of these.
-    Graft {
-        ticket: u64,
-        route: Boxed<Route>,
-    },
+    Graft { ticket: u64, route: Boxed<Route> },
     /// The game refused in a roll to a frame, after so many new states were saved.
-    Partial {
-        to: u32,
-        made: u32,
-    },
+    Partial { to: u32, made: u32 },
 }

@@ -1,22 +1,48 @@
--- What the words ask for: a command's name, and its arguments, each given as its value, if it has one.
-use Rattle.std.specs.Prelude.{◌≡◌, ◌≢◌, ◌⊎◌, ◌↔◌, ℕ, List, Option, None, Some, codes}
+-- What the words ask for.
+use Rattle.std.specs.Prelude.{List, Option, None, Some, codes, if◌then◌else◌}
+use Rattle.std.specs.Str.{bytes_eq}
+use Rattle.clap.specs.Simple.{subcommand_of}
+use Rattle.clap.specs.Walk.{Row, Text, first_of}
 use Rattle.roll_cli.specs.declared.program.GameName.{GameName}
-use Rattle.roll_cli.specs.declared.program.GameName.TheVariants.{Duel}
+use Rattle.roll_cli.specs.declared.program.GameName.TheVariants.{Tally, Duel}
 use Rattle.roll_cli.specs.declared.program.Task.{Task}
 use Rattle.roll_cli.specs.declared.program.Task.TheVariants.{Play, Certify}
+use Rattle.rollduel.specs.Commands.{rollduel_app}
 use Rattle.rollduel.specs.declared.command_line.Input.{Input}
 use Rattle.rollduel.specs.declared.command_line.Input.TheVariants.{Standard, File}
+use Rattle.rollduel.specs.declared.command_line.Request.{Request}
 
--- FILE
-abbrev pub IsInput : Option (List ℕ) → Input → Type 0
-IsInput value Standard = (value ≡ None) ⊎ (value ≡ Some (codes "-"))
-IsInput value (File path) = (value ≡ Some path.now) × (path.now ≢ codes "-")
+-- the path of an input, none of standard input
+abbrev pub path_of : Input → Option Text
+path_of Standard = None
+path_of (File path) = Some path.now
 
--- --game
-abbrev pub IsGame : Option (List ℕ) → GameName → Type 0
-IsGame value game = (game ≡ Duel) ↔ (value ≡ Some (codes "duel"))
+-- the path that the value of FILE names
+abbrev pub path_named : Option Text → Option Text
+path_named None = None
+path_named (Some value) = if bytes_eq value (codes "-") then None else Some value
 
--- the command, with the value of --game
-abbrev pub IsTask : List ℕ → Option (List ℕ) → Task → Type 0
-IsTask name value Certify = name ≡ codes "certify"
-IsTask name value (Play game) = (name ≢ codes "certify") × IsGame value game
+-- the game that the value of --game names
+abbrev pub game_named : Option Text → GameName
+game_named None = Tally
+game_named (Some value) = if bytes_eq value (codes "duel") then Duel else Tally
+
+-- the task of the command of this name
+abbrev pub task_named : Text → Option Text → Task
+task_named name game = if bytes_eq name (codes "certify") then Certify else Play (game_named game)
+
+-- what is asked for: the path of the text, none of standard input, and what is to be done with it
+abbrev pub Asked : Type 0
+Asked = Option Text × Task
+
+abbrev pub asked_of : Request → Asked
+asked_of request = (path_of request.input, request.task)
+
+-- what a command with these arguments asks for, or no command
+abbrev pub asked_in : Option (Text × List Row) → Asked
+asked_in None = (None, Play Tally)
+asked_in (Some met) = (path_named (first_of (codes "FILE") met.1), task_named met.0 (first_of (codes "game") met.1))
+
+-- what the words ask for, of which the first is the program's name
+abbrev pub asked_by : List Text → Asked
+asked_by words = asked_in (subcommand_of rollduel_app words)

@@ -1,7 +1,12 @@
 //! What the words of the command line ask for.
-ghost use Rattle.std.specs.Prelude.{codes};
-ghost use Rattle.clap.specs.Words.{first_value, found_of};
-ghost use Rattle.rollduel.specs.Requests.{IsGame, IsInput, IsTask};
+ghost use Rattle.std.specs.Prelude.{◌≡◌, codes, false, IfErr, IfOk, map, string_bytes, true};
+ghost use Rattle.clap.specs.Faults.{fault_of};
+ghost use Rattle.clap.specs.Kinds.{FailsBy};
+ghost use Rattle.clap.specs.declared.builder.command.Command.TheViews.{out-Command as fields_of};
+ghost use Rattle.clap.specs.Words.{app_of, first_value, found_of, kind_of, rule_of, takes};
+ghost use Rattle.clap.specs.declared.error.kind.ErrorKind.TheVariants.{OutOfMemory};
+ghost use Rattle.rollduel.specs.Commands.{AreGames, Games, app_with, certify_app, file_rule, game_rule, play_app, rollduel_app};
+ghost use Rattle.rollduel.specs.Requests.{asked_by, asked_of, game_named, path_named, path_of, task_named};
 
 use crate::help;
 use clap::{Arg, ArgMatches, Command, Error};
@@ -25,7 +30,11 @@ pub enum Input<'a> {
 
 /// Reads the words, of which the first is the program's name. The error is a fault of usage, or help that was asked
 /// for.
-pub fn read<'a>(alloc: Global, words: &'a [String]) -> Result<Request<'a>, Error> {
+pub fn read<'a>(alloc: Global, words: &'a [String]) -> Result<Request<'a>, Error>
+    ensures request { IfOk result (λ request. asked_of request ≡ asked_by (map string_bytes words.now)) }
+    ensures taken { IfErr result (λ error. takes rollduel_app (map string_bytes words.now) ≡ true → kind_of error ≡ OutOfMemory) }
+    ensures kinds { FailsBy (fault_of rollduel_app (map string_bytes words.now)) result }
+{
     let matches = program_command(alloc)?.try_get_matches_from(words)?;
     match matches.subcommand() {
         Some((name, found)) => Ok(request_of(name, found)),
@@ -38,8 +47,8 @@ pub fn read<'a>(alloc: Global, words: &'a [String]) -> Result<Request<'a>, Error
 
 /// The request of the command of this name.
 fn request_of<'a>(name: &str, found: &ArgMatches<'a>) -> Request<'a>
-    ensures input { IsInput (first_value (found_of found.now) (codes "FILE")) result.input }
-    ensures task { IsTask name.now (first_value (found_of found.now) (codes "game")) result.task }
+    ensures input { path_of result.input ≡ path_named (first_value (found_of found.now) (codes "FILE")) }
+    ensures task { result.task ≡ task_named name.now (first_value (found_of found.now) (codes "game")) }
 {
     Request {
         input: input_of(found),
@@ -48,7 +57,7 @@ fn request_of<'a>(name: &str, found: &ArgMatches<'a>) -> Request<'a>
 }
 
 fn task_of(name: &str, found: &ArgMatches<'_>) -> Task
-    ensures { IsTask name.now (first_value (found_of found.now) (codes "game")) result }
+    ensures { result ≡ task_named name.now (first_value (found_of found.now) (codes "game")) }
 {
     match name {
         "certify" => Task::Certify,
@@ -57,7 +66,7 @@ fn task_of(name: &str, found: &ArgMatches<'_>) -> Task
 }
 
 fn input_of<'a>(found: &ArgMatches<'a>) -> Input<'a>
-    ensures { IsInput (first_value (found_of found.now) (codes "FILE")) result }
+    ensures { path_of result ≡ path_named (first_value (found_of found.now) (codes "FILE")) }
 {
     match found.get_str(FILE) {
         None | Some("-") => Input::Standard,
@@ -66,7 +75,7 @@ fn input_of<'a>(found: &ArgMatches<'a>) -> Input<'a>
 }
 
 fn game_of(found: &ArgMatches<'_>) -> GameName
-    ensures { IsGame (first_value (found_of found.now) (codes "game")) result }
+    ensures { result ≡ game_named (first_value (found_of found.now) (codes "game")) }
 {
     match found.get_str(GAME) {
         Some("duel") => GameName::Duel,
@@ -78,7 +87,9 @@ const FILE: &str = "FILE";
 
 const GAME: &str = "game";
 
-fn program_command<'a>(alloc: Global) -> Result<Command<'a>, AllocError> {
+fn program_command<'a>(alloc: Global) -> Result<Command<'a>, AllocError>
+    ensures { IfOk result (λ command. (games : Games) × AreGames games × (app_of command ≡ app_with games)) }
+{
     Command::new(alloc, "rollduel")
         .about(help::PROGRAM)
         .after_help(help::SCRIPT)
@@ -86,7 +97,10 @@ fn program_command<'a>(alloc: Global) -> Result<Command<'a>, AllocError> {
         .subcommand(certify_command(alloc)?)
 }
 
-fn play_command<'a>(alloc: Global) -> Result<Command<'a>, AllocError> {
+fn play_command<'a>(alloc: Global) -> Result<Command<'a>, AllocError>
+    ensures app { IfOk result (λ command. (games : Games) × AreGames games × (app_of command ≡ play_app games)) }
+    ensures local { IfOk result (λ command. (fields_of command).has_globals ≡ false) }
+{
     Command::new(alloc, "play")
         .about(help::PLAY)
         .after_help(help::SCRIPT)
@@ -94,18 +108,27 @@ fn play_command<'a>(alloc: Global) -> Result<Command<'a>, AllocError> {
         .arg(game_arg(alloc))
 }
 
-fn certify_command<'a>(alloc: Global) -> Result<Command<'a>, AllocError> {
+fn certify_command<'a>(alloc: Global) -> Result<Command<'a>, AllocError>
+    ensures app { IfOk result (λ command. app_of command ≡ certify_app) }
+    ensures local { IfOk result (λ command. (fields_of command).has_globals ≡ false) }
+{
     Command::new(alloc, "certify")
         .about(help::CERTIFY)
         .after_help(help::CLAIM)
         .arg(file_arg(alloc).help("The claim; - is standard input"))
 }
 
-fn file_arg<'a>(alloc: Global) -> Arg<'a> {
+fn file_arg<'a>(alloc: Global) -> Arg<'a>
+    ensures rule { rule_of result ≡ file_rule }
+    ensures local { result.global ≡ false }
+{
     Arg::new(alloc, FILE).required(true)
 }
 
-fn game_arg<'a>(alloc: Global) -> Arg<'a> {
+fn game_arg<'a>(alloc: Global) -> Arg<'a>
+    ensures rule { (games : Games) × AreGames games × (rule_of result ≡ game_rule games) }
+    ensures local { result.global ≡ false }
+{
     Arg::new(alloc, GAME)
         .long(GAME)
         .value_name("GAME")

@@ -1,0 +1,5 @@
+pub mod AskedLemmas
+pub mod FaultPlaces
+pub mod Places
+pub mod TakenPlaces
+pub mod WordExamples

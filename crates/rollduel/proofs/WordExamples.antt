@@ -1,0 +1,57 @@
+-- What words ask for, by computation.
+use Rattle.std.specs.Prelude.{◌≡◌, None, Some, [], ◌∷◌, codes, refl, true, false}
+use Rattle.clap.proofs.OnLiterals.{clap_on_literals}
+use Rattle.clap.specs.Faults.{fault_of, is_simple_and_free}
+use Rattle.clap.specs.Simple.{is_simple}
+use Rattle.clap.specs.Takes.{takes}
+use Rattle.clap.specs.declared.error.kind.ErrorKind.TheVariants.{InvalidValue, MissingRequiredArgument}
+use Rattle.roll_cli.specs.declared.program.GameName.TheVariants.{Tally, Duel}
+use Rattle.roll_cli.specs.declared.program.Task.TheVariants.{Play, Certify}
+use Rattle.rollduel.specs.Commands.{Games, app_with, rollduel_app}
+use Rattle.rollduel.specs.Requests.{asked_by}
+
+pub simple : (games : Games) → is_simple (app_with games) ≡ true
+simple games = refl
+
+pub free : (games : Games) → is_simple_and_free (app_with games) ≡ true
+free games = refl
+
+pub no_command : asked_by (codes "rollduel" ∷ []) ≡ (None, Play Tally)
+unfolding clap_on_literals
+no_command = refl
+
+pub plays_a_file : asked_by (codes "rollduel" ∷ codes "play" ∷ codes "a.roll" ∷ []) ≡ (Some (codes "a.roll"), Play Tally)
+unfolding clap_on_literals
+plays_a_file = refl
+
+pub plays_a_duel : asked_by (codes "rollduel" ∷ codes "play" ∷ codes "-" ∷ codes "--game" ∷ codes "duel" ∷ []) ≡ (None, Play Duel)
+unfolding clap_on_literals
+plays_a_duel = refl
+
+pub game_in_front : asked_by (codes "rollduel" ∷ codes "play" ∷ codes "--game=duel" ∷ codes "a.roll" ∷ []) ≡ (Some (codes "a.roll"), Play Duel)
+unfolding clap_on_literals
+game_in_front = refl
+
+pub certifies : asked_by (codes "rollduel" ∷ codes "certify" ∷ codes "a.claim" ∷ []) ≡ (Some (codes "a.claim"), Certify)
+unfolding clap_on_literals
+certifies = refl
+
+pub taken : takes rollduel_app (codes "rollduel" ∷ codes "play" ∷ codes "--game=duel" ∷ codes "a.roll" ∷ []) ≡ true
+unfolding clap_on_literals
+taken = refl
+
+pub no_file : takes rollduel_app (codes "rollduel" ∷ codes "play" ∷ []) ≡ false
+unfolding clap_on_literals
+no_file = refl
+
+pub no_file_fault : fault_of rollduel_app (codes "rollduel" ∷ codes "play" ∷ []) ≡ MissingRequiredArgument ∷ []
+unfolding clap_on_literals
+no_file_fault = refl
+
+pub no_game : takes rollduel_app (codes "rollduel" ∷ codes "play" ∷ codes "a" ∷ codes "--game" ∷ codes "chess" ∷ []) ≡ false
+unfolding clap_on_literals
+no_game = refl
+
+pub no_game_fault : fault_of rollduel_app (codes "rollduel" ∷ codes "play" ∷ codes "a" ∷ codes "--game" ∷ codes "chess" ∷ []) ≡ InvalidValue ∷ []
+unfolding clap_on_literals
+no_game_fault = refl

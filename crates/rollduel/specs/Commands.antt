@@ -1,0 +1,45 @@
+-- The command of the program, as its parser sees it.
+use Rattle.std.specs.Prelude.{◌≡◌, List, [], ◌∷◌, Some, codes, true}
+use Rattle.std.specs.Borrow.{Bor}
+use Rattle.clap.specs.Simple.{App, new_app, new_rule, with_rule, with_subcommand}
+use Rattle.clap.specs.Walk.{Rule, Text, texts}
+use Rattle.clap.specs.declared.builder.value_parser.ValueParser.TheVariants as parser
+
+-- the names of the games, where they stand in memory
+abbrev pub Games : Type 0
+Games = Bor (List (Bor Text))
+
+abbrev pub AreGames : Games → Type 0
+AreGames games = texts games.now ≡ codes "tally" ∷ codes "duel" ∷ []
+
+-- FILE
+abbrev pub file_rule : Rule
+file_rule = record (new_rule (codes "FILE")) { required = true }
+
+-- --game GAME
+abbrev pub game_rule : Games → Rule
+game_rule games = record (new_rule (codes "game")) {
+  long = Some (codes "game");
+  value_names = 1;
+  defaults = codes "tally" ∷ [];
+  parser = Some (parser.Names games);
+}
+
+abbrev pub play_app : Games → App
+play_app games = with_rule (with_rule (new_app (codes "play")) file_rule) (game_rule games)
+
+abbrev pub certify_app : App
+certify_app = with_rule (new_app (codes "certify")) file_rule
+
+abbrev pub app_with : Games → App
+app_with games = with_subcommand (with_subcommand (new_app (codes "rollduel")) (play_app games).top) certify_app.top
+
+-- the names at some place: where they stand changes nothing
+abbrev pub some_games : Games
+some_games = record {
+  ref_ptr = (0, 0);
+  now = record { ref_ptr = (0, 0); now = codes "tally" } ∷ record { ref_ptr = (0, 0); now = codes "duel" } ∷ [];
+}
+
+abbrev pub rollduel_app : App
+rollduel_app = app_with some_games
