@@ -141,6 +141,14 @@ Words that can't be understood, and help.
   
   For more information, try '--help'.
   [2]
+  $ rollduel certify
+  error: the following required arguments were not provided:
+    <FILE>
+  
+  Usage: rollduel certify <FILE>
+  
+  For more information, try '--help'.
+  [2]
   $ rollduel play late --game chess
   error: invalid value 'chess' for '--game <GAME>'
     [possible values: tally, duel]
@@ -163,6 +171,14 @@ Words that can't be understood, and help.
   Plays a script, and prints what the session answers to each line
   Checks the claim of a rollback, and prints whether it is right
   $ rollduel --help 2>&1 >/dev/null
+
+The help of a script tells of each command, and that of a claim of each answer.
+
+  $ for words in --help 'play --help'; do rollduel $words | grep -cE '^  (L p w|R p f w|D p|S|A|C) '; done
+  6
+  6
+  $ rollduel certify --help | grep -cE '^  (from not kept|range J|equal J|twice J|missing I) '
+  5
 
 The examples of the help are scripts and claims, and print what it says.
 

@@ -5,8 +5,6 @@
 
 mod command_line;
 mod help;
-#[cfg(test)]
-mod tests;
 
 use clap::Error;
 use clap::error::ErrorKind;
