@@ -1,4 +1,5 @@
 pub mod AskedLemmas
+pub mod EndingLemmas
 pub mod FaultPlaces
 pub mod Places
 pub mod TakenPlaces

@@ -1,2 +1,3 @@
 pub mod Commands
+pub mod Endings
 pub mod Requests

@@ -1,0 +1,49 @@
+-- How the program ends.
+use Rattle.std.specs.Prelude.{◌≡◌, ◌≢◌, ◌⊎◌, ℕ, List, [], ◌∷◌, IfSome, Option, None, Some, Result, Ok, Err, ⊤}
+use Rattle.clap.specs.Kinds.{Kinds}
+use Rattle.clap.specs.declared.error.kind.ErrorKind.{ErrorKind}
+use Rattle.clap.specs.declared.error.kind.ErrorKind.TheVariants.{DisplayHelp, DisplayVersion, OutOfMemory}
+use Rattle.roll_cli.specs.declared.engine.PlayFault.{PlayFault}
+use Rattle.roll_cli.specs.declared.engine.PlayFault.TheVariants.{NoMemory, Read, Write}
+use Rattle.roll_cli.specs.declared.program.Ending.{Ending}
+use Rattle.roll_cli.specs.declared.program.Task.{Task}
+use Rattle.roll_cli.specs.Programs.{Ends}
+
+-- the program ends with a fault
+abbrev pub faulted : PlayFault → Ending
+faulted fault = record { status = 2; fault = Some fault }
+
+-- the status after help, or after a fault of usage
+abbrev pub usage_status : ErrorKind → ℕ
+usage_status DisplayHelp = 0
+usage_status DisplayVersion = 0
+usage_status _ = 2
+
+-- help or a fault of usage was printed, or couldn't be
+abbrev pub IsTold : ErrorKind → Ending → Type 0
+IsTold kind ending = (ending ≡ record { status = usage_status kind; fault = None }) ⊎ (ending ≡ faulted Write)
+
+-- the same, unless memory ran out
+abbrev pub IsPrinted : ErrorKind → Ending → Type 0
+IsPrinted kind ending = ((kind ≡ OutOfMemory) × (ending ≡ faulted NoMemory)) ⊎ ((kind ≢ OutOfMemory) × IsTold kind ending)
+
+-- one of the kinds was told
+abbrev pub IsToldOfOne : Kinds → Ending → Type 0
+IsToldOfOne [] ending = ⊥
+IsToldOfOne (kind ∷ kinds) ending = IsTold kind ending ⊎ IsToldOfOne kinds ending
+
+-- how the program ends at words that fail by one of the kinds; where there is none, they don't fail
+abbrev pub EndsRefused : Kinds → Ending → Type 0
+EndsRefused [] ending = ⊤
+EndsRefused (kind ∷ kinds) ending = (ending ≡ faulted NoMemory) ⊎ IsToldOfOne (kind ∷ kinds) ending
+
+-- how the program ends at a task, where the writer was old and is new
+module _ {W : Type 0} (contents : W → Option (List ℕ)) (task : Task) (old new : W) (ending : Ending) where
+  -- with the text that a reader holds, if it tells
+  abbrev pub EndsOn : Option (List ℕ) → Type 0
+  EndsOn held = IfSome held (λ text. Ends task text (contents old) (contents new) ending)
+
+  -- with the text of a file, if it can be opened
+  abbrev pub EndsOnFile : {F E : Type 0} → (F → Option (List ℕ)) → Result F E → Type 0
+  EndsOnFile remaining (Ok file) = EndsOn (remaining file)
+  EndsOnFile remaining (Err error) = (ending ≡ faulted Read) × (new ≡ old)
