@@ -1,13 +1,16 @@
 -- What words ask for, by computation.
+use Rattle.std.proofs.Common.{ap, inl, inr}
 use Rattle.std.specs.Prelude.{◌≡◌, None, Some, [], ◌∷◌, codes, refl, true, false}
 use Rattle.clap.proofs.OnLiterals.{clap_on_literals}
 use Rattle.clap.specs.Faults.{fault_of, is_simple_and_free}
 use Rattle.clap.specs.Simple.{is_simple}
 use Rattle.clap.specs.Takes.{takes}
-use Rattle.clap.specs.declared.error.kind.ErrorKind.TheVariants.{InvalidValue, MissingRequiredArgument}
+use Rattle.clap.specs.declared.error.kind.ErrorKind.TheVariants.{DisplayHelp, InvalidSubcommand, InvalidValue, MissingRequiredArgument, UnknownArgument}
+use Rattle.roll_cli.specs.declared.program.Ending.{Ending}
 use Rattle.roll_cli.specs.declared.program.GameName.TheVariants.{Tally, Duel}
 use Rattle.roll_cli.specs.declared.program.Task.TheVariants.{Play, Certify}
 use Rattle.rollduel.specs.Commands.{Games, app_with, rollduel_app}
+use Rattle.rollduel.specs.Endings.{EndsRefused}
 use Rattle.rollduel.specs.Requests.{asked_by}
 
 pub simple : (games : Games) → is_simple (app_with games) ≡ true
@@ -36,9 +39,25 @@ pub certifies : asked_by (codes "rollduel" ∷ codes "certify" ∷ codes "a.clai
 unfolding clap_on_literals
 certifies = refl
 
-pub taken : takes rollduel_app (codes "rollduel" ∷ codes "play" ∷ codes "--game=duel" ∷ codes "a.roll" ∷ []) ≡ true
+pub takes_nothing : takes rollduel_app (codes "rollduel" ∷ []) ≡ true
 unfolding clap_on_literals
-taken = refl
+takes_nothing = refl
+
+pub takes_a_file : takes rollduel_app (codes "rollduel" ∷ codes "play" ∷ codes "a.roll" ∷ []) ≡ true
+unfolding clap_on_literals
+takes_a_file = refl
+
+pub takes_a_duel : takes rollduel_app (codes "rollduel" ∷ codes "play" ∷ codes "-" ∷ codes "--game" ∷ codes "duel" ∷ []) ≡ true
+unfolding clap_on_literals
+takes_a_duel = refl
+
+pub takes_the_game_in_front : takes rollduel_app (codes "rollduel" ∷ codes "play" ∷ codes "--game=duel" ∷ codes "a.roll" ∷ []) ≡ true
+unfolding clap_on_literals
+takes_the_game_in_front = refl
+
+pub takes_a_claim : takes rollduel_app (codes "rollduel" ∷ codes "certify" ∷ codes "a.claim" ∷ []) ≡ true
+unfolding clap_on_literals
+takes_a_claim = refl
 
 pub no_file : takes rollduel_app (codes "rollduel" ∷ codes "play" ∷ []) ≡ false
 unfolding clap_on_literals
@@ -55,3 +74,23 @@ no_game = refl
 pub no_game_fault : fault_of rollduel_app (codes "rollduel" ∷ codes "play" ∷ codes "a" ∷ codes "--game" ∷ codes "chess" ∷ []) ≡ InvalidValue ∷ []
 unfolding clap_on_literals
 no_game_fault = refl
+
+pub stray_option_fault : fault_of rollduel_app (codes "rollduel" ∷ codes "certify" ∷ codes "a.claim" ∷ codes "--game" ∷ codes "duel" ∷ []) ≡ UnknownArgument ∷ []
+unfolding clap_on_literals
+stray_option_fault = refl
+
+pub stray_word_fault : fault_of rollduel_app (codes "rollduel" ∷ codes "a.roll" ∷ []) ≡ UnknownArgument ∷ InvalidSubcommand ∷ []
+unfolding clap_on_literals
+stray_word_fault = refl
+
+pub help_is_asked_for : fault_of rollduel_app (codes "rollduel" ∷ codes "play" ∷ codes "--help" ∷ []) ≡ DisplayHelp ∷ []
+unfolding clap_on_literals
+help_is_asked_for = refl
+
+-- without a file the program ends with status 2
+pub no_file_status : (ending : Ending) → EndsRefused (fault_of rollduel_app (codes "rollduel" ∷ codes "play" ∷ [])) ending → ending.status ≡ 2
+unfolding clap_on_literals
+no_file_status ending (inl memory) = ap (λ (e : Ending). e.status) memory
+no_file_status ending (inr (inl (inl told))) = ap (λ (e : Ending). e.status) told
+no_file_status ending (inr (inl (inr unwritten))) = ap (λ (e : Ending). e.status) unwritten
+no_file_status ending (inr (inr none)) = absurd none
