@@ -4,11 +4,12 @@
 #![tactic(auto)]
 
 ghost use Rattle.std.specs.Fn.{FnOnceReturnsAt};
-ghost use Rattle.std.specs.Prelude.{◌≡◌, IfErr, IfOk, IfSome, None, map, string_bytes};
+ghost use Rattle.std.specs.Prelude.{◌≡◌, ◌⊎◌, IfErr, IfOk, IfSome, None, map, string_bytes};
 ghost use Rattle.std.specs.Process.{exit_status};
 ghost use Rattle.clap.specs.Faults.{fault_of};
 ghost use Rattle.clap.specs.Kinds.{FailsBy};
 ghost use Rattle.clap.specs.Words.{kind_of};
+ghost use Rattle.roll_cli.specs.declared.engine.PlayFault.TheVariants.{NoMemory, Read as CannotRead};
 ghost use Rattle.rollduel.specs.Commands.{rollduel_app};
 ghost use Rattle.rollduel.specs.Endings.{EndsOn, EndsOnFile, EndsRefused, IsPrinted};
 ghost use Rattle.rollduel.specs.Requests.{asked_by, path_of};
@@ -93,7 +94,9 @@ fn perform<S: Read, F: Read + Drop, W: Write, O: FnOnce(&str) -> io::Result<F>>(
 }
 
 /// The words of the command line, with the program's name in front. One that is not UTF-8 can't be read.
-fn words<R: Runtime + AllocGlobal>(rt: &R) -> Result<Vec<String>, PlayFault> {
+fn words<R: Runtime + AllocGlobal>(rt: &R) -> Result<Vec<String>, PlayFault>
+    ensures { IfErr result (λ fault. (fault ≡ NoMemory) ⊎ (fault ≡ CannotRead)) }
+{
     match env::args(rt) {
         Ok(words) => Ok(words.collect(rt.alloc())?),
         Err(error) if error.kind() == io::ErrorKind::OutOfMemory => Err(PlayFault::NoMemory),
