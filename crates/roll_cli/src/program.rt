@@ -1,5 +1,5 @@
 //! What the program does with a text, and how it ends.
-ghost use Rattle.std.specs.Prelude.{◌≡◌, ◌⊎◌, ◌+◌, ◌==◌, ℕ, List, Err, IfErr, IfOk, IfSome, None, Some};
+ghost use Rattle.std.specs.Prelude.{◌≡◌, ◌≤◌, ◌⊎◌, ◌+◌, ℕ, List, Err, IfErr, IfOk, IfSome, MatchOption};
 ghost use Rattle.std.specs.Io.KnownBytes.{Appends};
 ghost use Rattle.roll_text.specs.Streams.{AppendsPart, IsBadAt};
 ghost use Rattle.roll_text.specs.declared.streams.TheConstants.{TEXT_LIMIT};
@@ -60,7 +60,7 @@ impl From<PlayFault> for Ending {
 /// At most 1,048,577 bytes are read. Nothing is written unless the whole text can be read.
 pub fn run<R: Read, W: Write>(alloc: Global, task: Task, reader: &mut R, writer: &mut W) -> Ending
     ensures ends { IfSome (R.remaining reader.old) (λ text. Ends task text (W.contents writer.old) (W.contents writer.new) result) }
-    ensures status { IfSome result.fault (λ fault. result.status ≡ 2) }
+    ensures status { MatchOption result.fault (result.status ≤ 1) (λ fault. result.status ≡ 2) }
     ensures untouched { IfSome result.fault (λ fault. (fault ≡ CannotWrite) ⊎ (writer.new ≡ writer.old)) }
     ensures taken { TakesAtMost (TEXT_LIMIT + 1) (R.remaining reader.old) (R.remaining reader.new) }
 {

@@ -1,5 +1,5 @@
 -- How the program ends.
-use Rattle.std.specs.Prelude.{◌≡◌, ◌≢◌, ◌⊎◌, ℕ, List, [], ◌∷◌, IfSome, Option, None, Some, Result, Ok, Err, ⊤}
+use Rattle.std.specs.Prelude.{◌≡◌, ◌≢◌, ◌≤◌, ◌⊎◌, ℕ, List, [], ◌∷◌, IfSome, MatchOption, Option, None, Some, Result, Ok, Err, ⊤}
 use Rattle.clap.specs.Kinds.{Kinds}
 use Rattle.clap.specs.declared.error.kind.ErrorKind.{ErrorKind}
 use Rattle.clap.specs.declared.error.kind.ErrorKind.TheVariants.{DisplayHelp, DisplayVersion, OutOfMemory}
@@ -12,6 +12,10 @@ use Rattle.roll_cli.specs.Programs.{Ends}
 -- the program ends with a fault
 abbrev pub faulted : PlayFault → Ending
 faulted fault = record { status = 2; fault = Some fault }
+
+-- 0, 1 or 2, and 2 at a fault
+abbrev pub HasStatus : Ending → Type 0
+HasStatus ending = MatchOption ending.fault (ending.status ≤ 2) (λ fault. ending.status ≡ 2)
 
 -- the status after help, or after a fault of usage
 abbrev pub usage_status : ErrorKind → ℕ

@@ -11,7 +11,7 @@ ghost use Rattle.clap.specs.Kinds.{FailsBy};
 ghost use Rattle.clap.specs.Words.{kind_of};
 ghost use Rattle.roll_cli.specs.declared.engine.PlayFault.TheVariants.{NoMemory, Read as CannotRead};
 ghost use Rattle.rollduel.specs.Commands.{rollduel_app};
-ghost use Rattle.rollduel.specs.Endings.{EndsOn, EndsOnFile, EndsRefused, IsPrinted};
+ghost use Rattle.rollduel.specs.Endings.{HasStatus, EndsOn, EndsOnFile, EndsRefused, IsPrinted};
 ghost use Rattle.rollduel.specs.Requests.{asked_by, path_of};
 
 mod command_line;
@@ -45,7 +45,7 @@ fn finish<R: Eprint>(rt: &R, ending: &Ending) -> ExitCode
 
 /// Does what the words of the command line ask for.
 fn run<R: Runtime + AllocGlobal>(rt: &R) -> Ending
-    ensures { IfSome result.fault (λ fault. result.status ≡ 2) }
+    ensures status { HasStatus result }
 {
     match words(rt) {
         Ok(words) => run_words(rt, &words),
@@ -56,7 +56,7 @@ fn run<R: Runtime + AllocGlobal>(rt: &R) -> Ending
 /// Does what these words ask for, of which the first is the program's name.
 fn run_words<R: Runtime + AllocGlobal>(rt: &R, words: &[String]) -> Ending
     ensures refused { EndsRefused (fault_of rollduel_app (map string_bytes words.now)) result }
-    ensures fault { IfSome result.fault (λ fault. result.status ≡ 2) }
+    ensures status { HasStatus result }
 {
     let opener = |path: &str| fs::open(rt, path);
     match perform(
@@ -85,7 +85,7 @@ fn perform<S: Read, F: Read + Drop, W: Write, O: FnOnce(&str) -> io::Result<F>>(
     ensures file { IfOk result (λ ending. IfSome (asked_by (map string_bytes words.now)).0 (λ path.
         (standard.new ≡ standard.old) × ((opened : _) × FnOnceReturnsAt O.FnOnce opener path opened
         × EndsOnFile W.contents (asked_by (map string_bytes words.now)).1 writer.old writer.new ending F.remaining opened))) }
-    ensures fault { IfOk result (λ ending. IfSome ending.fault (λ fault. ending.status ≡ 2)) }
+    ensures status { IfOk result (λ ending. HasStatus ending) }
     ensures untouched { IfErr result (λ error. (standard.new ≡ standard.old) × (writer.new ≡ writer.old)) }
     ensures kinds { FailsBy (fault_of rollduel_app (map string_bytes words.now)) result }
 {
@@ -134,7 +134,7 @@ fn answer<S: Read, F: Read + Drop, W: Write, O: FnOnce(&str) -> io::Result<F>>(
     ensures file { IfSome (path_of asked.now.input) (λ path.
         (standard.new ≡ standard.old) × ((opened : _) × FnOnceReturnsAt O.FnOnce opener path opened
         × EndsOnFile W.contents asked.now.task writer.old writer.new result F.remaining opened)) }
-    ensures fault { IfSome result.fault (λ fault. result.status ≡ 2) }
+    ensures status { HasStatus result }
 {
     match asked.input {
         Input::Standard => roll_cli::run(alloc, asked.task, standard, writer),
