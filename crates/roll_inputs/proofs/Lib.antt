@@ -1,3 +1,4 @@
+pub mod Allowed
 mod Walks
 pub mod Words
 mod Fronts

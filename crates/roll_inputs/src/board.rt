@@ -1,5 +1,6 @@
 //! The inputs of all players.
 ghost use Rattle.std.specs.Prelude.{◌≡◌, ◌≢◌, ◌+◌, ◌≤◌, [], ◌∷◌, length, map, min, Some, None, true, false, All, IsTrue, IfOk, IfErr, OnOk, OnErr, unwrap_or, if◌then◌else◌};
+ghost use Rattle.roll_frame.specs.Core.{row_possible};
 ghost use Rattle.roll_frame.specs.Events.{all_given};
 ghost use Rattle.roll_frame.specs.Inputs.{is_repeated, with_words, with_given, with_gone, with_none_given};
 ghost use Rattle.roll_frame.specs.Settings.{most_threshold, start_refusal};
@@ -10,7 +11,9 @@ ghost use Rattle.roll_inputs.specs.Boards.{first_inputs, with_player, local_refu
 
 use crate::heard::Heard;
 use crate::queue::Queue;
-use crate::queues::{first_queues, front, is_missing, queue_of, row_at, settle_all, start_frames};
+use crate::queues::{
+    allows, first_queues, front, is_missing, queue_of, row_at, settle_all, start_frames,
+};
 use roll_frame::{Refusal, Row, Settings};
 use std::alloc::Global;
 use std::marker::Model;
@@ -217,11 +220,26 @@ impl Board {
         row_at(&self.queues, frame)
     }
 
+    /// Whether a row may be the timeline's of a frame: it has a cell for each player, and those known.
+    pub fn allows(&self, frame: u32, row: &Row) -> bool
+        requires { self.now.settled ≤ frame }
+        ensures { result ≡ row_possible frame self.now.players row.now }
+    {
+        allows(&self.queues, frame, row)
+    }
+
     /// How many rows are confirmed by all players that are not gone.
     pub fn front(&self) -> u32
         ensures { result ≡ front_of self.now.players }
     {
         front(&self.queues)
+    }
+
+    /// How many players there are.
+    pub fn players(&self) -> usize
+        ensures { result ≡ length self.now.players }
+    {
+        self.queues.len()
     }
 
     /// How many words of a player are confirmed.

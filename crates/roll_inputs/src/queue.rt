@@ -1,5 +1,6 @@
 //! One player's input queue.
 ghost use Rattle.std.specs.Prelude.{◌≡◌, ◌+◌, ◌<◌, ◌≤◌, ◌^◌, IfOk, length, [], ◌∷◌, ◌==◌, slice_index, if◌then◌else◌, Some, None, false, IfErr, OnErr};
+ghost use Rattle.roll_frame.specs.Core.{cell_possible};
 ghost use Rattle.roll_frame.specs.Inputs.{is_repeated, remote_tests, with_words, with_given, with_gone, with_none_given};
 ghost use Rattle.roll_frame.specs.Refusals.{first_refusal};
 ghost use Rattle.roll_frame.specs.Settings.{first_player, delay_at};
@@ -102,6 +103,18 @@ impl Queue {
             Cell::Gone
         } else {
             Cell::Word(self.last & self.mask)
+        }
+    }
+
+    /// Whether this cell may be the player's in a frame: it is the known one, or none is known.
+    pub(crate) fn allows(&self, frame: u32, cell: Cell) -> bool
+        requires { self.now.from ≤ frame }
+        ensures { result ≡ cell_possible frame self.now.player cell }
+    {
+        if frame < self.count || self.gone {
+            cell == self.cell(frame)
+        } else {
+            true
         }
     }
 

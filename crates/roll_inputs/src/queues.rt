@@ -2,6 +2,7 @@
 ghost use Rattle.std.specs.Prelude.{◌≡◌, ◌≤◌, ◌<◌, ◌+◌, ℕ, ◌&&◌, not, map, min, length, All, IfOk};
 ghost use Rattle.std.specs.List.{list_any};
 ghost use Rattle.std.specs.Option.{option_copied, option_map_or};
+ghost use Rattle.roll_frame.specs.Core.{row_possible};
 ghost use Rattle.roll_frame.specs.Settings.{delay_at, first_player, places};
 ghost use Rattle.roll_frame.specs.Timeline.{front as front_of, row_at as row_of};
 ghost use Rattle.roll_inputs.specs.Boards.{first_known, players_of, queue_at, settled_to, started};
@@ -46,6 +47,23 @@ pub(crate) fn row_at(queues: &[Queue], frame: u32) -> Row
         row.push(queue.cell(frame));
     }
     row
+}
+
+/// Whether a row may be the timeline's of a frame: it has a cell for each player, and those known.
+pub(crate) fn allows(queues: &[Queue], frame: u32, row: &Row) -> bool
+    requires held { All (λ q. q.from ≤ frame) queues.now }
+    ensures { result ≡ row_possible frame (players_of queues.now) row.now }
+{
+    let cells = row.cells();
+    if cells.len() != queues.len() {
+        return false;
+    }
+    for place in 0..queues.len() {
+        if !queues[place].allows(frame, cells[place]) {
+            return false;
+        }
+    }
+    true
 }
 
 /// How many rows are confirmed by all players that are not gone.
