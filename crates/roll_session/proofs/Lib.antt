@@ -1,3 +1,5 @@
+pub mod Judging
+pub mod Placed
 pub mod Holding
 pub mod Between
 pub mod Cuts

@@ -109,7 +109,7 @@ pub record IsOnWay {S : Type 0} (value : S → Value) (step : Value → List Cel
   pub values : (opening : Value) → HaveValues value step opening (timeline old.inputs.players old.inputs.settled) old.tree.states → HaveValues value step opening (timeline old.inputs.players old.inputs.settled) now.tree.states
   pub reached : (opening : Value) → HaveValues value step opening (timeline old.inputs.players old.inputs.settled) old.tree.states → state ≡ run step opening (timeline old.inputs.players frame)
 
-some_is : {A : Type 0} (o : Option A) (P : A → Type 0) → IsSomeAnd o P → (u : A) × (o ≡ Some u) × P u
+pub some_is : {A : Type 0} (o : Option A) (P : A → Type 0) → IsSomeAnd o P → (u : A) × (o ≡ Some u) × P u
 some_is None P h = absurd h
 some_is (Some u) P h = (u, refl, h)
 
@@ -122,7 +122,7 @@ held_same o u v e h = cc (e, h)
 if_some : {A : Type 0} (o : Option A) (u : A) (P : A → Type 0) → o ≡ Some u → IfSome o P → P u
 if_some o u P e h = rw e at h
 
-snapshot_is : {S : Type 0} (o : Option (Saved S)) (u : Saved S) (snapshot : S) → option_map (λ (v : Saved S). v.snapshot) o ≡ Some snapshot → o ≡ Some u → u.snapshot ≡ snapshot
+pub snapshot_is : {S : Type 0} (o : Option (Saved S)) (u : Saved S) (snapshot : S) → option_map (λ (v : Saved S). v.snapshot) o ≡ Some snapshot → o ≡ Some u → u.snapshot ≡ snapshot
 snapshot_is o u snapshot h e = let same = rw e at h in cc same
 
 module _ {S : Type 0} (value : S → Value) (step : Value → List Cell → Value) (old : Standing S) (from to : ℕ) (start : from ≡ old.inputs.settled + way_to old to) where

@@ -1,9 +1,10 @@
 -- The events that calls stand for.
 use Rattle.std.specs.Prelude.{◌≡◌, ◌+◌, ℕ, Bool, true, false, List, ◌++◌, map, max, take, slice_get, Option, Some, None, Result, Ok, Err}
+use Rattle.roll_branch.specs.Routed.{Routed}
 use Rattle.roll_frame.specs.Core.{Core}
 use Rattle.roll_frame.specs.Events.{CoreEvent, is_repeat}
 use Rattle.roll_frame.specs.declared.entry.Entry.{Entry}
-use Rattle.roll_frame.specs.declared.entry.Entry.TheVariants.{Local, Remote, Disconnect, Sync, Advance}
+use Rattle.roll_frame.specs.declared.entry.Entry.TheVariants.{Local, Remote, Disconnect, Sync, Advance, Graft}
 use Rattle.roll_frame.specs.declared.refusal.Refusal.{Refusal}
 use Rattle.roll_frame.specs.declared.reply.Reply.{Reply}
 use Rattle.roll_frame.specs.declared.reply.Reply.TheVariants.{Done, Taken, Repeated, Disconnected}
@@ -23,6 +24,10 @@ entry_of AdvanceCall = Advance
 
 abbrev pub event_of : Call → CoreEvent
 event_of call = plain (entry_of call)
+
+-- a graft, with what its branch's first state is worth
+abbrev pub grafting : Routed → CoreEvent
+grafting branch = record { entry = Graft branch.ticket branch.route; value = branch.from }
 
 abbrev pub events_of : List Call → List CoreEvent
 events_of calls = map event_of calls

@@ -6,3 +6,4 @@ pub mod Started
 pub mod Answered
 pub mod Held
 pub mod Calls
+pub mod Grafting

@@ -2,6 +2,7 @@
 ghost use Rattle.std.specs.Prelude.{◌≡◌, ◌+◌, ◌-◌, ◌≤◌, ◌<◌, ◌∷◌, ◌++◌, [], length, map, filter, drop, None, Some, IfOk, IfErr, OnOk, OnErr, IfSome, IsSomeAnd, All, true, false, nat_lt, IsTrue, vec_capacity, if◌then◌else◌};
 ghost use Rattle.std.specs.List.{list_all};
 ghost use Rattle.roll_frame.specs.Claims.{AreRowsOf};
+ghost use Rattle.roll_frame.specs.Core.{row_possible};
 ghost use Rattle.roll_frame.specs.Events.{all_given};
 ghost use Rattle.roll_frame.specs.Inputs.{is_repeated, with_given, with_gone, with_none_given, with_words};
 ghost use Rattle.roll_frame.specs.Paths.{longest};
@@ -230,6 +231,18 @@ impl<S> Saves<S> {
         match self.tree.insert(parent, row, snapshot) {
             Ok(name) => name,
             Err(_) => unreachable!(),
+        }
+    }
+
+    /// Whether a row may be the timeline's of a frame: it has a cell for each player, and those known.
+    pub fn allows(&self, frame: u32, row: &Row) -> bool
+        ensures { result ≡ row_possible frame self.now.inputs.players row.now }
+    {
+        self.board.laws();
+        if frame < self.board.settled() {
+            *row == self.past[frame as usize]
+        } else {
+            self.board.allows(frame, row)
         }
     }
 

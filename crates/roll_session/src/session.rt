@@ -2,7 +2,7 @@
 ghost use Rattle.std.specs.Prelude.{◌≡◌, ℕ, ◌≤◌, ◌<◌, ◌+◌, ◌-◌, ◌∷◌, [], ◌++◌, true, false, map, max, vec_capacity, vec_len, nat_lt, IfOk, OnOk, IfErr, OnErr, IfSome, is_none, unwrap_or, option_copied, None, Some, if◌then◌else◌};
 ghost use Rattle.roll_frame.specs.Claims.{claim_of, path_from, IsRight};
 ghost use Rattle.roll_frame.specs.Core.{depth, kept as kept_of, settled as settled_frame};
-ghost use Rattle.roll_frame.specs.Events.{answer, is_repeat, tests_of};
+ghost use Rattle.roll_frame.specs.Events.{answer, is_repeat, refusal, tests_of};
 ghost use Rattle.roll_frame.specs.Refusals.{first_refusal};
 ghost use Rattle.roll_frame.specs.Order.{in_order};
 ghost use Rattle.roll_frame.specs.Paths.{run as run_of};
@@ -14,13 +14,15 @@ ghost use Rattle.roll_laws.specs.Sessions.{IsLog};
 ghost use Rattle.roll_session.specs.Held.{HasRoom, Shows};
 ghost use Rattle.roll_session.specs.Planned.{IsPlanOfRoll};
 ghost use Rattle.roll_session.specs.Answered.{counts_by, replied, with_entries, IsAnswered, IsPartial};
-ghost use Rattle.roll_session.specs.Calls.{entry_of, event_of, heard_reply, input_reply, judged, IsAdmitted, IsAllowed, IsInput, IsRollTo};
+ghost use Rattle.roll_session.specs.Calls.{entry_of, event_of, grafting, heard_reply, input_reply, judged, IsAdmitted, IsAllowed, IsInput, IsRollTo};
 ghost use Rattle.roll_session.specs.Seen.{core_of, game_of, IsLeast};
 ghost use Rattle.roll_session.specs.Started.{IsGivenBack};
 
 use crate::event::{Call, Reached, StartFault};
+use crate::place::branch_refusal;
 use crate::roll::{Rolled, roll};
 use crate::saves::Saves;
+use roll_branch::Branch;
 use roll_frame::{Claim, Entry, Event, Path, Refusal, Reply, Row, Settings};
 use roll_game::Game;
 use roll_inputs::{Board, Heard};
@@ -151,6 +153,21 @@ impl<G: Game> Session<G> {
     {
         self.take(Call::Disconnect { player })?;
         Ok(Event::DisconnectedFromPeer { player })
+    }
+
+    /// Why a branch would be refused now, if it would: what `graft` would answer, but for want of memory.
+    pub fn graft_refusal(&self, branch: &Branch<G>) -> Option<Refusal>
+        ensures { result ≡ refusal self.now.settings (game_of G.step self.now) (core_of self.now) (grafting branch.now) }
+    {
+        let most = usize::from(self.settings.profile.branch_limit());
+        let refusal = branch_refusal(&self.game, &self.saves, branch, most);
+        if refusal.is_some() {
+            refusal
+        } else if self.log.len() >= self.settings.log as usize {
+            Some(Refusal::LogFull)
+        } else {
+            None
+        }
     }
 
     /// Takes a player's input, or sees that it was taken before.

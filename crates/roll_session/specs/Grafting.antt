@@ -1,0 +1,79 @@
+-- A branch as the saved states see it.
+use Rattle.std.specs.Prelude.{ℕ, ◌+◌, ◌-◌, List, [], ◌∷◌, ◌++◌, length, drop, take, max, not, Bool, nat_lt, nat_le, ◌&&◌}
+use Rattle.roll_frame.specs.declared.limits.TheConstants.{PATH_LIMIT}
+use Rattle.roll_frame.specs.declared.refusal.Refusal.{Refusal}
+use Rattle.roll_frame.specs.declared.refusal.Refusal.TheVariants.{Stranger, TooFar, Late, Orphan, Dead, TreeFull}
+use Rattle.roll_frame.specs.declared.route.Route.{Route}
+use Rattle.roll_frame.specs.Cells.{Rows}
+use Rattle.roll_frame.specs.Games.{Value}
+use Rattle.roll_frame.specs.Grafts.{are_rows_of, same_value}
+use Rattle.roll_frame.specs.Paths.{longest, run}
+use Rattle.roll_frame.specs.Timeline.{timeline}
+use Rattle.roll_branch.specs.Routed.{Routed}
+use Rattle.roll_inputs.specs.Boards.{Inputs}
+use Rattle.roll_laws.specs.Grafted.{possible_rows}
+use Rattle.roll_tree.specs.SavedStates.{paths_of}
+use Rattle.roll_session.specs.Saves.{Standing}
+use Rattle.roll_session.specs.Seen.{Step}
+
+-- the rows from the path's base on
+abbrev pub lead_of : Route → Rows
+lead_of route = route.path.rows.items ++ route.rows.items
+
+-- where the branch starts and ends, from frame 0
+abbrev pub start_of : Route → ℕ
+start_of route = route.path.base + length route.path.rows.items
+
+abbrev pub end_of : Route → ℕ
+end_of route = route.path.base + length (lead_of route)
+
+-- where it may be new from
+abbrev pub anchor_of : Inputs → Route → ℕ
+anchor_of inputs route = max (start_of route) inputs.settled
+
+-- its rows past the settled frame
+abbrev pub ahead_of : Inputs → Route → Rows
+ahead_of inputs route = drop (inputs.settled - route.path.base) (lead_of route)
+
+-- how far it is possible
+abbrev pub possible_to : Inputs → Route → ℕ
+possible_to inputs route = route.path.base + possible_rows route.path.base inputs.players (lead_of route)
+
+module _ {S : Type 0} where
+  -- how far it is kept
+  abbrev pub kept_to : Standing S → Route → ℕ
+  kept_to s route = s.inputs.settled + longest (paths_of s.tree) (ahead_of s.inputs route)
+
+  -- how many states it adds
+  abbrev pub count_new : Standing S → Route → ℕ
+  count_new s route = possible_to s.inputs route - kept_to s route
+
+  -- the tests of where it runs
+  abbrev pub place_tests : Standing S → Route → List (Bool × Refusal)
+  place_tests s route =
+      (nat_lt s.inputs.settled route.path.base, Stranger)
+      ∷ (not (are_rows_of (length s.inputs.players) (lead_of route)), Stranger)
+      ∷ (nat_lt (s.inputs.settled + PATH_LIMIT) (end_of route), TooFar)
+      ∷ (nat_le (end_of route) s.inputs.settled, Late)
+      ∷ (nat_lt (possible_to s.inputs route) (anchor_of s.inputs route), Dead)
+      ∷ (nat_lt (kept_to s route) (anchor_of s.inputs route), Orphan)
+      ∷ []
+
+  -- the test whether there is room for what it adds
+  abbrev pub has_no_room : ℕ → Standing S → Route → Bool
+  has_no_room most s route = nat_lt 0 (count_new s route) && nat_lt most (length s.tree.states + count_new s route)
+
+  -- whether the branch's state at the anchor is worth what the rows there lead to from the opening, where its first
+  -- state has this value
+  abbrev pub is_same_there : Step → Value → Standing S → Route → Value → Bool
+  is_same_there step opening s route from =
+      same_value (run step from (take (anchor_of s.inputs route - start_of route) route.rows.items))
+      (run step opening (timeline s.inputs.players s.inputs.settled ++ take (anchor_of s.inputs route - s.inputs.settled) (ahead_of s.inputs route)))
+
+  -- the tests of a branch, where branches may fill most kept states
+  abbrev pub branch_tests : Step → Value → ℕ → Standing S → Routed → List (Bool × Refusal)
+  branch_tests step opening most s branch =
+      place_tests s branch.route
+      ++ (not (is_same_there step opening s branch.route branch.from), Stranger)
+      ∷ (has_no_room most s branch.route, TreeFull)
+      ∷ []
