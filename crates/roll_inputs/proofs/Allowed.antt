@@ -1,12 +1,9 @@
 -- Rows that may be the timeline's, cell by cell.
-use Rattle.std.proofs.Common.{◌≡◌, ℕ, suc, ◌+◌, ◌<◌, List, [], ◌∷◌, length, get_or, drop, map, refl, ap, sym, ◌∙◌, Bool, true, false, arith, add-one, drop-cons}
+use Rattle.std.proofs.Common.{◌≡◌, ℕ, suc, List, [], ◌∷◌, length, refl, ap, Bool, true, false}
 use Rattle.std.specs.Prelude.{◌&&◌}
-use Rattle.std.proofs.lemmas.Bool.{false≢true}
 use Rattle.roll_frame.specs.declared.row.Cell.{Cell}
 use Rattle.roll_frame.specs.Core.{cell_possible, row_possible}
 use Rattle.roll_frame.specs.Timeline.{Player}
-use Rattle.roll_inputs.specs.Queues.{Known}
-use Rattle.roll_inputs.specs.Boards.{players_of}
 
 -- no row of another number of players
 pub other_width : (t : ℕ) (ps : List Player) (cells : List Cell) → (length cells ≡ length ps → ⊥) → row_possible t ps cells ≡ false

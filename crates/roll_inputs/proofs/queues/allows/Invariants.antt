@@ -1,4 +1,4 @@
-use Rattle.std.proofs.Common.{◌≡◌, drop, length}
+use Rattle.std.proofs.Common.{◌≡◌, drop}
 use Rattle.roll_frame.specs.Core.{row_possible}
 use Rattle.roll_inputs.specs.Boards.{players_of}
 use Rattle.roll_inputs.proofs.queues.allows.Given as goal
