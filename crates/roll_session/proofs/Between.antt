@@ -7,7 +7,7 @@ use Rattle.std.proofs.lemmas.List.{append-nil, append_assoc, take-append-drop}
 use Rattle.std.proofs.lemmas.List.Elements.{All-filter, All-map, filter_passes}
 use Rattle.roll_frame.specs.Cells.{Rows}
 use Rattle.roll_frame.specs.Core.{Core, cost, depth, is_possible, kept, rolled_paths, settled}
-use Rattle.roll_frame.specs.Events.{added_by, applied, is_accepted, replay}
+use Rattle.roll_frame.specs.Events.{CoreEvent, added_by, applied, is_accepted, replay}
 use Rattle.roll_frame.specs.Games.{Game, Value}
 use Rattle.roll_frame.specs.Inputs.{changed, with_given, with_gone, with_none_given, with_words}
 use Rattle.roll_frame.specs.Paths.{begins_with, longest, prefixes, run}
@@ -225,26 +225,26 @@ module _ {N : Type 0} (value : N → Value) (step : Value → List Cell → Valu
       All-map (λ s. value s.snapshot ≡ run step opening ((T ++ R) ++ s.path)) (later (length R)) (filter (λ u. begins_with u.path R) xs)
       (λ k d lt. state_named k d lt ∙ ap (run step opening) (split_path T R (slice_index_or (filter (λ (u : Saved N). begins_with u.path R) xs) k d).path (begun k d lt)))
 
-module _ {N : Type 0} (value : N → Value) (step : Value → List Cell → Value) (opening : Value) (settings : Settings) (game : Game) (log : List Entry) (is_log : IsLog settings game log) (entry : Entry) (accepted : is_accepted settings game (replay settings log) (record { entry = entry; value = [] }) ≡ true) where
-  between_settles : (st : Standing N) → IsBetween value step opening settings (replay settings log) entry st → Settles (replay settings log) (applied (replay settings log) entry) (paths_of st.tree)
-  between_settles st b = settles settings game log entry is_log accepted (paths_of st.tree) b.paths b.rows
+module _ {N : Type 0} (value : N → Value) (step : Value → List Cell → Value) (opening : Value) (settings : Settings) (game : Game) (log : List Entry) (is_log : IsLog settings game log) (event : CoreEvent) (accepted : is_accepted settings game (replay settings log) event ≡ true) where
+  between_settles : (st : Standing N) → IsBetween value step opening settings (replay settings log) event.entry st → Settles (replay settings log) (applied (replay settings log) event.entry) (paths_of st.tree)
+  between_settles st b = settles settings game log event is_log accepted (paths_of st.tree) b.paths b.rows
 
   -- what is settled was confirmed by all
-  pub can_settle : (st : Standing N) → IsBetween value step opening settings (replay settings log) entry st → st.inputs.settled ≤ front st.inputs.players
+  pub can_settle : (st : Standing N) → IsBetween value step opening settings (replay settings log) event.entry st → st.inputs.settled ≤ front st.inputs.players
   can_settle st b =
       let is_settled : st.inputs.settled ≡ settled (replay settings log) = ap (λ (i : Inputs). i.settled) b.inputs in
-      let is_front : front st.inputs.players ≡ front (applied (replay settings log) entry).players = ap (λ (i : Inputs). front i.players) b.inputs in
+      let is_front : front st.inputs.players ≡ front (applied (replay settings log) event.entry).players = ap (λ (i : Inputs). front i.players) b.inputs in
       let reached = (between_settles st b).reached in
       omega (arith, is_settled, is_front, reached)
 
   -- the saved states after an entry are those kept
-  pub settled_kept : (st st' : Standing N) → IsBetween value step opening settings (replay settings log) entry st
+  pub settled_kept : (st st' : Standing N) → IsBetween value step opening settings (replay settings log) event.entry st
       → st'.inputs ≡ record st.inputs { settled = st.inputs.settled + settling st }
       → st'.tree.states ≡ settled_by st (settling st)
-      → IsKept value step opening settings (applied (replay settings log) entry) st'
+      → IsKept value step opening settings (applied (replay settings log) event.entry) st'
   settled_kept st st' b inputs states =
       let core : Core = replay settings log in
-      let next : Core = applied core entry in
+      let next : Core = applied core event.entry in
       let s : ℕ = settled core in
       let ps : List Rows = paths_of st.tree in
       let n : ℕ = newly next s ps in

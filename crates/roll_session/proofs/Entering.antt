@@ -31,7 +31,7 @@ use Rattle.roll_session.specs.Seen.{Step, plain}
 use Rattle.roll_session.specs.Standing.{made_from}
 use Rattle.roll_session.proofs.Between.{IsBetween, can_settle}
 use Rattle.roll_session.proofs.Holding.{accepted, can_be_partial_advance, can_be_partial_sync, leaving_between, local_between, partial_accepted, remote_between, first_refusal-front, first_refusal-none}
-use Rattle.roll_session.proofs.Rolled.{Added, between_after_advance, between_after_partial, between_after_sync, cost_is, depth_is, frame_is, near, paths_fit, roll_fits, roll_plan, session_rolled, shown_value, time_fits}
+use Rattle.roll_session.proofs.Rolled.{Added, between_after_advance, between_after_partial, between_after_sync, cost_is, depth_is, frame_is, near, paths_fit, roll_fits, roll_plan, session_event, shown_value, time_fits}
 
 -- an event later there is room for one less
 pub room_next : {N : Type 0} {log more : Vec Entry} {saves after : Standing N} {reserved left n : ℕ} (cut : Standing N) → HasRoom log saves reserved → 1 ≤ reserved
@@ -97,13 +97,13 @@ module _ {S N : Type 0} {state_value : S → Value} {snapshot_value : N → Valu
 
   -- then what can be settled may be
   pub settles : (entry : Entry) → is_repeat core entry ≡ false → refusal settings game core (plain entry) ≡ None → (cut : Standing N) → Between entry cut → cut.inputs.settled ≤ front cut.inputs.players
-  settles entry new fine cut between = can_settle snapshot_value step opening settings game log s.is_log entry (accepted settings game core (plain entry) new fine) cut between
+  settles entry new fine cut between = can_settle snapshot_value step opening settings game log s.is_log (plain entry) (accepted settings game core (plain entry) new fine) cut between
 
   -- the session after a player's input
   pub taken_session : (call : Call) → IsInput call → is_repeat core (entry_of call) ≡ false → refusal settings game core (event_of call) ≡ None → (cut after : Standing N) → Between (entry_of call) cut → IsSettled cut after
       → IsSession state_value snapshot_value step opening settings (log ++ entry_of call ∷ []) after planner current
   taken_session call input new fine cut after between settled =
-      session_rolled s (entry_of call) cut after planner current (accepted settings game core (event_of call) new fine) between settled.inputs settled.states (rw (shown call input) s.shows) (rw (last call input) s.plan)
+      session_event s (event_of call) cut after planner current (accepted settings game core (event_of call) new fine) between settled.inputs settled.states (rw (shown call input) s.shows) (rw (last call input) s.plan)
     where
       shown : (e : Call) → IsInput e → (applied core (entry_of e)).shown ≡ core.shown
       shown (LocalCall p word) i = refl
@@ -217,7 +217,7 @@ module _ {S N : Type 0} {state_value : S → Value} {snapshot_value : N → Valu
           → ((x : Value) → HaveValues snapshot_value step x (timeline saves.inputs.players saves.inputs.settled) saves.tree.states → state_value state ≡ run step x (timeline saves.inputs.players to))
           → saves.tree.base ≡ saves.inputs.settled → planned ≡ record planner { last = Some (made_of saves.tree (rows_to saves.inputs to)) } → IsSession state_value snapshot_value step opening settings (log ++ entry_of call ∷ []) settled planned (Some state)
       rolled_next after cut settled planned state a inputs tree now value base plan =
-          session_rolled s (entry_of call) cut settled planned (Some state) (accepted settings game core (event_of call) not_repeat fine) (rolled_by call to is_to after cut a inputs tree) now.inputs now.states
+          session_event s (event_of call) cut settled planned (Some state) (accepted settings game core (event_of call) not_repeat fine) (rolled_by call to is_to after cut a inputs tree) now.inputs now.states
           (shows_by call to is_to state (shown_value s to state value))
           (planned_by call to is_to planned (plan ∙ roll_plan s to low high base))
 
@@ -231,11 +231,11 @@ module _ {S N : Type 0} {state_value : S → Value} {snapshot_value : N → Valu
 
         pub partial_settles : (after : Standing N) → HasAdded to made after → after.inputs.settled ≤ front after.inputs.players
         partial_settles after a =
-            can_settle snapshot_value step opening settings game log s.is_log (Partial to made) cut_accepted after
+            can_settle snapshot_value step opening settings game log s.is_log (plain (Partial to made)) cut_accepted after
             (between_after_partial s to made after low a)
 
         pub partial_next : (after settled : Standing N) (planned : Planned) → HasAdded to made after → IsSettled after settled → planned ≡ record planner { last = None } → IsSession state_value snapshot_value step opening settings (log ++ Partial to made ∷ []) settled planned None
         partial_next after settled planned a now plan =
-            session_rolled s (Partial to made) after settled planned None cut_accepted
+            session_event s (plain (Partial to made)) after settled planned None cut_accepted
             (between_after_partial s to made after low a) now.inputs now.states tt
             (plan ∙ ap (λ (n : ℕ). record { players = n; last = None }) (ap (λ (p : Planned). p.players) s.plan))

@@ -151,23 +151,23 @@ paths_are settled base ps e = sym (ap (map (path_from base)) (order_on settled p
     each (q ∷ qs) = ap (λ (r : Rows). path_of base r ∷ map (path_from base) (map (on settled) qs)) (subst (λ n. drop n (settled ++ q) ≡ q) e (drop-append_seam settled q)) ∙ ap (λ (l : List Path). path_of base q ∷ l) (each qs)
 
 module _ {S N : Type 0} (state_value : S → List ℕ) (snapshot_value : N → List ℕ) (step : Step) (opening : List ℕ) (settings : Settings) where
-  -- the session after one more entry
-  pub session_next : (log : List Entry) (entry : Entry) (saves : Standing N) (planner : Planned) (current : Option S) → IsLog settings (record { opening = opening; step = step }) log
-      → is_accepted settings (record { opening = opening; step = step }) (replay settings log) (plain entry) ≡ true
-      → IsKept snapshot_value step opening settings (applied (replay settings log) entry) saves
-      → Shows state_value step opening (applied (replay settings log) entry).shown current
-      → planner ≡ planned_of settings (applied (replay settings log) entry)
-      → IsSession state_value snapshot_value step opening settings (log ++ entry ∷ []) saves planner current
-  session_next log entry saves planner current l a kept shows plan =
+  -- the session after one more event
+  pub session_next : (log : List Entry) (event : CoreEvent) (saves : Standing N) (planner : Planned) (current : Option S) → IsLog settings (record { opening = opening; step = step }) log
+      → is_accepted settings (record { opening = opening; step = step }) (replay settings log) event ≡ true
+      → IsKept snapshot_value step opening settings (applied (replay settings log) event.entry) saves
+      → Shows state_value step opening (applied (replay settings log) event.entry).shown current
+      → planner ≡ planned_of settings (applied (replay settings log) event.entry)
+      → IsSession state_value snapshot_value step opening settings (log ++ event.entry ∷ []) saves planner current
+  session_next log event saves planner current l a kept shows plan =
       let game : Game = record { opening = opening; step = step } in
-      let more = log_more settings game log (plain entry) l a in
-      let next = replay-push settings log entry in
+      let more = log_more settings game log event l a in
+      let next = replay-push settings log event.entry in
       record {
         is_log = more;
         kept = rw next kept;
         shows = rw next shows;
         plan = rw next plan;
-        small = is_small settings game (log ++ entry ∷ []) more;
+        small = is_small settings game (log ++ event.entry ∷ []) more;
       }
 
   -- the session at the start

@@ -1,3 +1,4 @@
+pub mod Hanging
 pub mod Judging
 pub mod Placed
 pub mod Holding

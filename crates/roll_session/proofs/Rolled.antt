@@ -5,7 +5,7 @@ use Rattle.std.proofs.lemmas.List.{length-map}
 use Rattle.roll_frame.specs.Cells.{Rows}
 use Rattle.roll_frame.specs.Claims.{AreRowsOf}
 use Rattle.roll_frame.specs.Core.{cost, depth, kept, settled}
-use Rattle.roll_frame.specs.Events.{applied, is_accepted, replay}
+use Rattle.roll_frame.specs.Events.{CoreEvent, applied, is_accepted, replay}
 use Rattle.roll_frame.specs.Games.{Value}
 use Rattle.roll_frame.specs.Inputs.{with_none_given}
 use Rattle.roll_frame.specs.Paths.{prefixes, run}
@@ -105,15 +105,15 @@ module _ {S N : Type 0} {state_value : S → Value} {snapshot_value : N → Valu
   between_after_partial m made after low a =
       between_partial snapshot_value step opening settings (record { opening = opening; step = step }) log s.is_log m made saves after s.kept low a.inputs a.paths (added_values m made after a)
 
-  -- the session after a roll
-  pub session_rolled : (entry : Entry) (between after : Standing N) (planned : Planned) (shown : Option S) → (a : is_accepted settings (record { opening = opening; step = step }) (replay settings log) (plain entry) ≡ true)
-      → IsBetween snapshot_value step opening settings (replay settings log) entry between
+  -- the session after an event
+  pub session_event : (event : CoreEvent) (between after : Standing N) (planned : Planned) (shown : Option S) → (a : is_accepted settings (record { opening = opening; step = step }) (replay settings log) event ≡ true)
+      → IsBetween snapshot_value step opening settings (replay settings log) event.entry between
       → after.inputs ≡ record between.inputs { settled = between.inputs.settled + settling between } → after.tree.states ≡ settled_by between (settling between)
-      → Shows state_value step opening (applied (replay settings log) entry).shown shown → planned ≡ planned_of settings (applied (replay settings log) entry)
-      → IsSession state_value snapshot_value step opening settings (log ++ entry ∷ []) after planned shown
-  session_rolled entry between after planned shown a b inputs states shows plan =
-      session_next state_value snapshot_value step opening settings log entry after planned shown s.is_log a
-      (settled_kept snapshot_value step opening settings (record { opening = opening; step = step }) log s.is_log entry a between after b inputs states) shows plan
+      → Shows state_value step opening (applied (replay settings log) event.entry).shown shown → planned ≡ planned_of settings (applied (replay settings log) event.entry)
+      → IsSession state_value snapshot_value step opening settings (log ++ event.entry ∷ []) after planned shown
+  session_event event between after planned shown a b inputs states shows plan =
+      session_next state_value snapshot_value step opening settings log event after planned shown s.is_log a
+      (settled_kept snapshot_value step opening settings (record { opening = opening; step = step }) log s.is_log event a between after b inputs states) shows plan
 
   -- the value that is shown after a roll
   pub shown_value : (m : ℕ) (state : S) → ((x : Value) → HaveValues snapshot_value step x (timeline saves.inputs.players saves.inputs.settled) saves.tree.states → state_value state ≡ run step x (timeline saves.inputs.players m)) → state_value state ≡ run step opening (timeline (replay settings log).players m)

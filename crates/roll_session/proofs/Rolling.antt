@@ -113,13 +113,13 @@ pub some_is : {A : Type 0} (o : Option A) (P : A → Type 0) → IsSomeAnd o P �
 some_is None P h = absurd h
 some_is (Some u) P h = (u, refl, h)
 
-some_there : {A : Type 0} (o : Option A) (u : A) → o ≡ Some u → IsSome o
+pub some_there : {A : Type 0} (o : Option A) (u : A) → o ≡ Some u → IsSome o
 some_there o u e = rw e refl
 
-held_same : {A : Type 0} (o : Option A) (u v : A) → o ≡ Some u → o ≡ Some v → u ≡ v
+pub held_same : {A : Type 0} (o : Option A) (u v : A) → o ≡ Some u → o ≡ Some v → u ≡ v
 held_same o u v e h = cc (e, h)
 
-if_some : {A : Type 0} (o : Option A) (u : A) (P : A → Type 0) → o ≡ Some u → IfSome o P → P u
+pub if_some : {A : Type 0} (o : Option A) (u : A) (P : A → Type 0) → o ≡ Some u → IfSome o P → P u
 if_some o u P e h = rw e at h
 
 pub snapshot_is : {S : Type 0} (o : Option (Saved S)) (u : Saved S) (snapshot : S) → option_map (λ (v : Saved S). v.snapshot) o ≡ Some snapshot → o ≡ Some u → u.snapshot ≡ snapshot

@@ -146,12 +146,12 @@ good_more settings game log event l a =
     (s, subst (Good settings (replay settings log)) (after_accepted settings game (replay settings log) event a) (step_any settings game (replay settings log) event s))
 
 -- how far it settles after an event, and what is kept of the paths that were held from the settled frame on
-pub event_settles : (settings : Settings) (game : Game) (log : List Entry) (event : CoreEvent) → IsLog settings game log → is_accepted settings game (replay settings log) event ≡ true
+pub settles : (settings : Settings) (game : Game) (log : List Entry) (event : CoreEvent) → IsLog settings game log → is_accepted settings game (replay settings log) event ≡ true
     → (ps : List Rows)
     → from_start (timeline (applied (replay settings log) event.entry).players (settled (replay settings log))) ps ≡ filter (is_possible (applied (replay settings log) event.entry).players) (kept (replay settings log) ++ added_by (replay settings log) event.entry)
     → timeline (applied (replay settings log) event.entry).players (settled (replay settings log)) ≡ timeline (replay settings log).players (settled (replay settings log))
     → Settles (replay settings log) (applied (replay settings log) event.entry) ps
-event_settles settings game log event l a ps e same =
+settles settings game log event l a ps e same =
     let core : Core = replay settings log in
     let next : Core = applied core event.entry in
     let s : ℕ = settled core in
@@ -169,10 +169,3 @@ event_settles settings game log event l a ps e same =
       kept_is = sym (kept_more settings game log event l a ∙ live_settle next s (newly next s ps) all ps far e (long_more settings game log event l a));
     }
 
--- how far it settles after an accepted entry, and what is kept of the paths that were held from the settled frame on
-pub settles : (settings : Settings) (game : Game) (log : List Entry) (entry : Entry) → IsLog settings game log → is_accepted settings game (replay settings log) (record { entry = entry; value = [] }) ≡ true
-    → (ps : List Rows)
-    → from_start (timeline (applied (replay settings log) entry).players (settled (replay settings log))) ps ≡ filter (is_possible (applied (replay settings log) entry).players) (kept (replay settings log) ++ added_by (replay settings log) entry)
-    → timeline (applied (replay settings log) entry).players (settled (replay settings log)) ≡ timeline (replay settings log).players (settled (replay settings log))
-    → Settles (replay settings log) (applied (replay settings log) entry) ps
-settles settings game log entry l a ps e same = event_settles settings game log (record { entry = entry; value = [] }) l a ps e same

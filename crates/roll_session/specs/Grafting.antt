@@ -1,5 +1,5 @@
 -- A branch as the saved states see it.
-use Rattle.std.specs.Prelude.{ℕ, ◌+◌, ◌-◌, List, [], ◌∷◌, ◌++◌, length, drop, take, max, not, Bool, nat_lt, nat_le, ◌&&◌}
+use Rattle.std.specs.Prelude.{◌≡◌, ◌≤◌, ◌<◌, ℕ, ◌+◌, ◌-◌, List, [], ◌∷◌, ◌++◌, length, drop, take, slice_index_or, max, not, All, Bool, nat_lt, nat_le, ◌&&◌}
 use Rattle.roll_frame.specs.declared.limits.TheConstants.{PATH_LIMIT}
 use Rattle.roll_frame.specs.declared.refusal.Refusal.{Refusal}
 use Rattle.roll_frame.specs.declared.refusal.Refusal.TheVariants.{Stranger, TooFar, Late, Orphan, Dead, TreeFull}
@@ -77,3 +77,11 @@ module _ {S : Type 0} where
       ++ (not (is_same_there step opening s branch.route branch.from), Stranger)
       ∷ (has_no_room most s branch.route, TreeFull)
       ∷ []
+
+  -- whatever a snapshot is worth: where each saved one is worth what is wanted of its path, and each new state of
+  -- the branch too, they are so together
+  abbrev pub KeepsWorth : Standing S → Standing S → Route → List S → Type 0
+  KeepsWorth old new route states =
+      (value : S → Value) (want : Rows → Value) → All (λ s. value s.snapshot ≡ want s.path) old.tree.states
+      → ((frame : ℕ) (d : S) → kept_to old route ≤ frame → frame < possible_to old.inputs route → value (slice_index_or states (frame - start_of route) d) ≡ want (take (frame + 1 - old.inputs.settled) (ahead_of old.inputs route)))
+      → All (λ s. value s.snapshot ≡ want s.path) new.tree.states

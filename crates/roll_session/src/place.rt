@@ -1,17 +1,18 @@
 //! Where a branch runs, beside the saved states.
-ghost use Rattle.std.specs.Prelude.{◌≡◌, ◌≤◌, ◌<◌, ◌+◌, ◌-◌, take, IsSomeAnd};
+ghost use Rattle.std.specs.Prelude.{◌≡◌, ◌≤◌, ◌<◌, ◌+◌, ◌-◌, ◌++◌, length, drop, take, IsSomeAnd};
 ghost use Rattle.roll_frame.specs.Games.{Value};
 ghost use Rattle.roll_frame.specs.Grafts.{are_rows_of};
+ghost use Rattle.roll_frame.specs.Paths.{longest, prefixes};
 ghost use Rattle.roll_frame.specs.Refusals.{first_refusal};
 ghost use Rattle.roll_frame.specs.Timeline.{timeline};
-ghost use Rattle.roll_session.specs.Grafting.{ahead_of, anchor_of, branch_tests, end_of, has_no_room, is_same_there, kept_to, lead_of, place_tests, possible_to};
+ghost use Rattle.roll_session.specs.Grafting.{ahead_of, anchor_of, branch_tests, count_new, end_of, has_no_room, is_same_there, kept_to, lead_of, place_tests, possible_to, start_of, KeepsWorth};
 ghost use Rattle.roll_session.specs.Saves.{HaveValues};
-ghost use Rattle.roll_tree.specs.SavedStates.{state_named};
+ghost use Rattle.roll_tree.specs.SavedStates.{paths_of, state_named};
 
 use crate::saves::Saves;
 use arrayvec::ArrayVec;
 use roll_branch::Branch;
-use roll_frame::{FRAME_LIMIT, PATH_LIMIT, Refusal, Route, Row};
+use roll_frame::{FRAME_LIMIT, PATH_LIMIT, Refusal, Route, Row, TREE_LIMIT};
 use roll_game::Game;
 
 /// The most rows of a route, with those of its path.
@@ -179,4 +180,46 @@ pub fn branch_refusal<G: Game>(
     } else {
         None
     }
+}
+
+/// Saves a branch's new states, which are moved here, and says how many they are.
+pub fn hang_new<S: Drop>(saves: &mut Saves<S>, route: &Route, states: Vec<S>) -> u32
+    requires base { route.now.path.base ≤ saves.old.inputs.settled }
+    requires reached { saves.old.inputs.settled ≤ end_of route.now }
+    requires near { end_of route.now ≤ saves.old.inputs.settled + PATH_LIMIT }
+    requires from { start_of route.now ≤ kept_to saves.old route.now }
+    requires possible { kept_to saves.old route.now ≤ possible_to saves.old.inputs route.now }
+    requires fits { length saves.old.tree.states + count_new saves.old route.now ≤ TREE_LIMIT }
+    requires many { length states.items ≡ length route.now.rows.items }
+    ensures added { result ≡ count_new saves.old route.now }
+    ensures inputs { saves.new.inputs ≡ saves.old.inputs }
+    ensures room { saves.new.room ≡ saves.old.room }
+    ensures paths { paths_of saves.new.tree ≡ paths_of saves.old.tree ++ prefixes (ahead_of saves.old.inputs route.now) (longest (paths_of saves.old.tree) (ahead_of saves.old.inputs route.now)) (count_new saves.old route.now) }
+    ensures values { KeepsWorth saves.old saves.new route.now states.items }
+{
+    saves.laws();
+    let ahead = ahead_of(saves, route);
+    let end = possible_to(saves, route);
+    let start = route.path.base + route.path.rows.len() as u32;
+    let settled = saves.board().settled();
+    let (first, from) = saves.tree().longest(ahead.as_slice());
+    let mut left = without_first(states, (from - start) as usize);
+    let mut at = first;
+    for frame in from..end {
+        let snapshot = left.remove(0);
+        at = saves.hang(at, ahead[(frame - settled) as usize], snapshot);
+    }
+    end - from
+}
+
+/// The states past the first ones.
+fn without_first<S: Drop>(states: Vec<S>, count: usize) -> Vec<S>
+    requires { count ≤ length states.items }
+    ensures { result.items ≡ drop count states.items }
+{
+    let mut left = states;
+    for _skipped in 0..count {
+        left.remove(0);
+    }
+    left
 }

@@ -228,6 +228,20 @@ impl<S> Saves<S> {
         ensures added { IfSome (state_named self.old.tree parent) (λ s. self.new.tree ≡ with_state self.old.tree (record { name = result; path = s.path ++ row_at self.old.inputs.players frame ∷ []; snapshot = snapshot })) }
     {
         let row = self.board.row(frame);
+        self.hang(parent, row, snapshot)
+    }
+
+    /// Saves a state one row below another.
+    pub fn hang(&mut self, parent: usize, row: Row, snapshot: S) -> usize
+    where
+        S: Drop,
+        requires fits { CanGrow self.old.tree parent row }
+        requires few { length self.old.tree.states < TREE_LIMIT }
+        ensures inputs { self.new.inputs ≡ self.old.inputs }
+        ensures room { self.new.room ≡ self.old.room }
+        ensures vacant { state_named self.old.tree result ≡ None }
+        ensures added { IfSome (state_named self.old.tree parent) (λ s. self.new.tree ≡ with_state self.old.tree (record { name = result; path = s.path ++ row ∷ []; snapshot = snapshot })) }
+    {
         match self.tree.insert(parent, row, snapshot) {
             Ok(name) => name,
             Err(_) => unreachable!(),
