@@ -61,7 +61,7 @@ start_is settings game log is_log ps e m l =
     (always_holds (λ s core. (m : ℕ) → core.frame ≤ m → longest (kept core) (timeline core.players m) ≡ depth core m) pruning_loses_nothing settings game log is_log m l)
 
 -- prefixes that go on from the same rows
-prefixes_on : (T q : Rows) (d j : ℕ) → from_start T (prefixes q d j) ≡ prefixes (T ++ q) (length T + d) j
+pub prefixes_on : (T q : Rows) (d j : ℕ) → from_start T (prefixes q d j) ≡ prefixes (T ++ q) (length T + d) j
 prefixes_on T q d zero = refl
 prefixes_on T q d (suc j) =
     let place : length T + (d + suc j) ≡ length T + d + suc j = omega arith in
@@ -109,7 +109,7 @@ fresh players s m ps j h = false_from_ne_true (contains (ps ++ prefixes R d j) q
     go (inr i) = let r = in_prefixes q R d j i in omega (arith, long, r.2, ap length r.3, length-take r.0 R)
 
 -- a test that all pass
-filter_whole : (f : Rows → Bool) (ps : List Rows) → ((q : Rows) → In q ps → f q ≡ true) → filter f ps ≡ ps
+pub filter_whole : (f : Rows → Bool) (ps : List Rows) → ((q : Rows) → In q ps → f q ≡ true) → filter f ps ≡ ps
 filter_whole f [] h = refl
 filter_whole f (x ∷ xs) h = filter_takes f x xs (h x (inl refl)) ∙ ap (λ ys. x ∷ ys) (filter_whole f xs (λ q i. h q (inr i)))
 

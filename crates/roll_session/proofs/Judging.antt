@@ -21,7 +21,7 @@ use Rattle.roll_frame.specs.Paths.{contains, longest, prefixes, run}
 use Rattle.roll_frame.specs.Refusals.{first_refusal}
 use Rattle.roll_frame.specs.Settings.{open_to_branches}
 use Rattle.roll_frame.specs.Timeline.{Player, row_at, timeline}
-use Rattle.roll_frame.proofs.Beginnings.{begins}
+use Rattle.roll_frame.proofs.Beginnings.{begins, longest_within}
 use Rattle.roll_frame.proofs.Timelines.{length_timeline}
 use Rattle.roll_branch.specs.Routed.{Routed}
 use Rattle.roll_inputs.specs.Boards.{Inputs}
@@ -30,7 +30,7 @@ use Rattle.roll_laws.proofs.Few.{length_prefixes}
 use Rattle.roll_laws.proofs.Fronts.{settled_is}
 use Rattle.roll_laws.proofs.Glue.{always_holds}
 use Rattle.roll_laws.proofs.Grafted.{kept_between, longest_kept, new_paths_are, possible_at, possible_below}
-use Rattle.roll_laws.proofs.KeptPaths.{possible_settled, settled_kept}
+use Rattle.roll_laws.proofs.KeptPaths.{live, possible_settled, settled_kept}
 use Rattle.roll_laws.proofs.Known.{on_time_fits, row_possible_from}
 use Rattle.roll_laws.proofs.Saved.{In, has_in, longest_at_least, rows_from as time_from, timeline_is}
 use Rattle.roll_laws.proofs.Sound.{Sound, sound_played}
@@ -127,7 +127,14 @@ module _ {N : Type 0} (settings : Settings) (core : Core) (sound : Sound setting
           ap (λ (qs : List Rows). longest qs w) (sym kept_is) ∙ ap (longest (from_start (settled_rows core) (paths_of tree))) whole_split
           ∙ longest_on (settled_rows core) (paths_of tree) (ahead_of (inputs_of settings core) route) root ∙ ap (λ n. n + longest (paths_of tree) (ahead_of (inputs_of settings core) route)) (length_timeline core.players (settled core))
 
-      orphan_is : not (contains (kept core) (anchor core (branch_of route))) ≡ nat_lt (kept_to here route) (anchor_of (inputs_of settings core) route)
+      -- the whole is kept as far as its longest kept beginning goes, and so possible
+      end_kept : contains (kept core) (take (kept_end core (branch_of route)) w) ≡ true
+      end_kept = longest_kept core w (settled_rows core) (settled_kept settings core sound) (begins w (settled_rows core) (sym settled_begin ∙ ap (λ n. take n w) (sym (length_timeline core.players (settled core)))))
+
+      pub kept_possible : kept_to here route ≤ possible_to (inputs_of settings core) route
+      kept_possible = omega (arith, kept_end_is, possible_is, possible_below 0 core.players w (kept_end core (branch_of route)) (longest_within (kept core) w) (live core (take (kept_end core (branch_of route)) w) end_kept).2)
+
+      pub orphan_is : not (contains (kept core) (anchor core (branch_of route))) ≡ nat_lt (kept_to here route) (anchor_of (inputs_of settings core) route)
       orphan_is = go (cases_lt (kept_to here route) (anchor_of (inputs_of settings core) route))
         where
           go : (kept_to here route < anchor_of (inputs_of settings core) route) ⊎ (anchor_of (inputs_of settings core) route ≤ kept_to here route) → not (contains (kept core) (anchor core (branch_of route))) ≡ nat_lt (kept_to here route) (anchor_of (inputs_of settings core) route)
@@ -137,9 +144,7 @@ module _ {N : Type 0} (settings : Settings) (core : Core) (sound : Sound setting
               let no : contains (kept core) (anchor core (branch_of route)) ≡ false = false_from_ne_true (contains (kept core) (anchor core (branch_of route))) (λ e. omega (arith, l, kept_end_is, anchor_is, long, longest_at_least (kept core) w (take a w) (has_in (kept core) (take a w) e) (begins w (take a w) (ap (λ n. take n w) (sym long))))) in
               rw no (sym (lt-ltb (kept_to here route) (anchor_of (inputs_of settings core) route) l))
           go (inr l) =
-              let T = settled_rows core in
-              let there = longest_kept core w T (settled_kept settings core sound) (begins w T (sym settled_begin ∙ ap (λ n. take n w) (sym (length_timeline core.players (settled core))))) in
-              let yes : contains (kept core) (anchor core (branch_of route)) ≡ true = kept_between settings core w (kept_end core (branch_of route)) (anchor_length core (branch_of route)) sound there (omega (arith, l, kept_end_is, anchor_is)) (omega (arith, anchor_is)) within in
+              let yes : contains (kept core) (anchor core (branch_of route)) ≡ true = kept_between settings core w (kept_end core (branch_of route)) (anchor_length core (branch_of route)) sound end_kept (omega (arith, l, kept_end_is, anchor_is)) (omega (arith, anchor_is)) within in
               rw yes (sym (le-ltb (kept_to here route) (anchor_of (inputs_of settings core) route) l))
 
       module _ (anchored : contains (kept core) (anchor core (branch_of route)) ≡ true) where
@@ -176,7 +181,7 @@ module _ {N : Type 0} (settings : Settings) (core : Core) (sound : Sound setting
         run_rows : anchor_length core (branch_of route) - length (start_of core (branch_of route)) ≡ anchor_of (inputs_of settings core) route - start_to route
         run_rows = omega (arith, anchor_is, long_start)
 
-        same_there : same_value (anchor_value (record { opening = opening; step = step }) core from (branch_of route)) (run step opening (anchor core (branch_of route))) ≡ is_same_there step opening here route from
+        pub same_there : same_value (anchor_value (record { opening = opening; step = step }) core from (branch_of route)) (run step opening (anchor core (branch_of route))) ≡ is_same_there step opening here route from
         same_there =
             ap (λ n. same_value (run step from (take n route.rows.items)) (run step opening (anchor core (branch_of route)))) run_rows
             ∙ ap (λ (q : Rows). same_value (run step from (take (anchor_of (inputs_of settings core) route - start_to route) route.rows.items)) (run step opening q)) anchor_rows

@@ -1,3 +1,4 @@
+pub mod Grafting
 pub mod Hanging
 pub mod Judging
 pub mod Placed

@@ -52,6 +52,12 @@ pub struct Reached {
     pub rerun: u32,
 }
 
+/// How many states a graft added.
+#[derive(Clone, Copy, Debug, PartialEq, Eq)]
+pub struct Grafted {
+    pub added: u32,
+}
+
 /// Why a session did not start, with what was handed in.
 #[derive(Drop)]
 pub struct StartFault<G: RawGame> {

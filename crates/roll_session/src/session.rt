@@ -1,13 +1,15 @@
 //! The session.
-ghost use Rattle.std.specs.Prelude.{◌≡◌, ℕ, ◌≤◌, ◌<◌, ◌+◌, ◌-◌, ◌∷◌, [], ◌++◌, true, false, map, max, vec_capacity, vec_len, nat_lt, IfOk, OnOk, IfErr, OnErr, IfSome, is_none, unwrap_or, option_copied, None, Some, if◌then◌else◌};
+ghost use Rattle.std.specs.Prelude.{◌≡◌, ℕ, ◌≤◌, ◌<◌, ◌+◌, ◌-◌, ◌∷◌, [], ◌++◌, length, true, false, map, max, vec_capacity, vec_len, nat_lt, IfOk, OnOk, IfErr, OnErr, IfSome, is_none, unwrap_or, option_copied, None, Some, if◌then◌else◌};
 ghost use Rattle.roll_frame.specs.Claims.{claim_of, path_from, IsRight};
 ghost use Rattle.roll_frame.specs.Core.{depth, kept as kept_of, settled as settled_frame};
-ghost use Rattle.roll_frame.specs.Events.{answer, is_repeat, refusal, tests_of};
+ghost use Rattle.roll_frame.specs.Events.{answer, branch_of, is_repeat, refusal, tests_of};
+ghost use Rattle.roll_frame.specs.Grafts.{new_paths};
 ghost use Rattle.roll_frame.specs.Refusals.{first_refusal};
 ghost use Rattle.roll_frame.specs.Order.{in_order};
 ghost use Rattle.roll_frame.specs.Paths.{run as run_of};
 ghost use Rattle.roll_frame.specs.Settings.{start_refusal};
 ghost use Rattle.roll_frame.specs.Timeline.{row_at as row_of, timeline};
+ghost use Rattle.roll_frame.specs.declared.entry.Entry.TheVariants.{Graft as Grafts};
 ghost use Rattle.roll_game.specs.Counts.{counted};
 ghost use Rattle.roll_game.specs.declared.counts.Call.TheVariants.{Load as Loads, Copy as Copies};
 ghost use Rattle.roll_laws.specs.Sessions.{IsLog};
@@ -18,11 +20,11 @@ ghost use Rattle.roll_session.specs.Calls.{entry_of, event_of, grafting, heard_r
 ghost use Rattle.roll_session.specs.Seen.{core_of, game_of, IsLeast};
 ghost use Rattle.roll_session.specs.Started.{IsGivenBack};
 
-use crate::event::{Call, Reached, StartFault};
-use crate::place::branch_refusal;
+use crate::event::{Call, Grafted, Reached, StartFault};
+use crate::place::{branch_refusal, hang_new};
 use crate::roll::{Rolled, roll};
 use crate::saves::Saves;
-use roll_branch::Branch;
+use roll_branch::{Branch, Parts as BranchParts};
 use roll_frame::{Claim, Entry, Event, Path, Refusal, Reply, Row, Settings};
 use roll_game::Game;
 use roll_inputs::{Board, Heard};
@@ -170,6 +172,18 @@ impl<G: Game> Session<G> {
         }
     }
 
+    /// Takes a branch in: saves its new states, moved, not copied, and settles what can be settled then. A refused branch
+    /// is dropped.
+    pub fn graft(&mut self, branch: Branch<G>) -> Result<Grafted, Refusal>
+        ensures answered { IsAnswered G.step self.old self.new (grafting branch) (replied (λ grafted. Reply.Grafted grafted.added) result) }
+    {
+        if let Some(why) = self.graft_refusal(&branch) {
+            return Err(why);
+        }
+        self.reserve_log(1)?;
+        Ok(self.take_branch(branch))
+    }
+
     /// Takes a player's input, or sees that it was taken before.
     fn take(&mut self, call: Call) -> Result<Heard, Refusal>
         requires input { IsInput call }
@@ -243,6 +257,26 @@ impl<G: Game> Session<G> {
         self.saves.take(&entry);
         self.saves.settle();
         enter(&mut self.log, &mut self.reserved, entry);
+    }
+
+    /// Takes in a branch that the rules accept.
+    fn take_branch(&mut self, branch: Branch<G>) -> Grafted
+        requires accepted { refusal self.old.settings (game_of G.step self.old) (core_of self.old) (grafting branch) ≡ None }
+        requires room { 1 ≤ self.old.reserved }
+        ensures entered { self.new ≡ with_entries self.old (Grafts branch.ticket branch.route ∷ []) self.old.counts }
+        ensures added { result.added ≡ length (new_paths (core_of self.old) (branch_of branch.route)) }
+    {
+        self.saves.laws();
+        let BranchParts {
+            ticket,
+            route,
+            states,
+        } = branch.into_parts();
+        let added = hang_new(&mut self.saves, route.get(), states);
+        self.saves.settle();
+        let entry = Entry::Graft { ticket, route };
+        enter(&mut self.log, &mut self.reserved, entry);
+        Grafted { added }
     }
 
     /// Rolls to the frame of a call that the rules accept, and says where the roll started.
