@@ -1,23 +1,25 @@
 -- What is answered.
-use Rattle.std.proofs.Common.{◌≡◌, ◌∙◌, ℕ, ◌+◌, ◌-◌, [], ◌∷◌, Bool, cond, refl, sym, ap, subst, arith, false, true, inl, inr, Some, None, Ok, Err, Option, Result}
+use Rattle.std.proofs.Common.{◌≡◌, ◌∙◌, ℕ, ◌+◌, ◌-◌, [], ◌∷◌, length, Bool, cond, refl, sym, ap, subst, arith, false, true, inl, inr, Some, None, Ok, Err, Option, Result}
 use Rattle.std.specs.Prelude.{◌≢◌, max, nat_le, IfErr, IfOk, OnErr, OnOk, if◌then◌else◌}
 use Rattle.std.specs.Option.{option_map_or}
-use Rattle.roll_frame.specs.Events.{CoreEvent, answer, is_repeat, tests_of}
+use Rattle.roll_branch.specs.Routed.{Routed}
+use Rattle.roll_frame.specs.Events.{CoreEvent, answer, branch_of, is_repeat, refusal, tests_of}
+use Rattle.roll_frame.specs.Grafts.{new_paths}
 use Rattle.roll_frame.specs.Refusals.{first_refusal}
 use Rattle.roll_frame.specs.declared.entry.Entry.{Entry}
-use Rattle.roll_frame.specs.declared.entry.Entry.TheVariants.{Local, Remote, Disconnect, Partial}
+use Rattle.roll_frame.specs.declared.entry.Entry.TheVariants.{Local, Remote, Disconnect, Graft, Partial}
 use Rattle.roll_frame.specs.declared.refusal.Refusal.{Refusal}
 use Rattle.roll_frame.specs.declared.refusal.Refusal.TheVariants.{Conflict, FrameLimit, Gap, InputTwice, InvalidPlayer, LocalInputMissing, LogFull, NoMemory, PlayerDisconnected, PredictionThreshold, QueueFull}
 use Rattle.roll_frame.specs.declared.reply.Reply.{Reply}
-use Rattle.roll_frame.specs.declared.reply.Reply.TheVariants.{Refused, Repeated}
+use Rattle.roll_frame.specs.declared.reply.Reply.TheVariants.{Grafted as GraftedThere, Refused, Repeated}
 use Rattle.roll_inputs.specs.declared.heard.Heard.{Heard}
 use Rattle.roll_inputs.specs.declared.heard.Heard.TheVariants.{Taken as HeardNow, Repeated as HeardBefore}
 use Rattle.roll_game.specs.declared.counts.Counts.{Counts}
 use Rattle.roll_session.proofs.Holding.{first_refusal-some}
 use Rattle.roll_session.proofs.Runs.{replied_accepted, replied_refused, replied_repeated}
 use Rattle.roll_session.specs.Answered.{counts_by, replied, with_entries, IsAnswered, IsCutShort, IsPartial, IsReplied, IsShort}
-use Rattle.roll_session.specs.Calls.{entry_of, event_of, input_reply, judged, IsAdmitted, IsAllowed, IsInput, IsRollTo}
-use Rattle.roll_session.specs.Seen.{Step, Seen, core_of, game_of, refusal_of}
+use Rattle.roll_session.specs.Calls.{entry_of, event_of, grafting, input_reply, judged, IsAdmitted, IsAllowed, IsInput, IsRollTo}
+use Rattle.roll_session.specs.Seen.{Step, Seen, core_of, game_of, plain, refusal_of}
 use Rattle.roll_session.specs.declared.event.Call.{Call}
 use Rattle.roll_session.specs.declared.event.Call.TheVariants.{Local as LocalCall, Remote as RemoteCall, Disconnect as DisconnectCall, Sync as SyncCall, Advance as AdvanceCall}
 
@@ -33,7 +35,7 @@ pub refused_replied : (step : Step) (old : Seen) (call : Call) (why : Refusal) �
     → IsReplied step old old (event_of call) (Refused why)
 refused_replied step old call why e =
     let said = against _ _ e in
-    replied_refused step old (entry_of call) why said.0 (first_refusal-some (tests_of old.settings (game_of step old) (core_of old) [] (entry_of call)) _ why said.1)
+    replied_refused step old (event_of call) why said.0 (first_refusal-some (tests_of old.settings (game_of step old) (core_of old) [] (entry_of call)) _ why said.1)
   where
     against : (again : Bool) (test : Option Refusal) → Err why ≡ judged again test → (again ≡ false) × (test ≡ Some why)
     against true test e = absurd (cc e)
@@ -89,9 +91,9 @@ taken_replied step old mid new call input a h =
     go call input a.0 whole
   where
     go : (c : Call) → IsInput c → IsAllowed step old c → new ≡ with_entries old (entry_of c ∷ []) old.counts → IsReplied step old new (event_of c) (input_reply c HeardNow)
-    go (LocalCall p word) i allowed e = replied_accepted step old (Local p word) new allowed.new allowed.accepted e
-    go (RemoteCall p f word) i allowed e = replied_accepted step old (Remote p f word) new allowed.new allowed.accepted e
-    go (DisconnectCall p) i allowed e = replied_accepted step old (Disconnect p) new allowed.new allowed.accepted e
+    go (LocalCall p word) i allowed e = replied_accepted step old (plain (Local p word)) new allowed.new allowed.accepted e
+    go (RemoteCall p f word) i allowed e = replied_accepted step old (plain (Remote p f word)) new allowed.new allowed.accepted e
+    go (DisconnectCall p) i allowed e = replied_accepted step old (plain (Disconnect p)) new allowed.new allowed.accepted e
     go SyncCall i allowed e = absurd i
     go AdvanceCall i allowed e = absurd i
 
@@ -100,7 +102,7 @@ pub repeated_replied : (step : Step) (old new : Seen) (call : Call) → IsAdmitt
 repeated_replied step old new call a = subst (λ (s : Seen). IsReplied step old s (event_of call) (input_reply call HeardBefore)) (sym a.1) (go call a.0)
   where
     go : (c : Call) → is_repeat (core_of old) (entry_of c) ≡ true → IsReplied step old old (event_of c) (input_reply c HeardBefore)
-    go (RemoteCall p f word) e = replied_repeated step old (Remote p f word) e
+    go (RemoteCall p f word) e = replied_repeated step old (plain (Remote p f word)) e
     go (LocalCall p word) e = absurd (cc e)
     go (DisconnectCall p) e = absurd (cc e)
     go SyncCall e = absurd (cc e)
@@ -119,7 +121,7 @@ rolled_answered step old mid new call to HeardBefore result is_to a entered cut 
     go (RemoteCall p f word) i e = i
     go (DisconnectCall p) i e = i
 rolled_answered step old mid new call to HeardNow (Ok from) is_to a entered cut why =
-    inl (replied_accepted step old (entry_of call) new a.0.new a.0.accepted (entered ∙ ap (λ (m : Seen). with_entries m (entry_of call ∷ []) (counts_by (core_of m) (entry_of call) m.counts)) a.1 ∙ reserved_goes old (entry_of call) (counts_by (core_of old) (entry_of call) old.counts)))
+    inl (replied_accepted step old (event_of call) new a.0.new a.0.accepted (entered ∙ ap (λ (m : Seen). with_entries m (entry_of call ∷ []) (counts_by (core_of m) (entry_of call) m.counts)) a.1 ∙ reserved_goes old (entry_of call) (counts_by (core_of old) (entry_of call) old.counts)))
 rolled_answered step old mid new call to HeardNow (Err said) is_to a entered cut why =
     inr (ap Refused why, record { accepted = rw (a.0.new, a.0.accepted) refl; left = inr (go call is_to (subst (λ (m : Seen). IsPartial m new to) a.1 cut)) })
   where
@@ -132,3 +134,10 @@ rolled_answered step old mid new call to HeardNow (Err said) is_to a entered cut
     go (LocalCall p word) i h = absurd i
     go (RemoteCall p f word) i h = absurd i
     go (DisconnectCall p) i h = absurd i
+
+-- a branch that isn't refused, and is taken in
+pub grafted_replied : (step : Step) (old mid new : Seen) (branch : Routed) (added : ℕ) → refusal old.settings (game_of step old) (core_of old) (grafting branch) ≡ None → mid ≡ record old { reserved = max old.reserved 1 }
+    → new ≡ with_entries mid (Graft branch.ticket branch.route ∷ []) mid.counts → added ≡ length (new_paths (core_of mid) (branch_of branch.route)) → IsReplied step old new (grafting branch) (GraftedThere added)
+grafted_replied step old mid new branch added fine reserved entered count =
+    subst (λ n. IsReplied step old new (grafting branch) (GraftedThere n)) (sym (count ∙ ap (λ (m : Seen). length (new_paths (core_of m) (branch_of branch.route))) reserved))
+    (replied_accepted step old (grafting branch) new refl fine (entered ∙ ap (λ (m : Seen). with_entries m (Graft branch.ticket branch.route ∷ []) m.counts) reserved ∙ reserved_goes old (Graft branch.ticket branch.route) old.counts))

@@ -2,7 +2,7 @@
 use Rattle.std.proofs.Common.{◌≡◌, ℕ, ◌+◌, ◌-◌, ◌<◌, length, take, get_or, List, [], ◌∷◌, ◌++◌, refl, ap, sym, ◌∙◌, subst, arith, append-nil, length-append, true, false, Some, None}
 use Rattle.std.proofs.lemmas.List.{append_assoc, map-append, take_more}
 use Rattle.roll_frame.specs.Core.{Core}
-use Rattle.roll_frame.specs.Events.{CoreEvent, after, answer, is_accepted, is_repeat, log_from, played_from}
+use Rattle.roll_frame.specs.Events.{CoreEvent, after, answer, is_accepted, is_repeat, log_from, played_from, refusal}
 use Rattle.roll_frame.specs.Games.{Game}
 use Rattle.roll_frame.specs.declared.entry.Entry.{Entry}
 use Rattle.roll_frame.specs.declared.refusal.Refusal.{Refusal}
@@ -14,7 +14,7 @@ use Rattle.roll_laws.proofs.Appended.{log_from-append, played_from-append, repli
 use Rattle.roll_laws.proofs.Glue.{replay-push}
 use Rattle.roll_session.specs.Answered.{counts_by, counts_from, replies_to, with_entries, IsPlayed, IsReplied}
 use Rattle.roll_session.specs.Calls.{event_of, events_of}
-use Rattle.roll_session.specs.Seen.{Step, Seen, core_of, game_of, plain, refusal_of}
+use Rattle.roll_session.specs.Seen.{Step, Seen, core_of, game_of}
 use Rattle.roll_session.specs.declared.event.Call.{Call}
 
 counts_from-append : (settings : Settings) (game : Game) (core : Core) (events more : List CoreEvent) (counts : Counts)
@@ -37,16 +37,16 @@ played_one step old new event e h = record { seen = rw e h; core = rw e (ap core
 played_not : (step : Step) (s : Seen) (event : CoreEvent) → is_accepted s.settings (game_of step s) (core_of s) event ≡ false → IsPlayed step s s (event ∷ [])
 played_not step s event e = record { seen = rw e (none_added s); core = rw e refl }
 
-module _ (step : Step) (old : Seen) (entry : Entry) where
-  pub replied_accepted : (new : Seen) → is_repeat (core_of old) entry ≡ false → refusal_of step old entry ≡ None → new ≡ with_entries old (entry ∷ []) (counts_by (core_of old) entry old.counts) → IsReplied step old new (plain entry) (answer (core_of old) entry)
+module _ (step : Step) (old : Seen) (event : CoreEvent) where
+  pub replied_accepted : (new : Seen) → is_repeat (core_of old) event.entry ≡ false → refusal old.settings (game_of step old) (core_of old) event ≡ None → new ≡ with_entries old (event.entry ∷ []) (counts_by (core_of old) event.entry old.counts) → IsReplied step old new event (answer (core_of old) event.entry)
   replied_accepted new fresh fine h =
-      record { said_is = rw (fresh, fine) refl; played = played_one step old new (plain entry) (rw (fresh, fine) refl) h }
+      record { said_is = rw (fresh, fine) refl; played = played_one step old new event (rw (fresh, fine) refl) h }
 
-  pub replied_refused : (why : Refusal) → is_repeat (core_of old) entry ≡ false → refusal_of step old entry ≡ Some why → IsReplied step old old (plain entry) (Refused why)
-  replied_refused why fresh tested = record { said_is = rw (fresh, tested) refl; played = played_not step old (plain entry) (rw (fresh, tested) refl) }
+  pub replied_refused : (why : Refusal) → is_repeat (core_of old) event.entry ≡ false → refusal old.settings (game_of step old) (core_of old) event ≡ Some why → IsReplied step old old event (Refused why)
+  replied_refused why fresh tested = record { said_is = rw (fresh, tested) refl; played = played_not step old event (rw (fresh, tested) refl) }
 
-  pub replied_repeated : is_repeat (core_of old) entry ≡ true → IsReplied step old old (plain entry) Repeated
-  replied_repeated again = record { said_is = rw again refl; played = played_not step old (plain entry) (rw again refl) }
+  pub replied_repeated : is_repeat (core_of old) event.entry ≡ true → IsReplied step old old event Repeated
+  replied_repeated again = record { said_is = rw again refl; played = played_not step old event (rw again refl) }
 
 -- some events came, and then more
 pub played_more : (step : Step) (old mid new : Seen) (events more : List CoreEvent) → IsPlayed step old mid events → IsPlayed step mid new more → IsPlayed step old new (events ++ more)
