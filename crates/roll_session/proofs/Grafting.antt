@@ -1,6 +1,6 @@
 -- What a graft leaves of what the fields of a session keep.
-use Rattle.std.proofs.Common.{◌≡◌, ◌⊎◌, ℕ, ◌+◌, ◌-◌, ◌<◌, ◌≤◌, List, [], ◌∷◌, ◌++◌, length, length-append, take, drop, refl, ap, sym, ◌∙◌, Bool, true, false, arith, subst, inl, inr, Option, None}
-use Rattle.std.specs.Prelude.{All, filter, nat_le, nat_lt, not, ◌&&◌}
+use Rattle.std.proofs.Common.{◌≡◌, ◌⊎◌, ℕ, ◌+◌, ◌-◌, ◌<◌, ◌≤◌, List, [], ◌∷◌, ◌++◌, length, take, drop, refl, ap, sym, ◌∙◌, Bool, true, false, arith, subst, inl, inr, Option, None}
+use Rattle.std.specs.Prelude.{filter, nat_le, nat_lt, not, ◌&&◌}
 use Rattle.std.proofs.Math.Seq.{take-add, drop-append-add, take-append-add}
 use Rattle.std.proofs.lemmas.Bool.{and_parts, leb-false, ltb-false, not-false}
 use Rattle.std.proofs.lemmas.Bool.Decides.{Decides-eqb}
@@ -14,7 +14,6 @@ use Rattle.roll_frame.specs.declared.limits.TheConstants.{PATH_LIMIT, TREE_LIMIT
 use Rattle.roll_frame.specs.declared.refusal.Refusal.{Refusal}
 use Rattle.roll_frame.specs.declared.refusal.Refusal.TheVariants.{LogFull}
 use Rattle.roll_frame.specs.declared.route.Route.{Route}
-use Rattle.roll_frame.specs.declared.row.Cell.{Cell}
 use Rattle.roll_frame.specs.declared.profile.Profile.{Profile}
 use Rattle.roll_frame.specs.declared.profile.Profile.TheVariants.{Ggpo, Wide}
 use Rattle.roll_frame.specs.declared.settings.Settings.{Settings}

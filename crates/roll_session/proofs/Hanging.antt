@@ -1,16 +1,14 @@
 -- A branch's states on their way into the tree.
-use Rattle.std.proofs.Common.{◌≡◌, ℕ, suc, ◌+◌, ◌-◌, ◌<◌, ◌≤◌, ◌^◌, List, [], ◌∷◌, ◌++◌, length, get_or, take, drop, refl, ap, sym, ◌∙◌, Bool, true, false, arith, subst, inl, inr, length-take, length-append, Option, Some, None}
-use Rattle.std.specs.Prelude.{◌⊎◌, All, IfSome, IsSome, IsSomeAnd}
+use Rattle.std.proofs.Common.{◌≡◌, ℕ, suc, ◌+◌, ◌-◌, ◌<◌, ◌≤◌, ◌^◌, List, [], ◌∷◌, ◌++◌, length, get_or, take, drop, refl, ap, sym, ◌∙◌, true, false, arith, subst, inl, inr, length-take, length-append, Some, None}
+use Rattle.std.specs.Prelude.{◌⊎◌, IfSome, IsSomeAnd}
 use Rattle.std.proofs.lemmas.Bool.{false_from_ne_true}
-use Rattle.std.proofs.lemmas.List.{append-nil, append_assoc, length-map, map-append, take_more, length-drop, get_or-drop, drop-drop, take_all}
+use Rattle.std.proofs.lemmas.List.{append-nil, append_assoc, length-map, map-append, take_more, length-drop, get_or-drop, drop-drop}
 use Rattle.std.proofs.lemmas.List.Elements.{All-push}
 use Rattle.roll_frame.specs.declared.limits.TheConstants.{PATH_LIMIT}
 use Rattle.roll_frame.specs.declared.route.Route.{Route}
 use Rattle.roll_frame.specs.declared.row.Cell.{Cell}
 use Rattle.roll_frame.specs.Cells.{Rows}
-use Rattle.roll_frame.specs.Games.{Value}
 use Rattle.roll_frame.specs.Paths.{begins_with, contains, longest, prefixes}
-use Rattle.roll_inputs.specs.Boards.{Inputs}
 use Rattle.roll_laws.proofs.Grafted.{possible_few}
 use Rattle.roll_laws.proofs.Prefixes.{in_prefixes}
 use Rattle.roll_frame.proofs.Beginnings.{begins}

@@ -24,7 +24,7 @@ use Rattle.roll_plan.specs.Plans.{Planned, made_of}
 use Rattle.roll_tree.specs.SavedStates.{paths_of}
 use Rattle.roll_session.specs.Held.{IsSession, Shows, planned_of}
 use Rattle.roll_session.specs.Saves.{HaveValues, Standing, rows_to, settled_by, settling, way_to}
-use Rattle.roll_session.specs.Seen.{Step, plain}
+use Rattle.roll_session.specs.Seen.{Step}
 use Rattle.roll_session.specs.Standing.{made_from, rows_from, settled_rows}
 use Rattle.roll_session.proofs.Between.{IsBetween, between_advance, between_partial, between_sync, settled_kept}
 use Rattle.roll_session.proofs.Grows.{start_is}

@@ -168,4 +168,3 @@ settles settings game log event l a ps e same =
       settled_is = far;
       kept_is = sym (kept_more settings game log event l a ∙ live_settle next s (newly next s ps) all ps far e (long_more settings game log event l a));
     }
-

@@ -1,12 +1,9 @@
-use Rattle.std.proofs.Common.{◌≡◌, ℕ, ◌+◌, ◌-◌, ◌<◌, ◌∙◌, ap, sym, rules, arith, length, subst, get_or, None}
-use Rattle.std.specs.Prelude.{IsSome}
+use Rattle.std.proofs.Common.{◌≡◌, ◌-◌, ◌<◌, ◌∙◌, ap, sym, arith, length, get_or}
 use Rattle.roll_frame.specs.declared.limits.TheConstants.{TREE_LIMIT}
 use Rattle.roll_frame.specs.Cells.{Rows}
-use Rattle.roll_frame.specs.Paths.{longest}
 use Rattle.roll_inputs.specs.Boards.{Inputs}
-use Rattle.roll_tree.specs.SavedStates.{paths_of}
-use Rattle.roll_session.specs.Grafting.{ahead_of, kept_to, possible_to, start_of}
-use Rattle.roll_session.proofs.Hanging.{hung_few, hung_fits, hung_more, hung_start, long_ahead, left_some, place_fits, rest_fits}
+use Rattle.roll_session.specs.Grafting.{ahead_of, kept_to, possible_to}
+use Rattle.roll_session.proofs.Hanging.{hung_few, hung_fits, hung_more, hung_start, left_some, place_fits, rest_fits}
 use Rattle.roll_session.proofs.place.hang_new.Goals as goal
 
 pub without_first-left-requires : goal.without_first-left-requires

@@ -1,7 +1,5 @@
 use Rattle.std.proofs.Common.{◌∙◌, ap, arith, sym}
-use Rattle.roll_frame.specs.declared.route.Route.{Route}
 use Rattle.roll_inputs.specs.Boards.{Inputs}
-use Rattle.roll_session.specs.Grafting.{count_new}
 use Rattle.roll_session.proofs.Entering.{room_next}
 use Rattle.roll_session.proofs.Grafting.{can_graft, grafted_count, grafted_session, grafted_settles}
 use Rattle.roll_session.proofs.session.Session.take_branch.Goals as goal
