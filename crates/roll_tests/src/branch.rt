@@ -1,15 +1,16 @@
-//! Jobs that are run ahead, and what a session says of their branches.
+//! Jobs that are run ahead, and grafts of their branches.
 use crate::examples::{TWO, open, row};
 use crate::shared::path;
 use arrayvec::ArrayVec;
 use roll_branch::{Branch, Done, Job, extend};
-use roll_frame::{Boxed, Refusal, Route, Settings};
+use roll_frame::{Boxed, Refusal, Route};
 use roll_game::Tally;
+use roll_session::{Grafted, Reached};
 use std::process::Abort;
 use std::test::Fail;
 
-/// The branch of two rows from frame 0, and a state of this worth.
-fn grown(rt: &(impl Abort + AllocGlobal), from: u32) -> Result<Branch<Tally>, Fail> {
+/// The branch of a guess of two rows from the opening.
+fn guess(rt: &(impl Abort + AllocGlobal)) -> Result<Branch<Tally>, Fail> {
     let mut rows = ArrayVec::new();
     rows.push(row(1, 3));
     rows.push(row(1, 3));
@@ -27,21 +28,35 @@ fn grown(rt: &(impl Abort + AllocGlobal), from: u32) -> Result<Branch<Tally>, Fa
 
 #[test]
 fn runs_a_guess_ahead(rt: HostRuntime) -> Result<(), Fail> {
-    let parts = grown(&rt, Tally::opening())?.into_parts();
+    let parts = guess(&rt)?.into_parts();
     assert_eq!(rt; parts.states.as_slice(), [7, 77].as_slice());
     Ok(())
 }
 
 #[test]
-fn is_judged_by_a_session(rt: HostRuntime) -> Result<(), Fail> {
-    let short = Settings { log: 1, ..TWO };
-    let mut session = open(rt.alloc(), Tally::new(), Tally::opening(), short)?;
-    let branch = grown(&rt, Tally::opening())?;
-    let stranger = grown(&rt, 1)?;
-    assert_eq!(rt; session.graft_refusal(&branch), None);
-    assert_eq!(rt; session.graft_refusal(&stranger), Some(Refusal::Stranger));
+fn goes_on_from_a_guess(rt: HostRuntime) -> Result<(), Fail> {
+    let mut session = open(rt.alloc(), Tally::new(), Tally::opening(), TWO)?;
+    assert_eq!(rt; session.graft(guess(&rt)?), Ok(Grafted { added: 2 }));
+    assert_eq!(rt; session.graft(guess(&rt)?), Ok(Grafted { added: 0 }));
     session.add_local_input(1, 1)?;
-    assert_eq!(rt; session.graft_refusal(&branch), Some(Refusal::LogFull));
-    assert_eq!(rt; session.graft_refusal(&stranger), Some(Refusal::Stranger));
+    session.remote_input(2, 0, 3)?;
+    let reached = Reached {
+        frame: 1,
+        from: 1,
+        rerun: 0,
+    };
+    assert_eq!(rt; session.advance_frame(), Ok(reached));
+    assert_eq!(rt; session.current(), Some(&7));
+    Ok(())
+}
+
+#[test]
+fn refuses_a_wrong_guess(rt: HostRuntime) -> Result<(), Fail> {
+    let mut session = open(rt.alloc(), Tally::new(), Tally::opening(), TWO)?;
+    session.remote_input(2, 0, 4)?;
+    assert_eq!(rt; session.graft(guess(&rt)?), Ok(Grafted { added: 0 }));
+    session.add_local_input(1, 1)?;
+    session.advance_frame()?;
+    assert_eq!(rt; session.graft(guess(&rt)?), Err(Refusal::Dead));
     Ok(())
 }
