@@ -1,7 +1,8 @@
 -- Rows, cell by cell.
-use Rattle.std.proofs.Common.{◌≡◌, ℕ, ◌+◌, ◌-◌, ◌<◌, List, [], ◌∷◌, ◌++◌, length, get_or, take, drop, map, ap, arith}
+use Rattle.std.proofs.Common.{◌≡◌, ◌∙◌, ℕ, ◌+◌, ◌-◌, ◌<◌, List, [], ◌∷◌, ◌++◌, length, get_or, take, drop, map, ap, arith}
 use Rattle.std.proofs.lemmas.Grind.{common_steps}
-use Rattle.std.proofs.lemmas.List.{take_more, map-append}
+use Rattle.std.proofs.lemmas.List.{take_more, take_all, take-append-le, map-append}
+use Rattle.std.specs.List.{refill}
 use Rattle.roll_frame.specs.declared.row.Cell.{Cell}
 use Rattle.roll_inputs.specs.Queues.{Known}
 
@@ -11,3 +12,9 @@ cells_more f qs k x h e =
     let i : get_or qs (k + 1) x ≡ x = grind (arith, common_steps) in
     let l : k + 1 < length qs = omega arith in
     rw (take_more qs (k + 1) x l, map-append) (ap (λ y. map f (take (k + 1) qs) ++ f y ∷ []) i)
+
+-- a row that takes the place of one as long is what is there then
+pub refilled : (old new : List Cell) → length new ≡ length old → refill (length old) old new ≡ new
+refilled old new same =
+    take-append-le (length old) new (drop (length new) old) (omega (arith, same))
+    ∙ take_all (length old) new (omega (arith, same))

@@ -1,13 +1,13 @@
 -- One player of the list, and what a change of that player leaves.
-use Rattle.std.proofs.Common.{◌≡◌, ◌≢◌, ◌⊎◌, ℕ, ◌-◌, ◌<◌, ◌≤◌, List, [], ◌∷◌, ◌++◌, length, get_or, set, Bool, true, false, Option, Some, None, eqb, cond, refl, ap, sym, ◌∙◌, subst, inl, inr, arith, length-append}
-use Rattle.std.specs.Prelude.{slice_get, slice_set}
+use Rattle.std.proofs.Common.{◌≡◌, ◌≢◌, ◌⊎◌, ℕ, ◌-◌, ◌<◌, ◌≤◌, List, [], ◌∷◌, ◌++◌, length, get_or, map, set, Bool, true, false, Option, Some, None, eqb, cond, refl, ap, sym, ◌∙◌, subst, inl, inr, arith, length-append}
+use Rattle.std.specs.Prelude.{IsSomeAnd, slice_get, slice_set}
 use Rattle.std.specs.Option.{option_map, option_map_or}
 use Rattle.std.proofs.lemmas.Bool.{cases_Bool, cases_lt, eq-eqb, ne_eqb, lt-ltb, false≢true}
-use Rattle.std.proofs.lemmas.List.{get_or_append_left}
+use Rattle.std.proofs.lemmas.List.{get_or_append_left, map-set}
 use Rattle.std.proofs.lemmas.Option.{same_Some, slice_get_within, slice_get-map, slice_get-get_or, none-some}
 use Rattle.circular_buffer.proofs.Places.{slice_get-set_same, slice_get-set_other}
 use Rattle.roll_frame.specs.Inputs.{player_at, of_player, changed, with_words, with_given, with_gone}
-use Rattle.roll_frame.specs.Timeline.{Player, cell_at}
+use Rattle.roll_frame.specs.Timeline.{Player, cell_at, row_at}
 use Rattle.roll_frame.specs.declared.row.Cell.TheVariants.{Word}
 use Rattle.roll_inputs.specs.Boards.{KeepsCells, players_of, queue_at}
 use Rattle.roll_inputs.specs.Queues.{Known}
@@ -104,3 +104,15 @@ pub queue_is : (queues : List Known) (p : ℕ) (x : Player) (q : Known) → play
 queue_is queues p x q e is within =
     let at = is_at (players_of queues) p x e in
     same_Some q.player x (ap (option_map (λ (k : Known). k.player)) (ap Some is ∙ sym (slice_get-get_or queues (p - 1) q within)) ∙ (sym (slice_get-map (λ (k : Known). k.player) queues (p - 1)) ∙ at.there))
+
+-- a player of whom something holds
+pub player_there : (players : List Player) (p : ℕ) (Q : Player → Type 0) → IsSomeAnd (player_at players p) Q → (x : Player) × (player_at players p ≡ Some x) × Q x
+player_there players p Q h = by_player (player_at players p) h
+  where
+    by_player : (o : Option Player) → IsSomeAnd o Q → (x : Player) × (o ≡ Some x) × Q x
+    by_player None h = absurd h
+    by_player (Some x) h = (x, refl, h)
+
+-- a row with one player's cell written over is that of the players after the change
+pub row_changed : (change : Player → Player) (players : List Player) (p t : ℕ) (x : Player) → player_at players p ≡ Some x → set (row_at players t) (p - 1) (cell_at t (change x)) ≡ row_at (changed change players p) t
+row_changed change players p t x e = sym (ap (map (cell_at t)) (changed_at change players p x e) ∙ map-set (cell_at t) players (p - 1) (change x))

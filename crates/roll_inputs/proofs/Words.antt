@@ -1,9 +1,13 @@
 -- One more word, in the ring and in the whole list.
-use Rattle.std.proofs.Common.{◌≡◌, ℕ, ◌+◌, ◌-◌, ◌<◌, ◌≤◌, List, [], ◌∷◌, ◌++◌, length, drop, refl, ap, sym, ◌∙◌, arith, length-append}
+use Rattle.std.proofs.Common.{◌≡◌, ℕ, zero, suc, ◌+◌, ◌-◌, ◌<◌, ◌≤◌, List, [], ◌∷◌, ◌++◌, length, drop, get_or, false, refl, ap, sym, ◌∙◌, arith, length-append}
+use Rattle.std.specs.Prelude.{bit_and}
+use Rattle.std.proofs.lemmas.Bool.{le-ltb}
 use Rattle.std.proofs.lemmas.List.{drop-append-le}
 use Rattle.std.proofs.lemmas.Grind.{common_steps}
 use Rattle.circular_buffer.specs.Buffer.{keep_last}
-use Rattle.roll_frame.specs.Timeline.{last_word}
+use Rattle.roll_frame.specs.declared.row.Cell.TheVariants.{Word}
+use Rattle.roll_frame.specs.Inputs.{with_words}
+use Rattle.roll_frame.specs.Timeline.{Player, cell_at, last_word}
 
 pub last_word-push : (words : List ℕ) (word : ℕ) → last_word (words ++ word ∷ []) ≡ word
 last_word-push [] word = refl
@@ -16,3 +20,23 @@ keep_last-push ring words from room word is within fits =
     let few : length ring < room = rw is (grind (arith, common_steps)) in
     let none : length (ring ++ word ∷ []) - room ≡ 0 = omega (arith, length-append ring (word ∷ [])) in
     ap (λ (k : ℕ). drop k (ring ++ word ∷ [])) none ∙ (ap (λ (ws : List ℕ). ws ++ word ∷ []) is ∙ sym (drop-append-le from words (word ∷ []) within))
+
+last_word-at : (words : List ℕ) (k : ℕ) → length words ≡ suc k → last_word words ≡ get_or words k 0
+last_word-at [] k e = absurd (omega arith)
+last_word-at (word ∷ []) zero e = refl
+last_word-at (word ∷ []) (suc k) e = absurd (omega arith)
+last_word-at (word ∷ next ∷ words) zero e = absurd (omega arith)
+last_word-at (word ∷ next ∷ words) (suc k) e = last_word-at (next ∷ words) k (omega arith)
+
+-- the last word, where words came after others
+pub last_word-append : (words more : List ℕ) → 1 ≤ length more → last_word (words ++ more) ≡ get_or more (length more - 1) 0
+last_word-append [] more some = last_word-at more (length more - 1) (omega arith)
+last_word-append (first ∷ []) [] some = absurd (omega arith)
+last_word-append (first ∷ []) (word ∷ more) some = last_word-append [] (word ∷ more) some
+last_word-append (first ∷ second ∷ words) more some = last_word-append (second ∷ words) more some
+
+-- what is predicted past the words that a player is guessed to give
+pub guessed_past : (t : ℕ) (player : Player) (words : List ℕ) → player.gone ≡ false → 1 ≤ length words → length player.words + length words ≤ t → cell_at t (with_words words player) ≡ Word (bit_and (get_or words (length words - 1) 0) player.mask)
+guessed_past t player words there some past =
+    let long : length (player.words ++ words) ≤ t = omega (arith, past, length-append player.words words) in
+    rw (le-ltb t (length (player.words ++ words)) long, there) (ap (λ w. Word (bit_and w player.mask)) (last_word-append player.words words some))

@@ -1,20 +1,20 @@
 //! The inputs of all players.
-ghost use Rattle.std.specs.Prelude.{◌≡◌, ◌≢◌, ◌+◌, ◌≤◌, [], ◌∷◌, length, map, min, Some, None, true, false, All, IsTrue, IfOk, IfErr, OnOk, OnErr, unwrap_or, if◌then◌else◌};
+ghost use Rattle.std.specs.Prelude.{◌≡◌, ◌≢◌, ◌+◌, ◌≤◌, [], ◌∷◌, length, map, min, Some, None, true, false, All, IsTrue, IsSomeAnd, IfOk, IfErr, OnOk, OnErr, unwrap_or, if◌then◌else◌};
 ghost use Rattle.roll_frame.specs.Core.{row_possible};
 ghost use Rattle.roll_frame.specs.Events.{all_given};
-ghost use Rattle.roll_frame.specs.Inputs.{is_repeated, with_words, with_given, with_gone, with_none_given};
+ghost use Rattle.roll_frame.specs.Inputs.{changed, player_at, is_repeated, with_words, with_given, with_gone, with_none_given};
 ghost use Rattle.roll_frame.specs.Settings.{most_threshold, start_refusal};
 ghost use Rattle.roll_frame.specs.declared.limits.TheConstants.{FRAME_LIMIT, PLAYER_LIMIT};
 ghost use Rattle.roll_frame.specs.declared.profile.Profile.TheVariants.{Wide};
 ghost use Rattle.roll_frame.specs.Timeline.{timeline, front as front_of, row_at as row_of};
-ghost use Rattle.roll_inputs.specs.Boards.{first_inputs, with_player, local_refusal, remote_refusal, disconnect_refusal, count_of, KeepsCells};
+ghost use Rattle.roll_inputs.specs.Boards.{first_inputs, with_player, local_refusal, remote_refusal, disconnect_refusal, guess_refusal, count_of, KeepsCells};
 
 use crate::heard::Heard;
 use crate::queue::Queue;
 use crate::queues::{
     allows, first_queues, front, is_missing, queue_of, row_at, settle_all, start_frames,
 };
-use roll_frame::{Refusal, Row, Settings};
+use roll_frame::{PATH_LIMIT, Refusal, Row, Settings};
 use std::alloc::Global;
 use std::marker::Model;
 
@@ -218,6 +218,39 @@ impl Board {
         ensures { result ≡ row_of self.now.players frame }
     {
         row_at(&self.queues, frame)
+    }
+
+    /// Why a guess would be refused: that this player gives these words next, with rows up to a frame.
+    pub fn guess_refusal(&self, player: u8, words: &[u32], until: u32) -> Option<Refusal>
+        ensures { result ≡ guess_refusal self.now player words.now until }
+    {
+        let Some(queue) = queue_of(&self.queues, player) else {
+            return Some(Refusal::InvalidPlayer);
+        };
+        if queue.is_gone() {
+            Some(Refusal::PlayerDisconnected)
+        } else if words.is_empty() || words.len() > PATH_LIMIT {
+            Some(Refusal::InvalidRequest)
+        } else if until <= self.settled || until - self.settled > PATH_LIMIT as u32 {
+            Some(Refusal::InvalidRequest)
+        } else if until > self.limit {
+            Some(Refusal::InvalidRequest)
+        } else {
+            None
+        }
+    }
+
+    /// The timeline's row of a frame, if this player gave these words next.
+    pub fn guessed(&self, player: u8, words: &[u32], frame: u32) -> Row
+        requires held { self.now.settled ≤ frame }
+        requires there { IsSomeAnd (player_at self.now.players player) (λ p. p.gone ≡ false) }
+        requires some { 1 ≤ length words.now }
+        ensures { result ≡ row_of (changed (with_words words.now) self.now.players player) frame }
+    {
+        let place = usize::from(player) - 1;
+        let mut cells = self.row(frame).cells();
+        cells[place] = self.queues[place].guessed(words, frame);
+        Row::from_cells(cells.as_slice())
     }
 
     /// Whether a row may be the timeline's of a frame: it has a cell for each player, and those known.

@@ -106,6 +106,24 @@ impl Queue {
         }
     }
 
+    /// The cell of a frame, if the player gave these words next.
+    pub(crate) fn guessed(&self, words: &[u32], frame: u32) -> Cell
+        requires held { self.now.from ≤ frame }
+        requires there { self.now.player.gone ≡ false }
+        requires some { 1 ≤ length words.now }
+        ensures { result ≡ cell_at frame (with_words words.now self.now.player) }
+    {
+        if frame < self.count {
+            return self.cell(frame);
+        }
+        let place = (frame - self.count) as usize;
+        if place < words.len() {
+            Cell::Word(words[place])
+        } else {
+            Cell::Word(words[words.len() - 1] & self.mask)
+        }
+    }
+
     /// Whether this cell may be the player's in a frame: it is the known one, or none is known.
     pub(crate) fn allows(&self, frame: u32, cell: Cell) -> bool
         requires { self.now.from ≤ frame }
