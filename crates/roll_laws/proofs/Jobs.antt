@@ -76,12 +76,12 @@ job_is settings core rows s e near new =
         ap (λ (q : Rows). q ++ drop (settled core) (take (longest (kept core) rows) rows)) (sym (kept_settled settings core (take (longest (kept core) rows) rows) s (in_has (kept core) (take (longest (kept core) rows) rows) there)))
         ∙ take-append-drop (settled core) (take (longest (kept core) rows) rows)
 
-guess_range : (core : Core) (until : ℕ) → not (is_in_range (settled core + 1) (settled core + 24) until) ≡ false → (settled core + 1 ≤ until) × (until ≤ settled core + 24)
+pub guess_range : (core : Core) (until : ℕ) → not (is_in_range (settled core + 1) (settled core + 24) until) ≡ false → (settled core + 1 ≤ until) × (until ≤ settled core + 24)
 guess_range core until h =
     let inside = and_parts (nat_le (settled core + 1) until) (nat_le until (settled core + 24)) (not-false (is_in_range (settled core + 1) (settled core + 24) until) h) in
     (leb-true (settled core + 1) until inside.0, leb-true until (settled core + 24) inside.1)
 
-guess_begins : (settings : Settings) (core : Core) (p until : ℕ) (words : List ℕ) → Sound settings core → AllFail (guess_tests settings.limit core p words until)
+pub guess_begins : (settings : Settings) (core : Core) (p until : ℕ) (words : List ℕ) → Sound settings core → AllFail (guess_tests settings.limit core p words until)
     → take (settled core) (guessed_time core.players p words until) ≡ timeline core.players (settled core)
 guess_begins settings core p until words s h =
     let f = settled_is core s.root in

@@ -1,5 +1,4 @@
-pub mod Grafting
-pub mod Hanging
+pub mod Guessing
 pub mod Judging
 pub mod Placed
 pub mod Holding

@@ -7,3 +7,4 @@ pub mod Answered
 pub mod Held
 pub mod Calls
 pub mod Grafting
+pub mod Guessing

@@ -2,6 +2,7 @@
 #![tactic(auto)]
 
 mod event;
+mod guess;
 mod place;
 mod roll;
 mod run;

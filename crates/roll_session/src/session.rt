@@ -1,5 +1,5 @@
 //! The session.
-ghost use Rattle.std.specs.Prelude.{◌≡◌, ℕ, ◌≤◌, ◌<◌, ◌+◌, ◌-◌, ◌∷◌, [], ◌++◌, length, true, false, map, max, vec_capacity, vec_len, nat_lt, IfOk, OnOk, IfErr, OnErr, IfSome, is_none, unwrap_or, option_copied, None, Some, if◌then◌else◌};
+ghost use Rattle.std.specs.Prelude.{◌≡◌, ℕ, ◌≤◌, ◌<◌, ◌+◌, ◌-◌, ◌∷◌, [], ◌++◌, true, false, map, max, vec_capacity, vec_len, nat_lt, IfOk, OnOk, IfErr, OnErr, IfSome, IsSome, is_none, unwrap_or, option_copied, None, Some, if◌then◌else◌};
 ghost use Rattle.roll_frame.specs.Claims.{claim_of, path_from, IsRight};
 ghost use Rattle.roll_frame.specs.Core.{depth, kept as kept_of, settled as settled_frame};
 ghost use Rattle.roll_frame.specs.Events.{answer, branch_of, is_repeat, refusal, tests_of};
@@ -13,6 +13,7 @@ ghost use Rattle.roll_frame.specs.declared.entry.Entry.TheVariants.{Graft as Gra
 ghost use Rattle.roll_game.specs.Counts.{counted};
 ghost use Rattle.roll_game.specs.declared.counts.Call.TheVariants.{Load as Loads, Copy as Copies};
 ghost use Rattle.roll_laws.specs.Sessions.{IsLog};
+ghost use Rattle.roll_session.specs.Guessing.{guess_job_of, guess_refusal_of, IsCopied};
 ghost use Rattle.roll_session.specs.Held.{HasRoom, Shows};
 ghost use Rattle.roll_session.specs.Planned.{IsPlanOfRoll};
 ghost use Rattle.roll_session.specs.Answered.{counts_by, replied, with_entries, IsAnswered, IsPartial};
@@ -20,11 +21,12 @@ ghost use Rattle.roll_session.specs.Calls.{entry_of, event_of, grafting, heard_r
 ghost use Rattle.roll_session.specs.Seen.{core_of, game_of, IsLeast};
 ghost use Rattle.roll_session.specs.Started.{IsGivenBack};
 
-use crate::event::{Call, Grafted, Reached, StartFault};
-use crate::place::{branch_refusal, hang_new};
+use crate::event::{Call, Reached, StartFault};
+use crate::guess::{guessed_rows, job_along};
+use crate::place::branch_refusal;
 use crate::roll::{Rolled, roll};
 use crate::saves::Saves;
-use roll_branch::{Branch, Parts as BranchParts};
+use roll_branch::{Branch, Job};
 use roll_frame::{Claim, Entry, Event, Path, Refusal, Reply, Row, Settings};
 use roll_game::Game;
 use roll_inputs::{Board, Heard};
@@ -172,16 +174,33 @@ impl<G: Game> Session<G> {
         }
     }
 
-    /// Takes a branch in: saves its new states, moved, not copied, and settles what can be settled then. A refused branch
-    /// is dropped.
-    pub fn graft(&mut self, branch: Branch<G>) -> Result<Grafted, Refusal>
-        ensures answered { IsAnswered G.step self.old self.new (grafting branch) (replied (λ grafted. Reply.Grafted grafted.added) result) }
+    /// A guess: if this player gave these words next. The job is to run the timeline that this would make, up to a frame,
+    /// from the deepest kept state on its way, at most 8 rows. None where all of it is kept.
+    ///
+    /// # Errors
+    ///
+    /// What the tests of a guess say, in their order, else `NoMemory` where the allocator has no room, or the game refuses
+    /// its copy, for which it is asked last.
+    pub fn guess(
+        &mut self,
+        alloc: Global,
+        player: u8,
+        words: &[u32],
+        until: u32,
+    ) -> Result<Option<Job<G>>, Refusal>
+        ensures job { IfOk result (λ job. job ≡ guess_job_of G.step self.old player words.now until) }
+        ensures accepted { OnOk result (guess_refusal_of self.old player words.now until ≡ None) }
+        ensures refused { IfErr result (λ why. why ≡ unwrap_or (guess_refusal_of self.old player words.now until) Refusal.NoMemory) }
+        ensures unasked { IsSome (guess_refusal_of self.old player words.now until) → self.new ≡ self.old }
+        ensures asked { IsCopied self.old.counts self.new.counts result }
+        ensures same { self.new ≡ record self.old { counts = self.new.counts } }
     {
-        if let Some(why) = self.graft_refusal(&branch) {
+        let board = self.saves.board();
+        if let Some(why) = board.guess_refusal(player, words, until) {
             return Err(why);
         }
-        self.reserve_log(1)?;
-        Ok(self.take_branch(branch))
+        let rows = guessed_rows(board, player, words, until);
+        job_along(&mut self.game, &self.saves, alloc, rows.as_slice())
     }
 
     /// Takes a player's input, or sees that it was taken before.

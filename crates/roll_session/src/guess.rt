@@ -1,0 +1,85 @@
+//! What is to be run for a guess of what a player does next.
+ghost use Rattle.std.specs.Prelude.{◌≡◌, ◌≤◌, ◌+◌, length, drop, take, false, IsSomeAnd, IfOk, IfErr};
+ghost use Rattle.roll_frame.specs.Games.{Value};
+ghost use Rattle.roll_frame.specs.Inputs.{player_at};
+ghost use Rattle.roll_frame.specs.Timeline.{timeline};
+ghost use Rattle.roll_session.specs.Guessing.{guessed_rows, job_along, route_along, IsCopied};
+ghost use Rattle.roll_session.specs.Saves.{HaveValues};
+
+use crate::saves::Saves;
+use arrayvec::ArrayVec;
+use roll_branch::Job;
+use roll_frame::{BRANCH_LIMIT, Boxed, PATH_LIMIT, Path, Refusal, Route, Row};
+use roll_game::Game;
+use roll_inputs::Board;
+use std::alloc::Global;
+
+/// The rows from the settled frame to another, if this player gave these words next.
+pub fn guessed_rows(
+    board: &Board,
+    player: u8,
+    words: &[u32],
+    until: u32,
+) -> ArrayVec<Row, PATH_LIMIT>
+    requires there { IsSomeAnd (player_at board.now.players player) (λ p. p.gone ≡ false) }
+    requires some { 1 ≤ length words.now }
+    requires from { board.now.settled ≤ until }
+    requires near { until ≤ board.now.settled + PATH_LIMIT }
+    ensures { result.items ≡ guessed_rows board.now player words.now until }
+{
+    let settled = board.settled();
+    let mut rows = ArrayVec::new();
+    for k in 0..(until - settled) as usize {
+        rows.push(board.guessed(player, words, settled + k as u32));
+    }
+    rows
+}
+
+/// Rows from the settled frame on, so many of them as a path, and the next as the rows to run.
+fn route_at(base: u32, rows: &[Row], depth: usize) -> Route
+    requires within { depth ≤ length rows.now }
+    requires few { length rows.now ≤ PATH_LIMIT }
+    ensures { result ≡ record { path = record { base = base; rows = record { items = take depth rows.now } }; rows = record { items = take BRANCH_LIMIT (drop depth rows.now) } } }
+{
+    let end = rows.len().min(depth + BRANCH_LIMIT);
+    let mut path = Path {
+        base,
+        rows: ArrayVec::new(),
+    };
+    path.rows.try_extend_from_slice(&rows[..depth]).unwrap();
+    let mut next = ArrayVec::new();
+    next.try_extend_from_slice(&rows[depth..end]).unwrap();
+    Route { path, rows: next }
+}
+
+/// The job of rows from the settled frame on. None where all are kept.
+///
+/// # Errors
+///
+/// `NoMemory` where the allocator has no room, or the game refuses its copy, for which it is asked last.
+pub fn job_along<G: Game>(
+    game: &mut G,
+    saves: &Saves<G::Snapshot>,
+    alloc: Global,
+    rows: &[Row],
+) -> Result<Option<Job<G>>, Refusal>
+    requires { length rows.now ≤ PATH_LIMIT }
+    ensures job { IfOk result (λ job. (opening : Value) → HaveValues G.snapshot_value G.step opening (timeline saves.now.inputs.players saves.now.inputs.settled) saves.now.tree.states → job ≡ job_along G.step opening saves.now rows.now) }
+    ensures refused { IfErr result (λ why. why ≡ Refusal.NoMemory) }
+    ensures counts { IsCopied (G.call_counts game.old) (G.call_counts game.new) result }
+{
+    saves.laws();
+    let tree = saves.tree();
+    let base = tree.base();
+    let (node, end) = tree.longest(rows);
+    let depth = (end - base) as usize;
+    if depth == rows.len() {
+        return Ok(None);
+    }
+    let Ok(route) = Boxed::new(alloc, route_at(base, rows, depth)) else {
+        return Err(Refusal::NoMemory);
+    };
+    let room = Vec::with_capacity(alloc, BRANCH_LIMIT)?;
+    let from = game.copy(tree.get(node))?;
+    Ok(Job::new(route, from, room))
+}
