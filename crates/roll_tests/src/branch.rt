@@ -3,9 +3,9 @@ use crate::examples::{TWO, open, row};
 use crate::shared::path;
 use arrayvec::ArrayVec;
 use roll_branch::{Branch, Done, Job, extend};
-use roll_frame::{Boxed, Refusal, Route};
-use roll_game::Tally;
-use roll_session::{Grafted, Reached};
+use roll_frame::{Boxed, Refusal, Route, Settings};
+use roll_game::{Call, Game, RawGame, Refusing, Tally};
+use roll_session::Session;
 use std::process::Abort;
 use std::test::Fail;
 
@@ -58,5 +58,76 @@ fn refuses_a_wrong_guess(rt: HostRuntime) -> Result<(), Fail> {
     session.add_local_input(1, 1)?;
     session.advance_frame()?;
     assert_eq!(rt; session.graft(guess(&rt)?), Err(Refusal::Dead));
+    Ok(())
+}
+
+/// What the job of a guess is to run: how long its path is, and its rows. Neither where all is kept.
+fn guessed<G: Game>(
+    rt: &(impl Abort + AllocGlobal),
+    session: &mut Session<G>,
+    words: &[u32],
+    until: u32,
+) -> Result<(usize, usize), Refusal> {
+    match session.guess(rt.alloc(), 2, words, until)? {
+        Some(job) => Ok((job.route().path.rows.len(), job.route().rows.len())),
+        None => Ok((0, 0)),
+    }
+}
+
+#[test]
+fn is_guessed_by_a_session(rt: HostRuntime) -> Result<(), Fail> {
+    let mut session = open(rt.alloc(), Tally::new(), Tally::opening(), TWO)?;
+    session.add_local_input(1, 1)?;
+    let Some(job) = session.guess(rt.alloc(), 2, &[3, 3], 2)? else {
+        panic!(rt; "no job");
+    };
+    let Done::Grown(branch) = extend(&mut Tally::new(), job) else {
+        panic!(rt; "no branch");
+    };
+    assert_eq!(rt; session.graft_refusal(&branch), None);
+    assert_eq!(rt; branch.into_parts().states.as_slice(), [7, 77].as_slice());
+    Ok(())
+}
+
+#[test]
+fn goes_on_from_what_is_kept(rt: HostRuntime) -> Result<(), Fail> {
+    let mut session = open(rt.alloc(), Tally::new(), Tally::opening(), TWO)?;
+    session.add_local_input(1, 1)?;
+    session.advance_frame()?;
+    assert_eq!(rt; guessed(&rt, &mut session, &[0], 1), Ok((0, 0)));
+    assert_eq!(rt; session.game().counts().copies, 1);
+    assert_eq!(rt; guessed(&rt, &mut session, &[0], 2), Ok((1, 1)));
+    assert_eq!(rt; guessed(&rt, &mut session, &[3], 2), Ok((0, 2)));
+    assert_eq!(rt; guessed(&rt, &mut session, &[0, 3], 24), Ok((1, 8)));
+    assert_eq!(rt; session.game().counts().copies, 4);
+    Ok(())
+}
+
+#[test]
+fn is_refused_where_it_cannot_be(rt: HostRuntime) -> Result<(), Fail> {
+    let mut session = open(rt.alloc(), Tally::new(), Tally::opening(), TWO)?;
+    let alloc = rt.alloc();
+    for (player, words, until, want) in [
+        (0, [3].as_slice(), 1, Refusal::InvalidPlayer),
+        (3, [].as_slice(), 0, Refusal::InvalidPlayer),
+        (2, [].as_slice(), 1, Refusal::InvalidRequest),
+        (2, [3; 25].as_slice(), 1, Refusal::InvalidRequest),
+        (2, [3].as_slice(), 0, Refusal::InvalidRequest),
+        (2, [3].as_slice(), 25, Refusal::InvalidRequest),
+    ] {
+        assert!(rt;
+            session.guess(alloc, player, words, until).err() == Some(want),
+            "{player} {until}"
+        );
+    }
+    session.disconnect_player(2)?;
+    assert_eq!(rt;
+        guessed(&rt, &mut session, &[], 0),
+        Err(Refusal::PlayerDisconnected)
+    );
+    let game = Refusing::new(Tally::new(), Call::Copy, 2);
+    let mut session = open(alloc, game, Tally::opening(), TWO)?;
+    assert_eq!(rt; guessed(&rt, &mut session, &[3], 1), Err(Refusal::NoMemory));
+    assert_eq!(rt; guessed(&rt, &mut session, &[3], 1), Ok((0, 1)));
     Ok(())
 }
