@@ -1,3 +1,5 @@
+pub mod Grafting
+pub mod Hanging
 pub mod Guessing
 pub mod Judging
 pub mod Placed

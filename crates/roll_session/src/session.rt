@@ -1,5 +1,5 @@
 //! The session.
-ghost use Rattle.std.specs.Prelude.{◌≡◌, ℕ, ◌≤◌, ◌<◌, ◌+◌, ◌-◌, ◌∷◌, [], ◌++◌, true, false, map, max, vec_capacity, vec_len, nat_lt, IfOk, OnOk, IfErr, OnErr, IfSome, IsSome, is_none, unwrap_or, option_copied, None, Some, if◌then◌else◌};
+ghost use Rattle.std.specs.Prelude.{◌≡◌, ℕ, ◌≤◌, ◌<◌, ◌+◌, ◌-◌, ◌∷◌, [], ◌++◌, length, true, false, map, max, vec_capacity, vec_len, nat_lt, IfOk, OnOk, IfErr, OnErr, IfSome, IsSome, is_none, unwrap_or, option_copied, None, Some, if◌then◌else◌};
 ghost use Rattle.roll_frame.specs.Claims.{claim_of, path_from, IsRight};
 ghost use Rattle.roll_frame.specs.Core.{depth, kept as kept_of, settled as settled_frame};
 ghost use Rattle.roll_frame.specs.Events.{answer, branch_of, is_repeat, refusal, tests_of};
@@ -21,12 +21,12 @@ ghost use Rattle.roll_session.specs.Calls.{entry_of, event_of, grafting, heard_r
 ghost use Rattle.roll_session.specs.Seen.{core_of, game_of, IsLeast};
 ghost use Rattle.roll_session.specs.Started.{IsGivenBack};
 
-use crate::event::{Call, Reached, StartFault};
+use crate::event::{Call, Grafted, Reached, StartFault};
 use crate::guess::{guessed_rows, job_along};
-use crate::place::branch_refusal;
+use crate::place::{branch_refusal, hang_new};
 use crate::roll::{Rolled, roll};
 use crate::saves::Saves;
-use roll_branch::{Branch, Job};
+use roll_branch::{Branch, Job, Parts as BranchParts};
 use roll_frame::{Claim, Entry, Event, Path, Refusal, Reply, Row, Settings};
 use roll_game::Game;
 use roll_inputs::{Board, Heard};
@@ -172,6 +172,18 @@ impl<G: Game> Session<G> {
         } else {
             None
         }
+    }
+
+    /// Takes a branch in: saves its new states, moved, not copied, and settles what can be settled then. A refused branch
+    /// is dropped.
+    pub fn graft(&mut self, branch: Branch<G>) -> Result<Grafted, Refusal>
+        ensures answered { IsAnswered G.step self.old self.new (grafting branch) (replied (λ grafted. Reply.Grafted grafted.added) result) }
+    {
+        if let Some(why) = self.graft_refusal(&branch) {
+            return Err(why);
+        }
+        self.reserve_log(1)?;
+        Ok(self.take_branch(branch))
     }
 
     /// A guess: if this player gave these words next. The job is to run the timeline that this would make, up to a frame,

@@ -1,16 +1,16 @@
-//! Jobs that are run ahead, and grafts of their branches.
-use crate::examples::{TWO, open, row};
+//! Jobs that are run ahead, and what a session makes of their branches.
+use crate::examples::{LATE_CALLS, TWO, open, row};
 use crate::shared::path;
 use arrayvec::ArrayVec;
 use roll_branch::{Branch, Done, Job, extend};
 use roll_frame::{Boxed, Refusal, Route, Settings};
 use roll_game::{Call, Game, RawGame, Refusing, Tally};
-use roll_session::Session;
+use roll_session::{Grafted, Reached, Session};
 use std::process::Abort;
 use std::test::Fail;
 
-/// The branch of a guess of two rows from the opening.
-fn guess(rt: &(impl Abort + AllocGlobal)) -> Result<Branch<Tally>, Fail> {
+/// The branch of two rows from frame 0, and a state of this worth.
+fn grown(rt: &(impl Abort + AllocGlobal), from: u32) -> Result<Branch<Tally>, Fail> {
     let mut rows = ArrayVec::new();
     rows.push(row(1, 3));
     rows.push(row(1, 3));
@@ -28,25 +28,42 @@ fn guess(rt: &(impl Abort + AllocGlobal)) -> Result<Branch<Tally>, Fail> {
 
 #[test]
 fn runs_a_guess_ahead(rt: HostRuntime) -> Result<(), Fail> {
-    let parts = guess(&rt)?.into_parts();
+    let parts = grown(&rt, Tally::opening())?.into_parts();
     assert_eq!(rt; parts.states.as_slice(), [7, 77].as_slice());
     Ok(())
 }
 
 #[test]
-fn goes_on_from_a_guess(rt: HostRuntime) -> Result<(), Fail> {
-    let mut session = open(rt.alloc(), Tally::new(), Tally::opening(), TWO)?;
-    assert_eq!(rt; session.graft(guess(&rt)?), Ok(Grafted { added: 2 }));
-    assert_eq!(rt; session.graft(guess(&rt)?), Ok(Grafted { added: 0 }));
+fn is_judged_by_a_session(rt: HostRuntime) -> Result<(), Fail> {
+    let short = Settings { log: 1, ..TWO };
+    let mut session = open(rt.alloc(), Tally::new(), Tally::opening(), short)?;
+    let branch = grown(&rt, Tally::opening())?;
+    let stranger = grown(&rt, 1)?;
+    assert_eq!(rt; session.graft_refusal(&branch), None);
+    assert_eq!(rt; session.graft_refusal(&stranger), Some(Refusal::Stranger));
     session.add_local_input(1, 1)?;
+    assert_eq!(rt; session.graft_refusal(&branch), Some(Refusal::LogFull));
+    assert_eq!(rt; session.graft(stranger), Err(Refusal::Stranger));
+    Ok(())
+}
+
+#[test]
+fn costs_nothing_where_a_guess_was_right(rt: HostRuntime) -> Result<(), Fail> {
+    let mut session = open(rt.alloc(), Tally::new(), Tally::opening(), TWO)?;
+    let mut replies = Vec::with_capacity(rt.alloc(), LATE_CALLS.len())?;
+    session.run(&LATE_CALLS[..4], &mut replies)?;
+    let branch = grown(&rt, Tally::opening())?;
+    assert_eq!(rt; session.graft(branch), Ok(Grafted { added: 2 }));
+    let again = grown(&rt, Tally::opening())?;
+    assert_eq!(rt; session.graft(again), Ok(Grafted { added: 0 }));
     session.remote_input(2, 0, 3)?;
-    let reached = Reached {
-        frame: 1,
-        from: 1,
-        rerun: 0,
-    };
-    assert_eq!(rt; session.advance_frame(), Ok(reached));
-    assert_eq!(rt; session.current(), Some(&7));
+    assert_eq!(rt; session.synchronize_input(), Ok(row(1, 3)));
+    let plan = session
+        .last_plan()
+        .map(|plan| (plan.to, plan.from, plan.rerun));
+    assert_eq!(rt; plan, Some((2, 2, 0)));
+    assert_eq!(rt; session.settled(), 1);
+    assert_eq!(rt; session.current().copied(), Some(77));
     Ok(())
 }
 
@@ -54,10 +71,19 @@ fn goes_on_from_a_guess(rt: HostRuntime) -> Result<(), Fail> {
 fn refuses_a_wrong_guess(rt: HostRuntime) -> Result<(), Fail> {
     let mut session = open(rt.alloc(), Tally::new(), Tally::opening(), TWO)?;
     session.remote_input(2, 0, 4)?;
-    assert_eq!(rt; session.graft(guess(&rt)?), Ok(Grafted { added: 0 }));
+    session.remote_input(2, 1, 3)?;
+    let dead = grown(&rt, Tally::opening())?;
+    assert_eq!(rt; session.graft(dead), Ok(Grafted { added: 0 }));
     session.add_local_input(1, 1)?;
-    session.advance_frame()?;
-    assert_eq!(rt; session.graft(guess(&rt)?), Err(Refusal::Dead));
+    let reached = Reached {
+        frame: 1,
+        from: 0,
+        rerun: 1,
+    };
+    assert_eq!(rt; session.advance_frame(), Ok(reached));
+    assert_eq!(rt; session.settled(), 1);
+    let late = grown(&rt, Tally::opening())?;
+    assert_eq!(rt; session.graft(late), Err(Refusal::Dead));
     Ok(())
 }
 
