@@ -11,7 +11,7 @@ use crate::command::Command;
 use crate::engine::PlayFault;
 use crate::shown::Shown;
 use roll_frame::{Refusal, Reply};
-use roll_session::{Call, Session};
+use roll_session::{Call, Request, Session};
 use roll_text::{push_number, push_signed};
 use std::alloc::{AllocError, Global};
 
@@ -57,7 +57,7 @@ fn push_played<G: Shown>(
         return Ok(false);
     };
     session.laws();
-    let reply = session.perform(call)?;
+    let reply = session.perform(Request::Call(call))?;
     push_reply(out, session, reply)?;
     Ok(is_refused(&reply))
 }

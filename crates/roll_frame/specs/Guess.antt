@@ -15,16 +15,19 @@ use Rattle.roll_frame.specs.Grafts.{Branch}
 abbrev pub guessed_time : List Player → ℕ → List ℕ → ℕ → Rows
 guessed_time players p words m = timeline (changed (with_words words) players p) m
 
--- the tests of a guess: no player p; gone; not 1 to 24 words; an end that isn't 1 to 24 rows past the
--- settled frame, or is past the frame limit
-abbrev pub guess_tests : ℕ → Core → ℕ → List ℕ → ℕ → List (Bool × Refusal)
-guess_tests limit core p words until =
-    (not (of_player (λ player. true) core.players p), InvalidPlayer)
-    ∷ (of_player (λ player. player.gone) core.players p, PlayerDisconnected)
+-- the tests of a guess, among these players and over this settled frame: no player p; gone; not 1 to 24 words; an
+-- end that isn't 1 to 24 rows past the settled frame, or is past the frame limit
+abbrev pub words_tests : List Player → ℕ → ℕ → ℕ → List ℕ → ℕ → List (Bool × Refusal)
+words_tests players base limit p words until =
+    (not (of_player (λ player. true) players p), InvalidPlayer)
+    ∷ (of_player (λ player. player.gone) players p, PlayerDisconnected)
     ∷ (not (is_in_range 1 PATH_LIMIT (length words)), InvalidRequest)
-    ∷ (not (is_in_range (settled core + 1) (settled core + PATH_LIMIT) until), InvalidRequest)
+    ∷ (not (is_in_range (base + 1) (base + PATH_LIMIT) until), InvalidRequest)
     ∷ (nat_lt limit until, InvalidRequest)
     ∷ []
+
+abbrev pub guess_tests : ℕ → Core → ℕ → List ℕ → ℕ → List (Bool × Refusal)
+guess_tests limit core p words until = words_tests core.players (settled core) limit p words until
 
 -- from the longest kept path that begins the rows, the next rows, at most 8
 abbrev pub job_of : Core → Rows → Branch

@@ -1,14 +1,13 @@
 -- A board as its callers see it, and what its fields keep.
 use Rattle.std.specs.Prelude.{◌≡◌, ◌≢◌, ℕ, ◌+◌, ◌-◌, ◌<◌, ◌≤◌, List, [], ◌∷◌, length, map, not, nat_lt, Bool, true, false, All, Option, None, if◌then◌else◌, ◌==◌, slice_get}
 use Rattle.std.specs.Option.{option_map, option_map_or}
-use Rattle.std.specs.Int.{is_in_range}
 use Rattle.std.specs.List.{list_any}
-use Rattle.roll_frame.specs.declared.limits.TheConstants.{DELAY_LIMIT, FRAME_LIMIT, PATH_LIMIT, PLAYER_LIMIT, QUEUE_LIMIT}
+use Rattle.roll_frame.specs.declared.limits.TheConstants.{DELAY_LIMIT, FRAME_LIMIT, PLAYER_LIMIT, QUEUE_LIMIT}
 use Rattle.roll_frame.specs.declared.profile.Profile.TheVariants.{Wide}
 use Rattle.roll_frame.specs.declared.refusal.Refusal.{Refusal}
-use Rattle.roll_frame.specs.declared.refusal.Refusal.TheVariants.{InvalidPlayer, PlayerDisconnected, InvalidRequest}
 use Rattle.roll_frame.specs.declared.row.Cell.{Cell}
 use Rattle.roll_frame.specs.declared.settings.Settings.{Settings}
+use Rattle.roll_frame.specs.Guess.{words_tests}
 use Rattle.roll_frame.specs.Inputs.{local_tests, remote_tests, disconnect_tests, changed, of_player, player_at, with_none_given}
 use Rattle.roll_frame.specs.Refusals.{first_refusal}
 use Rattle.roll_frame.specs.Settings.{first_player, first_players, most_threshold}
@@ -42,20 +41,9 @@ remote_refusal inputs p f = first_refusal (remote_tests inputs.players inputs.se
 abbrev pub disconnect_refusal : Inputs → ℕ → Option Refusal
 disconnect_refusal inputs p = first_refusal (disconnect_tests inputs.players p)
 
--- the tests of a guess that player p gives these words next, with rows up to a frame: no player p; gone; not 1 to 24
--- words; an end that isn't 1 to 24 rows past the settled frame, or is past the last frame
-abbrev pub guess_tests : Inputs → ℕ → List ℕ → ℕ → List (Bool × Refusal)
-guess_tests inputs p words until =
-    (not (of_player (λ player. true) inputs.players p), InvalidPlayer)
-    ∷ (of_player (λ player. player.gone) inputs.players p, PlayerDisconnected)
-    ∷ (not (is_in_range 1 PATH_LIMIT (length words)), InvalidRequest)
-    ∷ (not (is_in_range (inputs.settled + 1) (inputs.settled + PATH_LIMIT) until), InvalidRequest)
-    ∷ (nat_lt inputs.limit until, InvalidRequest)
-    ∷ []
-
--- why such a guess is refused
+-- why a guess is refused: that player p gives these words next, with rows up to a frame
 abbrev pub guess_refusal : Inputs → ℕ → List ℕ → ℕ → Option Refusal
-guess_refusal inputs p words until = first_refusal (guess_tests inputs p words until)
+guess_refusal inputs p words until = first_refusal (words_tests inputs.players inputs.settled inputs.limit p words until)
 
 -- how many words of player p are confirmed
 abbrev pub count_of : List Player → ℕ → ℕ

@@ -11,7 +11,7 @@ use Rattle.roll_frame.specs.Core.{Core, kept, settled}
 use Rattle.roll_frame.specs.Events.{replay}
 use Rattle.roll_frame.specs.Games.{Game, Value}
 use Rattle.roll_frame.specs.Grafts.{start_of}
-use Rattle.roll_frame.specs.Guess.{guessed_job, guessed_time}
+use Rattle.roll_frame.specs.Guess.{guessed_job, guessed_time, words_tests}
 use Rattle.roll_frame.specs.Inputs.{changed, player_at, with_words}
 use Rattle.roll_frame.specs.Paths.{begins_with, contains, longest, run}
 use Rattle.roll_frame.specs.Timeline.{Player, timeline}
@@ -23,7 +23,7 @@ use Rattle.roll_frame.specs.declared.settings.Settings.{Settings}
 use Rattle.roll_frame.proofs.Beginnings.{begins}
 use Rattle.roll_frame.proofs.Refused.{all_fail, in_range}
 use Rattle.roll_frame.proofs.Timelines.{length_timeline}
-use Rattle.roll_inputs.specs.Boards.{Inputs, guess_refusal, guess_tests}
+use Rattle.roll_inputs.specs.Boards.{Inputs, guess_refusal}
 use Rattle.roll_game.specs.declared.counts.Counts.{Counts}
 use Rattle.roll_laws.proofs.Glue.{always_holds}
 use Rattle.roll_laws.proofs.Grafted.{longest_kept}
@@ -72,7 +72,7 @@ player_there (Some player) there stays = stays
 
 pub may_guess : (inputs : Inputs) (p : ℕ) (words : List ℕ) (until : ℕ) → guess_refusal inputs p words until ≡ None → MayGuess inputs p words until
 may_guess inputs p words until e =
-    let tests = all_fail (guess_tests inputs p words until) e in
+    let tests = all_fail (words_tests inputs.players inputs.settled inputs.limit p words until) e in
     let few = in_range 1 PATH_LIMIT (length words) tests.1.1.0 in
     let end = in_range (inputs.settled + 1) (inputs.settled + PATH_LIMIT) until tests.1.1.1.0 in
     record {
@@ -98,7 +98,7 @@ module _ {N : Type 0} (settings : Settings) (core : Core) (sound : Sound setting
   split =
       let low : settled core ≤ until = (may_guess (inputs_of settings core) p words until fine).from in
       let end : settled core + (until - settled core) ≡ until = omega (arith, low) in
-      let begin = guess_begins settings core p until words sound (all_fail (guess_tests (inputs_of settings core) p words until) fine) in
+      let begin = guess_begins settings core p until words sound (all_fail (words_tests core.players (settled core) settings.limit p words until) fine) in
       sym (take-append-drop (settled core) w) ∙ ap (λ (q : Rows). q ++ drop (settled core) w) begin
       ∙ ap (λ n. settled_rows core ++ drop (settled core) (timeline (changed (with_words words) core.players p) n)) (sym end)
 

@@ -1,6 +1,6 @@
--- What lists of events, and of calls, make of a session.
-use Rattle.std.proofs.Common.{◌≡◌, ℕ, ◌+◌, ◌-◌, ◌<◌, length, take, get_or, List, [], ◌∷◌, ◌++◌, refl, ap, sym, ◌∙◌, subst, arith, append-nil, length-append, true, false, Some, None}
-use Rattle.std.proofs.lemmas.List.{append_assoc, map-append, take_more}
+-- What lists of events, and of requests, make of a session.
+use Rattle.std.proofs.Common.{◌≡◌, ◌-◌, length, List, [], ◌∷◌, ◌++◌, refl, ap, sym, ◌∙◌, subst, arith, append-nil, length-append, true, false, Some, None}
+use Rattle.std.proofs.lemmas.List.{append_assoc, map-append}
 use Rattle.roll_frame.specs.Core.{Core}
 use Rattle.roll_frame.specs.Events.{CoreEvent, after, answer, is_accepted, is_repeat, log_from, played_from, refusal}
 use Rattle.roll_frame.specs.Games.{Game}
@@ -13,9 +13,10 @@ use Rattle.roll_game.specs.declared.counts.Counts.{Counts}
 use Rattle.roll_laws.proofs.Appended.{log_from-append, played_from-append, replies_from-append}
 use Rattle.roll_laws.proofs.Glue.{replay-push}
 use Rattle.roll_session.specs.Answered.{counts_by, counts_from, replies_to, with_entries, IsPlayed, IsReplied}
-use Rattle.roll_session.specs.Calls.{event_of, events_of}
+use Rattle.roll_session.specs.Calls.{asked}
+use Rattle.roll_session.specs.Requests.{all_asked, IsDoneTo}
 use Rattle.roll_session.specs.Seen.{Step, Seen, core_of, game_of}
-use Rattle.roll_session.specs.declared.event.Call.{Call}
+use Rattle.roll_session.specs.declared.event.Request.{Request}
 
 counts_from-append : (settings : Settings) (game : Game) (core : Core) (events more : List CoreEvent) (counts : Counts)
     → counts_from settings game core (events ++ more) counts ≡ counts_from settings game (played_from settings game core events) more (counts_from settings game core events counts)
@@ -72,17 +73,30 @@ played_more step old mid new events more a b =
     less : (xs ys : List Entry) → old.reserved - length xs - length ys ≡ old.reserved - length (xs ++ ys)
     less xs ys = let n = length-append xs ys in omega (arith, n)
 
--- some calls were made, and one more
-module _ (step : Step) (old mid new : Seen) (calls : List Call) (k : ℕ) (d : Call) (within : k < length calls) (said : Reply) (made : IsPlayed step old mid (events_of (take k calls))) (one : IsReplied step mid new (event_of (get_or calls k d)) said) where
-  next_events : events_of (take (k + 1) calls) ≡ events_of (take k calls) ++ event_of (get_or calls k d) ∷ []
-  next_events = ap events_of (take_more calls k d within) ∙ map-append event_of (take k calls) (get_or calls k d ∷ [])
+module _ {G S N : Type 0} (step : Step) (old : Seen) (requests : List (Request G S N)) (first : List Reply) where
+  -- no request was done yet
+  pub done_none : IsDoneTo step old old requests requests first first
+  done_none = record { done = []; split = refl; played = played_none step old; replies = sym (append-nil first) }
 
-  pub played_push : IsPlayed step old new (events_of (take (k + 1) calls))
-  played_push = subst (IsPlayed step old new) (sym next_events) (played_more step old mid new (events_of (take k calls)) (event_of (get_or calls k d) ∷ []) made one.played)
+  -- some requests were done, and the next one
+  pub done_more : (mid new : Seen) (left : List (Request G S N)) (all : List Reply) (request : Request G S N) (said : Reply) → IsDoneTo step old mid requests (request ∷ left) first all → IsReplied step mid new (asked request) said
+      → IsDoneTo step old new requests left first (all ++ said ∷ [])
+  done_more mid new left all request said to one =
+      record {
+        done = to.done ++ request ∷ [];
+        split = to.split ∙ sym (append_assoc to.done (request ∷ []) left);
+        played = subst (IsPlayed step old new) (sym next) (played_more step old mid new (all_asked to.done) (asked request ∷ []) to.played one.played);
+        replies =
+            ap (λ (rs : List Reply). rs ++ said ∷ []) to.replies ∙ append_assoc first (replies_to step old (all_asked to.done)) (said ∷ [])
+            ∙ ap (λ (rs : List Reply). first ++ rs) (sym said_too);
+      }
+    where
+      next : all_asked (to.done ++ request ∷ []) ≡ all_asked to.done ++ asked request ∷ []
+      next = map-append asked to.done (request ∷ [])
 
-  pub replies_push : replies_to step old (events_of (take (k + 1) calls)) ≡ replies_to step old (events_of (take k calls)) ++ said ∷ []
-  replies_push =
-      let settings : mid.settings ≡ old.settings = ap (λ (s : Seen). s.settings) made.seen in
-      let opening : mid.opening ≡ old.opening = ap (λ (s : Seen). s.opening) made.seen in
-      ap (replies_to step old) next_events ∙ replies_from-append old.settings (game_of step old) (core_of old) (events_of (take k calls)) (event_of (get_or calls k d) ∷ [])
-      ∙ ap (λ (r : Reply). replies_to step old (events_of (take k calls)) ++ r ∷ []) (sym (one.said_is ∙ rw (made.core, settings, opening) refl))
+      said_too : replies_to step old (all_asked (to.done ++ request ∷ [])) ≡ replies_to step old (all_asked to.done) ++ said ∷ []
+      said_too =
+          let settings : mid.settings ≡ old.settings = ap (λ (s : Seen). s.settings) to.played.seen in
+          let opening : mid.opening ≡ old.opening = ap (λ (s : Seen). s.opening) to.played.seen in
+          ap (replies_to step old) next ∙ replies_from-append old.settings (game_of step old) (core_of old) (all_asked to.done) (asked request ∷ [])
+          ∙ ap (λ (r : Reply). replies_to step old (all_asked to.done) ++ r ∷ []) (sym (one.said_is ∙ rw (to.played.core, settings, opening) refl))

@@ -1,5 +1,5 @@
 -- The events that calls stand for.
-use Rattle.std.specs.Prelude.{◌≡◌, ◌+◌, ℕ, Bool, true, false, List, ◌++◌, map, max, take, slice_get, Option, Some, None, Result, Ok, Err}
+use Rattle.std.specs.Prelude.{◌≡◌, ◌+◌, ℕ, Bool, true, false, max, Option, Some, None, Result, Ok, Err}
 use Rattle.roll_branch.specs.Routed.{Routed}
 use Rattle.roll_frame.specs.Core.{Core}
 use Rattle.roll_frame.specs.Events.{CoreEvent, is_repeat}
@@ -10,10 +10,11 @@ use Rattle.roll_frame.specs.declared.reply.Reply.{Reply}
 use Rattle.roll_frame.specs.declared.reply.Reply.TheVariants.{Done, Taken, Repeated, Disconnected}
 use Rattle.roll_inputs.specs.declared.heard.Heard.{Heard}
 use Rattle.roll_inputs.specs.declared.heard.Heard.TheVariants.{Taken as HeardNow, Repeated as HeardBefore}
-use Rattle.roll_session.specs.Answered.{replies_to, IsPlayed, IsShort}
 use Rattle.roll_session.specs.Seen.{Step, Seen, core_of, plain, refusal_of}
 use Rattle.roll_session.specs.declared.event.Call.{Call}
 use Rattle.roll_session.specs.declared.event.Call.TheVariants.{Local as LocalCall, Remote as RemoteCall, Disconnect as DisconnectCall, Sync as SyncCall, Advance as AdvanceCall}
+use Rattle.roll_session.specs.declared.event.Request.{Request}
+use Rattle.roll_session.specs.declared.event.Request.TheVariants.{Call as Makes, Graft as Grafts}
 
 abbrev pub entry_of : Call → Entry
 entry_of (LocalCall player word) = Local player word
@@ -29,8 +30,11 @@ event_of call = plain (entry_of call)
 abbrev pub grafting : Routed → CoreEvent
 grafting branch = record { entry = Graft branch.ticket branch.route; value = branch.from }
 
-abbrev pub events_of : List Call → List CoreEvent
-events_of calls = map event_of calls
+module _ {G S N : Type 0} where
+  -- the event that a request asks for
+  abbrev pub asked : Request G S N → CoreEvent
+  asked (Makes call) = event_of call
+  asked (Grafts branch) = grafting branch
 
 -- the calls that give a player's input
 abbrev pub IsInput : Call → Type 0
@@ -72,13 +76,3 @@ abbrev pub judged : Bool → Option Refusal → Result Heard Refusal
 judged true test = Ok HeardBefore
 judged false None = Ok HeardNow
 judged false (Some why) = Err why
-
--- memory ran out for one of these calls, after those before it were made, whose replies were added
-pub record IsEndedEarly (step : Step) (old new : Seen) (calls : List Call) (first all : List Reply) : Type 0 where
-  pub count : ℕ
-  pub before : Seen
-  pub made : IsPlayed step old before (events_of (take count calls))
-  pub replies : all ≡ first ++ replies_to step old (events_of (take count calls))
-  pub call : Call
-  pub next : slice_get calls count ≡ Some call
-  pub short : IsShort step before new (event_of call)

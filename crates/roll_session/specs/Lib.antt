@@ -6,5 +6,6 @@ pub mod Started
 pub mod Answered
 pub mod Held
 pub mod Calls
+pub mod Requests
 pub mod Grafting
 pub mod Guessing

@@ -2,10 +2,11 @@
 ghost use Rattle.std.specs.Prelude.{◌≡◌};
 ghost use Rattle.roll_session.specs.Calls.{entry_of};
 
+use roll_branch::Branch;
 use roll_frame::{Entry, Refusal};
-use roll_game::RawGame;
+use roll_game::{Game, RawGame};
 
-/// A call of a session, with what it is given. Players are numbered from 1.
+/// A call of a session that is given numbers alone. Players are numbered from 1.
 #[derive(Clone, Copy, Debug, PartialEq, Eq)]
 pub enum Call {
     /// `add_local_input`
@@ -41,6 +42,14 @@ impl Call {
             Call::Advance => Entry::Advance,
         }
     }
+}
+
+/// What a session can be asked for: each event that its log can come to have, but for those that the game cuts short.
+#[derive(Drop)]
+pub enum Request<G: Game> {
+    Call(Call),
+    /// `graft`
+    Graft(Branch<G>),
 }
 
 /// Where a step to the next frame led: the new frame, the length of the path that its roll started from, and how many

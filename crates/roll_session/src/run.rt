@@ -1,29 +1,45 @@
-//! Calls as values, and whole lists of them.
-ghost use Rattle.std.specs.Prelude.{◌≡◌, ◌≢◌, ◌≤◌, ◌+◌, ◌++◌, length, vec_capacity, vec_len, IfOk, OnErr, OnOk};
+//! Requests as values, and whole lists of them.
+ghost use Rattle.std.specs.Prelude.{◌≡◌, ◌≢◌, ◌≤◌, ◌+◌, ◌++◌, [], length, vec_capacity, vec_len, IfOk, OnErr, OnOk};
 ghost use Rattle.roll_session.specs.Answered.{replied, replies_to, IsAnswered, IsPlayed, IsReplied, IsShort};
-ghost use Rattle.roll_session.specs.Calls.{event_of, events_of, IsEndedEarly};
+ghost use Rattle.roll_session.specs.Calls.{asked, event_of};
+ghost use Rattle.roll_session.specs.Requests.{all_asked, IsEndedEarly};
 
-use crate::event::{Call, Reached};
+use crate::event::{Call, Grafted, Reached, Request};
 use crate::session::Session;
 use roll_frame::{Refusal, Reply};
 use roll_game::{Game, NoMemory};
 use roll_inputs::Heard;
+use std::collections::VecDeque;
 
 impl<G: Game> Session<G> {
-    /// Makes one call, and answers its reply. A refusal is a reply like any other; only want of memory is an error.
-    pub fn perform(&mut self, call: Call) -> Result<Reply, NoMemory>
-        ensures replied { IfOk result (λ said. IsReplied G.step self.old self.new (event_of call) said) }
-        ensures short { OnErr result (IsShort G.step self.old self.new (event_of call)) }
+    /// Does what is asked for, and answers its reply. A refusal is a reply like any other; only want of memory is an error.
+    pub fn perform(&mut self, request: Request<G>) -> Result<Reply, NoMemory>
+        ensures replied { IfOk result (λ said. IsReplied G.step self.old self.new (asked request) said) }
+        ensures short { OnErr result (IsShort G.step self.old self.new (asked request)) }
     {
-        match self.ask(call) {
+        match self.answer(request) {
             Ok(said) => Ok(said),
             Err(Refusal::NoMemory) => Err(NoMemory),
             Err(why) => Ok(Reply::Refused(why)),
         }
     }
 
+    /// Does what is asked for, and answers the reply where it is accepted.
+    fn answer(&mut self, request: Request<G>) -> Result<Reply, Refusal>
+        ensures answered { IsAnswered G.step self.old self.new (asked request) (replied (λ said. said) result) }
+        ensures said { IfOk result (λ said. said ≢ Reply.Refused Refusal.NoMemory) }
+    {
+        match request {
+            Request::Call(call) => self.make(call),
+            Request::Graft(branch) => {
+                let Grafted { added } = self.graft(branch)?;
+                Ok(Reply::Grafted { added })
+            }
+        }
+    }
+
     /// Makes one call, and answers the reply where it is accepted.
-    fn ask(&mut self, call: Call) -> Result<Reply, Refusal>
+    fn make(&mut self, call: Call) -> Result<Reply, Refusal>
         ensures answered { IsAnswered G.step self.old self.new (event_of call) (replied (λ said. said) result) }
         ensures said { IfOk result (λ said. said ≢ Reply.Refused Refusal.NoMemory) }
     {
@@ -52,16 +68,21 @@ impl<G: Game> Session<G> {
         }
     }
 
-    /// Makes the calls in turn, and adds their replies, refused ones among them, to a list that has room for them. It ends
-    /// early only for want of memory: the calls before that were made, and their replies are there.
-    pub fn run(&mut self, calls: &[Call], replies: &mut Vec<Reply>) -> Result<(), NoMemory>
-        requires { vec_len replies.old + length calls.now ≤ vec_capacity replies.old }
-        ensures played { OnOk result (IsPlayed G.step self.old self.new (events_of calls.now)) }
-        ensures replies { OnOk result (replies.new.items ≡ replies.old.items ++ replies_to G.step self.old (events_of calls.now)) }
-        ensures left { OnErr result (IsEndedEarly G.step self.old self.new calls.now replies.old.items replies.new.items) }
+    /// Does in turn what a queue asks for, and adds the replies, refused ones among them, to a list that has room for them.
+    /// It ends early only for want of memory: what came before that was done, and what comes after it is left in the queue.
+    pub fn run(
+        &mut self,
+        requests: &mut VecDeque<Request<G>>,
+        replies: &mut Vec<Reply>,
+    ) -> Result<(), NoMemory>
+        requires { vec_len replies.old + length requests.old.items ≤ vec_capacity replies.old }
+        ensures played { OnOk result (IsPlayed G.step self.old self.new (all_asked requests.old.items)) }
+        ensures replies { OnOk result (replies.new.items ≡ replies.old.items ++ replies_to G.step self.old (all_asked requests.old.items)) }
+        ensures empty { OnOk result (requests.new.items ≡ []) }
+        ensures left { OnErr result (IsEndedEarly G.step self.old self.new requests.old.items requests.new.items replies.old.items replies.new.items) }
     {
-        for call in calls {
-            let reply = self.perform(*call)?;
+        while let Some(request) = requests.pop_front() {
+            let reply = self.perform(request)?;
             replies.push_reserved(reply);
         }
         Ok(())

@@ -1,5 +1,5 @@
 //! Jobs that are run ahead, and what a session makes of their branches.
-use crate::examples::{LATE_CALLS, TWO, open, row};
+use crate::examples::{LATE_CALLS, TWO, open, queue, row};
 use crate::shared::path;
 use arrayvec::ArrayVec;
 use roll_branch::{Branch, Done, Job, extend};
@@ -51,7 +51,8 @@ fn is_judged_by_a_session(rt: HostRuntime) -> Result<(), Fail> {
 fn costs_nothing_where_a_guess_was_right(rt: HostRuntime) -> Result<(), Fail> {
     let mut session = open(rt.alloc(), Tally::new(), Tally::opening(), TWO)?;
     let mut replies = Vec::with_capacity(rt.alloc(), LATE_CALLS.len())?;
-    session.run(&LATE_CALLS[..4], &mut replies)?;
+    let mut requests = queue(rt.alloc(), &LATE_CALLS[..4])?;
+    session.run(&mut requests, &mut replies)?;
     let branch = grown(&rt, Tally::opening())?;
     assert_eq!(rt; session.graft(branch), Ok(Grafted { added: 2 }));
     let again = grown(&rt, Tally::opening())?;

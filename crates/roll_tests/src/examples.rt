@@ -3,9 +3,10 @@ ghost use Rattle.std.specs.Prelude.{◌≡◌, length};
 
 use roll_frame::{Cell, FRAME_LIMIT, LOG_LIMIT, PLAYER_LIMIT, Profile, Refusal, Row, Settings};
 use roll_game::{Game, RawGame};
-use roll_session::{Call, Session};
+use roll_session::{Call, Request, Session};
 use roll_tree::{Tree, TreeFull};
-use std::alloc::Global;
+use std::alloc::{AllocError, Global};
+use std::collections::VecDeque;
 
 /// A script in which a remote word comes late, and what playing it writes.
 pub const LATE: &[u8] =
@@ -27,6 +28,18 @@ pub const LATE_CALLS: [Call; 6] = [
     },
     Call::Sync,
 ];
+
+/// A queue of requests for calls.
+pub fn queue<G: Game + Drop>(
+    alloc: Global,
+    calls: &[Call],
+) -> Result<VecDeque<Request<G>>, AllocError> {
+    let mut requests = VecDeque::new(alloc);
+    for call in calls {
+        requests.push_back(Request::Call(*call))?;
+    }
+    Ok(requests)
+}
 
 /// The claim of a roll for two players that started from frame 2 and ran it again, and what is answered to it.
 pub const AHEAD: &[u8] =

@@ -6,7 +6,7 @@ use roll_cli::{PlayFault, certify, play};
 use roll_duel::Duel;
 use roll_frame::{Advice, Cell, Event, Refusal, Settings};
 use roll_game::{RawGame, Tally};
-use roll_session::Session;
+use roll_session::{Request, Session};
 use roll_tree::Tree;
 use std::alloc::Global;
 
@@ -131,8 +131,8 @@ fn goes_on(alloc: Global) -> Result<Ending, Refusal> {
     let (mut session, mut ending) = started(alloc, TWO)?;
     for call in LATE_CALLS {
         let before = seen(&session);
-        if session.perform(call).is_err() {
-            if ending == Refused || seen(&session) != before || session.perform(call).is_err() {
+        if session.perform(Request::Call(call)).is_err() {
+            if ending == Refused || seen(&session) != before || session.perform(Request::Call(call)).is_err() {
                 return Ok(Wrong);
             }
             ending = Refused;

@@ -7,7 +7,8 @@ ghost use Rattle.roll_session.specs.Seen.{core_of};
 
 use roll_frame::Reply;
 use roll_game::{Game, NoMemory};
-use roll_session::{Call, Session};
+use roll_session::{Request, Session};
+use std::collections::VecDeque;
 
 /// A session keeps few states, whatever was asked of it.
 pub fn keeps_few<G: Game>(session: &Session<G>)
@@ -16,17 +17,17 @@ pub fn keeps_few<G: Game>(session: &Session<G>)
     session.laws();
 }
 
-/// Makes the calls. The settled frame doesn't fall, and each cell that is known stays as it is.
+/// Does what a queue asks for. The settled frame doesn't fall, and each cell that is known stays as it is.
 pub fn goes_on<G: Game>(
     session: &mut Session<G>,
-    calls: &[Call],
+    requests: &mut VecDeque<Request<G>>,
     replies: &mut Vec<Reply>,
 ) -> Result<(), NoMemory>
-    requires { vec_len replies.old + length calls.now ≤ vec_capacity replies.old }
+    requires { vec_len replies.old + length requests.old.items ≤ vec_capacity replies.old }
     ensures settled { OnOk result (settled (core_of session.old) ≤ settled (core_of session.new)) }
     ensures known { OnOk result ((place t : ℕ) (cell : Cell) → known_cell (core_of session.old).players place t ≡ Some cell → known_cell (core_of session.new).players place t ≡ Some cell) }
 {
     session.laws();
-    session.run(calls, replies)?;
+    session.run(requests, replies)?;
     Ok(())
 }

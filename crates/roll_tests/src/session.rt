@@ -1,10 +1,10 @@
 //! What a session shows that no script does: its limits, refused calls of its game, and long runs.
-use crate::examples::{ALONE, LATE_CALLS, TWO, counts, open, row};
+use crate::examples::{ALONE, LATE_CALLS, TWO, counts, open, queue, row};
 use crate::laws::{goes_on, keeps_few};
 use crate::shared::path;
 use roll_frame::{Refusal, Reply, Settings};
 use roll_game::{Call, Refusing, Tally};
-use roll_session::{Reached, Session};
+use roll_session::{Reached, Request, Session};
 use std::alloc::Global;
 use std::process::Abort;
 use std::test::Fail;
@@ -51,7 +51,7 @@ fn keeps_what_a_refused_roll_saved(rt: HostRuntime) -> Result<(), Refusal> {
     for (kind, k, from) in [(Call::Save, 3, 0), (Call::Save, 4, 1), (Call::Load, 4, 0)] {
         let mut session = refusing(rt.alloc(), kind, k)?;
         for call in &LATE_CALLS[..5] {
-            assert!(rt; session.perform(*call).is_ok());
+            assert!(rt; session.perform(Request::Call(*call)).is_ok());
         }
         assert_eq!(rt;
             session.synchronize_input(),
@@ -85,9 +85,9 @@ fn made_again(rt: &(impl Abort + AllocGlobal), kind: Call, k: u64) -> Result<u32
         }
     };
     for call in LATE_CALLS {
-        if session.perform(call).is_err() {
+        if session.perform(Request::Call(call)).is_err() {
             refused = refused.saturating_add(1);
-            assert!(rt; session.perform(call).is_ok(), "{kind:?} {k}");
+            assert!(rt; session.perform(Request::Call(call)).is_ok(), "{kind:?} {k}");
         }
     }
     assert_eq!(rt; session.frame(), 2, "{kind:?} {k}");
@@ -117,7 +117,8 @@ fn goes_on_after_each_refused_call(rt: HostRuntime) -> Result<(), Refusal> {
 fn tells_what_is_settled(rt: HostRuntime) -> Result<(), Fail> {
     let mut session = open(rt.alloc(), Tally::new(), Tally::opening(), TWO)?;
     let mut replies = Vec::with_capacity(rt.alloc(), LATE_CALLS.len())?;
-    goes_on(&mut session, &LATE_CALLS, &mut replies)?;
+    let mut requests = queue(rt.alloc(), &LATE_CALLS)?;
+    goes_on(&mut session, &mut requests, &mut replies)?;
     assert_eq!(rt; replies.len(), 6);
     assert_eq!(rt; replies.last(), Some(&Reply::Synchronized(row(1, 3))));
     assert_eq!(rt; session.log().len(), 6);
@@ -138,7 +139,8 @@ fn keeps_what_can_still_matter(rt: HostRuntime) -> Result<(), Fail> {
         [path(0, &[])].as_slice()
     );
     let mut replies = Vec::with_capacity(rt.alloc(), LATE_CALLS.len())?;
-    session.run(&LATE_CALLS, &mut replies)?;
+    let mut requests = queue(rt.alloc(), &LATE_CALLS)?;
+    session.run(&mut requests, &mut replies)?;
     keeps_few(&session);
     assert_eq!(rt;
         session.kept(rt.alloc())?.as_slice(),

@@ -1,16 +1,18 @@
-use Rattle.std.proofs.Common.{◌∙◌, ◌++◌, ap, sym, arith}
-use Rattle.std.proofs.lemmas.List.{append_assoc}
-use Rattle.roll_session.specs.Answered.{replies_to}
-use Rattle.roll_session.proofs.Runs.{played_push, replies_push}
+use Rattle.std.proofs.Common.{◌≡◌, ◌∷◌, List, ap, sym, length, subst, arith}
+use Rattle.roll_frame.specs.declared.reply.Reply.{Reply}
+use Rattle.roll_session.specs.Requests.{IsDoneTo}
+use Rattle.roll_session.proofs.Runs.{done_more}
 use Rattle.roll_session.proofs.session.Session.run.Goals as goal
 
-pub loop-call-preserved : goal.loop-call-preserved
-loop-call-preserved g c =
-    let now = c.loop-call.invariant in
-    let one = c.in_ok-reply.ensures.replied in
+pub loop-request-preserved : goal.loop-request-preserved
+loop-request-preserved g c =
+    let now = c.loop-request.invariant in
+    let popped = c.in-Some.ensures.items in
+    let to = subst (λ rs. IsDoneTo g.G.Game.step c.args.self.now c.loop-request.self c.args.requests.now.items rs c.args.replies.now.items c.loop-request.replies.items) popped now.done in
     record {
-      made = played_push g.G.Game.step c.args.self.now c.loop-call.self c.perform.new.self c.args.calls.now c.loop-call.call-index _ (omega arith) c.in_ok-reply.reply now.made one;
-      replies = c.push_reserved.ensures.items ∙ rw now.replies (append_assoc c.args.replies.now.items (replies_to g.G.Game.step c.args.self.now _) _
-          ∙ ap (λ rs. c.args.replies.now.items ++ rs) (sym (replies_push g.G.Game.step c.args.self.now c.loop-call.self c.perform.new.self c.args.calls.now c.loop-call.call-index _ (omega arith) c.in_ok-reply.reply now.made one)));
-      room = omega (arith, now.room, c.push_reserved.ensures.len, c.push_reserved.ensures.capacity);
+      done =
+          subst (λ (rs : List Reply). IsDoneTo g.G.Game.step c.args.self.now c.perform.new.self c.args.requests.now.items c.pop_front.new.self.items c.args.replies.now.items rs) (sym c.push_reserved.ensures.items)
+          (done_more g.G.Game.step c.args.self.now c.args.requests.now.items c.args.replies.now.items c.loop-request.self c.perform.new.self c.pop_front.new.self.items c.loop-request.replies.items c.in-Some.request c.in_ok-reply.reply to
+          c.in_ok-reply.ensures.replied);
+      room = omega (arith, now.room, ap (λ rs. length rs) popped, c.push_reserved.ensures.len, c.push_reserved.ensures.capacity);
     }

@@ -1,11 +1,12 @@
-use Rattle.std.proofs.Common.{◌≡◌, ◌≤◌, ◌+◌, ◌-◌, ◌++◌, length, take, vec_len, vec_capacity}
-use Rattle.roll_session.specs.Answered.{replies_to, IsPlayed}
-use Rattle.roll_session.specs.Calls.{events_of}
+use Rattle.std.proofs.Common.{◌≡◌, ◌≤◌, ◌+◌, length, vec_len, vec_capacity}
+use Rattle.roll_session.specs.Requests.{IsDoneTo}
 use Rattle.roll_session.proofs.session.Session.run.Given as goal
 
-abbrev pub invariant-loop-call : goal.invariant-loop-call
-invariant-loop-call g l = record {
-  made : IsPlayed g.G.Game.step l.fn.self l.self (events_of (take l.call-index l.calls));
-  replies : l.replies.items ≡ l.fn.replies.items ++ replies_to g.G.Game.step l.fn.self (events_of (take l.call-index l.calls));
-  room : vec_len l.replies + (length l.calls - l.call-index) ≤ vec_capacity l.replies;
+abbrev pub invariant-loop-request : goal.invariant-loop-request
+invariant-loop-request g l = record {
+  done : IsDoneTo g.G.Game.step l.fn.self l.self l.fn.requests.items l.requests.items l.fn.replies.items l.replies.items;
+  room : vec_len l.replies + length l.requests.items ≤ vec_capacity l.replies;
 }
+
+abbrev pub decreases-loop-request : goal.decreases-loop-request
+decreases-loop-request g l = length l.requests.items
