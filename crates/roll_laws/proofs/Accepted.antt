@@ -36,15 +36,19 @@ none_of : (o : Option Refusal) → is_none o ≡ true → o ≡ None
 none_of None e = refl
 none_of (Some why) e = absurd (false≢true e)
 
+-- an accepted event passes its tests
+pub accepted_passes : (settings : Settings) (game : Game) (core : Core) (event : CoreEvent) → is_accepted settings game core event ≡ true → Accepted settings game core event
+accepted_passes settings game core event e =
+    let b = and_parts (not (is_repeat core event.entry)) (is_none (refusal settings game core event)) e in
+    let f = fail_first (tests_of settings game core event.value event.entry) _ (all_fail _ (none_of (refusal settings game core event) b.1)) in
+    (f.0, f.1.0)
+
 pub after_log : (settings : Settings) (game : Game) (core : Core) (event : CoreEvent) → Outcome settings game core event
 after_log settings game core event = go (cases_Bool (is_accepted settings game core event))
   where
     go : (is_accepted settings game core event ≡ true) ⊎ (is_accepted settings game core event ≡ false) → Outcome settings game core event
     go (inr e) = inl (ap (λ b. if b then applied core event.entry else core) e, e)
-    go (inl e) =
-        let b = and_parts (not (is_repeat core event.entry)) (is_none (refusal settings game core event)) e in
-        let f = fail_first (tests_of settings game core event.value event.entry) _ (all_fail _ (none_of (refusal settings game core event) b.1)) in
-        inr ((f.0, f.1.0), after_accepted settings game core event e, e)
+    go (inl e) = inr (accepted_passes settings game core event e, after_accepted settings game core event e, e)
 
 pub after_either : (settings : Settings) (game : Game) (core : Core) (event : CoreEvent) → (after settings game core event ≡ core) ⊎ (AllFail (tests_of settings game core event.value event.entry) × (after settings game core event ≡ applied core event.entry))
 after_either settings game core event = go (after_log settings game core event)

@@ -1,7 +1,7 @@
 -- What a graft adds, as a run of prefixes.
 use Rattle.std.proofs.Common.{◌≡◌, ℕ, zero, suc, ◌+◌, ◌-◌, ◌<◌, ◌≤◌, List, [], ◌∷◌, ◌++◌, length, refl, ap, sym, ◌∙◌, Bool, true, false, arith, take, subst, inl, inr, length-take, length-append}
 use Rattle.std.specs.Prelude.{◌⊎◌, filter, not, ◌&&◌}
-use Rattle.std.proofs.lemmas.Bool.{false≢true, cases_Bool, cases_lt, and_parts, and_from, false_from_ne_true}
+use Rattle.std.proofs.lemmas.Bool.{false≢true, cases_lt, false_from_ne_true}
 use Rattle.std.proofs.lemmas.List.{append-nil, take-take}
 use Rattle.std.proofs.lemmas.List.Elements.{filter-append}
 use Rattle.roll_frame.proofs.Beginnings.{begins, begins_is, longest_within}
@@ -97,7 +97,7 @@ longest_kept core q p h b = go (longest_is (kept core) q) (longest_at_least (kep
     go (inl e) l = let none : length p ≡ longest (kept core) q = omega arith in subst (λ n. contains (kept core) (take n q) ≡ true) none (subst (λ (r : Rows). contains (kept core) r ≡ true) (begins_is q p b) h)
     go (inr h) l = in_has (kept core) (take (longest (kept core) q) q) h.0
 
-take_begins : (q : Rows) (k : ℕ) → k ≤ length q → begins_with q (take k q) ≡ true
+pub take_begins : (q : Rows) (k : ℕ) → k ≤ length q → begins_with q (take k q) ≡ true
 take_begins q k l = let long : length (take k q) ≡ k = omega (arith, length-take k q) in begins q (take k q) (ap (λ n. take n q) (sym long))
 
 and_not : (x y : Bool) → y ≡ true → (x && not y) ≡ false

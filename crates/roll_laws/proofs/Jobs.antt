@@ -76,20 +76,28 @@ job_is settings core rows s e near new =
         ap (λ (q : Rows). q ++ drop (settled core) (take (longest (kept core) rows) rows)) (sym (kept_settled settings core (take (longest (kept core) rows) rows) s (in_has (kept core) (take (longest (kept core) rows) rows) there)))
         ∙ take-append-drop (settled core) (take (longest (kept core) rows) rows)
 
-pub guess_range : (core : Core) (until : ℕ) → not (is_in_range (settled core + 1) (settled core + 24) until) ≡ false → (settled core + 1 ≤ until) × (until ≤ settled core + 24)
+guess_range : (core : Core) (until : ℕ) → not (is_in_range (settled core + 1) (settled core + 24) until) ≡ false → (settled core + 1 ≤ until) × (until ≤ settled core + 24)
 guess_range core until h =
     let inside = and_parts (nat_le (settled core + 1) until) (nat_le until (settled core + 24)) (not-false (is_in_range (settled core + 1) (settled core + 24) until) h) in
     (leb-true (settled core + 1) until inside.0, leb-true until (settled core + 24) inside.1)
+
+-- the players of a guess are later
+pub guess_later : (core : Core) (p until limit : ℕ) (words : List ℕ) → AllFail (guess_tests limit core p words until) → AllLater core.players (changed (with_words words) core.players p)
+guess_later core p until limit words h =
+    changed_later (with_words words) core.players p (λ x e. later_with_words words x (of_player_is (λ player. player.gone) core.players p x false e h.1.0))
 
 pub guess_begins : (settings : Settings) (core : Core) (p until : ℕ) (words : List ℕ) → Sound settings core → AllFail (guess_tests settings.limit core p words until)
     → take (settled core) (guessed_time core.players p words until) ≡ timeline core.players (settled core)
 guess_begins settings core p until words s h =
     let f = settled_is core s.root in
     let bound : settled core ≤ min (front core.players) core.frame = f.0 in
-    let later : AllLater core.players (changed (with_words words) core.players p) = changed_later (with_words words) core.players p (λ x e. later_with_words words x (of_player_is (λ player. player.gone) core.players p x false e h.1.0)) in
     let low : settled core + 1 ≤ until = (guess_range core until h.1.1.1.0).0 in
     take_timeline (changed (with_words words) core.players p) (settled core) until (omega arith)
-    ∙ timeline_stays (settled core) core.players (changed (with_words words) core.players p) later (omega arith)
+    ∙ timeline_stays (settled core) core.players (changed (with_words words) core.players p) (guess_later core p until settings.limit words h) (omega arith)
+
+-- a guess ends at most 24 rows past the settled frame
+pub guess_near : (core : Core) (p until limit : ℕ) (words : List ℕ) → AllFail (guess_tests limit core p words until) → length (guessed_time core.players p words until) ≤ settled core + 24
+guess_near core p until limit words h = omega (arith, length_timeline (changed (with_words words) core.players p) until, (guess_range core until h.1.1.1.0).1)
 
 made_job : (core : Core) (rows : Rows) (job : Branch) → (if contains (kept core) rows then None else Some (job_of core rows)) ≡ Some job → (contains (kept core) rows ≡ false) × (job_of core rows ≡ job)
 made_job core rows job = go (contains (kept core) rows) refl
@@ -112,5 +120,4 @@ jobs_start_kept settings game events ok p until words job h j =
     let tests = all_fail (guess_tests settings.limit core p words until) h in
     let made = made_job core rows job j in
     subst (IsJobOf core rows) made.1
-    (job_is settings core rows s (guess_begins settings core p until words s tests)
-    (omega (arith, length_timeline (changed (with_words words) core.players p) until, (guess_range core until tests.1.1.1.0).1)) made.0)
+    (job_is settings core rows s (guess_begins settings core p until words s tests) (guess_near core p until settings.limit words tests) made.0)

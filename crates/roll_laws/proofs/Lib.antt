@@ -36,3 +36,5 @@ pub mod Sound
 pub mod Starts
 pub mod Ruled
 pub mod Grafted
+pub mod Worth
+pub mod NewJobs

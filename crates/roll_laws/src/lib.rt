@@ -3,7 +3,7 @@
 #![tactic(auto)]
 
 ghost use Rattle.roll_laws.specs.Laws.{StartsAreSmall, KnownCellsStay, SettledNeverFalls, ImpossibleStays, WordsRuleOut, LeavingRulesOut, LongBeginSettled, PrefixesAreSaved, SavedOnce, KeptBeginSettled, KeptArePrefixed, StartIsKept, RolledIsTimeOrDead, WindowIsBounded, CostIsSmall, FewAreKept, RollsFit, PeersAgree, RollIsPlan, RollsAreLeast, ClaimsAreRight, OrderKeepsAll, ClaimsNameLeast, DeeperDiffer, PruningLosesNothing, KeptAfter, SettledAfter, GuessedCells, JobsStartKept, LogReplays, LogIsCounted, KeptAreShort, QueuesAreShort, FramesEnd, LogEnds, PlayersStay};
-ghost use Rattle.roll_laws.specs.Grafted.{NewPathsRun};
+ghost use Rattle.roll_laws.specs.Grafted.{NewPathsRun, AcceptedAreWorth, JobsAreNew};
 
 /// A session that starts has sizes within the profile's limits.
 pub fn starts_are_small()
@@ -188,4 +188,14 @@ pub fn players_stay()
 /// A graft adds the branch's prefixes past the longest kept one, up to the longest possible one.
 pub fn new_paths_run()
     ensures { NewPathsRun }
+{}
+
+/// From its anchor on, each state of an accepted branch is worth the run of its path from the opening.
+pub fn accepted_are_worth()
+    ensures { AcceptedAreWorth }
+{}
+
+/// A guess's job, grafted before any other event, adds the path of each of its rows, and is refused for want of room alone.
+pub fn jobs_are_new()
+    ensures { JobsAreNew }
 {}

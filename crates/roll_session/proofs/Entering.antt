@@ -17,6 +17,7 @@ use Rattle.roll_tree.specs.SavedStates.{paths_of}
 use Rattle.roll_frame.specs.declared.refusal.Refusal.{Refusal}
 use Rattle.roll_frame.specs.declared.refusal.Refusal.TheVariants.{LocalInputMissing, LogFull}
 use Rattle.roll_frame.specs.declared.settings.Settings.{Settings}
+use Rattle.roll_frame.proofs.Refused.{all_fail, first_refusal-behind}
 use Rattle.roll_laws.proofs.Rolls.{roll_of}
 use Rattle.roll_plan.specs.Plans.{Planned, made_of}
 use Rattle.roll_game.specs.Counts.{rolled}
@@ -30,7 +31,7 @@ use Rattle.roll_session.specs.Saves.{HaveValues, Standing, rows_to, settled_by, 
 use Rattle.roll_session.specs.Seen.{Step, plain}
 use Rattle.roll_session.specs.Standing.{made_from}
 use Rattle.roll_session.proofs.Between.{IsBetween, can_settle}
-use Rattle.roll_session.proofs.Holding.{accepted, can_be_partial_advance, can_be_partial_sync, leaving_between, local_between, partial_accepted, remote_between, first_refusal-front, first_refusal-none}
+use Rattle.roll_session.proofs.Holding.{accepted, can_be_partial_advance, can_be_partial_sync, leaving_between, local_between, partial_accepted, remote_between, first_refusal-front}
 use Rattle.roll_session.proofs.Rolled.{Added, between_after_advance, between_after_partial, between_after_sync, cost_is, depth_is, frame_is, near, paths_fit, roll_fits, roll_plan, session_event, shown_value, time_fits}
 
 -- an event later there is room for one less
@@ -171,7 +172,7 @@ module _ {S N : Type 0} {state_value : S → Value} {snapshot_value : N → Valu
 
   -- an event is accepted only where the log has room
   not_full : (entry : Entry) → refusal settings game core (plain entry) ≡ None → nat_le settings.log core.logged ≡ false
-  not_full entry fine = go (nat_le settings.log core.logged) (sym (first_refusal-none tests (nat_le settings.log core.logged) LogFull (first_refusal-front tests _ fine)) ∙ fine)
+  not_full entry fine = go (nat_le settings.log core.logged) (sym (first_refusal-behind tests ((nat_le settings.log core.logged, LogFull) ∷ []) (all_fail tests (first_refusal-front tests _ fine))) ∙ fine)
     where
       tests : List (Bool × Refusal)
       tests = tests_of settings game core [] entry

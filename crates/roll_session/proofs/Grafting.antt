@@ -1,12 +1,9 @@
 -- What a graft leaves of what the fields of a session keep.
 use Rattle.std.proofs.Common.{◌≡◌, ◌⊎◌, ℕ, ◌+◌, ◌-◌, ◌<◌, ◌≤◌, List, [], ◌∷◌, ◌++◌, length, take, drop, refl, ap, sym, ◌∙◌, Bool, true, false, arith, subst, inl, inr, Option, None}
 use Rattle.std.specs.Prelude.{filter, nat_le, nat_lt, not, ◌&&◌}
-use Rattle.std.proofs.Math.Seq.{take-add, drop-append-add, take-append-add}
+use Rattle.std.proofs.Math.Seq.{take-append-add}
 use Rattle.std.proofs.lemmas.Bool.{and_parts, leb-false, ltb-false, not-false}
-use Rattle.std.proofs.lemmas.Bool.Decides.{Decides-eqb}
 use Rattle.std.proofs.lemmas.List.{map-append}
-use Rattle.std.proofs.lemmas.List.Sums.{fold-append}
-use Rattle.std.proofs.lemmas.Slice.Eq.{slice_eq-Decides}
 use Rattle.roll_branch.specs.Routed.{AreStates, Routed}
 use Rattle.roll_frame.specs.declared.entry.Entry.{Entry}
 use Rattle.roll_frame.specs.declared.entry.Entry.TheVariants.{Graft}
@@ -21,7 +18,7 @@ use Rattle.roll_frame.specs.Cells.{Rows}
 use Rattle.roll_frame.specs.Core.{Core, is_possible, kept, settled}
 use Rattle.roll_frame.specs.Events.{branch_of, is_accepted, refusal, replay, tests_of}
 use Rattle.roll_frame.specs.Games.{Game, Value}
-use Rattle.roll_frame.specs.Grafts.{anchor, anchor_length, graft_tests, new_paths, same_value, start_of as start_rows, whole_of}
+use Rattle.roll_frame.specs.Grafts.{anchor, anchor_length, graft_tests, new_paths, start_of as start_rows, whole_of}
 use Rattle.roll_frame.specs.Paths.{contains, longest, prefixes, run}
 use Rattle.roll_frame.specs.Refusals.{first_refusal}
 use Rattle.roll_frame.specs.Settings.{open_to_branches}
@@ -34,6 +31,7 @@ use Rattle.roll_laws.proofs.KeptPaths.{live}
 use Rattle.roll_laws.proofs.Prefixes.{in_filter}
 use Rattle.roll_laws.proofs.Saved.{In, in_either, in_has}
 use Rattle.roll_laws.proofs.Sound.{Sound, sound_played}
+use Rattle.roll_laws.proofs.Worth.{same_are, worth_on}
 use Rattle.roll_plan.specs.Plans.{Planned}
 use Rattle.roll_tree.specs.SavedStates.{SavedStates, paths_of}
 use Rattle.roll_session.specs.Calls.{grafting}
@@ -48,26 +46,6 @@ use Rattle.roll_session.proofs.Hanging.{rest_fits}
 use Rattle.roll_session.proofs.Holding.{accepted, first_refusal-front}
 use Rattle.roll_session.proofs.Judging.{judged, kept_possible, long_start, new_are, orphan_is, same_there, whole_split}
 use Rattle.roll_session.proofs.Rolled.{roll_fits, session_event}
-
--- rows that lead to the same value lead to the same with more rows
-run_on : (step : Step) (x y : Value) (p q more : Rows) → run step x p ≡ run step y q → run step x (p ++ more) ≡ run step y (q ++ more)
-run_on step x y p q more e = fold-append step x p more ∙ ap (λ v. run step v more) e ∙ sym (fold-append step y q more)
-
--- from the anchor on a branch's states are worth what their paths lead to
-worth_on : (step : Step) (from opening : Value) (first rows : Rows) (a n : ℕ) → length first ≤ a → a ≤ n
-    → run step from (take (a - length first) rows) ≡ run step opening (take a (first ++ rows))
-    → run step from (take (n - length first) rows) ≡ run step opening (take n (first ++ rows))
-worth_on step from opening first rows a n low high e =
-    let short : n - length first ≡ a - length first + (n - a) = omega arith in
-    let long : n ≡ a + (n - a) = omega arith in
-    let place : a ≡ length first + (a - length first) = omega arith in
-    let rest : drop (a - length first) rows ≡ drop a (first ++ rows) = sym (ap (λ k. drop k (first ++ rows)) place ∙ drop-append-add first rows (a - length first)) in
-    ap (λ k. run step from (take k rows)) short
-    ∙ ap (run step from) (take-add (a - length first) (n - a) rows)
-    ∙ run_on step from opening (take (a - length first) rows) (take a (first ++ rows)) (take (n - a) (drop (a - length first) rows)) e
-    ∙ ap (λ (q : Rows). run step opening (take a (first ++ rows) ++ take (n - a) q)) rest
-    ∙ ap (run step opening) (sym (take-add a (n - a) (first ++ rows)))
-    ∙ ap (λ k. run step opening (take k (first ++ rows))) (sym long)
 
 module _ {N : Type 0} (value : N → Value) (step : Step) (opening : Value) (settings : Settings) (core : Core) (ticket : ℕ) (route : Route) where
   -- all that is held after a graft is possible
@@ -115,10 +93,6 @@ pub record CanGraft {N : Type 0} (step : Step) (opening : Value) (core : Core) (
 passes : (b : Bool) (why : Refusal) (tests : List (Bool × Refusal)) → first_refusal ((b, why) ∷ tests) ≡ None → (b ≡ false) × (first_refusal tests ≡ None)
 passes true why tests h = absurd (cc h)
 passes false why tests h = (refl, h)
-
--- values that a test finds the same
-same_are : (x y : Value) → same_value x y ≡ true → x ≡ y
-same_are x y e = (slice_eq-Decides Decides-eqb x y (same_value x y) refl).0 e
 
 -- there is room for what a branch adds
 room_left : (count many most : ℕ) → (nat_lt 0 count && nat_lt most (many + count)) ≡ false → many ≤ TREE_LIMIT → most ≤ TREE_LIMIT → many + count ≤ TREE_LIMIT

@@ -108,15 +108,6 @@ can_be_partial_advance core made g h =
     let same : eqb (core.frame + 1) (core.frame + 1) ≡ true = grind (arith, nat_tests) in
     rw (other, same, g, le-leb made (cost core (core.frame + 1)) h) refl
 
--- tests of which none fails, and one more
-pub first_refusal-none : (tests : List (Bool × Refusal)) (b : Bool) (why : Refusal) → first_refusal tests ≡ None → first_refusal (tests ++ (b, why) ∷ []) ≡ cond b (Some why) None
-first_refusal-none [] b why h = refl
-first_refusal-none (test ∷ tests) b why h = passed test.0 test.1 (first_refusal-none tests b why) h
-  where
-    passed : (t : Bool) (first : Refusal) → (first_refusal tests ≡ None → first_refusal (tests ++ (b, why) ∷ []) ≡ cond b (Some why) None) → cond t (Some first) (first_refusal tests) ≡ None → cond t (Some first) (first_refusal (tests ++ (b, why) ∷ [])) ≡ cond b (Some why) None
-    passed true first rest h = cc
-    passed false first rest h = rest h
-
 -- tests of which none fails, of which these are the first
 pub first_refusal-front : (tests more : List (Bool × Refusal)) → first_refusal (tests ++ more) ≡ None → first_refusal tests ≡ None
 first_refusal-front [] more h = refl

@@ -22,6 +22,7 @@ use Rattle.roll_frame.specs.Refusals.{first_refusal}
 use Rattle.roll_frame.specs.Settings.{open_to_branches}
 use Rattle.roll_frame.specs.Timeline.{Player, row_at, timeline}
 use Rattle.roll_frame.proofs.Beginnings.{begins, longest_within}
+use Rattle.roll_frame.proofs.Refused.{all_fail, first_refusal-behind}
 use Rattle.roll_frame.proofs.Timelines.{length_timeline}
 use Rattle.roll_branch.specs.Routed.{Routed}
 use Rattle.roll_inputs.specs.Boards.{Inputs}
@@ -42,7 +43,7 @@ use Rattle.roll_session.specs.Held.{IsSession, inputs_of}
 use Rattle.roll_session.specs.Saves.{HaveValues, Standing}
 use Rattle.roll_session.specs.Seen.{Step}
 use Rattle.roll_session.specs.Standing.{from_start, settled_rows}
-use Rattle.roll_session.proofs.Holding.{first_refusal-none, first_refusal-some}
+use Rattle.roll_session.proofs.Holding.{first_refusal-some}
 use Rattle.roll_session.proofs.Rows.{longest_on}
 use Rattle.roll_session.proofs.Settles.{start_root}
 
@@ -228,7 +229,7 @@ pub with_log : (tests : List (Bool × Refusal)) (full : Bool) → first_refusal 
 with_log tests full = go (first_refusal tests) refl
   where
     go : (o : Option Refusal) → first_refusal tests ≡ o → first_refusal (tests ++ (full, LogFull) ∷ []) ≡ (if is_none o && full then Some LogFull else o)
-    go None e = first_refusal-none tests full LogFull e
+    go None e = first_refusal-behind tests ((full, LogFull) ∷ []) (all_fail tests e)
     go (Some why) e = first_refusal-some tests ((full, LogFull) ∷ []) why e
 
 -- why a session refuses a graft, by what its fields tell
