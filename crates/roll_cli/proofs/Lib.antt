@@ -4,6 +4,7 @@ pub mod ShownExamples
 pub mod ShownTexts
 pub mod Unplayed
 pub mod Asked
+pub mod Guessed
 pub mod Written
 pub mod Claimed
 pub mod Played

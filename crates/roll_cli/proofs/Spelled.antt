@@ -11,7 +11,7 @@ use Rattle.roll_text.proofs.Joined.{decimal-lacks, join-lacks, reads-joined}
 use Rattle.roll_text.proofs.Lists.{list_of-lacks, list_of-injective}
 use Rattle.roll_cli.specs.declared.command.Command.{Command}
 use Rattle.roll_cli.specs.declared.command.Command.TheVariants.{Local, Remote, Disconnect, Sync, Advance, Guess, Extend, Claim}
-use Rattle.roll_cli.specs.Commands.{IsCommand, fields_of, line_of, is_played}
+use Rattle.roll_cli.specs.Commands.{IsCommand, fields_of, line_of}
 
 letter-lacks : (c l : ℕ) → (l == c) ≡ false → Lacks c (l ∷ [])
 letter-lacks c l apart = All-cons (λ b. (b == c) ≡ false) l [] apart (All-nil _)
@@ -81,20 +81,3 @@ no_guess player until text words h t many (Guess p u ws) fits e =
     omega (arith, fits.3)
 no_guess player until text words h t many (Extend job) fits e = cc
 no_guess player until text words h t many Claim fits e = cc
-
--- a line's first byte tells whether it can be played
-abbrev plays : ℕ → Bool
-plays letter = not (letter == 71 || letter == 66)
-
-plays-first : (command : Command) → is_played command ≡ plays (get_or (line_of command) 0 0)
-plays-first (Local player word) = refl
-plays-first (Remote player frame word) = refl
-plays-first (Disconnect player) = refl
-plays-first Sync = refl
-plays-first Advance = refl
-plays-first (Guess player until words) = refl
-plays-first (Extend job) = refl
-plays-first Claim = refl
-
-pub same-played : (a b : Command) → line_of a ≡ line_of b → is_played a ≡ is_played b
-same-played a b e = plays-first a ∙ ap (λ line. plays (get_or line 0 0)) e ∙ sym (plays-first b)

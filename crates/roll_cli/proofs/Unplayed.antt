@@ -10,15 +10,15 @@ use Rattle.roll_text.proofs.LineTexts.{text_of-next}
 use Rattle.roll_text.proofs.Spelled.{IsAfter, unended_line, bad_line, no_line, next_spelled}
 use Rattle.roll_cli.specs.declared.command.Command.{Command}
 use Rattle.roll_cli.specs.declared.header.Version.TheVariants.{Plain}
-use Rattle.roll_cli.specs.Commands.{IsPlayed, line_of}
+use Rattle.roll_cli.specs.Commands.{IsCommand, line_of}
 use Rattle.roll_cli.specs.Headers.{Setup, IsSetup, header_of}
 use Rattle.roll_cli.specs.Plays.{Play, IsPlay, IsScript, play_lines}
 use Rattle.roll_cli.proofs.Headings.{header-lacks}
 use Rattle.roll_cli.proofs.Spelled.{line-lacks}
 
-commands-lack : (commands : List Command) → AllByRecursion IsPlayed commands → AllByRecursion (Lacks 10) (map line_of commands)
+commands-lack : (commands : List Command) → AllByRecursion IsCommand commands → AllByRecursion (Lacks 10) (map line_of commands)
 commands-lack [] h = tt
-commands-lack (command ∷ commands) h = (line-lacks command h.0.0, commands-lack commands h.1)
+commands-lack (command ∷ commands) h = (line-lacks command h.0, commands-lack commands h.1)
 
 pub lines-lack : (play : Play) → IsPlay play → AllByRecursion (Lacks 10) (play_lines play)
 lines-lack play fits = (header-lacks play.setup fits.setup, commands-lack play.commands fits.commands)
@@ -64,7 +64,7 @@ abbrev pub lines_so_far : Setup → List Command → List (List ℕ)
 lines_so_far setup commands = play_lines (record { setup = setup; commands = commands })
 
 -- a script was read
-after_commands : (setup : Setup) (commands : List Command) (text rest : List ℕ) (line : ℕ) → IsSetup setup → AllByRecursion IsPlayed commands
+after_commands : (setup : Setup) (commands : List Command) (text rest : List ℕ) (line : ℕ) → IsSetup setup → AllByRecursion IsCommand commands
     → text ≡ text_of (lines_so_far setup commands) ++ rest → line ≡ length commands + 2 → IsAfter IsPlay play_lines (lines_so_far setup commands) text rest line
 after_commands setup commands text rest line fits each whole count = record {
   whole = whole;
@@ -73,19 +73,19 @@ after_commands setup commands text rest line fits each whole count = record {
 }
 
 -- a script, and then a line with no end
-pub no_end_after : (setup : Setup) (commands : List Command) (text rest : List ℕ) (line : ℕ) → IsSetup setup → AllByRecursion IsPlayed commands
+pub no_end_after : (setup : Setup) (commands : List Command) (text rest : List ℕ) (line : ℕ) → IsSetup setup → AllByRecursion IsCommand commands
     → text ≡ text_of (lines_so_far setup commands) ++ rest → line ≡ length commands + 2 → 0 < length rest → Lacks 10 rest → IsUnreadableAt line IsScript text
 no_end_after setup commands text rest line fits each whole count some lacks =
     unended_line IsPlay play_lines lines-lack (lines_so_far setup commands) text rest line (after_commands setup commands text rest line fits each whole count) lacks some
 
 -- a script, and then a line that is no command
-pub no_command : (setup : Setup) (commands : List Command) (text rest front after : List ℕ) (line : ℕ) → IsSetup setup → AllByRecursion IsPlayed commands
+pub no_command : (setup : Setup) (commands : List Command) (text rest front after : List ℕ) (line : ℕ) → IsSetup setup → AllByRecursion IsCommand commands
     → text ≡ text_of (lines_so_far setup commands) ++ rest → line ≡ length commands + 2 → Lacks 10 front × (rest ≡ ended front ++ after)
-    → ((command : Command) → IsPlayed command → front ≡ line_of command → ⊥) → IsUnreadableAt line IsScript text
+    → ((command : Command) → IsCommand command → front ≡ line_of command → ⊥) → IsUnreadableAt line IsScript text
 no_command setup commands text rest front after line fits each whole count cut none =
     bad_line IsPlay play_lines lines-lack (lines_so_far setup commands) text rest front after line (after_commands setup commands text rest line fits each whole count) cut
     (λ other more fits e.
-    let next = next_spelled IsPlayed line_of other.commands (map line_of commands) front more fits.commands (ap (drop 1) e) in
+    let next = next_spelled IsCommand line_of other.commands (map line_of commands) front more fits.commands (ap (drop 1) e) in
     none next.0 next.1 next.2)
 
 -- one more command was read

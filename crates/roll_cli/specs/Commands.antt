@@ -1,5 +1,5 @@
 -- The commands of a script, and their lines.
-use Rattle.std.specs.Prelude.{◌≡◌, ℕ, ◌≤◌, Bool, true, false, List, [], ◌∷◌, length, codes}
+use Rattle.std.specs.Prelude.{ℕ, ◌≤◌, List, [], ◌∷◌, length, codes}
 use Rattle.std.specs.List.{join_with_byte}
 use Rattle.std.specs.Fmt.{decimal}
 use Rattle.roll_frame.specs.declared.limits.TheConstants.{PATH_LIMIT}
@@ -30,12 +30,3 @@ fields_of Claim = codes "C" ∷ []
 -- a command's line, without its end
 abbrev pub line_of : Command → List ℕ
 line_of command = join_with_byte 32 (fields_of command)
-
--- the commands that can be played; there are no branches yet
-abbrev pub is_played : Command → Bool
-is_played (Guess player until words) = false
-is_played (Extend job) = false
-is_played command = true
-
-abbrev pub IsPlayed : Command → Type 0
-IsPlayed command = IsCommand command × (is_played command ≡ true)

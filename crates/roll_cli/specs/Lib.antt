@@ -3,6 +3,7 @@ pub mod Headers
 pub mod Plays
 pub mod Shown
 pub mod Output
+pub mod Playings
 pub mod Calls
 pub mod Faults
 pub mod Certified

@@ -4,7 +4,7 @@ use Rattle.std.specs.List.{AllByRecursion}
 use Rattle.roll_text.specs.Text.{Spells}
 use Rattle.roll_cli.specs.declared.command.Command.{Command}
 use Rattle.roll_cli.specs.declared.script.Script.{Script}
-use Rattle.roll_cli.specs.Commands.{IsPlayed, line_of}
+use Rattle.roll_cli.specs.Commands.{IsCommand, line_of}
 use Rattle.roll_cli.specs.Headers.{Setup, IsSetup, header_of, setup_of}
 
 -- what a script says: how its session is opened, and what is asked of it
@@ -17,7 +17,7 @@ play_of script = record { setup = setup_of script.header; commands = script.comm
 
 pub record IsPlay (play : Play) : Type 0 where
   pub setup : IsSetup play.setup
-  pub commands : AllByRecursion IsPlayed play.commands
+  pub commands : AllByRecursion IsCommand play.commands
 
 -- its lines: the header's, and one for each command
 abbrev pub play_lines : Play → List (List ℕ)

@@ -1,7 +1,7 @@
 //! The commands of a script.
 ghost use Rattle.std.specs.Prelude.{◌≡◌, ◌∷◌, [], IfOk, map, codes};
 ghost use Rattle.std.specs.Fmt.{decimal};
-ghost use Rattle.roll_cli.specs.Commands.{IsCommand, IsPlayed, fields_of, line_of, is_played as can_be_played};
+ghost use Rattle.roll_cli.specs.Commands.{IsCommand, fields_of, line_of};
 ghost use Rattle.roll_text.specs.Text.{Reads};
 
 use roll_frame::PATH_LIMIT;
@@ -40,7 +40,7 @@ pub enum Command {
         until: u32,
         words: Vec<u32>,
     },
-    /// `B j`: job j is run, and its branch grafted.
+    /// `B j`: job j is run, and its branch taken in.
     Extend {
         job: u32,
     },
@@ -69,27 +69,6 @@ impl Command {
             [kind, player, frame, values] => with_values(alloc, kind, player, frame, values),
             _ => Ok(None),
         }
-    }
-
-    /// The same of a command that can be played.
-    pub fn read_played(alloc: Global, line: &[u8]) -> Result<Option<Command>, AllocError>
-        ensures { IfOk result (λ command. Reads IsPlayed line_of line.now command) }
-    {
-        let Some(command) = Command::read(alloc, line)? else {
-            return Ok(None);
-        };
-        if command.is_played() {
-            Ok(Some(command))
-        } else {
-            Ok(None)
-        }
-    }
-
-    /// Whether it can be played yet: guesses and branches can't.
-    pub fn is_played(&self) -> bool
-        ensures { result ≡ can_be_played self.now }
-    {
-        !matches!(self, Command::Guess { .. } | Command::Extend { .. })
     }
 }
 

@@ -10,7 +10,8 @@ ghost use Rattle.roll_cli.specs.Plays.{IsPlay, IsScript, play_lines, play_of};
 ghost use Rattle.roll_cli.specs.declared.engine.PlayFault.TheVariants.{NoMemory, Unreadable, Write as CannotWrite};
 
 use crate::command::Command;
-use crate::output::{push_refused, push_replies};
+use crate::output::push_refused;
+use crate::playing::Playing;
 use crate::script::{Script, ScriptFault};
 use crate::shown::Shown;
 use roll_duel::Duel;
@@ -18,7 +19,7 @@ use roll_frame::{Refusal, Settings};
 use roll_game::NoMemory as GameFault;
 use roll_session::Session;
 use roll_text::{ReadFault, WriteFault, read_all, write_all};
-use std::alloc::{AllocError, Global};
+use std::alloc::{AllocError, AllocFailed, Global};
 use std::error::Error;
 use std::fmt::{self, Display, Formatter};
 use std::io::{Read, Write};
@@ -58,6 +59,14 @@ impl From<AllocError> for PlayFault {
     ghost from_gives = { λ _ fault. fault ≡ NoMemory };
 
     fn from(_error: AllocError) -> PlayFault {
+        PlayFault::NoMemory
+    }
+}
+
+impl<T: Drop> From<AllocFailed<T>> for PlayFault {
+    ghost from_gives = { λ _ fault. fault ≡ NoMemory };
+
+    fn from(_error: AllocFailed<T>) -> PlayFault {
         PlayFault::NoMemory
     }
 }
@@ -108,7 +117,8 @@ impl From<WriteFault> for PlayFault {
 }
 
 /// Plays a script: reads all of it, writes the reply to each command, and answers how many replies are refusals. The
-/// game starts at `opening`; `helper`, a second game of its kind, is not used until scripts can have branches.
+/// game starts at `opening`; `helper`, a second game of its kind, runs the jobs that guesses give. Where the helper refuses,
+/// the script ends as one for which there is no memory.
 ///
 /// At most 1,048,577 bytes are read. Nothing is written unless the whole script can be read, and then all in large
 /// pieces at the end. Where the session doesn't start, its refusal is all that is written, and counts as one.
@@ -118,7 +128,7 @@ pub fn play<G: Shown + Drop, R: Read, W: Write>(
     writer: &mut W,
     game: G,
     opening: G::Snapshot,
-    _helper: G,
+    helper: G,
 ) -> Result<u32, PlayFault>
     ensures written { IfOk result (λ refused. IfSome (R.remaining reader.old) (λ text.
         (written : List ℕ) × IsOutput (output G.text_of (record { opening = G.snapshot_value opening; step = G.step })) (refusals (record { opening = G.snapshot_value opening; step = G.step })) text written refused × Appends (W.contents writer.old) (W.contents writer.new) written)) }
@@ -129,7 +139,7 @@ pub fn play<G: Shown + Drop, R: Read, W: Write>(
     ensures taken { TakesAtMost (TEXT_LIMIT + 1) (R.remaining reader.old) (R.remaining reader.new) }
 {
     let script = read_script(alloc, reader)?;
-    write_played(alloc, writer, &script, game, opening)
+    write_played(alloc, writer, &script, game, opening, helper)
 }
 
 /// Plays a script of the ship duel, as `play` does, with a ship for each player. A script with one player or more than
@@ -172,6 +182,7 @@ fn write_played<G: Shown + Drop, W: Write>(
     script: &Script,
     game: G,
     opening: G::Snapshot,
+    helper: G,
 ) -> Result<u32, PlayFault>
     requires fits { IsPlay (play_of script.now) }
     requires few { length script.now.commands.items < 2 ^ 32 }
@@ -182,7 +193,8 @@ fn write_played<G: Shown + Drop, W: Write>(
 {
     let mut out = Vec::new(alloc);
     let settings = script.header.settings();
-    let refused = push_output(alloc, &mut out, settings, &script.commands, game, opening)?;
+    let commands = &script.commands;
+    let refused = push_output(alloc, &mut out, settings, commands, game, opening, helper)?;
     write_all(writer, &out)?;
     Ok(refused)
 }
@@ -196,11 +208,12 @@ fn write_duel<W: Write>(alloc: Global, writer: &mut W, script: &Script) -> Resul
     ensures cut { result ≡ Err CannotWrite → AppendsPart (W.contents writer.old) (W.contents writer.new) (duel_output (play_of script.now)) }
     ensures fault { IfErr result (λ fault. (fault ≡ CannotWrite) ⊎ ((fault ≡ NoMemory) × (writer.new ≡ writer.old))) }
 {
-    let Ok(duel) = Duel::new(alloc, script.header.players as u8) else {
+    let ships = script.header.players as u8;
+    let (Ok(duel), Ok(helper)) = (Duel::new(alloc, ships), Duel::new(alloc, ships)) else {
         return write_not_started(alloc, writer, Refusal::PlayerOutOfRange);
     };
     let opening = duel.opening()?;
-    write_played(alloc, writer, script, duel, opening)
+    write_played(alloc, writer, script, duel, opening, helper)
 }
 
 /// Writes why there is no game to play.
@@ -228,6 +241,7 @@ pub fn push_output<G: Shown + Drop>(
     commands: &[Command],
     game: G,
     opening: G::Snapshot,
+    helper: G,
 ) -> Result<u32, PlayFault>
     requires few { length commands.now < 2 ^ 32 }
     ensures written { OnOk result (out.new.items ≡ out.old.items ++ output_under G.text_of settings (record { opening = G.snapshot_value opening; step = G.step }) commands.now) }
@@ -235,7 +249,7 @@ pub fn push_output<G: Shown + Drop>(
     ensures fault { IfErr result (λ fault. fault ≡ NoMemory) }
 {
     match Session::start(alloc, game, opening, settings) {
-        Ok(mut session) => push_replies(alloc, out, &mut session, commands),
+        Ok(session) => Playing::new(alloc, session, helper).play_all(alloc, out, commands),
         Err(fault) => push_not_started(out, fault.why),
     }
 }

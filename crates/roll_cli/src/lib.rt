@@ -6,6 +6,7 @@ mod command;
 mod engine;
 mod header;
 mod output;
+mod playing;
 mod program;
 mod script;
 mod shown;

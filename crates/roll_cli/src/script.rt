@@ -11,7 +11,7 @@ use roll_text::split_line;
 use std::alloc::{AllocError, AllocFailed, Global};
 use thiserror::Error;
 
-/// A script that can be played.
+/// A script: how its session is opened, and what is asked of it.
 #[derive(Debug, Drop)]
 pub struct Script {
     pub header: Header,
@@ -63,7 +63,7 @@ impl Script {
             let Some((front, after)) = split_line(rest) else {
                 return Err(ScriptFault::Unreadable(line));
             };
-            let Some(command) = Command::read_played(alloc, front)? else {
+            let Some(command) = Command::read(alloc, front)? else {
                 return Err(ScriptFault::Unreadable(line));
             };
             commands.push(command)?;

@@ -2,7 +2,8 @@
 use Rattle.std.specs.Prelude.{◌≡◌, ◌⊎◌, ℕ, ◌-◌, List, ◌++◌, drop, length, take, nat_lt, true, false, if◌then◌else◌, Option, Some, None, Result, Ok, Err, option_map}
 use Rattle.roll_branch.specs.Routed.{Routed}
 use Rattle.roll_frame.specs.Cells.{Rows}
-use Rattle.roll_frame.specs.Games.{Value}
+use Rattle.roll_frame.specs.Core.{Core}
+use Rattle.roll_frame.specs.Games.{Game, Value}
 use Rattle.roll_frame.specs.Grafts.{Branch, start_of}
 use Rattle.roll_frame.specs.Guess.{guess_tests, guessed_job}
 use Rattle.roll_frame.specs.Inputs.{changed, with_words}
@@ -18,7 +19,7 @@ use Rattle.roll_game.specs.declared.counts.Counts.{Counts}
 use Rattle.roll_inputs.specs.Boards.{Inputs}
 use Rattle.roll_tree.specs.SavedStates.{paths_of}
 use Rattle.roll_session.specs.Saves.{Standing}
-use Rattle.roll_session.specs.Seen.{Seen, Step, core_of}
+use Rattle.roll_session.specs.Seen.{Seen, Step, core_of, game_of}
 use Rattle.roll_session.specs.Standing.{rows_from}
 
 -- the rows from the settled frame to another, if player p gave these words next
@@ -49,18 +50,21 @@ module _ {S : Type 0} where
 abbrev pub guess_refusal_of : Seen → ℕ → List ℕ → ℕ → Option Refusal
 guess_refusal_of s p words until = first_refusal (guess_tests s.settings.limit (core_of s) p words until)
 
--- the job that a session makes of a branch that is to be run
-abbrev pub job_from : Step → Seen → Branch → Routed
-job_from step s branch =
+-- the job of a branch that is to be run
+abbrev pub job_from : Game → Core → Branch → Routed
+job_from game core branch =
     record {
       ticket = 0;
       route = record { path = branch.path; rows = record { items = branch.rows } };
-      from = run step s.opening (start_of (core_of s) branch);
+      from = run game.step game.opening (start_of core branch);
     }
 
 -- the job of a guess that is not refused; none where all of its rows are kept
+abbrev pub guess_job : Game → Core → ℕ → List ℕ → ℕ → Option Routed
+guess_job game core p words until = option_map (job_from game core) (guessed_job core p words until)
+
 abbrev pub guess_job_of : Step → Seen → ℕ → List ℕ → ℕ → Option Routed
-guess_job_of step s p words until = option_map (job_from step s) (guessed_job (core_of s) p words until)
+guess_job_of step s p words until = guess_job (game_of step s) (core_of s) p words until
 
 -- what a game was asked for where a job was wanted: one copy where there is one, and no more than one, which it refused,
 -- where memory ran out

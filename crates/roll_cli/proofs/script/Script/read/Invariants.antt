@@ -1,7 +1,7 @@
 use Rattle.std.proofs.Common.{◌≡◌, ◌+◌, ◌++◌, length}
 use Rattle.std.specs.List.{AllByRecursion}
 use Rattle.roll_text.specs.Lines.{text_of}
-use Rattle.roll_cli.specs.Commands.{IsPlayed}
+use Rattle.roll_cli.specs.Commands.{IsCommand}
 use Rattle.roll_cli.specs.Headers.{setup_of}
 use Rattle.roll_cli.proofs.Unplayed.{lines_so_far}
 use Rattle.roll_cli.proofs.script.Script.read.Given as goal
@@ -9,7 +9,7 @@ use Rattle.roll_cli.proofs.script.Script.read.Given as goal
 abbrev pub invariant-loop-rest : goal.invariant-loop-rest
 invariant-loop-rest l = record {
   whole : l.fn.text ≡ text_of (lines_so_far (setup_of l.header) l.commands.items) ++ l.rest;
-  each : AllByRecursion IsPlayed l.commands.items;
+  each : AllByRecursion IsCommand l.commands.items;
   count : l.line ≡ length l.commands.items + 2;
 }
 

@@ -1,0 +1,210 @@
+//! Scripts that are being played.
+ghost use Rattle.std.specs.Prelude.{◌≡◌, ◌<◌, ◌+◌, ◌^◌, ◌++◌, [], IfErr, IfOk, OnOk, is_err, length, slice_set, None};
+ghost use Rattle.roll_frame.specs.Events.{after, reply};
+ghost use Rattle.roll_session.specs.Calls.{asked};
+ghost use Rattle.roll_session.specs.Seen.{core_of};
+ghost use Rattle.roll_text.specs.Lines.{ended};
+ghost use Rattle.roll_cli.specs.Calls.{call_of, narrowed};
+ghost use Rattle.roll_cli.specs.Output.{after_command, event_text, guess_line, guessed, is_refused as refuses, job_at, refusals_from, refused_by, with_job, written_by, written_from};
+ghost use Rattle.roll_cli.specs.Playings.{game_of};
+
+use crate::command::Command;
+use crate::engine::PlayFault;
+use crate::output::{push_claim, push_job, push_reply};
+use crate::shown::Shown;
+use roll_branch::{Done, Job, extend};
+use roll_frame::{Refusal, Reply};
+use roll_game::Game;
+use roll_session::{Call, Request, Session};
+use std::alloc::Global;
+use std::marker::Model;
+
+/// A script that is being played.
+#[derive(Drop)]
+pub struct Playing<G: Game> {
+    session: Session<G>,
+    /// Runs the jobs.
+    helper: G,
+    /// The jobs that guesses gave, in the order of their numbers. None where one was taken.
+    jobs: Vec<Option<Job<G>>>,
+}
+
+impl<G: Game> Model for Playing<G> {
+    ghost use Rattle.roll_session.specs.Seen.{core_of};
+    ghost use Rattle.roll_cli.specs.Playings.{Played};
+
+    ghost Value = { Played };
+
+    ghost view = { λ p. record { settings = p.session.settings; opening = p.session.opening; now = record { core = core_of p.session; jobs = p.jobs.items } } };
+}
+
+impl<G: Shown> Playing<G> {
+    /// A session of which nothing was asked for yet, and a second game of its kind, which is to run its jobs.
+    pub fn new(alloc: Global, session: Session<G>, helper: G) -> Playing<G>
+        ensures { result ≡ record { settings = session.settings; opening = session.opening; now = record { core = core_of session; jobs = [] } } }
+    {
+        Playing {
+            session,
+            helper,
+            jobs: Vec::new(alloc),
+        }
+    }
+
+    /// Plays the commands, writes their replies at the end, and answers how many are refusals.
+    pub fn play_all(
+        &mut self,
+        alloc: Global,
+        out: &mut Vec<u8>,
+        commands: &[Command],
+    ) -> Result<u32, PlayFault>
+        requires { length self.old.now.jobs + length commands.now < 2 ^ 32 }
+        ensures written { OnOk result (out.new.items ≡ out.old.items ++ written_from G.text_of self.old.settings (game_of G.step self.old) self.old.now commands.now) }
+        ensures refused { IfOk result (λ refused. refused ≡ refusals_from self.old.settings (game_of G.step self.old) self.old.now commands.now) }
+        ensures fault { IfErr result (λ fault. fault ≡ PlayFault.NoMemory) }
+    {
+        let mut refused = 0;
+        for command in commands {
+            if self.play(alloc, out, command)? {
+                refused += 1;
+            }
+        }
+        Ok(refused)
+    }
+
+    /// Plays a command, writes its reply, and answers whether it was refused.
+    fn play(
+        &mut self,
+        alloc: Global,
+        out: &mut Vec<u8>,
+        command: &Command,
+    ) -> Result<bool, PlayFault>
+        requires { length self.old.now.jobs < 2 ^ 32 }
+        ensures played { OnOk result (self.new ≡ record self.old { now = after_command self.old.settings (game_of G.step self.old) self.old.now command.now }) }
+        ensures written { OnOk result (out.new.items ≡ out.old.items ++ written_by G.text_of self.old.settings (game_of G.step self.old) self.old.now command.now) }
+        ensures refused { IfOk result (λ refused. refused ≡ refused_by self.old.settings (game_of G.step self.old) self.old.now command.now) }
+        ensures fault { IfErr result (λ fault. fault ≡ PlayFault.NoMemory) }
+    {
+        self.session.laws();
+        if let Some(call) = call(command) {
+            return self.answer(out, Request::Call(call));
+        }
+        match command {
+            Command::Guess {
+                player,
+                until,
+                words,
+            } => self.guess(alloc, out, player_number(*player), words, *until),
+            Command::Extend { job } => self.extend(out, *job),
+            _ => push_claim(alloc, out, &self.session),
+        }
+    }
+
+    /// Does what is asked for, writes the reply, and answers whether it was refused.
+    fn answer(&mut self, out: &mut Vec<u8>, request: Request<G>) -> Result<bool, PlayFault>
+        ensures played { OnOk result (self.new ≡ record self.old { now = record self.old.now { core = after self.old.settings (game_of G.step self.old) self.old.now.core (asked request) } }) }
+        ensures written { OnOk result (out.new.items ≡ out.old.items ++ event_text G.text_of self.old.settings (game_of G.step self.old) self.old.now.core (asked request)) }
+        ensures refused { IfOk result (λ refused. refused ≡ refuses (reply self.old.settings (game_of G.step self.old) self.old.now.core (asked request))) }
+        ensures fault { IfErr result (λ fault. fault ≡ PlayFault.NoMemory) }
+    {
+        let reply = self.session.perform(request)?;
+        push_reply(out, &self.session, reply)?;
+        Ok(is_refused(&reply))
+    }
+
+    /// Takes a job, runs it, and asks for its branch to be taken in.
+    fn extend(&mut self, out: &mut Vec<u8>, number: u32) -> Result<bool, PlayFault>
+        ensures played { OnOk result (self.new ≡ record self.old { now = after_command self.old.settings (game_of G.step self.old) self.old.now (Command.Extend number) }) }
+        ensures written { OnOk result (out.new.items ≡ out.old.items ++ written_by G.text_of self.old.settings (game_of G.step self.old) self.old.now (Command.Extend number)) }
+        ensures refused { IfOk result (λ refused. refused ≡ refused_by self.old.settings (game_of G.step self.old) self.old.now (Command.Extend number)) }
+        ensures fault { IfErr result (λ fault. fault ≡ PlayFault.NoMemory) }
+    {
+        let Some(job) = take_job(&mut self.jobs, number as usize) else {
+            push_reply(out, &self.session, Reply::Refused(Refusal::NoJob))?;
+            return Ok(true);
+        };
+        let Done::Grown(branch) = extend(&mut self.helper, job) else {
+            return Err(PlayFault::NoMemory);
+        };
+        self.answer(out, Request::Graft(branch))
+    }
+
+    /// Has a guess made, and writes its job's number, which is the next.
+    fn guess(
+        &mut self,
+        alloc: Global,
+        out: &mut Vec<u8>,
+        player: u8,
+        words: &[u32],
+        until: u32,
+    ) -> Result<bool, PlayFault>
+        requires { length self.old.now.jobs < 2 ^ 32 }
+        ensures played { OnOk result (self.new ≡ record self.old { now = record self.old.now { jobs = with_job self.old.now.jobs (guessed self.old.settings (game_of G.step self.old) self.old.now.core player words.now until) } }) }
+        ensures written { OnOk result (out.new.items ≡ out.old.items ++ ended (guess_line (length self.old.now.jobs) (guessed self.old.settings (game_of G.step self.old) self.old.now.core player words.now until))) }
+        ensures refused { IfOk result (λ refused. refused ≡ is_err (guessed self.old.settings (game_of G.step self.old) self.old.now.core player words.now until)) }
+        ensures fault { IfErr result (λ fault. fault ≡ PlayFault.NoMemory) }
+    {
+        match self.session.guess(alloc, player, words, until) {
+            Ok(Some(job)) => {
+                push_job(out, self.jobs.len() as u32, job.route().rows.len() as u32)?;
+                self.jobs.push(Some(job))?;
+                Ok(false)
+            }
+            Ok(None) => {
+                out.extend_from_slice(b"kept\n")?;
+                Ok(false)
+            }
+            Err(Refusal::NoMemory) => Err(PlayFault::NoMemory),
+            Err(why) => {
+                push_reply(out, &self.session, Reply::Refused(why))?;
+                Ok(true)
+            }
+        }
+    }
+}
+
+/// Takes a job away, if there is one of this number.
+fn take_job<G: Game>(jobs: &mut Vec<Option<Job<G>>>, number: usize) -> Option<Job<G>>
+    ensures job { result ≡ job_at jobs.old.items number }
+    ensures left { jobs.new.items ≡ slice_set jobs.old.items number None }
+{
+    jobs.get_mut(number)?.take()
+}
+
+fn is_refused(reply: &Reply) -> bool
+    ensures { result ≡ refuses reply.now }
+{
+    matches!(reply, Reply::Refused(_))
+}
+
+/// The call that a command asks for. A number that is past those of any player stands for none, as 0 does.
+fn call(command: &Command) -> Option<Call>
+    ensures { result ≡ call_of command.now }
+{
+    match command {
+        Command::Local { player, word } => Some(Call::Local {
+            player: player_number(*player),
+            word: *word,
+        }),
+        Command::Remote {
+            player,
+            frame,
+            word,
+        } => Some(Call::Remote {
+            player: player_number(*player),
+            frame: *frame,
+            word: *word,
+        }),
+        Command::Disconnect { player } => Some(Call::Disconnect {
+            player: player_number(*player),
+        }),
+        Command::Sync => Some(Call::Sync),
+        Command::Advance => Some(Call::Advance),
+        Command::Guess { .. } | Command::Extend { .. } | Command::Claim => None,
+    }
+}
+
+fn player_number(n: u32) -> u8
+    ensures { result ≡ narrowed n }
+{
+    u8::try_from(n).unwrap_or(0)
+}
