@@ -1,6 +1,7 @@
 #!/bin/bash
-# Measures rollduel against the plain program: bench/run.sh ROLLDUEL
-# Both play the same scripts, and must write the same bytes. A time is that of a whole run, the least of 25.
+# Measures rollduel against the plain program, and what guesses save and cost: bench/run.sh ROLLDUEL
+# Both play the same scripts, and must write the same bytes. A time is that of a whole run, the least of 25. It takes some
+# two minutes.
 set -euo pipefail
 [ $# = 1 ] || { echo "usage: bench/run.sh ROLLDUEL" >&2; exit 2; }
 rollduel=$(realpath -- "$1")
@@ -41,3 +42,5 @@ for size in sizes:
     row = f"| {size} | {a * 1e3:.1f} ms | {b * 1e3:.1f} ms | {a / b:.2f} | {a * each:.3f} µs | {b * each:.3f} µs |"
     print(row, flush=True)
 END
+
+python3 "$here/guesses.py" "$rollduel" "$work/plain"
