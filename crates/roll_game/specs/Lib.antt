@@ -1,3 +1,4 @@
 pub mod Counts
+pub mod Divergence
 pub mod Refusing
 pub mod Tally

@@ -85,3 +85,11 @@ pub trait Game: RawGame {
     /// A successful advance leads to the step's value, and to no other.
     ghost is_step: { (x : List ℕ) (row : List Cell) (y : List ℕ) → Self.ran x row y ↔ (y ≡ step x row) };
 }
+
+/// Why a session or a sync test did not start, with what was handed in.
+#[derive(Drop)]
+pub struct StartFault<R: RawGame> {
+    pub why: Refusal,
+    pub game: R,
+    pub opening: R::Snapshot,
+}

@@ -2,13 +2,15 @@
 #![tactic(auto)]
 
 mod counts;
+mod divergence;
 mod game;
 mod refusing;
 mod steps;
 mod tally;
 
 pub use counts::{Call, Counts};
-pub use game::{Game, NoMemory, RawGame};
+pub use divergence::never_diverges;
+pub use game::{Game, NoMemory, RawGame, StartFault};
 pub use refusing::Refusing;
 pub use steps::advance_and_save;
 pub use tally::Tally;

@@ -3,19 +3,19 @@ ghost use Rattle.std.specs.Prelude.{◌≡◌, ◌⊎◌, IfOk, OnErr, OnOk, tru
 ghost use Rattle.roll_game.specs.Counts.{counted};
 ghost use Rattle.roll_game.specs.declared.counts.Call.TheVariants.{Advance, Save};
 
-use crate::game::{Game, NoMemory};
+use crate::game::{NoMemory, RawGame};
 use roll_frame::Row;
 
 /// Advances by a row, and saves the state that this led to. What a refused call leaves in the state is open.
-pub fn advance_and_save<G: Game>(
-    game: &mut G,
-    state: &mut G::State,
+pub fn advance_and_save<R: RawGame>(
+    game: &mut R,
+    state: &mut R::State,
     row: &Row,
-) -> Result<G::Snapshot, NoMemory>
-    ensures snapshot { IfOk result (λ snapshot. G.snapshot_value snapshot ≡ G.step (G.state_value state.old) row.now) }
-    ensures state { OnOk result (G.state_value state.new ≡ G.step (G.state_value state.old) row.now) }
-    ensures counts { OnOk result (G.call_counts game.new ≡ counted Save true (counted Advance true (G.call_counts game.old))) }
-    ensures refused { OnErr result ((G.call_counts game.new ≡ counted Advance false (G.call_counts game.old)) ⊎ (G.call_counts game.new ≡ counted Save false (counted Advance true (G.call_counts game.old)))) }
+) -> Result<R::Snapshot, NoMemory>
+    ensures ran { OnOk result (R.ran (R.state_value state.old) row.now (R.state_value state.new)) }
+    ensures snapshot { IfOk result (λ snapshot. R.snapshot_value snapshot ≡ R.state_value state.new) }
+    ensures counts { OnOk result (R.call_counts game.new ≡ counted Save true (counted Advance true (R.call_counts game.old))) }
+    ensures refused { OnErr result ((R.call_counts game.new ≡ counted Advance false (R.call_counts game.old)) ⊎ (R.call_counts game.new ≡ counted Save false (counted Advance true (R.call_counts game.old)))) }
 {
     game.advance(state, row)?;
     game.save(state)

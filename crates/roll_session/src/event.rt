@@ -2,9 +2,7 @@
 ghost use Rattle.std.specs.Prelude.{◌≡◌};
 ghost use Rattle.roll_session.specs.Calls.{entry_of};
 
-use roll_branch::Branch;
-use roll_frame::{Entry, Refusal};
-use roll_game::{Game, RawGame};
+use roll_frame::Entry;
 
 /// A call of a session that is given numbers alone. Players are numbered from 1.
 #[derive(Clone, Copy, Debug, PartialEq, Eq)]
@@ -65,12 +63,4 @@ pub struct Reached {
 #[derive(Clone, Copy, Debug, PartialEq, Eq)]
 pub struct Grafted {
     pub added: u32,
-}
-
-/// Why a session did not start, with what was handed in.
-#[derive(Drop)]
-pub struct StartFault<G: RawGame> {
-    pub why: Refusal,
-    pub game: G,
-    pub opening: G::Snapshot,
 }

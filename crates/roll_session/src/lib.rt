@@ -9,7 +9,8 @@ mod run;
 mod saves;
 mod session;
 
-pub use event::{Call, Grafted, Reached, Request, StartFault};
+pub use event::{Call, Grafted, Reached};
+pub use roll_game::StartFault;
 pub use roll_inputs::Heard;
 pub use roll_plan::Plan;
 pub use session::{Parts, Session};

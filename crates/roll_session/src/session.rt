@@ -21,14 +21,14 @@ ghost use Rattle.roll_session.specs.Calls.{entry_of, event_of, grafting, heard_r
 ghost use Rattle.roll_session.specs.Seen.{core_of, game_of, IsLeast};
 ghost use Rattle.roll_session.specs.Started.{IsGivenBack};
 
-use crate::event::{Call, Grafted, Reached, StartFault};
+use crate::event::{Call, Grafted, Reached};
 use crate::guess::{guessed_rows, job_along};
 use crate::place::{branch_refusal, hang_new};
 use crate::roll::{Rolled, roll};
 use crate::saves::Saves;
 use roll_branch::{Branch, Job, Parts as BranchParts};
 use roll_frame::{Claim, Entry, Event, Path, Refusal, Reply, Row, Settings};
-use roll_game::Game;
+use roll_game::{Game, StartFault};
 use roll_inputs::{Board, Heard};
 use roll_plan::{Plan, Planner};
 use std::alloc::{AllocError, Global};

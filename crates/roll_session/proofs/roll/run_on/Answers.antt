@@ -1,4 +1,4 @@
-use Rattle.std.proofs.Common.{◌≡◌, suc, ◌+◌, ◌-◌, refl, arith}
+use Rattle.std.proofs.Common.{◌≡◌, suc, ◌+◌, ◌-◌, refl, arith, ◌∙◌}
 use Rattle.roll_frame.specs.declared.limits.TheConstants.{TREE_LIMIT}
 use Rattle.roll_session.proofs.Rolling.{can_grow, still_few, way_more, way_start}
 use Rattle.roll_session.proofs.roll.run_on.Goals as goal
@@ -22,10 +22,11 @@ grow-at-requires-clause-few g c =
 pub loop-frame-preserved : goal.loop-frame-preserved
 loop-frame-preserved g c =
     let now = c.loop-frame.invariant in
+    let stepped = (g.met.G.Game.is_step _ _ _).0 c.in-Ok-advance_and_save.ensures.ran in
     record {
       way =
           way_more g.G.RawGame.snapshot_value g.G.Game.step c.args.saves.now c.args.from c.args.to c.requires.from c.loop-frame.saves c.grow-at.new.self c.loop-frame.frame c.loop-frame.at c.grow-at.result (g.G.RawGame.state_value c.loop-frame.state) (g.G.RawGame.state_value c.advance_and_save.new.state)
-          c.in-Ok-advance_and_save.snapshot c.row-row.result now.way (omega (arith, c.loop-frame-test.true)) (rw c.board.ensures at c.row-row.ensures) c.in-Ok-advance_and_save.ensures.state c.in-Ok-advance_and_save.ensures.snapshot c.grow-at.ensures.inputs c.grow-at.ensures.room c.grow-at.ensures.vacant c.grow-at.ensures.added;
+          c.in-Ok-advance_and_save.snapshot c.row-row.result now.way (omega (arith, c.loop-frame-test.true)) (rw c.board.ensures at c.row-row.ensures) stepped (c.in-Ok-advance_and_save.ensures.snapshot ∙ stepped) c.grow-at.ensures.inputs c.grow-at.ensures.room c.grow-at.ensures.vacant c.grow-at.ensures.added;
       counts =
           let one : c.loop-frame.frame + 1 - c.args.from ≡ suc (c.loop-frame.frame - c.args.from) = omega (arith, now.way.low) in
           rw (one, c.in-Ok-advance_and_save.ensures.counts, now.counts) refl;
