@@ -1,6 +1,7 @@
 //! The sync test.
 ghost use Rattle.std.specs.Prelude.{◌≡◌, ◌⊎◌, ◌≤◌, [], IfOk, IfErr, OnOk, OnErr, IsSome, None, Some, unwrap_or, true, false, if◌then◌else◌};
 ghost use Rattle.std.specs.Int.{is_in_range};
+ghost use Rattle.roll_frame.specs.Games.{Value};
 ghost use Rattle.roll_game.specs.Counts.{counted};
 ghost use Rattle.roll_game.specs.declared.counts.Call.TheVariants.{Load};
 ghost use Rattle.roll_synctest.specs.Tests.{IsCut, Says, start_refusal, step_refusal};
@@ -89,6 +90,7 @@ impl<R: RawGame> SyncTest<R> {
     /// counted once; else `NoMemory` where the game refuses a call, and the test is stopped.
     pub fn step(&mut self, row: &Row) -> Result<Verdict, Refusal>
         ensures verdict { IfOk result (Says R.ran self.old self.new row.now) }
+        ensures ran { OnOk result ((x y : Value) → self.old.first ≡ Some x → self.new.first ≡ Some y → R.ran x row.now y) }
         ensures accepted { OnOk result (step_refusal self.old ≡ None) }
         ensures refused { IfErr result (λ why. why ≡ unwrap_or (step_refusal self.old) Refusal.NoMemory) }
         ensures unchanged { IsSome (step_refusal self.old) → self.new ≡ self.old }
