@@ -1,14 +1,14 @@
-//! What whoever holds a session knows of it by the laws, without its fields.
-ghost use Rattle.std.specs.Prelude.{◌≡◌, ◌≤◌, ◌+◌, ℕ, Some, OnOk, length, vec_capacity, vec_len};
+//! What whoever holds a session or a sync test knows of it by the laws, without its fields.
+ghost use Rattle.std.specs.Prelude.{◌≡◌, ◌≢◌, ◌≤◌, ◌+◌, ℕ, Some, OnOk, length, vec_capacity, vec_len};
 ghost use Rattle.roll_frame.specs.Core.{kept, settled};
 ghost use Rattle.roll_frame.specs.declared.row.Cell.{Cell};
 ghost use Rattle.roll_laws.specs.Laws.{known_cell, most_kept};
 ghost use Rattle.roll_session.specs.Seen.{core_of};
 
-use roll_frame::Reply;
-use roll_game::{Game, NoMemory};
-use roll_session::{Request, Session};
-use std::collections::VecDeque;
+use roll_frame::{Refusal, Reply, Row};
+use roll_game::{Game, NoMemory, never_diverges};
+use roll_session::{Call, Session};
+use roll_synctest::{SyncTest, Verdict};
 
 /// A session keeps few states, whatever was asked of it.
 pub fn keeps_few<G: Game>(session: &Session<G>)
@@ -30,4 +30,15 @@ pub fn goes_on<G: Game>(
     session.laws();
     session.run(requests, replies)?;
     Ok(())
+}
+
+/// Steps a sync test. A game never comes out different.
+pub fn steps_without_mismatch<G: Game>(
+    test: &mut SyncTest<G>,
+    row: &Row,
+) -> Result<Verdict, Refusal>
+    ensures { (frame : ℕ) → result ≢ Ok (Verdict.Mismatch frame) }
+{
+    never_diverges::<G>();
+    test.step(row)
 }

@@ -28,6 +28,8 @@ mod session;
 #[cfg(test)]
 mod shared;
 #[cfg(test)]
+mod sync_test;
+#[cfg(test)]
 mod text;
 #[cfg(test)]
 mod tree;
