@@ -1,4 +1,5 @@
 mod Examples
+pub mod Headed
 pub mod Joined
 pub mod KnownTexts
 pub mod LineTexts

@@ -3,12 +3,13 @@ use Rattle.std.specs.List.{AllByRecursion}
 use Rattle.roll_text.specs.Lines.{text_of}
 use Rattle.roll_cli.specs.Commands.{IsCommand}
 use Rattle.roll_cli.specs.Headers.{setup_of}
-use Rattle.roll_cli.proofs.Unplayed.{lines_so_far}
+use Rattle.roll_text.proofs.Headed.{lines_so_far}
+use Rattle.roll_cli.proofs.Unplayed.{scripts}
 use Rattle.roll_cli.proofs.script.Script.read.Given as goal
 
 abbrev pub invariant-loop-rest : goal.invariant-loop-rest
 invariant-loop-rest l = record {
-  whole : l.fn.text ≡ text_of (lines_so_far (setup_of l.header) l.commands.items) ++ l.rest;
+  whole : l.fn.text ≡ text_of (lines_so_far scripts (setup_of l.header) l.commands.items) ++ l.rest;
   each : AllByRecursion IsCommand l.commands.items;
   count : l.line ≡ length l.commands.items + 2;
 }
