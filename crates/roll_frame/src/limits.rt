@@ -14,6 +14,8 @@ pub const QUEUE_LIMIT: usize = 128;
 pub const PATH_LIMIT: usize = 24;
 /// The most rows of a branch.
 pub const BRANCH_LIMIT: usize = 8;
+/// The most frames that a sync test verifies at once.
+pub const SYNC_TEST_LIMIT: usize = 8;
 /// The most states that are kept while a roll runs.
 pub const TREE_LIMIT: usize = 256;
 /// The most pairs of advantages that the advice looks back on.

@@ -2,7 +2,7 @@
 use Rattle.std.specs.Prelude.{◌≡◌, ◌⊎◌, ℕ, ◌+◌, ◌<◌, ◌≤◌, List, [], ◌∷◌, ◌++◌, length, take, slice_index_or, Option, Some, None, option_map, is_none, nat_le, not, true, false, IfSome, IsSomeAnd}
 use Rattle.std.specs.Int.{is_in_range}
 use Rattle.std.specs.Option.{option_map_or}
-use Rattle.roll_frame.specs.declared.limits.TheConstants.{FRAME_LIMIT}
+use Rattle.roll_frame.specs.declared.limits.TheConstants.{FRAME_LIMIT, SYNC_TEST_LIMIT}
 use Rattle.roll_frame.specs.declared.refusal.Refusal.{Refusal}
 use Rattle.roll_frame.specs.declared.refusal.Refusal.TheVariants.{FrameLimit, InvalidRequest, Stopped}
 use Rattle.roll_frame.specs.declared.row.Cell.{Cell}
@@ -14,7 +14,6 @@ use Rattle.roll_game.specs.Divergence.{Ran, IsReached, Diverges}
 use Rattle.roll_game.specs.declared.counts.Call.TheVariants.{Advance, Save}
 use Rattle.roll_game.specs.declared.counts.Counts.{Counts}
 use Rattle.roll_synctest.specs.Runs.{FirstRun, IsTrace, value_before}
-use Rattle.roll_synctest.specs.declared.sync_test.TheConstants.{SYNC_LIMIT}
 use Rattle.roll_synctest.specs.declared.verdict.Verdict.{Verdict}
 use Rattle.roll_synctest.specs.declared.verdict.Verdict.TheVariants.{Run, Verified, Mismatch}
 
@@ -50,13 +49,13 @@ pub record IsAhead (ran : Ran) (frames verified : ℕ) (second : Value) (run : F
 
 -- what the fields of a test keep
 pub record IsTest (ran : Ran) (frames verified : ℕ) (second : Value) (first : Option FirstRun) : Type 0 where
-  pub most : frames ≤ SYNC_LIMIT
+  pub most : frames ≤ SYNC_TEST_LIMIT
   pub few : verified ≤ FRAME_LIMIT
   pub ahead : IfSome first (IsAhead ran frames verified second)
 
 -- why no test starts
 abbrev pub start_refusal : ℕ → Option Refusal
-start_refusal frames = first_refusal ((not (is_in_range 1 SYNC_LIMIT frames), InvalidRequest) ∷ [])
+start_refusal frames = first_refusal ((not (is_in_range 1 SYNC_TEST_LIMIT frames), InvalidRequest) ∷ [])
 
 -- the rows that were taken, each counted once
 abbrev pub taken : Tested → ℕ

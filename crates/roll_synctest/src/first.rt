@@ -5,9 +5,8 @@ ghost use Rattle.roll_game.specs.declared.counts.Call.TheVariants.{Advance, Save
 ghost use Rattle.roll_synctest.specs.Runs.{IsRerun, IsTrace, rerun_frames};
 
 use crate::second::{Rerun, run_again};
-use crate::sync_test::SYNC_LIMIT;
 use arrayvec::ArrayVec;
-use roll_frame::Row;
+use roll_frame::{Row, SYNC_TEST_LIMIT};
 use roll_game::{NoMemory, RawGame, advance_and_save};
 use std::marker::Model;
 
@@ -15,7 +14,7 @@ use std::marker::Model;
 #[derive(Drop)]
 pub struct First<R: RawGame> {
     state: R::State,
-    rows: ArrayVec<Row, SYNC_LIMIT>,
+    rows: ArrayVec<Row, SYNC_TEST_LIMIT>,
     results: Vec<R::Snapshot>,
 }
 
@@ -51,7 +50,7 @@ impl<R: RawGame> First<R> {
 
     /// Runs a row, and saves its result.
     pub fn run(&mut self, game: &mut R, row: &Row) -> Result<(), NoMemory>
-        requires short { length self.old.rows < SYNC_LIMIT }
+        requires short { length self.old.rows < SYNC_TEST_LIMIT }
         requires room { length self.old.results < self.old.room }
         ensures taken { OnOk result (self.new ≡ record self.old { state = self.new.state; rows = self.old.rows ++ row.now ∷ []; results = self.old.results ++ self.new.state ∷ [] }) }
         ensures ran { OnOk result (R.ran self.old.state row.now self.new.state) }

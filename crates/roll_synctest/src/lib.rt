@@ -6,5 +6,5 @@ mod second;
 mod sync_test;
 mod verdict;
 
-pub use sync_test::{SYNC_LIMIT, SyncTest};
+pub use sync_test::SyncTest;
 pub use verdict::Verdict;

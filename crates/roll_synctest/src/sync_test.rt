@@ -9,13 +9,10 @@ ghost use Rattle.roll_synctest.specs.Tests.{IsCut, Says, start_refusal, step_ref
 use crate::first::First;
 use crate::second::Rerun;
 use crate::verdict::Verdict;
-use roll_frame::{FRAME_LIMIT, Refusal, Row};
+use roll_frame::{FRAME_LIMIT, Refusal, Row, SYNC_TEST_LIMIT};
 use roll_game::{RawGame, StartFault};
 use std::alloc::Global;
 use std::marker::Model;
-
-/// The most frames that are verified at once.
-pub const SYNC_LIMIT: usize = 8;
 
 /// Runs each row twice on a game, and compares the results.
 ///
@@ -62,7 +59,7 @@ impl<R: RawGame> SyncTest<R> {
         ensures game_back { IfErr result (λ fault. (fault.game ≡ game) ⊎ ((start_refusal frames ≡ None) × (R.call_counts fault.game ≡ counted Load false (R.call_counts game)))) }
     {
         let mut game = game;
-        if frames < 1 || frames > SYNC_LIMIT as u32 {
+        if frames < 1 || frames > SYNC_TEST_LIMIT as u32 {
             let why = Refusal::InvalidRequest;
             return Err(StartFault { why, game, opening });
         }
