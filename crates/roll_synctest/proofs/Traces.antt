@@ -10,12 +10,13 @@ use Rattle.roll_game.specs.Divergence.{Ran, IsReached}
 use Rattle.roll_synctest.specs.Runs.{IsTrace, value_before}
 
 -- the value before the next row is the one at this place
-pub next_before : (x : Value) (values : List Value) (place : ℕ) → value_before x values (place + 1) ≡ get_or values place []
+next_before : (x : Value) (values : List Value) (place : ℕ) → value_before x values (place + 1) ≡ get_or values place []
 next_before x values place = ap (λ n. get_or (x ∷ values) n []) (add-one place)
 
--- what a saved state is worth, as a value of the run
-pub worth_at : {N : Type 0} (value : N → Value) (results : List N) (place : ℕ) (result : N) → place < length results → result ≡ get_or results place result → value result ≡ get_or (map value results) place []
-worth_at value results place result below at = ap value at ∙ sym (get_or-map value results place result [] below)
+-- a second result that is worth the same as the one at a place is worth the value before the next row
+pub again_before : {N : Type 0} (value : N → Value) (x : Value) (results : List N) (place : ℕ) (result again : N) → place < length results → result ≡ get_or results place result → value result ≡ value again → value again ≡ value_before x (map value results) (place + 1)
+again_before value x results place result again below at same =
+    sym same ∙ ap value at ∙ sym (get_or-map value results place result [] below) ∙ sym (next_before x (map value results) place)
 
 -- one row more
 pub reached_more : (ran : Ran) (x : Value) (rows : Rows) (z : Value) (row : List Cell) (y : Value) → IsReached ran x rows z → ran z row y → IsReached ran x (rows ++ row ∷ []) y
