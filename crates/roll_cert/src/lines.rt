@@ -75,8 +75,8 @@ impl<'a> Lines<'a> {
     }
 }
 
-/// The number in a line, where a name stands before it.
-fn named_number(line: &[u8], name: &[u8], least: u32, most: u32) -> Option<u32>
+/// The number in a line, from `least` to `most`, where a name stands before it.
+pub fn named_number(line: &[u8], name: &[u8], least: u32, most: u32) -> Option<u32>
     ensures { Reads (IsWithin least most) (named name.now) line.now result }
 {
     let Some(text) = line.strip_prefix(name) else {

@@ -3,6 +3,8 @@ pub mod Headings
 pub mod ShownExamples
 pub mod ShownTexts
 pub mod Unplayed
+pub mod RowsRead
+pub mod Tested
 pub mod Asked
 pub mod Guessed
 pub mod Written

@@ -5,6 +5,8 @@ pub mod Shown
 pub mod Output
 pub mod Playings
 pub mod Calls
+pub mod RowsFiles
+pub mod SyncTests
 pub mod Faults
 pub mod Certified
 pub mod Programs

@@ -8,22 +8,27 @@ use Rattle.roll_cli.specs.declared.engine.PlayFault.TheVariants.{Unreadable, NoM
 use Rattle.roll_cli.specs.declared.program.Ending.{Ending}
 use Rattle.roll_cli.specs.declared.program.GameName.TheVariants.{Tally, Duel}
 use Rattle.roll_cli.specs.declared.program.Task.{Task}
-use Rattle.roll_cli.specs.declared.program.Task.TheVariants.{Play, Certify}
+use Rattle.roll_cli.specs.declared.program.Task.TheVariants.{Play, SyncTest, Certify}
 use Rattle.roll_cli.specs.Certified.{IsCertified}
 use Rattle.roll_cli.specs.Output.{IsOutput, output, refusals, tally_game, duel_output, duel_refusals}
 use Rattle.roll_cli.specs.Plays.{IsScript}
+use Rattle.roll_cli.specs.RowsFiles.{IsRowsText}
+use Rattle.roll_cli.specs.SyncTests.{IsDuelSynced, IsTallySynced}
 use Rattle.roll_cli.specs.Shown.{tally_text}
 
 -- the texts that a task can read
 abbrev pub IsReadable : Task → List ℕ → Type 0
 IsReadable (Play game) text = IsScript text
+IsReadable (SyncTest game frames) text = IsRowsText text
 IsReadable Certify text = IsClaimText text
 
--- what a task writes of a text that it can read, and whether all is well: no reply is a refusal, or the claim
--- is right
+-- what a task writes of a text that it can read, and whether all is well: no reply is a refusal, no frame came out
+-- different, or the claim is right
 abbrev pub IsDone : Task → List ℕ → List ℕ → Bool → Type 0
 IsDone (Play Tally) text written well = (refused : ℕ) × IsOutput (output tally_text tally_game) (refusals tally_game) text written refused × (well ≡ (refused == 0))
 IsDone (Play Duel) text written well = (refused : ℕ) × IsOutput duel_output duel_refusals text written refused × (well ≡ (refused == 0))
+IsDone (SyncTest Tally frames) text written well = IsTallySynced frames text written well
+IsDone (SyncTest Duel frames) text written well = IsDuelSynced frames text written well
 IsDone Certify text written well = IsCertified text written well
 
 -- a fault of a task: a line is named that can't be read, and a writer that failed has a front of what is to be

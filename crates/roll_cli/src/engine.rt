@@ -217,7 +217,7 @@ fn write_duel<W: Write>(alloc: Global, writer: &mut W, script: &Script) -> Resul
 }
 
 /// Writes why there is no game to play.
-fn write_not_started<W: Write>(
+pub fn write_not_started<W: Write>(
     alloc: Global,
     writer: &mut W,
     why: Refusal,
@@ -255,7 +255,7 @@ pub fn push_output<G: Shown + Drop>(
 }
 
 /// Writes why a session didn't start, unless memory was refused: the only reply, and a refusal.
-fn push_not_started(out: &mut Vec<u8>, why: Refusal) -> Result<u32, PlayFault>
+pub fn push_not_started(out: &mut Vec<u8>, why: Refusal) -> Result<u32, PlayFault>
     ensures written { OnOk result (out.new.items ≡ out.old.items ++ ended (refused_line why)) }
     ensures refused { IfOk result (λ refused. (refused ≡ 1) × (why ≢ Refusal.NoMemory)) }
     ensures fault { IfErr result (λ fault. fault ≡ NoMemory) }

@@ -105,7 +105,7 @@ pub fn push_refused(out: &mut Vec<u8>, why: Refusal) -> Result<(), AllocError>
 }
 
 /// Writes a number behind its name.
-fn push_named(out: &mut Vec<u8>, name: &[u8], n: u32) -> Result<(), AllocError>
+pub fn push_named(out: &mut Vec<u8>, name: &[u8], n: u32) -> Result<(), AllocError>
     ensures { OnOk result (out.new.items ≡ out.old.items ++ (name.now ++ decimal n)) }
 {
     out.extend_from_slice(name)?;

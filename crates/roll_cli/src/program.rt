@@ -9,10 +9,11 @@ ghost use Rattle.roll_cli.specs.Plays.{IsScript};
 ghost use Rattle.roll_cli.specs.Programs.{Ends, IsDone, IsFault};
 ghost use Rattle.roll_cli.specs.Shown.{tally_text};
 ghost use Rattle.roll_cli.specs.declared.engine.PlayFault.TheVariants.{Unreadable, Write as CannotWrite};
-ghost use Rattle.roll_cli.specs.declared.program.Task.TheVariants.{Play};
+ghost use Rattle.roll_cli.specs.declared.program.Task.TheVariants.{Play, SyncTest};
 
 use crate::certificate::certify;
 use crate::engine::{PlayFault, play, play_duel};
+use crate::sync_test::{synctest_duel, synctest_tally};
 use roll_game::Tally;
 use std::alloc::Global;
 use std::io::{Read, Write};
@@ -22,11 +23,13 @@ use std::io::{Read, Write};
 pub enum Task {
     /// The text is a script, to be played with this game.
     Play(GameName),
+    /// The text is a file of rows, with which this game is tested, so many frames at once.
+    SyncTest { game: GameName, frames: u32 },
     /// The text is a claim, to be checked.
     Certify,
 }
 
-/// The games that a script can be played with.
+/// The games that a script can be played with, and that can be tested.
 #[derive(Clone, Copy, Debug, PartialEq, Eq)]
 pub enum GameName {
     Tally,
@@ -36,7 +39,7 @@ pub enum GameName {
 /// How the program ends.
 #[derive(Clone, Copy, Debug, PartialEq, Eq)]
 pub struct Ending {
-    /// The exit status: 0; 1 where a reply was a refusal or a claim isn't right; 2 after a fault.
+    /// The exit status: 0; 1 where a reply was a refusal, a frame came out different or a claim isn't right; 2 after a fault.
     pub status: u8,
     /// What is told on standard error.
     pub fault: Option<PlayFault>,
@@ -77,7 +80,7 @@ pub fn run<R: Read, W: Write>(alloc: Global, task: Task, reader: &mut R, writer:
     }
 }
 
-/// Whether all is well: no reply is a refusal, or the claim is right.
+/// Whether all is well: no reply is a refusal, no frame came out different, or the claim is right.
 fn perform<R: Read, W: Write>(
     alloc: Global,
     task: Task,
@@ -92,6 +95,7 @@ fn perform<R: Read, W: Write>(
 {
     match task {
         Task::Play(game) => play_named(alloc, game, reader, writer),
+        Task::SyncTest { game, frames } => test_named(alloc, game, frames, reader, writer),
         Task::Certify => certify(alloc, reader, writer),
     }
 }
@@ -114,6 +118,26 @@ fn play_named<R: Read, W: Write>(
         GameName::Duel => play_duel(alloc, reader, writer)?,
     };
     Ok(refused == 0)
+}
+
+/// Tests the game of this name, and answers whether no frame came out different.
+fn test_named<R: Read, W: Write>(
+    alloc: Global,
+    game: GameName,
+    frames: u32,
+    reader: &mut R,
+    writer: &mut W,
+) -> Result<bool, PlayFault>
+    ensures done { IfOk result (λ well. IfSome (R.remaining reader.old) (λ text.
+        (written : List ℕ) × IsDone (SyncTest game frames) text written well × Appends (W.contents writer.old) (W.contents writer.new) written)) }
+    ensures fault { IfErr result (λ fault. IfSome (R.remaining reader.old) (λ text. IsFault (SyncTest game frames) text (W.contents writer.old) (W.contents writer.new) fault)) }
+    ensures untouched { IfErr result (λ fault. (fault ≡ CannotWrite) ⊎ (writer.new ≡ writer.old)) }
+    ensures taken { TakesAtMost (TEXT_LIMIT + 1) (R.remaining reader.old) (R.remaining reader.new) }
+{
+    match game {
+        GameName::Tally => synctest_tally(alloc, reader, writer, frames),
+        GameName::Duel => synctest_duel(alloc, reader, writer, frames),
+    }
 }
 
 fn play_tally<R: Read, W: Write>(
