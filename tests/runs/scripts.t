@@ -310,15 +310,6 @@ Lines that can't be read: each is named, and nothing is written of the script.
   rollduel: unreadable: line 3
   [2]
 
-Guesses and branches aren't played yet.
-
-  $ printf 'G 2 2 3\n' | two
-  rollduel: unreadable: line 2
-  [2]
-  $ printf 'B 0\n' | two
-  rollduel: unreadable: line 2
-  [2]
-
 Headers that can't be read.
 
   $ true | rollduel play -
