@@ -37,6 +37,21 @@ A guess that was right: the roll runs no frame. Its claim lists the branch's sta
   1,3
   differs 0
 
+The example of a guess: of two that were grafted, the second was right in both frames.
+
+  $ rollduel play ../examples/guessed-input.roll
+  ok
+  frame 1 from 0 rerun 1 settled 0 state 1
+  ok
+  frame 2 from 1 rerun 1 settled 0 state 11
+  job 0 rows 2
+  added 2
+  job 1 rows 2
+  added 2
+  taken
+  taken
+  frame 2 from 2 rerun 0 settled 2 state 77
+
 A branch that ends past the frame, and whose second row was wrong. The claim says where, and is right.
 
   $ after <<END
@@ -109,6 +124,14 @@ One guess twice, and another word came: before it is settled a branch adds nothi
   taken
   added 0
   frame 2 from 0 rerun 2 settled 1 state 121
+  refused 112
+  [1]
+
+A word that contradicts the state which a job started from, before any frame is settled.
+
+  $ printf 'G 2 4 0,0,5\nR 2 0 7\nB 0\n' | after
+  job 0 rows 2
+  taken
   refused 112
   [1]
 

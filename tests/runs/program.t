@@ -174,21 +174,23 @@ Words that can't be understood, and help.
 
 The help of a script tells of each command, and that of a claim of each answer.
 
-  $ for words in --help 'play --help'; do rollduel $words | grep -cE '^  (L p w|R p f w|D p|S|A|C) '; done
-  6
-  6
+  $ for words in --help 'play --help'; do rollduel $words | grep -cE '^  (L p w|R p f w|D p|S|A|G p until w,\.\.|B j|C) '; done
+  8
+  8
   $ rollduel certify --help | grep -cE '^  (from not kept|range J|equal J|twice J|missing I) '
   5
 
-The examples of the help are scripts and claims, and print what it says.
+The examples of the help are the files that it names, and print what it says.
 
   $ shown() { rollduel "$1" --help | sed -n "/^Example/,/^It prints/s/^  //p"; }
   $ printed() { rollduel "$1" --help | sed -n "/^It prints/,/^Exit status/s/^  //p"; }
   $ shown play > example; printed play > want
   $ wc -l < example
   7
+  $ cmp example ../examples/late-input.roll
   $ rollduel play example | cmp - want
   $ shown certify > example; printed certify > want
   $ wc -l < example
   11
+  $ cmp example ../examples/branch-ahead.claim
   $ rollduel certify example | cmp - want

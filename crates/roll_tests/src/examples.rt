@@ -8,12 +8,12 @@ use roll_tree::{Tree, TreeFull};
 use std::alloc::{AllocError, Global};
 use std::collections::VecDeque;
 
-/// A script in which a remote word comes late, and what playing it writes.
+/// A script in which a remote word comes late, with the claim of its last roll, and what playing it writes.
 pub const LATE: &[u8] =
-    b"roll 1 players 2 local 1 delay 0,0 threshold 8\nL 1 1\nA\nL 1 1\nA\nR 2 0 3\nS\n";
+    b"roll 1 players 2 local 1 delay 0,0 threshold 8\nL 1 1\nA\nL 1 1\nA\nR 2 0 3\nS\nC\n";
 
 pub const LATE_OUTPUT: &[u8] =
-    b"ok\nframe 1 from 0 rerun 1 settled 0 state 1\nok\nframe 2 from 1 rerun 1 settled 0 state 11\ntaken\nframe 2 from 0 rerun 2 settled 1 state 77\n";
+    b"ok\nframe 1 from 0 rerun 1 settled 0 state 1\nok\nframe 2 from 1 rerun 1 settled 0 state 11\ntaken\nframe 2 from 0 rerun 2 settled 1 state 77\nrollcert 1\nplayers 2\nbase 0\nfrom 0\ntime 2\n1,3\n1,3\nkept 1\n-\ndiffers 0\n";
 
 /// The calls of that script.
 pub const LATE_CALLS: [Call; 6] = [

@@ -2,7 +2,7 @@
 use crate::examples::{
     AHEAD, AHEAD_ANSWER, ALONE, LATE, LATE_CALLS, LATE_OUTPUT, TWO, add, counts, open, row,
 };
-use roll_cli::{PlayFault, certify, play};
+use roll_cli::{GameName, PlayFault, Task};
 use roll_duel::Duel;
 use roll_frame::{Advice, Cell, Event, Refusal, Settings};
 use roll_game::{RawGame, Tally};
@@ -31,6 +31,8 @@ use Ending::{Refused, Whole, Wrong};
 #[derive(Clone, Copy, Debug, PartialEq, Eq)]
 pub enum Example {
     Script,
+    Guess,
+    DuelScript,
     Claim,
     Session,
     Reserved,
@@ -40,8 +42,10 @@ pub enum Example {
 }
 
 impl Example {
-    pub const ALL: [Example; 7] = [
+    pub const ALL: [Example; 9] = [
         Example::Script,
+        Example::Guess,
+        Example::DuelScript,
         Example::Claim,
         Example::Session,
         Example::Reserved,
@@ -52,8 +56,15 @@ impl Example {
 
     pub fn run(self, alloc: Global) -> Ending {
         match self {
-            Example::Script => plays_a_script(alloc),
-            Example::Claim => certifies_a_claim(alloc),
+            Example::Script => answers(alloc, Task::Play(GameName::Tally), LATE, LATE_OUTPUT),
+            Example::Guess => answers(
+                alloc,
+                Task::Play(GameName::Tally),
+                GUESSING,
+                GUESSING_OUTPUT,
+            ),
+            Example::DuelScript => answers(alloc, Task::Play(GameName::Duel), DUEL, DUEL_OUTPUT),
+            Example::Claim => answers(alloc, Task::Certify, AHEAD, AHEAD_ANSWER),
             Example::Session => goes_on(alloc).unwrap_or(Wrong),
             Example::Reserved => takes_reserved_events(alloc).unwrap_or(Wrong),
             Example::Tree => stays_whole(alloc),
@@ -63,43 +74,30 @@ impl Example {
     }
 }
 
-/// The late script, and then the claim of its last roll.
-const CLAIMING: &[u8] =
-    b"roll 1 players 2 local 1 delay 0,0 threshold 8\nL 1 1\nA\nL 1 1\nA\nR 2 0 3\nS\nC\n";
+/// A script with a guess whose branch goes past the frame, and what playing it writes.
+const GUESSING: &[u8] =
+    b"roll 1 players 2 local 1 delay 0,0 threshold 8\nL 1 1\nA\nL 1 1\nA\nR 2 0 0\nS\nL 1 1\nA\nG 2 3 3,0\nB 0\nR 2 1 3\nS\nC\n";
 
-const LATE_CLAIM: &[u8] =
-    b"rollcert 1\nplayers 2\nbase 0\nfrom 0\ntime 2\n1,3\n1,3\nkept 1\n-\ndiffers 0\n";
+const GUESSING_OUTPUT: &[u8] =
+    b"ok\nframe 1 from 0 rerun 1 settled 0 state 1\nok\nframe 2 from 1 rerun 1 settled 0 state 11\ntaken\nframe 2 from 2 rerun 0 settled 1 state 11\nok\nframe 3 from 2 rerun 1 settled 1 state 111\njob 0 rows 2\nadded 2\ntaken\nframe 3 from 2 rerun 1 settled 2 state 177\nrollcert 1\nplayers 2\nbase 2\nfrom 2\ntime 1\n1,3\nkept 2\n-\n1,0\ndiffers 1\n1 2 2\n";
+
+/// A duel in which player 2 was guessed to thrust for two frames, and what playing it writes.
+const DUEL: &[u8] =
+    b"roll 1 players 2 local 1 delay 0,0 threshold 8\nG 2 2 1\nB 0\nL 1 0\nR 2 0 1\nA\n";
+
+const DUEL_OUTPUT: &[u8] =
+    b"job 0 rows 2\nadded 2\nok\ntaken\nframe 1 from 1 rerun 0 settled 1 state 20480,15360,0,0,0,0,0 61424,46080,-16,0,4,0,0 b0\n";
 
 /// Writes the whole output, or nothing.
-fn plays_a_script(alloc: Global) -> Ending {
-    let mut text: &[u8] = CLAIMING;
-    let mut out = [0u8; 300];
+fn answers(alloc: Global, task: Task, text: &[u8], output: &[u8]) -> Ending {
+    let mut reader = text;
+    let mut out = [0u8; 500];
     let mut left = out.as_mut_slice();
-    match play(
-        alloc,
-        &mut text,
-        &mut left,
-        Tally::new(),
-        Tally::opening(),
-        Tally::new(),
-    ) {
-        Ok(refused) => match out.strip_prefix(LATE_OUTPUT) {
-            Some(claim) if refused == 0 && claim.starts_with(LATE_CLAIM) => Whole,
-            _ => Wrong,
-        },
-        Err(PlayFault::NoMemory) if out[0] == 0 => Refused,
-        Err(_) => Wrong,
-    }
-}
-
-/// Writes the whole answer, or nothing.
-fn certifies_a_claim(alloc: Global) -> Ending {
-    let mut text: &[u8] = AHEAD;
-    let mut out = [0u8; 50];
-    let mut left = out.as_mut_slice();
-    match certify(alloc, &mut text, &mut left) {
-        Ok(right) if right && out.starts_with(AHEAD_ANSWER) => Whole,
-        Err(PlayFault::NoMemory) if out[0] == 0 => Refused,
+    let ended = roll_cli::run(alloc, task, &mut reader, &mut left);
+    let whole = out.starts_with(output) && out.get(output.len()) == Some(&0);
+    match ended.fault {
+        None if ended.status == 0 && whole => Whole,
+        Some(PlayFault::NoMemory) if out[0] == 0 => Refused,
         _ => Wrong,
     }
 }
@@ -132,7 +130,10 @@ fn goes_on(alloc: Global) -> Result<Ending, Refusal> {
     for call in LATE_CALLS {
         let before = seen(&session);
         if session.perform(Request::Call(call)).is_err() {
-            if ending == Refused || seen(&session) != before || session.perform(Request::Call(call)).is_err() {
+            if ending == Refused
+                || seen(&session) != before
+                || session.perform(Request::Call(call)).is_err()
+            {
                 return Ok(Wrong);
             }
             ending = Refused;

@@ -24,6 +24,8 @@ A script's first line opens the session, and each further line is a call:
   D p      player p leaves
   S        synchronize: frames that were predicted wrong are run again
   A        advance to the next frame
+  G p until w,..  guess player p's next words: makes a job, to run frames up to `until` with them
+  B j      branch: job j is run on a second game, and its states are saved for later rolls
   C        claim: the proof that the last S or A ran no frame too many
 
 Numbers are decimal. `roll 2` has `mask m,..` before the threshold: for each player, the bits of
@@ -31,6 +33,9 @@ the word that are predicted to stay as they are. `roll 3` is `roll 2` with the w
 
 S and A are answered by `frame N from F rerun R settled T state X`: the session is at frame N; it
 loaded the state of frame F and ran R frames; frames below T are final; the game's state is X.
+G is answered by `job J rows K`, where K frames are to be run, or by `kept`, where their states are
+saved already; B by `added A`, the number of new states. If the words come as guessed, S and A start
+from those states, and have fewer frames to run: try the file examples/guessed-input.roll.
 C is answered by the lines of a claim, which `rollduel certify` checks. A call that the session
 doesn't take, as a C before any S or A, is answered by `refused N`, and the script goes on.
 
