@@ -1,5 +1,5 @@
 //! The first run of rows.
-ghost use Rattle.std.specs.Prelude.{◌≡◌, ◌⊎◌, ◌<◌, ◌≤◌, ℕ, [], ◌∷◌, ◌++◌, length, vec_capacity, IfOk, OnErr, OnOk, true, false};
+ghost use Rattle.std.specs.Prelude.{◌≡◌, ◌⊎◌, ◌<◌, ℕ, [], ◌∷◌, ◌++◌, length, vec_capacity, IfOk, OnErr, OnOk, true, false};
 ghost use Rattle.roll_game.specs.Counts.{IsRefusedAt, counted, rolled};
 ghost use Rattle.roll_game.specs.declared.counts.Call.TheVariants.{Advance, Save};
 ghost use Rattle.roll_synctest.specs.Runs.{IsRerun, IsTrace, rerun_frames};

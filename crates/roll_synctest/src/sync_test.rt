@@ -1,6 +1,5 @@
 //! The sync test.
-ghost use Rattle.std.specs.Prelude.{◌≡◌, ◌⊎◌, ◌≤◌, [], IfOk, IfErr, OnOk, OnErr, IsSome, None, Some, unwrap_or, true, false, if◌then◌else◌};
-ghost use Rattle.std.specs.Int.{is_in_range};
+ghost use Rattle.std.specs.Prelude.{◌≡◌, ◌⊎◌, [], IfOk, IfErr, OnOk, OnErr, IsSome, None, Some, unwrap_or, true, false};
 ghost use Rattle.roll_frame.specs.Games.{Value};
 ghost use Rattle.roll_game.specs.Counts.{counted};
 ghost use Rattle.roll_game.specs.declared.counts.Call.TheVariants.{Load};
