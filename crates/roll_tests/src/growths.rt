@@ -6,7 +6,8 @@ use roll_cli::{GameName, PlayFault, Task};
 use roll_duel::Duel;
 use roll_frame::{Advice, Cell, Event, Refusal, Settings};
 use roll_game::{RawGame, Tally};
-use roll_session::{Request, Session};
+use roll_session::Session;
+use roll_synctest::{SyncTest, Verdict};
 use roll_tree::Tree;
 use std::alloc::Global;
 
@@ -39,10 +40,11 @@ pub enum Example {
     Tree,
     Duel,
     Advice,
+    SyncTest,
 }
 
 impl Example {
-    pub const ALL: [Example; 9] = [
+    pub const ALL: [Example; 8] = [
         Example::Script,
         Example::Guess,
         Example::DuelScript,
@@ -52,6 +54,7 @@ impl Example {
         Example::Tree,
         Example::Duel,
         Example::Advice,
+        Example::SyncTest,
     ];
 
     pub fn run(self, alloc: Global) -> Ending {
@@ -70,6 +73,7 @@ impl Example {
             Example::Tree => stays_whole(alloc),
             Example::Duel => counts_refusals(alloc),
             Example::Advice => advises(alloc),
+            Example::SyncTest => verifies_rows(alloc).unwrap_or(Wrong),
         }
     }
 }
@@ -215,4 +219,21 @@ fn advises(alloc: Global) -> Ending {
         Err(Refusal::NoMemory) => Refused,
         Err(_) => Wrong,
     }
+}
+
+/// A test that is refused its room is made once more, of the game and the opening that came back. It takes no more.
+fn verifies_rows(alloc: Global) -> Result<Ending, Refusal> {
+    let (mut test, ending) = match SyncTest::new(alloc, Tally::new(), 7, 2) {
+        Ok(test) => (test, Whole),
+        Err(fault) => match SyncTest::new(alloc, fault.game, fault.opening, 2) {
+            Ok(test) => (test, Refused),
+            Err(fault) => return Err(fault.why),
+        },
+    };
+    let run = test.step(&row(1, 3))?;
+    let verified = test.step(&row(1, 3))?;
+    let so = run == Verdict::Run
+        && verified == Verdict::Verified(2)
+        && counts(test.game()) == (4, 0);
+    Ok(ending.where_so(so))
 }
