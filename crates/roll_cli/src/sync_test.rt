@@ -1,13 +1,14 @@
 //! Sync tests of files of rows, from a reader to a writer.
 ghost use Rattle.std.specs.Prelude.{◌≡◌, ◌≢◌, ◌⊎◌, ◌≤◌, ◌+◌, ◌++◌, [], ℕ, Bool, List, Err, Some, IfErr, IfOk, IfSome, OnOk, map};
 ghost use Rattle.std.specs.Io.KnownBytes.{Appends};
+ghost use Rattle.roll_game.specs.Divergence.{NeverDiverges};
 ghost use Rattle.roll_synctest.specs.declared.verdict.Verdict.{Verdict as VerdictSaid};
 ghost use Rattle.roll_text.specs.Lines.{ended, text_of};
 ghost use Rattle.roll_text.specs.Streams.{AppendsPart, IsBadAt};
 ghost use Rattle.roll_text.specs.declared.streams.TheConstants.{TEXT_LIMIT};
 ghost use Rattle.roll_cli.specs.Faults.{TakesAtMost};
 ghost use Rattle.roll_cli.specs.RowsFiles.{IsRowsFile, IsRowsText, file_lines, file_of};
-ghost use Rattle.roll_cli.specs.SyncTests.{AreSaid, IsDuelSynced, IsTallySynced, IsTested, IsTold, duel_sync_output, is_duel_startable, verdict_line};
+ghost use Rattle.roll_cli.specs.SyncTests.{AreSaid, IsDuelSynced, IsTallySynced, IsTested, IsTold, duel_sync_output, is_duel_startable, is_startable, verdict_line};
 ghost use Rattle.roll_cli.specs.declared.engine.PlayFault.TheVariants.{NoMemory, Unreadable, Write as CannotWrite};
 
 use crate::engine::{PlayFault, push_not_started, write_not_started};
@@ -25,7 +26,7 @@ use std::io::{Read, Write};
 /// different. A line is written for each row, up to the first frame that did.
 ///
 /// At most 1,048,577 bytes are read. Nothing is written unless all rows can be read, and then all at the end. Where the test
-/// doesn't start, its refusal is all that is written.
+/// doesn't start, its refusal is all that is written. A `Game` comes out different nowhere (`never_diverges`).
 pub fn synctest<G: RawGame + Drop, R: Read, W: Write>(
     alloc: Global,
     reader: &mut R,
@@ -36,6 +37,7 @@ pub fn synctest<G: RawGame + Drop, R: Read, W: Write>(
 ) -> Result<bool, PlayFault>
     ensures written { IfOk result (λ well. IfSome (R.remaining reader.old) (λ text.
         (written : List ℕ) × IsTested G.ran (G.snapshot_value opening) frames text written well × Appends (W.contents writer.old) (W.contents writer.new) written)) }
+    ensures game { NeverDiverges G.ran → IfOk result (λ well. well ≡ is_startable frames) }
     ensures unreadable { (line : ℕ) → result ≡ Err (Unreadable line) → IfSome (R.remaining reader.old) (IsBadAt IsRowsText line) }
     ensures cut { result ≡ Err CannotWrite → IfSome (R.remaining reader.old) (λ text.
         (whole : List ℕ) × (well : Bool) × IsTested G.ran (G.snapshot_value opening) frames text whole well × AppendsPart (W.contents writer.old) (W.contents writer.new) whole) }
