@@ -11,12 +11,12 @@ use Rattle.roll_frame.specs.Timeline.{Player, cell_at, front, timeline}
 use Rattle.roll_frame.specs.declared.row.Cell.{Cell}
 use Rattle.roll_frame.specs.declared.settings.Settings.{Settings}
 use Rattle.roll_frame.proofs.Timelines.{length_timeline}
-use Rattle.roll_laws.specs.Laws.{known_cell, KnownCellsStay, SettledNeverFalls, ImpossibleStays, PrefixesAreSaved, KeptBeginSettled, StartIsKept, RolledIsTimeOrDead, WindowIsBounded, CostIsSmall, KeptArePrefixed}
+use Rattle.roll_laws.specs.Laws.{known_cell, KnownCellsStay, SettledNeverFalls, SettledRowsStay, ImpossibleStays, PrefixesAreSaved, KeptBeginSettled, StartIsKept, RolledIsTimeOrDead, WindowIsBounded, CostIsSmall, KeptArePrefixed}
 use Rattle.roll_laws.proofs.Known.{fits, possible_from_fits, OnTime, on_time_fits, fits_on_time}
 use Rattle.roll_laws.proofs.Ahead.{AllLater, known_stays, fits_before}
 use Rattle.roll_laws.proofs.Predicted.{all_steady_first, stays_on_time}
 use Rattle.roll_laws.proofs.Saved.{In, has_in, in_has, take_timeline, on_time_is, timeline_on_time}
-use Rattle.roll_laws.proofs.Fronts.{depth_is, depth_at_least, settled_is, settled_onward, known_below_front}
+use Rattle.roll_laws.proofs.Fronts.{depth_is, depth_at_least, settled_is, settled_onward, timeline_stays, known_below_front}
 use Rattle.roll_laws.proofs.Prefixes.{in_prefixes, in_filter, filter_in}
 use Rattle.roll_laws.proofs.Sound.{Sound, sound_played, onward_played, staying, fits_take}
 
@@ -40,6 +40,13 @@ settled_never_falls settings game events more h =
     let old = sound_played settings game events h in
     let new = sound_played settings game (events ++ more) h in
     settled_onward _ _ (onward_played settings game events more h) old.root (staying _ new.stays new.has_local)
+
+pub settled_rows_stay : SettledRowsStay
+settled_rows_stay settings game events more h =
+    let core : Core = played settings game events in
+    let onward = onward_played settings game events more h in
+    let low = (settled_is core (sound_played settings game events h).root).0 in
+    timeline_stays (settled core) core.players (played settings game (events ++ more)).players onward.players (omega (arith, low))
 
 impossible_later : (olds news : List Player) (q : Rows) → AllLater olds news → is_possible olds q ≡ false → is_possible news q ≡ false
 impossible_later olds news q l e = false_from_ne_true (is_possible news q) (λ p. false≢true (sym e ∙ possible_from_fits 0 olds q (fits_before 0 olds news q l (fits 0 news q p))))

@@ -64,6 +64,9 @@ KnownCellsStay = EverAfter (λ core later. (place t : ℕ) (cell : Cell) → kno
 abbrev pub SettledNeverFalls : Type 0
 SettledNeverFalls = EverAfter (λ core later. settled core ≤ settled later)
 
+abbrev pub SettledRowsStay : Type 0
+SettledRowsStay = EverAfter (λ core later. timeline later.players (settled core) ≡ timeline core.players (settled core))
+
 abbrev pub ImpossibleStays : Type 0
 ImpossibleStays = EverAfter (λ core later. (path : Rows) → is_possible core.players path ≡ false → is_possible later.players path ≡ false)
 

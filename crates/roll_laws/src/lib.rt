@@ -2,7 +2,7 @@
 //! that makes no call: a crate cites a law by calling its function, or by the lemma of its name.
 #![tactic(auto)]
 
-ghost use Rattle.roll_laws.specs.Laws.{StartsAreSmall, KnownCellsStay, SettledNeverFalls, ImpossibleStays, WordsRuleOut, LeavingRulesOut, LongBeginSettled, PrefixesAreSaved, SavedOnce, KeptBeginSettled, KeptArePrefixed, StartIsKept, RolledIsTimeOrDead, WindowIsBounded, CostIsSmall, FewAreKept, RollsFit, PeersAgree, RollIsPlan, RollsAreLeast, ClaimsAreRight, OrderKeepsAll, ClaimsNameLeast, DeeperDiffer, PruningLosesNothing, KeptAfter, SettledAfter, GuessedCells, JobsStartKept, LogReplays, LogIsCounted, KeptAreShort, QueuesAreShort, FramesEnd, LogEnds, PlayersStay};
+ghost use Rattle.roll_laws.specs.Laws.{StartsAreSmall, KnownCellsStay, SettledNeverFalls, SettledRowsStay, ImpossibleStays, WordsRuleOut, LeavingRulesOut, LongBeginSettled, PrefixesAreSaved, SavedOnce, KeptBeginSettled, KeptArePrefixed, StartIsKept, RolledIsTimeOrDead, WindowIsBounded, CostIsSmall, FewAreKept, RollsFit, PeersAgree, RollIsPlan, RollsAreLeast, ClaimsAreRight, OrderKeepsAll, ClaimsNameLeast, DeeperDiffer, PruningLosesNothing, KeptAfter, SettledAfter, GuessedCells, JobsStartKept, LogReplays, LogIsCounted, KeptAreShort, QueuesAreShort, FramesEnd, LogEnds, PlayersStay};
 ghost use Rattle.roll_laws.specs.Grafted.{NewPathsRun, AcceptedAreWorth, JobsAreNew};
 
 /// A session that starts has sizes within the profile's limits.
@@ -18,6 +18,11 @@ pub fn known_cells_stay()
 /// The settled frame never falls.
 pub fn settled_never_falls()
     ensures { SettledNeverFalls }
+{}
+
+/// The settled rows never change.
+pub fn settled_rows_stay()
+    ensures { SettledRowsStay }
 {}
 
 /// A path that is not possible never becomes possible.
