@@ -1,5 +1,5 @@
 -- The calls that commands ask for are their events.
-use Rattle.std.proofs.Common.{◌≡◌, ◌==◌, ℕ, ◌-◌, ◌≤◌, ◌⊎◌, inl, inr, List, length, Bool, true, false, refl, sym, ap, ◌∙◌, subst, arith, rules, tests, Option, Some, None}
+use Rattle.std.proofs.Common.{◌≡◌, ◌==◌, ℕ, ◌-◌, ◌≤◌, ◌⊎◌, inl, inr, List, length, Bool, true, false, refl, sym, ap, ◌∙◌, subst, arith, rules, tests, Some, None}
 use Rattle.std.specs.Prelude.{nat_lt, Err}
 use Rattle.std.proofs.lemmas.Option.{slice_get_past}
 use Rattle.roll_frame.specs.declared.limits.TheConstants.{PLAYER_LIMIT}
@@ -9,7 +9,7 @@ use Rattle.roll_frame.specs.Games.{Game}
 use Rattle.roll_frame.specs.Inputs.{player_at}
 use Rattle.roll_frame.specs.Timeline.{Player}
 use Rattle.roll_frame.specs.declared.entry.Entry.{Entry}
-use Rattle.roll_frame.specs.declared.entry.Entry.TheVariants.{Local, Remote, Disconnect, Sync, Advance}
+use Rattle.roll_frame.specs.declared.entry.Entry.TheVariants.{Local, Remote, Disconnect}
 use Rattle.roll_frame.specs.declared.refusal.Refusal.TheVariants.{InvalidPlayer}
 use Rattle.roll_frame.specs.declared.reply.Reply.TheVariants.{Refused}
 use Rattle.roll_frame.specs.declared.settings.Settings.{Settings}

@@ -1,5 +1,5 @@
 -- The lines of commands, cut into their fields and joined again.
-use Rattle.std.proofs.Common.{◌≡◌, ℕ, ◌<◌, ◌≤◌, ◌==◌, List, [], ◌∷◌, Option, None, Bool, false, not, ◌||◌, refl, sym, ap, ◌∙◌, rules, tests, arith, codes, get_or, length}
+use Rattle.std.proofs.Common.{◌≡◌, ℕ, ◌<◌, ◌≤◌, ◌==◌, List, [], ◌∷◌, Option, None, false, refl, sym, ap, ◌∙◌, rules, tests, arith, codes, get_or, length}
 use Rattle.std.specs.List.{slice_split, AllByRecursion}
 use Rattle.std.specs.Fmt.{decimal}
 use Rattle.std.proofs.lemmas.List.Elements.{All-cons, All-nil}

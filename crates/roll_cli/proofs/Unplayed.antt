@@ -1,10 +1,9 @@
 -- Scripts are texts of a header and commands.
-use Rattle.std.proofs.Common.{◌≡◌, ℕ, List, [], ◌∷◌, refl, arith}
+use Rattle.std.proofs.Common.{ℕ, [], ◌∷◌, refl, arith}
 use Rattle.std.specs.List.{All}
 use Rattle.std.proofs.lemmas.List.Elements.{All-cons, All-nil}
 use Rattle.roll_text.specs.Numbers.{IsWord}
 use Rattle.roll_text.proofs.Headed.{IsHeaded}
-use Rattle.roll_cli.specs.declared.command.Command.{Command}
 use Rattle.roll_cli.specs.declared.header.Version.TheVariants.{Plain}
 use Rattle.roll_cli.specs.Commands.{IsCommand, line_of}
 use Rattle.roll_cli.specs.Headers.{Setup, IsSetup, header_of}

@@ -1,4 +1,4 @@
-use Rattle.std.proofs.Common.{◌≡◌, ◌∙◌, ◌+◌, ◌∷◌, ◌++◌, [], ap, add-one, append-nil, append_assoc, length, map, subst, sym, refl, arith}
+use Rattle.std.proofs.Common.{◌∙◌, ◌∷◌, ◌++◌, [], ap, add-one, append-nil, append_assoc, length, map, subst, sym, refl, arith}
 use Rattle.roll_synctest.specs.Tests.{Says}
 use Rattle.std.proofs.Math.Nat.{zero-mul}
 use Rattle.std.proofs.lemmas.List.{get_or_default}

@@ -1,4 +1,4 @@
-use Rattle.std.proofs.Common.{◌∙◌, ◌++◌, ◌≡◌, ap, refl, sym, length, codes, arith, rules, tests, Some, None}
+use Rattle.std.proofs.Common.{◌∙◌, ◌++◌, ◌≡◌, ap, sym, length, codes, arith, rules, tests, Some, None}
 use Rattle.std.specs.Prelude.{Ok, Err}
 use Rattle.std.specs.Fmt.{decimal}
 use Rattle.roll_frame.specs.declared.route.Route.{Route}

@@ -1,4 +1,4 @@
-use Rattle.std.proofs.Common.{◌≡◌, ◌∙◌, ◌≤◌, ◌++◌, ap, sym, length, subst}
+use Rattle.std.proofs.Common.{◌∙◌, ◌≤◌, ◌++◌, ap, sym, length, subst}
 use Rattle.std.proofs.lemmas.Result.{IfOk-weaker, on_ok_weaker}
 use Rattle.std.specs.Prelude.{is_err}
 use Rattle.roll_frame.specs.declared.limits.TheConstants.{PLAYER_LIMIT}

@@ -1,4 +1,4 @@
-use Rattle.std.proofs.Common.{◌≡◌, ◌≤◌, ◌+◌, ◌-◌, ◌<◌, ◌^◌, ◌++◌, length, drop}
+use Rattle.std.proofs.Common.{◌≡◌, ◌≤◌, ◌+◌, ◌++◌, length, drop}
 use Rattle.roll_cli.specs.Output.{refusals_from, written_from}
 use Rattle.roll_cli.specs.Playings.{game_of}
 use Rattle.roll_cli.proofs.playing.Playing.play_all.Given as goal
