@@ -14,6 +14,7 @@ use arrayvec::ArrayVec;
 use roll_branch::Branch;
 use roll_frame::{FRAME_LIMIT, PATH_LIMIT, Refusal, Route, Row, TREE_LIMIT};
 use roll_game::Game;
+use std::collections::VecDeque;
 
 /// The most rows of a route, with those of its path.
 const ROUTE_LIMIT: usize = 32;
@@ -206,20 +207,18 @@ pub fn hang_new<S: Drop>(saves: &mut Saves<S>, route: &Route, states: Vec<S>) ->
     let mut left = without_first(states, (from - start) as usize);
     let mut at = first;
     for frame in from..end {
-        let snapshot = left.remove(0);
+        let snapshot = left.pop_front().unwrap();
         at = saves.hang(at, ahead[(frame - settled) as usize], snapshot);
     }
     end - from
 }
 
 /// The states past the first ones.
-fn without_first<S: Drop>(states: Vec<S>, count: usize) -> Vec<S>
+fn without_first<S: Drop>(states: Vec<S>, count: usize) -> VecDeque<S>
     requires { count ≤ length states.items }
     ensures { result.items ≡ drop count states.items }
 {
-    let mut left = states;
-    for _skipped in 0..count {
-        left.remove(0);
-    }
+    let mut left = VecDeque::from(states);
+    left.drain(..count);
     left
 }

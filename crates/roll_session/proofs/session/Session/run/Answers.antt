@@ -1,4 +1,4 @@
-use Rattle.std.proofs.Common.{◌≡◌, ◌∷◌, List, ap, sym, length, subst, arith}
+use Rattle.std.proofs.Common.{List, ap, sym, length, subst, arith}
 use Rattle.roll_frame.specs.declared.reply.Reply.{Reply}
 use Rattle.roll_session.specs.Requests.{IsDoneTo}
 use Rattle.roll_session.proofs.Runs.{done_more}

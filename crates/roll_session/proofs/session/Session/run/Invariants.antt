@@ -1,4 +1,4 @@
-use Rattle.std.proofs.Common.{◌≡◌, ◌≤◌, ◌+◌, length, vec_len, vec_capacity}
+use Rattle.std.proofs.Common.{◌≤◌, ◌+◌, length, vec_len, vec_capacity}
 use Rattle.roll_session.specs.Requests.{IsDoneTo}
 use Rattle.roll_session.proofs.session.Session.run.Given as goal
 
