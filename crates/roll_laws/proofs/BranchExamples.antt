@@ -119,6 +119,10 @@ pub possible_prefixes :
     ≡ taken ∷ taken ∷ added 1 ∷ added 0 ∷ added 0 ∷ ok ∷ at 1 1 0 1 15 ∷ []
 possible_prefixes = refl
 
+-- a graft settles what it brings: the row of frame 0, whose word came before it. So a branch that ends there is late
+pub settled_by_graft : after_frames (R 2 0 3 ∷ H 0 [] 0 (row_of 1 3 ∷ row_of 1 3 ∷ []) ∷ H 0 [] 0 (row_of 1 3 ∷ []) ∷ S ∷ []) ≡ taken ∷ added 2 ∷ refused 110 ∷ at 2 2 0 1 77 ∷ []
+settled_by_graft = refl
+
 -- a cell of a player who has left, in a frame that isn't confirmed, is possible, and right once the player leaves
 pub gone_ahead : lines (two 0 full) (H 0 [] 0 ((Word 0 ∷ Gone ∷ []) ∷ []) ∷ L 1 0 ∷ D 2 ∷ A ∷ []) ≡ added 1 ∷ ok ∷ gone 2 ∷ at 1 1 0 1 5 ∷ []
 gone_ahead = refl
