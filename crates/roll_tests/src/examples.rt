@@ -1,8 +1,8 @@
 //! What several examples and tests take.
-ghost use Rattle.std.specs.Prelude.{◌≡◌, length};
+ghost use Rattle.std.specs.Prelude.{◌≡◌, length, IfOk};
 
 use roll_frame::{Cell, FRAME_LIMIT, LOG_LIMIT, PLAYER_LIMIT, Profile, Refusal, Row, Settings};
-use roll_game::{Game, RawGame};
+use roll_game::{Game, RawGame, Tally};
 use roll_session::{Call, Request, Session};
 use roll_tree::{Tree, TreeFull};
 use std::alloc::{AllocError, Global};
@@ -33,7 +33,9 @@ pub const LATE_CALLS: [Call; 6] = [
 pub fn queue<G: Game + Drop>(
     alloc: Global,
     calls: &[Call],
-) -> Result<VecDeque<Request<G>>, AllocError> {
+) -> Result<VecDeque<Request<G>>, AllocError>
+    ensures { IfOk result (λ queue. length queue.items ≡ length calls.now) }
+{
     let mut requests = VecDeque::new(alloc);
     for call in calls {
         requests.push_back(Request::Call(*call))?;
@@ -80,6 +82,15 @@ pub fn open<G: Game + Drop>(
         Ok(session) => Ok(session),
         Err(fault) => Err(fault.why),
     }
+}
+
+/// A session of two players in which these calls were made.
+pub fn played(alloc: Global, calls: &[Call]) -> Result<Session<Tally>, Refusal> {
+    let mut session = open(alloc, Tally::new(), Tally::opening(), TWO)?;
+    for call in calls {
+        session.perform(Request::Call(*call))?;
+    }
+    Ok(session)
 }
 
 /// How often a game was advanced, and how often it refused a call.

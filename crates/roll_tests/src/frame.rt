@@ -2,6 +2,7 @@
 use crate::examples::TWO;
 use roll_frame::{Advice, Event, FRAME_LIMIT, LOG_LIMIT, Profile, Refusal, Settings};
 use std::alloc::Global;
+use std::process::Abort;
 
 /// An advice that noted each pair so many times, one after another.
 fn advice_after(alloc: Global, runs: &[(u8, i32, i32)]) -> Result<Advice, Refusal> {
@@ -45,88 +46,80 @@ const WIDEST: Settings = Settings {
     ..TWO
 };
 
-#[test]
-fn refuses_settings_out_of_range(rt: HostRuntime) {
-    let late_delay = [0, 1, 0, 0, 0, 0, 0, 0];
-    let long_delay = [9, 0, 0, 0, 0, 0, 0, 0];
-    for (settings, want) in [
-        (Settings { players: 5, ..TWO }, Refusal::PlayerOutOfRange),
-        (
-            Settings {
-                players: 200,
-                local: 0,
-                ..TWO
-            },
-            Refusal::PlayerOutOfRange,
-        ),
-        (Settings { players: 0, ..TWO }, Refusal::PlayerOutOfRange),
-        (Settings { local: 0, ..TWO }, Refusal::InvalidRequest),
-        (
-            Settings {
-                local: 0b101,
-                ..TWO
-            },
-            Refusal::InvalidRequest,
-        ),
-        (
-            Settings {
-                delays: late_delay,
-                ..TWO
-            },
-            Refusal::InvalidRequest,
-        ),
-        (
-            Settings {
-                delays: long_delay,
-                ..TWO
-            },
-            Refusal::InvalidRequest,
-        ),
-        (
-            Settings {
-                threshold: 9,
-                ..TWO
-            },
-            Refusal::InvalidRequest,
-        ),
-        (
-            Settings {
-                threshold: 0,
-                ..TWO
-            },
-            Refusal::InvalidRequest,
-        ),
-        (
-            Settings {
-                limit: FRAME_LIMIT + 1,
-                ..TWO
-            },
-            Refusal::InvalidRequest,
-        ),
-        (Settings { limit: 0, ..TWO }, Refusal::InvalidRequest),
-        (
-            Settings {
-                players: 9,
-                ..WIDEST
-            },
-            Refusal::PlayerOutOfRange,
-        ),
-        (
-            Settings {
-                threshold: 16,
-                ..WIDEST
-            },
-            Refusal::InvalidRequest,
-        ),
-        (
-            Settings {
-                log: LOG_LIMIT + 1,
-                ..TWO
-            },
-            Refusal::InvalidRequest,
-        ),
-        (Settings { log: 0, ..TWO }, Refusal::InvalidRequest),
-    ] {
+/// Holds that each of these settings is refused in this way.
+fn refuses_each(rt: &impl Abort, table: &[Settings], want: Refusal) {
+    for settings in table {
         assert_eq!(rt; settings.refusal(), Some(want), "{settings:?}");
     }
+}
+
+#[test]
+fn refuses_a_number_of_players(rt: HostRuntime) {
+    let crowd = Settings {
+        players: 200,
+        local: 0,
+        ..TWO
+    };
+    let table = [
+        Settings { players: 5, ..TWO },
+        crowd,
+        Settings { players: 0, ..TWO },
+        Settings {
+            players: 9,
+            ..WIDEST
+        },
+    ];
+    refuses_each(&rt, &table, Refusal::PlayerOutOfRange);
+}
+
+#[test]
+fn refuses_local_players(rt: HostRuntime) {
+    let none = Settings { local: 0, ..TWO };
+    let outside = Settings {
+        local: 0b101,
+        ..TWO
+    };
+    refuses_each(&rt, &[none, outside], Refusal::InvalidRequest);
+}
+
+#[test]
+fn refuses_delays(rt: HostRuntime) {
+    let remote = Settings {
+        delays: [0, 1, 0, 0, 0, 0, 0, 0],
+        ..TWO
+    };
+    let long = Settings {
+        delays: [9, 0, 0, 0, 0, 0, 0, 0],
+        ..TWO
+    };
+    refuses_each(&rt, &[remote, long], Refusal::InvalidRequest);
+}
+
+#[test]
+fn refuses_limits(rt: HostRuntime) {
+    let table = [
+        Settings {
+            threshold: 9,
+            ..TWO
+        },
+        Settings {
+            threshold: 0,
+            ..TWO
+        },
+        Settings {
+            threshold: 16,
+            ..WIDEST
+        },
+        Settings {
+            limit: FRAME_LIMIT + 1,
+            ..TWO
+        },
+        Settings { limit: 0, ..TWO },
+        Settings {
+            log: LOG_LIMIT + 1,
+            ..TWO
+        },
+        Settings { log: 0, ..TWO },
+    ];
+    refuses_each(&rt, &table, Refusal::InvalidRequest);
 }

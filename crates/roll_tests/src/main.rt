@@ -24,6 +24,8 @@ mod messages;
 #[cfg(test)]
 mod program;
 #[cfg(test)]
+mod refused;
+#[cfg(test)]
 mod session;
 #[cfg(test)]
 mod shared;

@@ -1,5 +1,5 @@
 //! What a session shows that no script does: its limits, refused calls of its game, and long runs.
-use crate::examples::{ALONE, LATE_CALLS, TWO, counts, open, queue, row};
+use crate::examples::{ALONE, LATE_CALLS, TWO, counts, open, played, queue, row};
 use crate::laws::{goes_on, keeps_few};
 use crate::shared::path;
 use roll_frame::{Refusal, Reply, Settings};
@@ -72,47 +72,6 @@ fn keeps_what_a_refused_roll_saved(rt: HostRuntime) -> Result<(), Refusal> {
     Ok(())
 }
 
-/// Makes the late calls in a session that starts with this game, and again what is refused. It answers how often that was.
-fn made_again(rt: &(impl Abort + AllocGlobal), kind: Call, k: u64) -> Result<u32, Refusal> {
-    let game = Refusing::new(Tally::new(), kind, k);
-    let mut refused = 0u32;
-    let mut session = match Session::start(rt.alloc(), game, Tally::opening(), TWO) {
-        Ok(session) => session,
-        Err(fault) => {
-            assert_eq!(rt; fault.why, Refusal::NoMemory);
-            refused = 1;
-            open(rt.alloc(), fault.game, fault.opening, TWO)?
-        }
-    };
-    for call in LATE_CALLS {
-        if session.perform(Request::Call(call)).is_err() {
-            refused = refused.saturating_add(1);
-            assert!(rt; session.perform(Request::Call(call)).is_ok(), "{kind:?} {k}");
-        }
-    }
-    assert_eq!(rt; session.frame(), 2, "{kind:?} {k}");
-    assert_eq!(rt; session.settled(), 1, "{kind:?} {k}");
-    assert_eq!(rt; session.current().copied(), Some(77), "{kind:?} {k}");
-    Ok(refused)
-}
-
-#[test]
-fn goes_on_after_each_refused_call(rt: HostRuntime) -> Result<(), Refusal> {
-    // Each roll loads once, and saves each frame that it runs; a start copies the opening and loads it.
-    for (kind, calls) in [
-        (Call::Load, 4),
-        (Call::Save, 4),
-        (Call::Copy, 1),
-        (Call::Advance, 4),
-    ] {
-        for k in 1..6 {
-            let refused = made_again(&rt, kind, k)?;
-            assert_eq!(rt; refused, u32::from(k <= calls), "{kind:?} {k}");
-        }
-    }
-    Ok(())
-}
-
 #[test]
 fn tells_what_is_settled(rt: HostRuntime) -> Result<(), Fail> {
     let mut session = open(rt.alloc(), Tally::new(), Tally::opening(), TWO)?;
@@ -133,14 +92,12 @@ fn tells_what_is_settled(rt: HostRuntime) -> Result<(), Fail> {
 
 #[test]
 fn keeps_what_can_still_matter(rt: HostRuntime) -> Result<(), Fail> {
-    let mut session = open(rt.alloc(), Tally::new(), Tally::opening(), TWO)?;
+    let session = played(rt.alloc(), &[])?;
     assert_eq!(rt;
         session.kept(rt.alloc())?.as_slice(),
         [path(0, &[])].as_slice()
     );
-    let mut replies = Vec::with_capacity(rt.alloc(), LATE_CALLS.len())?;
-    let mut requests = queue(rt.alloc(), &LATE_CALLS)?;
-    session.run(&mut requests, &mut replies)?;
+    let session = played(rt.alloc(), &LATE_CALLS)?;
     keeps_few(&session);
     assert_eq!(rt;
         session.kept(rt.alloc())?.as_slice(),
