@@ -49,6 +49,11 @@ pub const AHEAD: &[u8] =
 
 pub const AHEAD_ANSWER: &[u8] = b"yes: from 2 to 3 rerun 1\n";
 
+/// A file of three rows, and what a sync test of a game with them writes that verifies two frames at once.
+pub const ROWS: &[u8] = b"rolltest 1 players 2\n4294967295,0\nx,3\n4294967295,4294967295\n";
+
+pub const ROWS_OUTPUT: &[u8] = b"run\nverified 2\nrun\n";
+
 /// Two players, of whom the first is local, with no delay and nothing masked.
 pub const TWO: Settings = Settings {
     profile: Profile::Ggpo,

@@ -1,6 +1,7 @@
 //! Examples in which any one allocation may be refused: each ends whole, or tells that memory was refused.
 use crate::examples::{
-    AHEAD, AHEAD_ANSWER, ALONE, LATE, LATE_CALLS, LATE_OUTPUT, TWO, add, counts, open, row,
+    AHEAD, AHEAD_ANSWER, ALONE, LATE, LATE_CALLS, LATE_OUTPUT, ROWS, ROWS_OUTPUT, TWO, add, counts,
+    open, row,
 };
 use roll_cli::{GameName, PlayFault, Task};
 use roll_duel::Duel;
@@ -34,6 +35,8 @@ pub enum Example {
     Script,
     Guess,
     DuelScript,
+    TallyRows,
+    DuelRows,
     Claim,
     Session,
     Reserved,
@@ -44,10 +47,12 @@ pub enum Example {
 }
 
 impl Example {
-    pub const ALL: [Example; 8] = [
+    pub const ALL: [Example; 12] = [
         Example::Script,
         Example::Guess,
         Example::DuelScript,
+        Example::TallyRows,
+        Example::DuelRows,
         Example::Claim,
         Example::Session,
         Example::Reserved,
@@ -67,6 +72,8 @@ impl Example {
                 GUESSING_OUTPUT,
             ),
             Example::DuelScript => answers(alloc, Task::Play(GameName::Duel), DUEL, DUEL_OUTPUT),
+            Example::TallyRows => verifies(alloc, GameName::Tally),
+            Example::DuelRows => verifies(alloc, GameName::Duel),
             Example::Claim => answers(alloc, Task::Certify, AHEAD, AHEAD_ANSWER),
             Example::Session => goes_on(alloc).unwrap_or(Wrong),
             Example::Reserved => takes_reserved_events(alloc).unwrap_or(Wrong),
@@ -91,6 +98,12 @@ const DUEL: &[u8] =
 
 const DUEL_OUTPUT: &[u8] =
     b"job 0 rows 2\nadded 2\nok\ntaken\nframe 1 from 1 rerun 0 settled 1 state 20480,15360,0,0,0,0,0 61424,46080,-16,0,4,0,0 b0\n";
+
+/// Tests a game with a file of rows.
+fn verifies(alloc: Global, game: GameName) -> Ending {
+    let task = Task::SyncTest { game, frames: 2 };
+    answers(alloc, task, ROWS, ROWS_OUTPUT)
+}
 
 /// Writes the whole output, or nothing.
 fn answers(alloc: Global, task: Task, text: &[u8], output: &[u8]) -> Ending {

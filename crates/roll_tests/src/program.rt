@@ -1,5 +1,5 @@
-//! Scripts and claims from readers and to writers that fail, and scripts as long as can be.
-use crate::examples::{AHEAD, AHEAD_ANSWER, LATE, LATE_OUTPUT};
+//! Scripts, files of rows and claims from readers and to writers that fail, and scripts as long as can be.
+use crate::examples::{AHEAD, AHEAD_ANSWER, LATE, LATE_OUTPUT, ROWS, ROWS_OUTPUT};
 use crate::shared::{FakeReader, FakeWriter};
 use roll_cli::{Command, Ending, GameName, PlayFault, Task, play, run};
 use roll_game::Tally;
@@ -7,8 +7,16 @@ use roll_text::push_list;
 use std::test::Fail;
 
 /// What is to be done with a text of two pieces, and what is then written.
-const WORK: [(Task, &[u8], &[u8]); 2] = [
+const WORK: [(Task, &[u8], &[u8]); 3] = [
     (Task::Play(GameName::Tally), LATE, LATE_OUTPUT),
+    (
+        Task::SyncTest {
+            game: GameName::Tally,
+            frames: 2,
+        },
+        ROWS,
+        ROWS_OUTPUT,
+    ),
     (Task::Certify, AHEAD, AHEAD_ANSWER),
 ];
 

@@ -2,11 +2,12 @@
 use crate::examples::{counts, row};
 use crate::laws::steps_without_mismatch;
 use Verdict::{Mismatch, Run, Verified};
+use roll_cli::synctest;
 use roll_duel::Duel;
 use roll_frame::{FRAME_LIMIT, Refusal, Row};
 use roll_game::{Call, Counts, NoMemory, RawGame, Refusing, Tally};
 use roll_synctest::{SyncTest, Verdict};
-use std::alloc::Global;
+use std::alloc::{AllocError, Global};
 use std::process::Abort;
 
 /// A game that adds the number of its earlier advances to its state, once these are so many.
@@ -194,6 +195,42 @@ fn finds_what_is_not_saved(rt: HostRuntime) -> Result<(), Refusal> {
     answers(&rt, &mut test, &[Ok(Run), Ok(Verified(2))]);
     answers(&rt, &mut test, &[Ok(Run), Ok(Verified(4))]);
     answers(&rt, &mut test, &[Ok(Run), Ok(Mismatch(4)), STOPPED]);
+    Ok(())
+}
+
+/// Tests a drifting game with a file of so many rows, and looks that a mismatch is the last that is written.
+fn ends_in_mismatch(
+    rt: &(impl Abort + AllocGlobal),
+    game: Drifting,
+    rows: u32,
+    frames: u32,
+    expected: &[u8],
+) -> Result<(), AllocError> {
+    let mut text = Vec::from_slice(rt.alloc(), b"rolltest 1 players 2\n")?;
+    for _ in 0..rows {
+        text.extend_from_slice(b"1,3\n")?;
+    }
+    let mut out: Vec<u8> = Vec::new(rt.alloc());
+    let same = synctest(rt.alloc(), &mut text.as_slice(), &mut out, game, 0, frames);
+    assert_eq!(rt; same, Ok(false), "{rows} {frames}");
+    assert_eq!(rt; out.as_slice(), expected, "{rows} {frames}");
+    Ok(())
+}
+
+#[test]
+fn writes_up_to_the_first_frame_that_differs(rt: HostRuntime) -> Result<(), AllocError> {
+    let runs: [(u64, u32, u32, &[u8]); 3] = [
+        (0, 2, 1, b"mismatch 0\n"),
+        (0, 2, 2, b"run\nmismatch 0\n"),
+        (10, 7, 3, b"run\nrun\nverified 3\nrun\nrun\nmismatch 4\n"),
+    ];
+    for (from, rows, frames, expected) in runs {
+        let game = Drifting {
+            counts: Counts::new(),
+            from,
+        };
+        ends_in_mismatch(&rt, game, rows, frames, expected)?;
+    }
     Ok(())
 }
 
