@@ -35,7 +35,6 @@ pub enum Example {
     Script,
     Guess,
     DuelScript,
-    TallyRows,
     DuelRows,
     Claim,
     Session,
@@ -47,11 +46,10 @@ pub enum Example {
 }
 
 impl Example {
-    pub const ALL: [Example; 12] = [
+    pub const ALL: [Example; 11] = [
         Example::Script,
         Example::Guess,
         Example::DuelScript,
-        Example::TallyRows,
         Example::DuelRows,
         Example::Claim,
         Example::Session,
@@ -72,8 +70,7 @@ impl Example {
                 GUESSING_OUTPUT,
             ),
             Example::DuelScript => answers(alloc, Task::Play(GameName::Duel), DUEL, DUEL_OUTPUT),
-            Example::TallyRows => verifies(alloc, GameName::Tally),
-            Example::DuelRows => verifies(alloc, GameName::Duel),
+            Example::DuelRows => answers(alloc, TWO_DUEL_FRAMES, ROWS, ROWS_OUTPUT),
             Example::Claim => answers(alloc, Task::Certify, AHEAD, AHEAD_ANSWER),
             Example::Session => goes_on(alloc).unwrap_or(Wrong),
             Example::Reserved => takes_reserved_events(alloc).unwrap_or(Wrong),
@@ -99,11 +96,11 @@ const DUEL: &[u8] =
 const DUEL_OUTPUT: &[u8] =
     b"job 0 rows 2\nadded 2\nok\ntaken\nframe 1 from 1 rerun 0 settled 1 state 20480,15360,0,0,0,0,0 61424,46080,-16,0,4,0,0 b0\n";
 
-/// Tests a game with a file of rows.
-fn verifies(alloc: Global, game: GameName) -> Ending {
-    let task = Task::SyncTest { game, frames: 2 };
-    answers(alloc, task, ROWS, ROWS_OUTPUT)
-}
+/// A sync test of the ship duel that verifies two frames at once.
+const TWO_DUEL_FRAMES: Task = Task::SyncTest {
+    game: GameName::Duel,
+    frames: 2,
+};
 
 /// Writes the whole output, or nothing.
 fn answers(alloc: Global, task: Task, text: &[u8], output: &[u8]) -> Ending {
