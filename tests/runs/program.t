@@ -166,9 +166,10 @@ Words that can't be understood, and help.
   $ rollduel play $(printf 'a\377')
   rollduel: cannot read
   [2]
-  $ for words in --help 'play --help' 'certify --help'; do rollduel $words > help || echo "status $?"; head -n 1 help; done
-  Plays scripts of rollback sessions, and checks the claims of rollbacks.
+  $ for words in --help 'play --help' 'synctest --help' 'certify --help'; do rollduel $words > help || echo "status $?"; head -n 1 help; done
+  Plays scripts of rollback sessions, tests games, and checks the claims of rollbacks.
   Plays a script, and prints what the session answers to each line
+  Tests whether a game comes out the same twice, and prints what is found at each row
   Checks the claim of a rollback, and prints whether it is right
   $ rollduel --help 2>&1 >/dev/null
 
@@ -194,3 +195,8 @@ The examples of the help are the files that it names, and print what it says.
   11
   $ cmp example ../examples/branch-ahead.claim
   $ rollduel certify example | cmp - want
+  $ shown synctest > example; printed synctest > want
+  $ wc -l < example
+  3
+  $ cmp example ../examples/two-frames.rows
+  $ rollduel synctest example | cmp - want

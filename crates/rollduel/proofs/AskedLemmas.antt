@@ -33,6 +33,6 @@ not_met m e = sym (none_met (λ p. p.1) (subcommand_rows_of m) e)
 
 -- the request of a command's name and its matches
 pub asked_of_found : (request : Request) (name : Text) (f : Found) → path_of request.input ≡ path_named (first_value f (codes "FILE"))
-    → request.task ≡ task_named name (first_value f (codes "game")) → asked_of request ≡ asked_in (Some (name, rows_of f))
+    → request.task ≡ task_named name (first_value f (codes "game")) (first_value f (codes "frames")) → asked_of request ≡ asked_in (Some (name, rows_of f))
 asked_of_found request name f input task = ap₂ (λ (path : Option Text) (t : Task). let asked : Asked = (path, t) in asked)
-    (input ∙ ap path_named (first_value-rows f (codes "FILE"))) (task ∙ ap (task_named name) (first_value-rows f (codes "game")))
+    (input ∙ ap path_named (first_value-rows f (codes "FILE"))) (task ∙ ap₂ (task_named name) (first_value-rows f (codes "game")) (first_value-rows f (codes "frames")))

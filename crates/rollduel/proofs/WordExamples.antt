@@ -5,19 +5,19 @@ use Rattle.clap.proofs.OnLiterals.{clap_on_literals}
 use Rattle.clap.specs.Faults.{fault_of, is_simple_and_free}
 use Rattle.clap.specs.Simple.{is_simple}
 use Rattle.clap.specs.Takes.{takes}
-use Rattle.clap.specs.declared.error.kind.ErrorKind.TheVariants.{DisplayHelp, InvalidSubcommand, InvalidValue, MissingRequiredArgument, UnknownArgument}
+use Rattle.clap.specs.declared.error.kind.ErrorKind.TheVariants.{DisplayHelp, InvalidSubcommand, InvalidValue, MissingRequiredArgument, UnknownArgument, ValueValidation}
 use Rattle.roll_cli.specs.declared.program.Ending.{Ending}
 use Rattle.roll_cli.specs.declared.program.GameName.TheVariants.{Tally, Duel}
-use Rattle.roll_cli.specs.declared.program.Task.TheVariants.{Play, Certify}
+use Rattle.roll_cli.specs.declared.program.Task.TheVariants.{Play, SyncTest, Certify}
 use Rattle.rollduel.specs.Commands.{Games, app_with, rollduel_app}
 use Rattle.rollduel.specs.Endings.{EndsRefused}
 use Rattle.rollduel.specs.Requests.{asked_by}
 
-pub simple : (games : Games) → is_simple (app_with games) ≡ true
-simple games = refl
+pub simple : (played tested : Games) → is_simple (app_with played tested) ≡ true
+simple played tested = refl
 
-pub free : (games : Games) → is_simple_and_free (app_with games) ≡ true
-free games = refl
+pub free : (played tested : Games) → is_simple_and_free (app_with played tested) ≡ true
+free played tested = refl
 
 pub no_command : asked_by (codes "rollduel" ∷ []) ≡ (None, Play Tally)
 unfolding clap_on_literals
@@ -39,6 +39,14 @@ pub certifies : asked_by (codes "rollduel" ∷ codes "certify" ∷ codes "a.clai
 unfolding clap_on_literals
 certifies = refl
 
+pub tests_a_file : asked_by (codes "rollduel" ∷ codes "synctest" ∷ codes "a.rows" ∷ []) ≡ (Some (codes "a.rows"), SyncTest Tally 1)
+unfolding clap_on_literals
+tests_a_file = refl
+
+pub tests_eight_frames : asked_by (codes "rollduel" ∷ codes "synctest" ∷ codes "-" ∷ codes "--frames" ∷ codes "8" ∷ codes "--game=duel" ∷ []) ≡ (None, SyncTest Duel 8)
+unfolding clap_on_literals
+tests_eight_frames = refl
+
 pub takes_nothing : takes rollduel_app (codes "rollduel" ∷ []) ≡ true
 unfolding clap_on_literals
 takes_nothing = refl
@@ -59,6 +67,10 @@ pub takes_a_claim : takes rollduel_app (codes "rollduel" ∷ codes "certify" ∷
 unfolding clap_on_literals
 takes_a_claim = refl
 
+pub takes_eight_frames : takes rollduel_app (codes "rollduel" ∷ codes "synctest" ∷ codes "-" ∷ codes "--frames" ∷ codes "8" ∷ codes "--game=duel" ∷ []) ≡ true
+unfolding clap_on_literals
+takes_eight_frames = refl
+
 pub no_file : takes rollduel_app (codes "rollduel" ∷ codes "play" ∷ []) ≡ false
 unfolding clap_on_literals
 no_file = refl
@@ -74,6 +86,14 @@ no_game = refl
 pub no_game_fault : fault_of rollduel_app (codes "rollduel" ∷ codes "play" ∷ codes "a" ∷ codes "--game" ∷ codes "chess" ∷ []) ≡ InvalidValue ∷ []
 unfolding clap_on_literals
 no_game_fault = refl
+
+pub no_frames_fault : fault_of rollduel_app (codes "rollduel" ∷ codes "synctest" ∷ codes "a" ∷ codes "--frames" ∷ codes "0" ∷ []) ≡ ValueValidation ∷ []
+unfolding clap_on_literals
+no_frames_fault = refl
+
+pub nine_frames_fault : fault_of rollduel_app (codes "rollduel" ∷ codes "synctest" ∷ codes "a" ∷ codes "--frames=9" ∷ []) ≡ ValueValidation ∷ []
+unfolding clap_on_literals
+nine_frames_fault = refl
 
 pub stray_option_fault : fault_of rollduel_app (codes "rollduel" ∷ codes "certify" ∷ codes "a.claim" ∷ codes "--game" ∷ codes "duel" ∷ []) ≡ UnknownArgument ∷ []
 unfolding clap_on_literals

@@ -25,14 +25,28 @@ game_rule games = record (new_rule (codes "game")) {
   parser = Some (parser.Names games);
 }
 
+-- --frames N, from 1 to 8
+abbrev pub frames_rule : Rule
+frames_rule = record (new_rule (codes "frames")) {
+  long = Some (codes "frames");
+  value_names = 1;
+  defaults = codes "1" ∷ [];
+  parser = Some (parser.Unsigned 1 8);
+}
+
 abbrev pub play_app : Games → App
 play_app games = with_rule (with_rule (new_app (codes "play")) file_rule) (game_rule games)
+
+abbrev pub synctest_app : Games → App
+synctest_app games = with_rule (with_rule (with_rule (new_app (codes "synctest")) file_rule) (game_rule games)) frames_rule
 
 abbrev pub certify_app : App
 certify_app = with_rule (new_app (codes "certify")) file_rule
 
-abbrev pub app_with : Games → App
-app_with games = with_subcommand (with_subcommand (new_app (codes "rollduel")) (play_app games).top) certify_app.top
+-- the program, with the names of the games for `play` and for `synctest`
+abbrev pub app_with : Games → Games → App
+app_with played tested =
+    with_subcommand (with_subcommand (with_subcommand (new_app (codes "rollduel")) (play_app played).top) (synctest_app tested).top) certify_app.top
 
 -- the names at some place: where they stand changes nothing
 abbrev pub some_games : Games
@@ -42,4 +56,4 @@ some_games = record {
 }
 
 abbrev pub rollduel_app : App
-rollduel_app = app_with some_games
+rollduel_app = app_with some_games some_games

@@ -5,10 +5,11 @@ ghost use Rattle.clap.specs.Kinds.{FailsBy};
 ghost use Rattle.clap.specs.declared.builder.command.Command.TheViews.{out-Command as fields_of};
 ghost use Rattle.clap.specs.Words.{app_of, first_value, found_of, kind_of, rule_of, takes};
 ghost use Rattle.clap.specs.declared.error.kind.ErrorKind.TheVariants.{OutOfMemory};
-ghost use Rattle.rollduel.specs.Commands.{AreGames, Games, app_with, certify_app, file_rule, game_rule, play_app, rollduel_app};
-ghost use Rattle.rollduel.specs.Requests.{asked_by, asked_of, game_named, path_named, path_of, task_named};
+ghost use Rattle.rollduel.specs.Commands.{AreGames, Games, app_with, certify_app, file_rule, frames_rule, game_rule, play_app, rollduel_app, synctest_app};
+ghost use Rattle.rollduel.specs.Requests.{asked_by, asked_of, frames_named, game_named, path_named, path_of, task_named};
 
 use crate::help;
+use clap::builder::ValueParser;
 use clap::{Arg, ArgMatches, Command, Error};
 use roll_cli::{GameName, Task};
 use std::alloc::{AllocError, Global};
@@ -48,7 +49,7 @@ pub fn read<'a>(alloc: Global, words: &'a [String]) -> Result<Request<'a>, Error
 /// The request of the command of this name.
 fn request_of<'a>(name: &str, found: &ArgMatches<'a>) -> Request<'a>
     ensures input { path_of result.input ≡ path_named (first_value (found_of found.now) (codes "FILE")) }
-    ensures task { result.task ≡ task_named name.now (first_value (found_of found.now) (codes "game")) }
+    ensures task { result.task ≡ task_named name.now (first_value (found_of found.now) (codes "game")) (first_value (found_of found.now) (codes "frames")) }
 {
     Request {
         input: input_of(found),
@@ -57,10 +58,14 @@ fn request_of<'a>(name: &str, found: &ArgMatches<'a>) -> Request<'a>
 }
 
 fn task_of(name: &str, found: &ArgMatches<'_>) -> Task
-    ensures { result ≡ task_named name.now (first_value (found_of found.now) (codes "game")) }
+    ensures { result ≡ task_named name.now (first_value (found_of found.now) (codes "game")) (first_value (found_of found.now) (codes "frames")) }
 {
     match name {
         "certify" => Task::Certify,
+        "synctest" => Task::SyncTest {
+            game: game_of(found),
+            frames: frames_of(found),
+        },
         _ => Task::Play(game_of(found)),
     }
 }
@@ -83,17 +88,29 @@ fn game_of(found: &ArgMatches<'_>) -> GameName
     }
 }
 
+fn frames_of(found: &ArgMatches<'_>) -> u32
+    ensures { result ≡ frames_named (first_value (found_of found.now) (codes "frames")) }
+{
+    match found.get_str(FRAMES) {
+        Some(value) => u32::from(value.parse::<u8>().unwrap_or(0)),
+        None => 1,
+    }
+}
+
 const FILE: &str = "FILE";
 
 const GAME: &str = "game";
 
+const FRAMES: &str = "frames";
+
 fn program_command<'a>(alloc: Global) -> Result<Command<'a>, AllocError>
-    ensures { IfOk result (λ command. (games : Games) × AreGames games × (app_of command ≡ app_with games)) }
+    ensures { IfOk result (λ command. (played : Games) × (tested : Games) × AreGames played × AreGames tested × (app_of command ≡ app_with played tested)) }
 {
     Command::new(alloc, "rollduel")
         .about(help::PROGRAM)
         .after_help(help::SCRIPT)
         .subcommand(play_command(alloc)?)?
+        .subcommand(synctest_command(alloc)?)?
         .subcommand(certify_command(alloc)?)
 }
 
@@ -106,6 +123,18 @@ fn play_command<'a>(alloc: Global) -> Result<Command<'a>, AllocError>
         .after_help(help::SCRIPT)
         .arg(file_arg(alloc).help("The script; - is standard input"))?
         .arg(game_arg(alloc))
+}
+
+fn synctest_command<'a>(alloc: Global) -> Result<Command<'a>, AllocError>
+    ensures app { IfOk result (λ command. (games : Games) × AreGames games × (app_of command ≡ synctest_app games)) }
+    ensures local { IfOk result (λ command. (fields_of command).has_globals ≡ false) }
+{
+    Command::new(alloc, "synctest")
+        .about(help::SYNCTEST)
+        .after_help(help::ROWS)
+        .arg(file_arg(alloc).help("The rows of inputs; - is standard input"))?
+        .arg(game_arg(alloc))?
+        .arg(frames_arg(alloc))
 }
 
 fn certify_command<'a>(alloc: Global) -> Result<Command<'a>, AllocError>
@@ -135,4 +164,16 @@ fn game_arg<'a>(alloc: Global) -> Arg<'a>
         .value_parser(["tally", "duel"].as_slice())
         .default_value("tally")
         .help("tally adds words up; duel has a ship for each of 2 to 4 players")
+}
+
+fn frames_arg<'a>(alloc: Global) -> Arg<'a>
+    ensures rule { rule_of result ≡ frames_rule }
+    ensures local { result.global ≡ false }
+{
+    Arg::new(alloc, FRAMES)
+        .long(FRAMES)
+        .value_name("N")
+        .value_parser(ValueParser::unsigned(1, 8))
+        .default_value("1")
+        .help("How many frames are run again at once, from 1 to 8")
 }

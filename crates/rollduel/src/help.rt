@@ -1,12 +1,15 @@
 //! Texts of `--help`.
 
 pub const PROGRAM: &str = "\
-Plays scripts of rollback sessions, and checks the claims of rollbacks.
+Plays scripts of rollback sessions, tests games, and checks the claims of rollbacks.
 
 A rollback session keeps a game for several players going while inputs of remote players are
 under way: it predicts them, and where a prediction turns out wrong, it goes back and runs those
 frames again. A script stands for the players and the network, so that this can be followed line
 by line. Without a command a script is read from standard input, and the game is tally.
+
+A game for such a session has to come out the same each time that frames are run again. A sync test
+looks for one that doesn't: `rollduel synctest --help` tells how.
 
 A claim says of one rollback that none from a saved state that it lists would have run fewer
 frames. It can be checked without the session that made it: `rollduel certify --help` tells how.";
@@ -60,6 +63,44 @@ It prints:
 
 Exit status: 0; 1 where an answer was `refused N`; 2 where the script can't be read, a line of it
 is unreadable, memory runs out, or the answers can't be written.";
+
+pub const SYNCTEST: &str =
+    "Tests whether a game comes out the same twice, and prints what is found at each row";
+
+pub const ROWS: &str = "\
+A rollback is right only where a game comes out the same each time that it runs the same inputs from
+the same state. A sync test runs each frame twice and compares the results: where they differ, the
+game depends on something besides its state and its inputs. The first line of the file tells how
+many players there are, and each further line is a row, the inputs of one frame:
+
+  rolltest 1 players P   1 to 4 players
+  1,3                    a row: a word for each player, or x for one who is gone
+
+After every N rows, where `--frames` says N, the second run loads the state that it saved last, and
+runs those N frames again. Each row is answered by one of these:
+
+  run          the frame was run once; it is run again with those after it
+  verified F   so many frames in all came out the same twice
+  mismatch F   frame F, the first being frame 0, came out different; the test ends with it
+
+Tally and duel never come out different. A test that doesn't start, as a duel of one player, is
+answered by `refused N` alone.
+
+Example (the file examples/two-frames.rows):
+
+  rolltest 1 players 2
+  1,3
+  1,3
+
+It prints:
+
+  verified 1
+  verified 2
+
+With `--frames 2` it prints `run` and `verified 2`, and with `--frames 3` twice `run`.
+
+Exit status: 0; 1 where a frame came out different, or the answer was `refused N`; 2 where the file
+can't be read, a line of it is unreadable, memory runs out, or the answers can't be written.";
 
 pub const CERTIFY: &str = "Checks the claim of a rollback, and prints whether it is right";
 

@@ -1,4 +1,4 @@
-//! The program `rollduel`: plays scripts and prints what the session shows, and checks claims.
+//! The program `rollduel`: plays scripts and prints what the session shows, tests games, and checks claims.
 //!
 //! The work is done in `roll_cli`. Here are the command line, the streams and the exit status.
 #![tactic(auto)]

@@ -18,15 +18,15 @@ returns-in_err-matches-clause-taken c =
     let command = c.in_ok-program_command.ensures in
     let words = map string_bytes c.args.words.now in
     passed_up c.from_residual-in_err-matches.result c.in_err-matches.field-0.0 _ c.from_residual-in_err-matches.ensures.1
-    (λ taken. c.in_err-matches.ensures.passes (ap (λ a. takes a words) command.2 ∙ takes_same command.0 some_games command.1 refl words ∙ taken))
+    (λ taken. c.in_err-matches.ensures.passes (ap (λ a. takes a words) command.4 ∙ takes_same command.0 some_games command.1 some_games command.2 refl command.3 refl words ∙ taken))
 
 pub returns-in_err-matches-clause-kinds : goal.returns-in_err-matches-clause-kinds
 returns-in_err-matches-clause-kinds c =
     let command = c.in_ok-program_command.ensures in
     let words = map string_bytes c.args.words.now in
-    let same = ap (λ a. fault_of a words) command.2 ∙ fault_same command.0 some_games command.1 refl words in
+    let same = ap (λ a. fault_of a words) command.4 ∙ fault_same command.0 some_games command.1 some_games command.2 refl command.3 refl words in
     failed_up c.from_residual-in_err-matches.result c.in_err-matches.field-0.0 _ _ c.from_residual-in_err-matches.ensures.1
-    (rw (← same) (c.in_err-matches.ensures.kinds (ap is_simple_and_free command.2)))
+    (rw (← same) (c.in_err-matches.ensures.kinds (ap is_simple_and_free command.4)))
 
 pub returns-in-Some-clause-request : goal.returns-in-Some-clause-request
 returns-in-Some-clause-request c =
@@ -37,13 +37,13 @@ returns-in-Some-clause-request c =
     let found = found_of c.in-Some.found.now in
     asked_of_found c.request_of.result name found c.request_of.ensures.input c.request_of.ensures.task
     ∙ ap asked_in (met parse.matches name _ c.in-Some.ensures.name c.in-Some.ensures.rows
-    ∙ (parse.ensures.matches (ap is_simple command.2)).1 ∙ ap (λ a. subcommand_of a words) command.2 ∙ subcommand_same command.0 some_games words)
+    ∙ (parse.ensures.matches (ap is_simple command.4)).1 ∙ ap (λ a. subcommand_of a words) command.4 ∙ subcommand_same command.0 some_games command.1 some_games words)
 
 pub returns-in-Some-clause-kinds : goal.returns-in-Some-clause-kinds
 returns-in-Some-clause-kinds c =
     let command = c.in_ok-program_command.ensures in
     let words = map string_bytes c.args.words.now in
-    sym (ap (λ a. fault_of a words) command.2 ∙ fault_same command.0 some_games command.1 refl words) ∙ c.in_ok-matches.ensures.kinds (ap is_simple_and_free command.2)
+    sym (ap (λ a. fault_of a words) command.4 ∙ fault_same command.0 some_games command.1 some_games command.2 refl command.3 refl words) ∙ c.in_ok-matches.ensures.kinds (ap is_simple_and_free command.4)
 
 pub returns-clause-request : goal.returns-clause-request
 returns-clause-request c =
@@ -51,4 +51,4 @@ returns-clause-request c =
     let words = map string_bytes c.args.words.now in
     let parse = c.in_ok-matches in
     ap asked_in (not_met parse.matches c.in-None.ensures.rows
-    ∙ (parse.ensures.matches (ap is_simple command.2)).1 ∙ ap (λ a. subcommand_of a words) command.2 ∙ subcommand_same command.0 some_games words)
+    ∙ (parse.ensures.matches (ap is_simple command.4)).1 ∙ ap (λ a. subcommand_of a words) command.4 ∙ subcommand_same command.0 some_games command.1 some_games words)
