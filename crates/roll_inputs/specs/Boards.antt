@@ -1,5 +1,5 @@
 -- A board as its callers see it, and what its fields keep.
-use Rattle.std.specs.Prelude.{◌≡◌, ◌≢◌, ℕ, ◌+◌, ◌-◌, ◌<◌, ◌≤◌, List, [], ◌∷◌, length, map, not, nat_lt, Bool, true, false, All, Option, None, if◌then◌else◌, ◌==◌, slice_get}
+use Rattle.std.specs.Prelude.{◌≡◌, ◌≢◌, ℕ, ◌+◌, ◌-◌, ◌<◌, ◌≤◌, List, length, map, true, false, All, Option, None, if◌then◌else◌, ◌==◌, slice_get}
 use Rattle.std.specs.Option.{option_map, option_map_or}
 use Rattle.std.specs.List.{list_any}
 use Rattle.roll_frame.specs.declared.limits.TheConstants.{DELAY_LIMIT, FRAME_LIMIT, PLAYER_LIMIT, QUEUE_LIMIT}
@@ -8,7 +8,7 @@ use Rattle.roll_frame.specs.declared.refusal.Refusal.{Refusal}
 use Rattle.roll_frame.specs.declared.row.Cell.{Cell}
 use Rattle.roll_frame.specs.declared.settings.Settings.{Settings}
 use Rattle.roll_frame.specs.Guess.{words_tests}
-use Rattle.roll_frame.specs.Inputs.{local_tests, remote_tests, disconnect_tests, changed, of_player, player_at, with_none_given}
+use Rattle.roll_frame.specs.Inputs.{local_tests, remote_tests, disconnect_tests, changed, player_at, with_none_given}
 use Rattle.roll_frame.specs.Refusals.{first_refusal}
 use Rattle.roll_frame.specs.Settings.{first_player, first_players, most_threshold}
 use Rattle.roll_frame.specs.Timeline.{Player, cell_at}

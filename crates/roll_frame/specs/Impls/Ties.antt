@@ -1,5 +1,5 @@
 -- What an order does not tell apart is equal.
-use Rattle.std.specs.Prelude.{◌≡◌, List, Bool, true, false, nat_eq, ◌&&◌, refl}
+use Rattle.std.specs.Prelude.{◌≡◌, List, Bool, true, false, nat_eq, refl}
 use Rattle.std.specs.Cmp.{both_ways, tied_itself, unsigned_ties}
 use Rattle.std.specs.Cmp.Lexicographic.{slice_cmp, lists_ties}
 use Rattle.std.specs.Ordering.{nat_cmp, is_eq, eq_by_cmp, ordering_then}
