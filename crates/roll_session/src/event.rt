@@ -2,7 +2,9 @@
 ghost use Rattle.std.specs.Prelude.{◌≡◌};
 ghost use Rattle.roll_session.specs.Calls.{entry_of};
 
+use roll_branch::Branch;
 use roll_frame::Entry;
+use roll_game::Game;
 
 /// A call of a session that is given numbers alone. Players are numbered from 1.
 #[derive(Clone, Copy, Debug, PartialEq, Eq)]

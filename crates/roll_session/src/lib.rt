@@ -9,7 +9,7 @@ mod run;
 mod saves;
 mod session;
 
-pub use event::{Call, Grafted, Reached};
+pub use event::{Call, Grafted, Reached, Request};
 pub use roll_game::StartFault;
 pub use roll_inputs::Heard;
 pub use roll_plan::Plan;

@@ -7,7 +7,7 @@ use roll_cli::{GameName, PlayFault, Task};
 use roll_duel::Duel;
 use roll_frame::{Advice, Cell, Event, Refusal, Settings};
 use roll_game::{RawGame, Tally};
-use roll_session::Session;
+use roll_session::{Request, Session};
 use roll_synctest::{SyncTest, Verdict};
 use roll_tree::Tree;
 use std::alloc::Global;

@@ -7,8 +7,9 @@ ghost use Rattle.roll_session.specs.Seen.{core_of};
 
 use roll_frame::{Refusal, Reply, Row};
 use roll_game::{Game, NoMemory, never_diverges};
-use roll_session::{Call, Session};
+use roll_session::{Request, Session};
 use roll_synctest::{SyncTest, Verdict};
+use std::collections::VecDeque;
 
 /// A session keeps few states, whatever was asked of it.
 pub fn keeps_few<G: Game>(session: &Session<G>)
