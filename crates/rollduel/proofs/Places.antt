@@ -1,11 +1,11 @@
 -- Where the names of the games stand in memory changes nothing.
-use Rattle.std.proofs.Common.{◌≡◌, ◌∙◌, ◌&&◌, ◌||◌, ◌==◌, ap, cond, refl, codes, length, drop, ℕ, zero, suc, Bool, true, false, List, [], ◌∷◌, Option, Some, None}
+use Rattle.std.proofs.Common.{◌≡◌, ◌∙◌, ◌&&◌, ◌||◌, ap, cond, refl, codes, length, drop, ℕ, zero, suc, Bool, true, false, List, [], ◌∷◌, Option, Some, None}
 use Rattle.std.specs.Prelude.{encode_utf8, find, fold, if◌then◌else◌, option_map, slice_get}
 use Rattle.std.specs.Str.{bytes_eq, chars}
 use Rattle.clap.specs.Lexer.{long_of, short_of}
 use Rattle.clap.specs.Simple.{Shape, argument_words, built, entered, filled, help_rule, label_of, names_of, rows_at, subcommand_of, with_index}
 use Rattle.clap.specs.Walk.{Held, Outcome, Row, Rule, Step, Text, Waiting, Walk, after_flag, after_step, answers_to, arg_by_id, arg_by_index, arg_by_long, arg_by_short, attached_value}
-use Rattle.clap.specs.Walk.{bundle, bundle_met, bundle_step, done, finished, flag_met, has_long, has_short, idle, is_multiple, is_pending, long_met, long_or_other, next, next_position}
+use Rattle.clap.specs.Walk.{bundle, bundle_met, bundle_step, done, finished, flag_met, has_long, idle, is_multiple, is_pending, long_met, long_or_other, next, next_position}
 use Rattle.clap.specs.Walk.{nothing_held, option, option_met, option_word, plain, plain_word, positional, pushed, reacted, refused, rows_after, settled, settled_rows, short_met, short_or_plain}
 use Rattle.clap.specs.Walk.{stop_after, subcommand, subcommand_met, subcommand_or_other, takes_several, takes_values, to_positional, trailing, used, used_by_id, value, waits, walk, walk_from, walked, walked_from, with_default, word_met}
 use Rattle.rollduel.specs.Commands.{Games, app_with, file_rule, frames_rule, game_rule}

@@ -1,6 +1,6 @@
 -- Where the names of the games stand in memory doesn't change which words are taken.
 use Rattle.std.proofs.Common.{◌≡◌, ◌∙◌, ◌&&◌, ◌||◌, ap, ap₂, cond, refl, sym, codes, is_some, length, drop, ℕ, zero, suc, Bool, true, false, not, List, [], ◌∷◌, Option, Some, None}
-use Rattle.std.specs.Prelude.{◌==◌, encode_utf8, find, nat_le, slice_get}
+use Rattle.std.specs.Prelude.{encode_utf8, find, nat_le, slice_get}
 use Rattle.std.specs.List.{list_all, list_any}
 use Rattle.std.specs.Option.{option_map_or}
 use Rattle.std.specs.Str.{bytes_eq, chars}
