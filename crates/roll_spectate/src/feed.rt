@@ -1,0 +1,86 @@
+//! The rings of all spectators.
+ghost use Rattle.std.specs.Prelude.{◌≡◌, ◌+◌, ◌<◌, [], ◌∷◌, ◌++◌, length, sum_by, All, IfOk, IfErr, OnOk, OnErr, nat_le, if◌then◌else◌};
+ghost use Rattle.std.specs.List.{AllZip};
+ghost use Rattle.roll_session.specs.Seen.{core_of};
+ghost use Rattle.roll_session.specs.Standing.{settled_rows};
+ghost use Rattle.roll_spectate.specs.Sent.{IsFirstPart, IsPushed};
+ghost use Rattle.roll_spectate.specs.declared.limits.TheConstants.{SPECTATOR_LIMIT as MOST};
+
+use crate::limits::SPECTATOR_LIMIT;
+use crate::ring::{RowReceiver, RowSender, open_ring};
+use roll_frame::Refusal;
+use roll_game::Game;
+use roll_session::Session;
+use std::alloc::Global;
+use std::marker::Model;
+
+/// What a session's spectators are sent: its settled rows, to each as far as its ring has places for them.
+///
+/// A spectator who is gone takes nothing from the others: its ring stays full.
+#[derive(Drop)]
+pub struct Feed {
+    senders: Vec<RowSender>,
+    alloc: Global,
+}
+
+/// A clause sees what each spectator was sent, in the order in which they came.
+impl Model for Feed {
+    ghost use Rattle.std.specs.Prelude.{◌≤◌, List, length, vec_capacity};
+    ghost use Rattle.roll_frame.specs.Cells.{Rows};
+    ghost use Rattle.roll_spectate.specs.declared.limits.TheConstants.{SPECTATOR_LIMIT};
+
+    ghost Value = { List Rows };
+
+    ghost view = { λ f. f.senders.items };
+
+    ghost invariant = { λ f. (SPECTATOR_LIMIT ≤ vec_capacity f.senders) × (length f.senders.items ≤ SPECTATOR_LIMIT) };
+}
+
+impl Feed {
+    /// A feed with no spectator, and room for 32.
+    ///
+    /// # Errors
+    ///
+    /// `NoMemory` where the allocator has no room.
+    pub fn new(alloc: Global) -> Result<Feed, Refusal>
+        ensures feed { IfOk result (λ feed. feed ≡ []) }
+        ensures refused { IfErr result (λ why. why ≡ Refusal.NoMemory) }
+    {
+        let senders = Vec::with_capacity(alloc, SPECTATOR_LIMIT)?;
+        Ok(Feed { senders, alloc })
+    }
+
+    /// One spectator more, who is sent the rows from frame 0 on: its end of the ring.
+    ///
+    /// # Errors
+    ///
+    /// `TooManySpectators` where 32 were added, those who are gone too; else `NoMemory` where the allocator has no room.
+    pub fn add(&mut self) -> Result<RowReceiver, Refusal>
+        ensures added { OnOk result (self.new ≡ self.old ++ [] ∷ []) }
+        ensures place { OnOk result (length self.old < MOST) }
+        ensures refused { IfErr result (λ why. why ≡ (if nat_le MOST (length self.old) then Refusal.TooManySpectators else Refusal.NoMemory)) }
+        ensures unchanged { OnErr result (self.new ≡ self.old) }
+    {
+        if self.senders.len() >= SPECTATOR_LIMIT {
+            return Err(Refusal::TooManySpectators);
+        }
+        let (sender, receiver) = open_ring(self.alloc)?;
+        self.senders.push_reserved(sender);
+        Ok(receiver)
+    }
+
+    /// Sends each spectator its next settled rows, until its ring is full, and says how many it sent in all. It takes no
+    /// memory and waits for nobody. The session is the one whose rows were sent before.
+    pub fn push<G: Game>(&mut self, session: &Session<G>) -> u32
+        requires { All (λ rows. IsFirstPart rows (settled_rows (core_of session.now))) self.old }
+        ensures pushed { AllZip (IsPushed (settled_rows (core_of session.now))) self.old self.new }
+        ensures count { sum_by length self.new ≡ sum_by length self.old + result }
+    {
+        session.laws();
+        let mut count = 0;
+        for sender in self.senders.iter_mut() {
+            count += sender.push(session);
+        }
+        count
+    }
+}

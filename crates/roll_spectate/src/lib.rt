@@ -1,0 +1,12 @@
+//! Spectators: viewers who follow a session by its settled rows alone.
+#![tactic(auto)]
+
+mod feed;
+mod limits;
+mod ring;
+mod spectator;
+
+pub use feed::Feed;
+pub use limits::{RING_ROWS, SPECTATOR_LIMIT};
+pub use ring::RowReceiver;
+pub use spectator::{Spectator, SpectatorFault};

@@ -1,0 +1,96 @@
+//! A spectator's ring of rows.
+ghost use Rattle.std.specs.Prelude.{◌≡◌, ◌⊎◌, ◌<◌, ◌≤◌, ◌+◌, [], ◌∷◌, ◌++◌, length, IfOk, IsTrue, IsFalse};
+ghost use Rattle.rtrb.specs.Ring.{received};
+ghost use Rattle.roll_frame.specs.declared.limits.TheConstants.{FRAME_LIMIT};
+ghost use Rattle.roll_session.specs.Seen.{core_of};
+ghost use Rattle.roll_session.specs.Standing.{settled_rows};
+ghost use Rattle.roll_spectate.specs.Sent.{IsFirstPart, IsPushed};
+ghost use Rattle.roll_spectate.specs.declared.limits.TheConstants.{RING_ROWS as ROWS};
+
+use crate::limits::RING_ROWS;
+use roll_frame::Row;
+use roll_game::Game;
+use roll_session::Session;
+use rtrb::{Consumer, Producer, Protocol, RingBuffer};
+use std::alloc::{AllocError, Global};
+use std::marker::Model;
+
+/// At most as many rows go through a ring as a session has frames.
+#[derive(Clone, Copy)]
+pub(crate) struct FewRows;
+
+impl Protocol<Row> for FewRows {
+    ghost use Rattle.std.specs.Prelude.{◌<◌, length};
+    ghost use Rattle.roll_frame.specs.declared.limits.TheConstants.{FRAME_LIMIT};
+
+    ghost allows = { λ before row. length before < FRAME_LIMIT };
+}
+
+/// The session's end of a spectator's ring.
+#[derive(Drop)]
+pub(crate) struct RowSender {
+    producer: Producer<Row, Global, FewRows>,
+    count: u32,
+}
+
+/// A clause sees the rows that were sent.
+impl Model for RowSender {
+    ghost use Rattle.std.specs.Prelude.{◌≡◌, ◌≤◌, ◌+◌, length};
+    ghost use Rattle.rtrb.specs.Ring.{sent, known_free};
+    ghost use Rattle.roll_frame.specs.Cells.{Rows};
+    ghost use Rattle.roll_spectate.specs.declared.limits.TheConstants.{RING_ROWS};
+
+    ghost Value = { Rows };
+
+    ghost view = { λ s. sent s.producer };
+
+    ghost invariant = { λ s. (s.count ≡ length (sent s.producer)) × (RING_ROWS ≤ known_free s.producer + length (sent s.producer)) };
+}
+
+/// A spectator's end of its ring, from which nothing was received yet.
+#[derive(Drop)]
+pub struct RowReceiver {
+    pub(crate) consumer: Consumer<Row, Global, FewRows>,
+    ghost fresh: { received consumer ≡ [] },
+}
+
+/// A ring for a spectator.
+pub(crate) fn open_ring(alloc: Global) -> Result<(RowSender, RowReceiver), AllocError>
+    ensures { IfOk result (λ ends. ends.0 ≡ []) }
+{
+    let (producer, consumer) = RingBuffer::with_protocol::<Global, FewRows>(alloc, RING_ROWS)?;
+    let sender = RowSender { producer, count: 0 };
+    let receiver = RowReceiver { consumer };
+    Ok((sender, receiver))
+}
+
+impl RowSender {
+    /// Sends the settled rows that were not sent before, until the ring is full, and says how many.
+    pub fn push<G: Game>(&mut self, session: &Session<G>) -> u32
+        requires { IsFirstPart self.old (settled_rows (core_of session.now)) }
+        ensures pushed { IsPushed (settled_rows (core_of session.now)) self.old self.new }
+        ensures count { length self.new ≡ length self.old + result }
+    {
+        session.laws();
+        let from = self.count;
+        while let Some(row) = session.settled_row(self.count as usize) {
+            if !self.send(row) {
+                break;
+            }
+        }
+        self.count - from
+    }
+
+    /// Sends a row if the ring has a place for it, and says whether it did.
+    fn send(&mut self, row: Row) -> bool
+        requires { length self.old < FRAME_LIMIT }
+        ensures sent { IsTrue result → self.new ≡ self.old ++ row ∷ [] }
+        ensures full { IsFalse result → (self.new ≡ self.old) × (ROWS ≤ length self.old) }
+    {
+        if self.producer.push(row).is_err() {
+            return false;
+        }
+        self.count += 1;
+        true
+    }
+}
