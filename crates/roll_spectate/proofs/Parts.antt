@@ -1,9 +1,10 @@
 -- First parts of the settled rows.
-use Rattle.std.proofs.Common.{◌≡◌, ◌⊎◌, ◌≤◌, ◌∙◌, ℕ, List, length, min, refl, sym, ap, ◌<◌, ◌+◌, ◌++◌, ◌∷◌, [], suc, Some, Bool, true, false, arith}
+use Rattle.std.proofs.Common.{◌≡◌, ◌≤◌, ◌∙◌, ℕ, List, length, min, take, refl, sym, ap, ◌<◌, ◌++◌, ◌∷◌, [], suc, Some, Bool, true, false, arith}
 use Rattle.std.specs.Prelude.{None, nat_lt, if◌then◌else◌}
 use Rattle.std.proofs.lemmas.Bool.Decides.{nat_tests}
 use Rattle.std.proofs.lemmas.Grind.{common_steps}
-use Rattle.std.proofs.lemmas.List.{length-take}
+use Rattle.std.proofs.Math.Seq.{take-length}
+use Rattle.std.proofs.lemmas.List.{length-take, take-append-le}
 use Rattle.roll_frame.specs.Cells.{Rows}
 use Rattle.roll_frame.specs.Core.{settled}
 use Rattle.roll_frame.specs.Events.{replay}
@@ -21,9 +22,7 @@ use Rattle.roll_laws.proofs.Glue.{always_holds}
 use Rattle.roll_laws.proofs.Saved.{take_timeline}
 use Rattle.roll_laws.proofs.Sound.{Sound, sound_played}
 use Rattle.roll_laws.proofs.Starts.{starts_are_small}
-use Rattle.roll_session.specs.Standing.{settled_rows}
-use Rattle.roll_spectate.specs.Sent.{IsFirstPart, IsPushed}
-use Rattle.roll_spectate.specs.declared.limits.TheConstants.{RING_ROWS}
+use Rattle.roll_spectate.specs.Sent.{IsFirstPart}
 
 -- no more rows are settled than a session has frames
 pub few_settled : (settings : Settings) (game : Game) (log : List Entry) → IsLog settings game log → settled (replay settings log) ≤ FRAME_LIMIT
@@ -44,16 +43,6 @@ part_is_time players m rows e =
 pub time_is_part : (players : List Player) (m : ℕ) (rows : Rows) → rows ≡ timeline players (length rows) → length rows ≤ m → IsFirstPart rows (timeline players m)
 time_is_part players m rows e l = e ∙ sym (take_timeline players (length rows) m l)
 
--- what a push leaves where it sent the timeline's next rows
-pub pushed_time : (players : List Player) (m : ℕ) (old new : Rows) → IsFirstPart old (timeline players m) → new ≡ timeline players (length new) → length new ≤ m → length old ≤ length new → (length new ≡ m) ⊎ (RING_ROWS ≤ length new)
-    → IsPushed (timeline players m) old new
-pushed_time players m old new first e low grown all =
-    record {
-      grown = rw e (time_is_part players (length new) old (part_is_time players m old first).0 grown);
-      first = time_is_part players m new e low;
-      all = rw (length_timeline players m) all;
-    }
-
 -- what is read of the settled rows: a row where one is, the one of its frame
 pub row_read : (players : List Player) (m frame : ℕ) (row : List Cell) → Some row ≡ (if nat_lt frame m then Some (row_at players frame) else None) → (frame < m) × (row ≡ row_at players frame)
 row_read players m frame row e = go (nat_lt frame m) refl e
@@ -69,12 +58,25 @@ none_read players m frame e = go (nat_lt frame m) refl e
     go true lt e = absurd (cc e)
     go false lt e = grind (arith, nat_tests, lt)
 
--- the timeline's next row
-pub next_time : (players : List Player) (rows : Rows) (row : List Cell) (new : Rows) → rows ≡ timeline players (length rows) → row ≡ row_at players (length rows) → new ≡ rows ++ row ∷ [] → (new ≡ timeline players (length new)) × (length new ≡ suc (length rows))
-next_time players rows row new e is made =
-    let n : length new ≡ suc (length rows) = ap length made ∙ grind (arith, common_steps) in
-    (rw n (rw made (ap (λ q. q ++ row ∷ []) e ∙ ap (λ r. timeline players (length rows) ++ r ∷ []) is)), n)
+-- one row more
+pub one_longer : (rows : Rows) (row : List Cell) (new : Rows) → new ≡ rows ++ row ∷ [] → length new ≡ suc (length rows)
+one_longer rows row new made = ap length made ∙ grind (arith, common_steps)
 
--- a push sends no more rows than there are settled ones
-pub few_sent : (settings : Settings) (game : Game) (log : List Entry) (old new : Rows) (sent : ℕ) → IsLog settings game log → IsPushed (settled_rows (replay settings log)) old new → length new ≡ length old + sent → sent ≤ FRAME_LIMIT
-few_sent settings game log old new sent l pushed more = omega (arith, few_settled settings game log l, (part_is_time (replay settings log).players (settled (replay settings log)) new pushed.first).1, more)
+-- with the timeline's next row, a first part of it stays one
+pub next_part : (players : List Player) (m : ℕ) (rows : Rows) (row : List Cell) (new : Rows) → length rows < m → row ≡ row_at players (length rows) → new ≡ rows ++ row ∷ [] → IsFirstPart rows (timeline players m) → IsFirstPart new (timeline players m)
+next_part players m rows row new there is made first =
+    let n : length new ≡ suc (length rows) = one_longer rows row new made in
+    let e : rows ≡ timeline players (length rows) = (part_is_time players m rows first).0 in
+    let time : new ≡ timeline players (length new) = rw n (rw made (ap (λ q. q ++ row ∷ []) e ∙ ap (λ r. timeline players (length rows) ++ r ∷ []) is)) in
+    time_is_part players m new time (omega (arith, n, there))
+
+-- a first part stays one where a row is added
+pub part_more : (old rows : Rows) (row : List Cell) (new : Rows) → IsFirstPart old rows → new ≡ rows ++ row ∷ [] → IsFirstPart old new
+part_more old rows row new e made =
+    let n : length old ≡ min (length old) (length rows) = ap length e ∙ length-take (length old) rows in
+    let low : length old ≤ length rows = omega (arith, n) in
+    e ∙ sym (take-append-le (length old) rows (row ∷ []) low) ∙ ap (take (length old)) (sym made)
+
+-- rows are a first part of themselves
+pub part_itself : (rows : Rows) → IsFirstPart rows rows
+part_itself rows = sym (take-length rows)

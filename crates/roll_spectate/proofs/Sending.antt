@@ -1,13 +1,13 @@
 -- A push along the rings of all spectators.
 use Rattle.std.proofs.Common.{◌≡◌, ◌∙◌, ◌+◌, ◌*◌, ◌≤◌, ◌<◌, ℕ, List, ◌∷◌, length, take, drop, get_or, set, sym, ap, arith}
-use Rattle.std.specs.Prelude.{All, sum_by}
+use Rattle.std.specs.Prelude.{sum_by}
 use Rattle.std.specs.List.{AllZip}
 use Rattle.std.proofs.lemmas.List.{drop-set-lt, drop_more, length-drop, take_more, take_more_set}
-use Rattle.std.proofs.lemmas.List.Elements.{All-get_or, AllZip-push}
+use Rattle.std.proofs.lemmas.List.Elements.{AllZip-push}
 use Rattle.std.proofs.lemmas.List.Sums.{sum_by-set}
 use Rattle.roll_frame.specs.Cells.{Rows}
 use Rattle.roll_frame.specs.declared.limits.TheConstants.{FRAME_LIMIT}
-use Rattle.roll_spectate.specs.Sent.{IsFirstPart, IsPushed}
+use Rattle.roll_spectate.specs.Sent.{IsPushed}
 
 -- the first rings were pushed to, the others are as they were, and this many rows were sent
 pub record IsSentTo (settled : Rows) (old now : List Rows) (index count : ℕ) : Type 0 where
@@ -25,9 +25,6 @@ module _ (settled : Rows) (old now : List Rows) (index count : ℕ) (s : IsSentT
   next =
       let e : get_or now index d ∷ drop (index + 1) now ≡ get_or old index d ∷ drop (index + 1) old = sym (drop_more now index d lt) ∙ s.rest ∙ drop_more old index d there in
       (cc e, cc e)
-
-  pub next_part : All (λ rows. IsFirstPart rows settled) old → IsFirstPart (get_or now index d) settled
-  next_part all = rw next.0 (All-get_or (λ rows. IsFirstPart rows settled) old index d there all)
 
   -- one ring more
   pub one_more : (new : Rows) (sent : ℕ) → IsPushed settled (get_or now index d) new → length new ≡ length (get_or now index d) + sent → sent ≤ FRAME_LIMIT → IsSentTo settled old (set now index new) (index + 1) (count + sent)

@@ -7,8 +7,9 @@ use Rattle.roll_spectate.specs.declared.limits.TheConstants.{RING_ROWS}
 abbrev pub IsFirstPart : Rows → Rows → Type 0
 IsFirstPart rows all = rows ≡ take (length rows) all
 
--- what a ring was sent before and after a push: the first settled rows, and all of them or as many as a ring has room for
+-- what a ring was sent before and after a push: more of the settled rows, as far as those before were the first of them, and
+-- all of them, or as many as a ring has room for
 pub record IsPushed (settled old new : Rows) : Type 0 where
   pub grown : IsFirstPart old new
-  pub first : IsFirstPart new settled
-  pub all : (length new ≡ length settled) ⊎ (RING_ROWS ≤ length new)
+  pub first : IsFirstPart old settled → IsFirstPart new settled
+  pub all : (length settled ≤ length new) ⊎ (RING_ROWS ≤ length new)

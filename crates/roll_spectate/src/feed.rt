@@ -70,13 +70,11 @@ impl Feed {
     }
 
     /// Sends each spectator its next settled rows, until its ring is full, and says how many it sent in all. It takes no
-    /// memory and waits for nobody. The session is the one whose rows were sent before.
+    /// memory and waits for nobody. The session is to be the one whose rows were sent before.
     pub fn push<G: Game>(&mut self, session: &Session<G>) -> u32
-        requires { All (λ rows. IsFirstPart rows (settled_rows (core_of session.now))) self.old }
         ensures pushed { AllZip (IsPushed (settled_rows (core_of session.now))) self.old self.new }
         ensures count { sum_by length self.new ≡ sum_by length self.old + result }
     {
-        session.laws();
         let mut count = 0;
         for sender in self.senders.iter_mut() {
             count += sender.push(session);

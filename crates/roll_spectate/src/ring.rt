@@ -37,6 +37,7 @@ pub(crate) struct RowSender {
 impl Model for RowSender {
     ghost use Rattle.std.specs.Prelude.{◌≡◌, ◌≤◌, ◌+◌, length};
     ghost use Rattle.rtrb.specs.Ring.{sent, known_free};
+    ghost use Rattle.roll_frame.specs.declared.limits.TheConstants.{FRAME_LIMIT};
     ghost use Rattle.roll_frame.specs.Cells.{Rows};
     ghost use Rattle.roll_spectate.specs.declared.limits.TheConstants.{RING_ROWS};
 
@@ -44,7 +45,7 @@ impl Model for RowSender {
 
     ghost view = { λ s. sent s.producer };
 
-    ghost invariant = { λ s. (s.count ≡ length (sent s.producer)) × (RING_ROWS ≤ known_free s.producer + length (sent s.producer)) };
+    ghost invariant = { λ s. (s.count ≡ length (sent s.producer)) × (s.count ≤ FRAME_LIMIT) × (RING_ROWS ≤ known_free s.producer + length (sent s.producer)) };
 }
 
 /// A spectator's end of its ring, from which nothing was received yet.
@@ -67,9 +68,9 @@ pub(crate) fn open_ring(alloc: Global) -> Result<(RowSender, RowReceiver), Alloc
 impl RowSender {
     /// Sends the settled rows that were not sent before, until the ring is full, and says how many.
     pub fn push<G: Game>(&mut self, session: &Session<G>) -> u32
-        requires { IsFirstPart self.old (settled_rows (core_of session.now)) }
         ensures pushed { IsPushed (settled_rows (core_of session.now)) self.old self.new }
         ensures count { length self.new ≡ length self.old + result }
+        ensures few { length self.new ≤ FRAME_LIMIT }
     {
         session.laws();
         let from = self.count;

@@ -1,13 +1,14 @@
 use Rattle.std.proofs.Common.{◌≡◌, ◌≤◌, ◌-◌, length}
 use Rattle.roll_frame.specs.Core.{settled}
-use Rattle.roll_frame.specs.Timeline.{timeline}
 use Rattle.roll_session.specs.Seen.{core_of}
+use Rattle.roll_session.specs.Standing.{settled_rows}
+use Rattle.roll_spectate.specs.Sent.{IsFirstPart}
 use Rattle.roll_spectate.proofs.ring.RowSender.push.Given as goal
 
 abbrev pub invariant-loop-row : goal.invariant-loop-row
 invariant-loop-row g l =
-    (l.self ≡ timeline (core_of l.session).players (length l.self)) × (length l.self ≤ settled (core_of l.session))
-    × (l.from ≡ length l.fn.self) × (l.from ≤ length l.self)
+    (IsFirstPart l.fn.self (settled_rows (core_of l.session)) → IsFirstPart l.self (settled_rows (core_of l.session)))
+    × IsFirstPart l.fn.self l.self × (l.from ≡ length l.fn.self) × (l.from ≤ length l.self)
 
 abbrev pub decreases-loop-row : goal.decreases-loop-row
 decreases-loop-row g l = settled (core_of l.session) - length l.self
