@@ -1,2 +1,3 @@
+mod Growing
 mod Parts
 mod Sending

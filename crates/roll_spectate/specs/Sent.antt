@@ -1,6 +1,12 @@
 -- What a session's spectators are sent.
-use Rattle.std.specs.Prelude.{◌≡◌, ◌⊎◌, ◌≤◌, length, take}
+use Rattle.std.specs.Prelude.{◌≡◌, ◌⊎◌, ◌≤◌, List, ◌++◌, length, take}
 use Rattle.roll_frame.specs.Cells.{Rows}
+use Rattle.roll_frame.specs.Events.{replay}
+use Rattle.roll_frame.specs.Games.{Game}
+use Rattle.roll_frame.specs.declared.entry.Entry.{Entry}
+use Rattle.roll_frame.specs.declared.settings.Settings.{Settings}
+use Rattle.roll_laws.specs.Sessions.{IsLog}
+use Rattle.roll_session.specs.Standing.{settled_rows}
 use Rattle.roll_spectate.specs.declared.limits.TheConstants.{RING_ROWS}
 
 -- rows are the first of all of these, in order
@@ -13,3 +19,9 @@ pub record IsPushed (settled old new : Rows) : Type 0 where
   pub grown : IsFirstPart old new
   pub first : IsFirstPart old settled → IsFirstPart new settled
   pub all : (length settled ≤ length new) ⊎ (RING_ROWS ≤ length new)
+
+-- while a session's log grows, what was a first part of its settled rows stays one
+abbrev pub SentRowsStay : Type 0
+SentRowsStay =
+    (settings : Settings) (game : Game) (log more : List Entry) (rows : Rows) → IsLog settings game (log ++ more)
+    → IsFirstPart rows (settled_rows (replay settings log)) → IsFirstPart rows (settled_rows (replay settings (log ++ more)))
