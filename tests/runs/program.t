@@ -131,6 +131,149 @@ Each fault: status 2, its text on standard error, and nothing on standard output
   rollduel: unreadable: line 0
   [2]
 
+What is wrong with a line is told behind the fault, where it is asked for.
+
+  $ opening='roll 1 players 2 local 1 delay 0,0 threshold 8\n'
+  $ printf "$opening"'L 1 1\nX 1\n' > wrong_line
+  $ rollduel play wrong_line --explain
+  rollduel: unreadable: line 3
+  line 3: "X" is no command
+  [2]
+  $ rollduel play --explain - < /dev/null
+  rollduel: unreadable: line 1
+  line 1: is missing: the text ends before it
+  [2]
+  $ line() { printf "$opening$1" | rollduel play --explain - 2>&1 | tail -n 1; }
+  $ line 'L 1 1\r\n'
+  line 2: ends with CR LF; LF was expected
+  $ line 'A'
+  line 2: the last line has no LF at its end
+  $ line '\n'
+  line 2: is empty
+  $ line 'L 1 1 \n'
+  line 2: a space too many at column 6
+  $ line ' L 1 1\n'
+  line 2: a space too many at column 1
+  $ line 'L  1 1\n'
+  line 2: a space too many at column 3
+  $ line 'l 1 1\n'
+  line 2: "l" is no command
+  $ line 'L\t1\t1\n'
+  line 2: "L\x091\x091" is no command
+  $ line 'L 1\n'
+  line 2: 2 fields; 3 were expected
+  $ line 'A 1 2 3 4 5\n'
+  line 2: 6 fields; 1 were expected
+  $ line 'L 1 03\n'
+  line 2: "03" isn't a number: a leading zero
+  $ line 'L 1 -1\n'
+  line 2: "-1" isn't a number: not digits alone
+  $ line 'L 1 4294967296\n'
+  line 2: "4294967296" isn't a number: over 4,294,967,295
+  $ line 'L 1 00000000000000000000000000000000000000000\n'
+  line 2: "0000000000000000000000000000000000000000.." isn't a number: a leading zero
+  $ line 'G 2 2 1,,2\n'
+  line 2: "" isn't a number: it is empty
+  $ line 'G 2 2 1,1,1,1,1,1,1,1,1,1,1,1,1,1,1,1,1,1,1,1,1,1,1,1,1\n'
+  line 2: 25 in a list; 1 to 24 were expected
+  $ first() { printf "$1\n" | rollduel play --explain - 2>&1 | tail -n 1; }
+  $ first 'L 1 1'
+  line 1: "L" where "roll" was expected
+  $ first 'roll 4 players 2 local 1 delay 0,0 threshold 8'
+  line 1: 4 is out of range: 1 to 3 was expected
+  $ first 'roll 1 players 9 local 1 delay 0,0 threshold 8'
+  line 1: 9 is out of range: 1 to 8 was expected
+  $ first 'roll 1 players 2 local 1 delay 0 threshold 8'
+  line 1: 1 in a list; 2 were expected
+  $ first 'roll 1 players 2 local 2,1 delay 0,0 threshold 8'
+  line 1: 1 after 2 in a list that has to rise
+  $ first 'roll 1 players 2 local 1 delay 0,0'
+  line 1: 8 fields; 10 were expected
+  $ first 'roll 2 players 2 local 1 delay 0,0 threshold 8'
+  line 1: "threshold" where "mask" was expected
+  $ rows() { printf "$1" | rollduel synctest --explain - 2>&1 | tail -n 1; }
+  $ rows 'rolltest 1 players 5\n'
+  line 1: 5 is out of range: 1 to 4 was expected
+  $ rows 'rolltest 1 players 2\n1,x\n1\n'
+  line 3: 1 in a list; 2 were expected
+  $ rows 'rolltest 1 players 2\n1,y\n'
+  line 2: "y" isn't a number: not digits alone
+  $ claim() { rollduel certify --explain - 2>&1 | tail -n 1; }
+  $ claim < ahead
+  line 10: the last line has no LF at its end
+  $ claim < late
+  line 1: "roll" where "rollcert" was expected
+  $ { cat ahead; printf '1\n'; } | claim
+  line 11: is missing: the text ends before it
+  $ { cat ahead; printf '1\n1 2\n'; } | claim
+  line 11: 2 fields; 3 were expected
+  $ { cat right; echo 1 2 2; } | claim
+  line 12: the claim ends before this line
+  $ sed 's/^time 1/time 25/' right | claim
+  line 5: 25 is out of range: 0 to 24 was expected
+  $ sed 's/^1,3/1/' right | claim
+  line 6: 1 in a list; 2 were expected
+  $ sed 's/^1,0/1,0 1/' right | claim
+  line 9: 1 in a list; 2 were expected
+  $ sed 's/^kept/keep/' right | claim
+  line 7: "keep" where "kept" was expected
+  $ rollduel play absent --explain
+  rollduel: cannot read
+  absent: No such file or directory (os error 2)
+  [2]
+  $ rollduel play folder --explain
+  rollduel: cannot read
+  folder: a read failed
+  [2]
+  $ rollduel play long --explain 2>&1 | head -n 2
+  refused 101
+  refused 101
+  $ { cat early; yes A | head -n 600000; } | rollduel play --explain -
+  rollduel: unreadable: line 0
+  more than 1,048,576 bytes
+  [2]
+
+And so is what a refusal means, by its line.
+
+  $ rollduel play early --explain
+  refused 101
+  line 2: refused 101: LocalInputMissing: a local input is missing
+  [1]
+  $ { cat late; printf 'R 2 0 4\nC\nB 5\n'; } | rollduel play --explain - 2>&1 >/dev/null
+  line 8: refused 104: Conflict: the input conflicts with a confirmed one
+  line 10: refused 120: NoJob: no such job
+  [1]
+  $ printf 'roll 1 players 2 local 1 delay 0,0 threshold 9\nA\n' | rollduel play --explain -
+  refused 11
+  line 1: refused 11: InvalidRequest: invalid request
+  [1]
+  $ printf 'roll 1 players 1 local 1 delay 0 threshold 8\n' | rollduel play --explain - --game duel
+  refused 3
+  line 1: refused 3: PlayerOutOfRange: the number of players is out of range
+  [1]
+  $ printf 'rolltest 1 players 1\n1\n' | rollduel synctest --explain - --game duel
+  refused 3
+  line 1: refused 3: PlayerOutOfRange: the number of players is out of range
+  [1]
+
+All else is the same as without: standard output, the status, and the first line on standard error.
+
+  $ same() { rollduel "$@" > out 2> err; echo $? >> out; rollduel "$@" --explain > out2 2> err2; echo $? >> out2; cmp out out2; head -n 1 err | cmp - err; test ! -s err || head -n 1 err2 | cmp - err; }
+  $ for file in late early earlier wrong_line absent folder; do same play $file; same play $file --game duel; done
+  $ for file in right wrong ahead late absent; do same certify $file; done
+  $ same synctest ../examples/two-frames.rows
+  $ same synctest late
+
+The version, and the numbers of the refusals as the rules have them.
+
+  $ rollduel --version
+  rollduel 0.1.0
+  $ rollduel --help | sed -n 's/^  \([0-9][0-9]*\) *\([A-Za-z]*\): /\1 \2 /p' > listed
+  $ wc -l < listed
+  25
+  $ rollduel play --help | sed -n 's/^  \([0-9][0-9]*\) *\([A-Za-z]*\): /\1 \2 /p' | cmp - listed
+  $ sed -n 's/^| \([0-9]*\) | \([A-Za-z]*\) | \(.*\) |$/\1 \2 \3/p' ../docs/RULES.md | grep -v ' Unreadable ' | cmp - listed
+
 Words that can't be understood, and help.
 
   $ rollduel play

@@ -12,3 +12,4 @@ pub mod Claimed
 pub mod Played
 pub mod Starts
 pub mod Ended
+pub mod Unread

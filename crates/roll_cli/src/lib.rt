@@ -3,11 +3,16 @@
 
 mod certificate;
 mod command;
+mod diagnosis;
 mod engine;
+mod explained;
+mod forms;
 mod header;
+mod lines;
 mod output;
 mod playing;
 mod program;
+mod refusals;
 mod rows_file;
 mod script;
 mod shown;
@@ -15,9 +20,13 @@ mod sync_test;
 
 pub use certificate::certify;
 pub use command::Command;
+pub use diagnosis::{Diagnosis, NumberFault};
 pub use engine::{PlayFault, play, play_duel};
+pub use explained::explain;
+pub use forms::diagnose;
 pub use header::{Header, Version};
 pub use program::{Ending, GameName, Task, run};
+pub use refusals::{REFUSALS, push_refusals};
 pub use rows_file::RowsFile;
 pub use script::{Script, ScriptFault};
 pub use shown::Shown;

@@ -12,6 +12,7 @@ pub mod Core
 pub mod Inputs
 pub mod Grafts
 pub mod Events
+pub mod Faults
 pub mod Guess
 pub mod Claims
 pub mod Advice

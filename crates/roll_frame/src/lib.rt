@@ -6,6 +6,7 @@ mod boxed;
 mod claim;
 mod entry;
 mod event;
+mod fault;
 mod limits;
 mod path;
 mod profile;
@@ -20,6 +21,7 @@ pub use boxed::Boxed;
 pub use claim::{Claim, Differ, Items};
 pub use entry::Entry;
 pub use event::Event;
+pub use fault::SettingsFault;
 pub use limits::{
     ADVANTAGE_LIMIT, ADVICE_WINDOW, BRANCH_LIMIT, DELAY_LIMIT, FRAME_LIMIT, LEAST_ADVICE,
     LOG_LIMIT, MOST_ADVICE, PATH_LIMIT, PLAYER_LIMIT, QUEUE_LIMIT, SYNC_TEST_LIMIT, TREE_LIMIT,

@@ -1,5 +1,5 @@
 -- A board as its callers see it, and what its fields keep.
-use Rattle.std.specs.Prelude.{◌≡◌, ◌≢◌, ℕ, ◌+◌, ◌-◌, ◌<◌, ◌≤◌, List, length, map, true, false, All, Option, None, if◌then◌else◌, ◌==◌, slice_get}
+use Rattle.std.specs.Prelude.{◌≡◌, ◌≢◌, ℕ, ◌+◌, ◌-◌, ◌<◌, ◌≤◌, List, length, map, true, false, All, Option, None, if◌then◌else◌, ◌==◌, nat_lt, option_and_then, slice_get}
 use Rattle.std.specs.Option.{option_map, option_map_or}
 use Rattle.std.specs.List.{list_any}
 use Rattle.roll_frame.specs.declared.limits.TheConstants.{DELAY_LIMIT, FRAME_LIMIT, PLAYER_LIMIT, QUEUE_LIMIT}
@@ -13,6 +13,8 @@ use Rattle.roll_frame.specs.Refusals.{first_refusal}
 use Rattle.roll_frame.specs.Settings.{first_player, first_players, most_threshold}
 use Rattle.roll_frame.specs.Timeline.{Player, cell_at}
 use Rattle.roll_inputs.specs.Queues.{Known}
+use Rattle.roll_inputs.specs.declared.source.Source.{Source}
+use Rattle.roll_inputs.specs.declared.source.Source.TheVariants.{Confirmed, Predicted, Gone}
 
 -- the players with all their confirmed words, the current and the settled frame, and the threshold and the
 -- last frame of the settings
@@ -48,6 +50,14 @@ guess_refusal inputs p words until = first_refusal (words_tests inputs.players i
 -- how many words of player p are confirmed
 abbrev pub count_of : List Player → ℕ → ℕ
 count_of players p = option_map_or (λ player. length player.words) (player_at players p) 0
+
+-- the confirmed word of player p at frame t, if there is one
+abbrev pub confirmed_word : List Player → ℕ → ℕ → Option ℕ
+confirmed_word players p t = option_and_then (λ player. slice_get player.words t) (player_at players p)
+
+-- where a player's cell at frame t comes from, in the order of cell_at
+abbrev pub source_at : ℕ → Player → Source
+source_at t player = if nat_lt t (length player.words) then Confirmed else (if player.gone then Gone else Predicted)
 
 -- the timeline's cell of player p at frame t, if there is such a player
 abbrev pub cell_of : List Player → ℕ → ℕ → Option Cell

@@ -2,18 +2,20 @@
 ghost use Rattle.std.specs.Prelude.{◌≡◌, ◌≢◌, ◌+◌, ◌≤◌, [], ◌∷◌, length, map, min, Some, None, true, false, All, IsTrue, IsSomeAnd, IfOk, IfErr, OnOk, OnErr, unwrap_or, if◌then◌else◌};
 ghost use Rattle.roll_frame.specs.Core.{row_possible};
 ghost use Rattle.roll_frame.specs.Events.{all_given};
-ghost use Rattle.roll_frame.specs.Inputs.{changed, player_at, is_repeated, with_words, with_given, with_gone, with_none_given};
+ghost use Rattle.roll_frame.specs.Inputs.{changed, of_player, player_at, is_repeated, with_words, with_given, with_gone, with_none_given};
 ghost use Rattle.roll_frame.specs.Settings.{most_threshold, start_refusal};
 ghost use Rattle.roll_frame.specs.declared.limits.TheConstants.{FRAME_LIMIT, PLAYER_LIMIT};
 ghost use Rattle.roll_frame.specs.declared.profile.Profile.TheVariants.{Wide};
 ghost use Rattle.roll_frame.specs.Timeline.{timeline, front as front_of, row_at as row_of};
-ghost use Rattle.roll_inputs.specs.Boards.{first_inputs, with_player, local_refusal, remote_refusal, disconnect_refusal, guess_refusal, count_of, KeepsCells};
+ghost use Rattle.roll_inputs.specs.Boards.{first_inputs, with_player, local_refusal, remote_refusal, disconnect_refusal, guess_refusal, confirmed_word, count_of, source_at, KeepsCells};
+ghost use Rattle.std.specs.Option.{option_map};
 
 use crate::heard::Heard;
 use crate::queue::Queue;
 use crate::queues::{
     allows, first_queues, front, is_missing, queue_of, row_at, settle_all, start_frames,
 };
+use crate::source::Source;
 use roll_frame::{PATH_LIMIT, Refusal, Row, Settings};
 use std::alloc::Global;
 use std::marker::Model;
@@ -282,6 +284,41 @@ impl Board {
         ensures { result ≡ count_of self.now.players player }
     {
         self.queues[usize::from(player) - 1].count()
+    }
+
+    /// How many words of a player are confirmed. None where there is no such player.
+    pub fn confirmed(&self, player: u8) -> Option<u32>
+        ensures { result ≡ option_map (λ p. length p.words) (player_at self.now.players player) }
+    {
+        let queue = queue_of(&self.queues, player)?;
+        Some(queue.count())
+    }
+
+    /// The confirmed word of a player at a frame. `past` is the settled rows.
+    pub fn confirmed_word(&self, past: &[Row], player: u8, frame: u32) -> Option<u32>
+        requires { past.now ≡ timeline self.now.players self.now.settled }
+        ensures { result ≡ confirmed_word self.now.players player frame }
+    {
+        let queue = queue_of(&self.queues, player)?;
+        queue.word(past, usize::from(player) - 1, frame)
+    }
+
+    /// Where a player's cell of any frame comes from. None where there is no such player.
+    pub fn source(&self, player: u8, frame: u32) -> Option<Source>
+        ensures { result ≡ option_map (source_at frame) (player_at self.now.players player) }
+    {
+        let queue = queue_of(&self.queues, player)?;
+        Some(queue.source(frame))
+    }
+
+    /// Whether there is such a player, and it is local.
+    pub fn is_local(&self, player: u8) -> bool
+        ensures { result ≡ of_player (λ p. p.local) self.now.players player }
+    {
+        match queue_of(&self.queues, player) {
+            Some(queue) => queue.is_local(),
+            None => false,
+        }
     }
 
     /// Settles the rows below a frame: their words are let go.

@@ -6,6 +6,8 @@ mod heard;
 mod history;
 mod queue;
 mod queues;
+mod source;
 
 pub use board::Board;
 pub use heard::Heard;
+pub use source::Source;

@@ -1,13 +1,15 @@
 //! One player's input queue.
-ghost use Rattle.std.specs.Prelude.{◌≡◌, ◌+◌, ◌<◌, ◌≤◌, ◌^◌, IfOk, length, [], ◌∷◌, ◌==◌, slice_index, if◌then◌else◌, Some, None, false, IfErr, OnErr};
+ghost use Rattle.std.specs.Prelude.{◌≡◌, ◌+◌, ◌<◌, ◌≤◌, ◌^◌, IfOk, length, [], ◌∷◌, ◌==◌, slice_get, if◌then◌else◌, Some, None, false, IfErr, OnErr};
 ghost use Rattle.roll_frame.specs.Core.{cell_possible};
 ghost use Rattle.roll_frame.specs.Inputs.{is_repeated, remote_tests, with_words, with_given, with_gone, with_none_given};
 ghost use Rattle.roll_frame.specs.Refusals.{first_refusal};
 ghost use Rattle.roll_frame.specs.Settings.{first_player, delay_at};
 ghost use Rattle.roll_frame.specs.Timeline.{cell_at};
+ghost use Rattle.roll_inputs.specs.Boards.{source_at};
 
 use crate::heard::Heard;
 use crate::history::History;
+use crate::source::Source;
 use circular_buffer::HeapCircularBuffer;
 use roll_frame::{Cell, DELAY_LIMIT, PLAYER_LIMIT, QUEUE_LIMIT, Refusal, Row, Settings};
 use std::alloc::{AllocError, Global};
@@ -136,21 +138,34 @@ impl Queue {
         }
     }
 
-    /// Whether the word of a confirmed frame is this one. `past` has the rows below the ring's first frame, with the
-    /// player's cells at a place.
-    pub(crate) fn has(&self, past: &[Row], place: usize, frame: u32, word: u32) -> bool
-        requires past { HasPast self.now past.now place }
-        requires confirmed { frame < length self.now.player.words }
-        ensures { result ≡ (slice_index self.now.player.words frame == word) }
+    /// Where the cell of a frame comes from.
+    pub(crate) fn source(&self, frame: u32) -> Source
+        ensures { result ≡ source_at frame self.now.player }
     {
-        if frame < self.from {
-            past[frame as usize].get(place) == Some(Cell::Word(word))
+        if frame < self.count {
+            Source::Confirmed
+        } else if self.gone {
+            Source::Gone
         } else {
-            self.cell(frame) == Cell::Word(word)
+            Source::Predicted
         }
     }
 
-    /// What a remote word is answered, by the tests of this player alone. `past` as in `has`.
+    /// The confirmed word of a frame. `past` has the rows below the ring's first frame, with the player's cells at a place.
+    pub(crate) fn word(&self, past: &[Row], place: usize, frame: u32) -> Option<u32>
+        requires { HasPast self.now past.now place }
+        ensures { result ≡ slice_get self.now.player.words frame }
+    {
+        if frame >= self.count {
+            None
+        } else if frame < self.from {
+            past[frame as usize].get(place).map(|cell| cell.word())
+        } else {
+            self.ring.get((frame - self.from) as usize).copied()
+        }
+    }
+
+    /// What a remote word is answered, by the tests of this player alone. `past` as in `word`.
     pub(crate) fn reply(
         &self,
         past: &[Row],
@@ -170,7 +185,7 @@ impl Queue {
         } else if self.gone {
             Err(Refusal::PlayerDisconnected)
         } else if frame < self.count {
-            if self.has(past, place, frame, word) {
+            if self.word(past, place, frame) == Some(word) {
                 Ok(Heard::Repeated)
             } else {
                 Err(Refusal::Conflict)

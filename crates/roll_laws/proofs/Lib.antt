@@ -5,6 +5,8 @@ pub mod Bounds
 pub mod BranchExamples
 pub mod ClaimExamples
 pub mod Counting
+pub mod Delayed
+pub mod Entries
 pub mod Examples
 pub mod Fair
 pub mod Few

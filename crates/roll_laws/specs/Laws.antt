@@ -6,6 +6,7 @@ use Rattle.std.specs.List.Sorted.{IsPermutation, IsSorted}
 use Rattle.roll_frame.specs.declared.limits.TheConstants.{FRAME_LIMIT, LOG_LIMIT, TREE_LIMIT, BRANCH_LIMIT, PATH_LIMIT, QUEUE_LIMIT, DELAY_LIMIT}
 use Rattle.roll_frame.specs.declared.row.Cell.{Cell}
 use Rattle.roll_frame.specs.declared.row.Cell.TheVariants.{Word, Gone}
+use Rattle.roll_frame.specs.declared.entry.Entry.{Entry}
 use Rattle.roll_frame.specs.declared.path.Path.{Path}
 use Rattle.roll_frame.specs.declared.profile.Profile.{Profile}
 use Rattle.roll_frame.specs.declared.profile.Profile.TheVariants.{Ggpo, Wide}
@@ -14,8 +15,8 @@ use Rattle.roll_frame.specs.Refusals.{first_refusal}
 use Rattle.roll_frame.specs.Cells.{Rows, cell_eq, rows_eq}
 use Rattle.roll_frame.specs.Timeline.{Player, last_word, cell_at, front, timeline}
 use Rattle.roll_frame.specs.Paths.{begins_with, contains, longest, run}
-use Rattle.roll_frame.specs.Games.{Game}
-use Rattle.roll_frame.specs.Settings.{most_players, most_threshold, open_to_branches, start_refusal}
+use Rattle.roll_frame.specs.Games.{Game, Value}
+use Rattle.roll_frame.specs.Settings.{delay_at, most_players, most_threshold, open_to_branches, start_refusal}
 use Rattle.roll_frame.specs.Core.{Roll, Core, IsPlan, is_known, is_possible, settled, is_live, kept, depth, cost, rolled_paths}
 use Rattle.roll_frame.specs.Inputs.{with_words}
 use Rattle.roll_frame.specs.Grafts.{Branch, start_of}
@@ -233,6 +234,12 @@ JobsStartKept = Always (λ settings core. (p until : ℕ) (words : List ℕ) (jo
 abbrev pub LogReplays : Type 0
 LogReplays = (settings : Settings) (game : Game) (events : List CoreEvent) → played settings game events ≡ replay settings (log_of settings game events)
 
+-- each entry of a log was accepted where the entries before it lead to
+abbrev pub EntriesWereAccepted : Type 0
+EntriesWereAccepted =
+    (settings : Settings) (game : Game) (events : List CoreEvent) (place : ℕ) (entry : Entry) → slice_get (log_of settings game events) place ≡ Some entry
+    → (value : Value) × (is_accepted settings game (replay settings (take place (log_of settings game events))) (record { entry = entry; value = value }) ≡ true)
+
 abbrev pub LogIsCounted : Type 0
 LogIsCounted = (settings : Settings) (game : Game) (events : List CoreEvent) → (played settings game events).logged ≡ length (log_of settings game events)
 
@@ -245,6 +252,12 @@ KeptAreShort = Always (λ settings core. (path : Rows) → contains (kept core) 
 abbrev pub QueuesAreShort : Type 0
 QueuesAreShort = Always (λ settings core. (place : ℕ) (player : Player) → slice_get core.players place ≡ Some player
     → (length player.words ≤ settled core + QUEUE_LIMIT) × (player.local ≡ true → length player.words ≤ settled core + settings.threshold + DELAY_LIMIT + 1))
+
+-- a local player has a word for each frame of its delay, for each frame before this one, and for this one if it
+-- was given: so a word that is given in a frame counts as many frames later as the delay
+abbrev pub LocalWordsAreDelayed : Type 0
+LocalWordsAreDelayed = Always (λ settings core. (place : ℕ) (player : Player) → slice_get core.players place ≡ Some player → player.local ≡ true
+    → length player.words ≡ core.frame + delay_at settings place + (if player.given then 1 else 0))
 
 abbrev pub FramesEnd : Type 0
 FramesEnd = Always (λ settings core. core.frame ≤ settings.limit)

@@ -2,7 +2,7 @@
 //! that makes no call: a crate cites a law by calling its function, or by the lemma of its name.
 #![tactic(auto)]
 
-ghost use Rattle.roll_laws.specs.Laws.{StartsAreSmall, KnownCellsStay, SettledNeverFalls, SettledRowsStay, ImpossibleStays, WordsRuleOut, LeavingRulesOut, LongBeginSettled, PrefixesAreSaved, SavedOnce, KeptBeginSettled, KeptArePrefixed, StartIsKept, RolledIsTimeOrDead, WindowIsBounded, CostIsSmall, FewAreKept, RollsFit, PeersAgree, RollIsPlan, RollsAreLeast, ClaimsAreRight, OrderKeepsAll, ClaimsNameLeast, DeeperDiffer, PruningLosesNothing, KeptAfter, SettledAfter, GuessedCells, JobsStartKept, LogReplays, LogIsCounted, KeptAreShort, QueuesAreShort, FramesEnd, LogEnds, PlayersStay};
+ghost use Rattle.roll_laws.specs.Laws.{StartsAreSmall, KnownCellsStay, SettledNeverFalls, SettledRowsStay, ImpossibleStays, WordsRuleOut, LeavingRulesOut, LongBeginSettled, PrefixesAreSaved, SavedOnce, KeptBeginSettled, KeptArePrefixed, StartIsKept, RolledIsTimeOrDead, WindowIsBounded, CostIsSmall, FewAreKept, RollsFit, PeersAgree, RollIsPlan, RollsAreLeast, ClaimsAreRight, OrderKeepsAll, ClaimsNameLeast, DeeperDiffer, PruningLosesNothing, KeptAfter, SettledAfter, GuessedCells, JobsStartKept, LogReplays, EntriesWereAccepted, LogIsCounted, KeptAreShort, QueuesAreShort, LocalWordsAreDelayed, FramesEnd, LogEnds, PlayersStay};
 ghost use Rattle.roll_laws.specs.Grafted.{NewPathsRun, AcceptedAreWorth, JobsAreNew};
 
 /// A session that starts has sizes within the profile's limits.
@@ -160,6 +160,11 @@ pub fn log_replays()
     ensures { LogReplays }
 {}
 
+/// Each entry of a log was accepted where the entries before it lead to.
+pub fn entries_were_accepted()
+    ensures { EntriesWereAccepted }
+{}
+
 /// The core counts the entries of that log.
 pub fn log_is_counted()
     ensures { LogIsCounted }
@@ -173,6 +178,11 @@ pub fn kept_are_short()
 /// A player has at most 128 confirmed words past the settled frame, a local one fewer.
 pub fn queues_are_short()
     ensures { QueuesAreShort }
+{}
+
+/// A local player has a word for each frame of its delay, for each frame before this one, and for this one if it was given.
+pub fn local_words_are_delayed()
+    ensures { LocalWordsAreDelayed }
 {}
 
 /// The frame never passes the limit.

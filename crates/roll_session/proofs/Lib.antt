@@ -6,6 +6,7 @@ pub mod Placed
 pub mod Holding
 pub mod Between
 pub mod Cuts
+pub mod Delays
 pub mod Entering
 pub mod Answering
 pub mod Filters
@@ -15,6 +16,7 @@ pub mod Leaving
 pub mod Runs
 pub mod Planning
 pub mod Playing
+pub mod Replaying
 pub mod Retold
 pub mod Rows
 pub mod Settles

@@ -24,7 +24,7 @@ counts_from-append settings game core [] more counts = refl
 counts_from-append settings game core (first ∷ events) more counts = counts_from-append settings game (after settings game core first) events more _
 
 -- no entry was added
-none_added : (s : Seen) → s ≡ with_entries s [] s.counts
+pub none_added : (s : Seen) → s ≡ with_entries s [] s.counts
 none_added s = let same : s.reserved ≡ s.reserved - 0 = omega arith in λ i. record s { log = sym (append-nil s.log) i; reserved = same i }
 
 -- no event came

@@ -4,7 +4,7 @@ use Rattle.roll_branch.specs.Routed.{Routed}
 use Rattle.roll_frame.specs.Core.{Core}
 use Rattle.roll_frame.specs.Events.{CoreEvent, is_repeat}
 use Rattle.roll_frame.specs.declared.entry.Entry.{Entry}
-use Rattle.roll_frame.specs.declared.entry.Entry.TheVariants.{Local, Remote, Disconnect, Sync, Advance, Graft}
+use Rattle.roll_frame.specs.declared.entry.Entry.TheVariants.{Local, Remote, Disconnect, Sync, Advance, Graft, Partial}
 use Rattle.roll_frame.specs.declared.refusal.Refusal.{Refusal}
 use Rattle.roll_frame.specs.declared.reply.Reply.{Reply}
 use Rattle.roll_frame.specs.declared.reply.Reply.TheVariants.{Done, Taken, Repeated, Disconnected}
@@ -22,6 +22,12 @@ entry_of (RemoteCall player frame word) = Remote player frame word
 entry_of (DisconnectCall player) = Disconnect player
 entry_of SyncCall = Sync
 entry_of AdvanceCall = Advance
+
+-- whether a call makes such an entry
+abbrev pub is_call : Entry → Bool
+is_call (Graft ticket route) = false
+is_call (Partial to made) = false
+is_call entry = true
 
 abbrev pub event_of : Call → CoreEvent
 event_of call = plain (entry_of call)

@@ -9,3 +9,4 @@ pub mod Calls
 pub mod Requests
 pub mod Grafting
 pub mod Guessing
+pub mod Replaying

@@ -1,10 +1,11 @@
 //! What a session is asked, and what it answers.
-ghost use Rattle.std.specs.Prelude.{◌≡◌};
-ghost use Rattle.roll_session.specs.Calls.{entry_of};
+ghost use Rattle.std.specs.Prelude.{◌≡◌, IfSome, is_some};
+ghost use Rattle.roll_session.specs.Calls.{entry_of, is_call};
 
 use roll_branch::Branch;
-use roll_frame::Entry;
+use roll_frame::{Entry, Refusal};
 use roll_game::Game;
+use thiserror::Error;
 
 /// A call of a session that is given numbers alone. Players are numbered from 1.
 #[derive(Clone, Copy, Debug, PartialEq, Eq)]
@@ -22,6 +23,32 @@ pub enum Call {
 }
 
 impl Call {
+    /// The call that an entry of a log was made by. None for a graft, and for a roll that the game cut short.
+    pub fn of_entry(entry: &Entry) -> Option<Call>
+        ensures call { IfSome result (λ call. entry_of call ≡ entry.now) }
+        ensures some { is_some result ≡ is_call entry.now }
+    {
+        match entry {
+            Entry::Local { player, word } => Some(Call::Local {
+                player: *player,
+                word: *word,
+            }),
+            Entry::Remote {
+                player,
+                frame,
+                word,
+            } => Some(Call::Remote {
+                player: *player,
+                frame: *frame,
+                word: *word,
+            }),
+            Entry::Disconnect { player } => Some(Call::Disconnect { player: *player }),
+            Entry::Sync => Some(Call::Sync),
+            Entry::Advance => Some(Call::Advance),
+            Entry::Graft { .. } | Entry::Partial { .. } => None,
+        }
+    }
+
     /// What the log keeps of the call where it is accepted.
     pub fn entry(self) -> Entry
         ensures { result ≡ entry_of self }
@@ -65,4 +92,21 @@ pub struct Reached {
 #[derive(Clone, Copy, Debug, PartialEq, Eq)]
 pub struct Grafted {
     pub added: u32,
+}
+
+/// Why a log was not replayed to its end: at the entry of this place, counted from 0.
+#[derive(Clone, Copy, Debug, PartialEq, Eq, Error)]
+pub enum ReplayFault {
+    /// No call makes the entry: it is a graft, or a roll that the game cut short.
+    #[error("entry {place} is no call")]
+    NotACall { place: usize },
+    /// The entry is a word that counts already.
+    #[error("entry {place} repeats a word")]
+    Repeated { place: usize },
+    /// The rules refuse the entry.
+    #[error("entry {place} is refused: {why}")]
+    Refused { place: usize, why: Refusal },
+    /// A growth was refused, or the game refused.
+    #[error("out of memory at entry {place}")]
+    NoMemory { place: usize },
 }

@@ -9,8 +9,8 @@ mod run;
 mod saves;
 mod session;
 
-pub use event::{Call, Grafted, Reached, Request};
+pub use event::{Call, Grafted, Reached, ReplayFault, Request};
 pub use roll_game::StartFault;
-pub use roll_inputs::Heard;
+pub use roll_inputs::{Heard, Source};
 pub use roll_plan::Plan;
 pub use session::{Parts, Session};

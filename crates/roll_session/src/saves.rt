@@ -9,7 +9,7 @@ ghost use Rattle.roll_frame.specs.Paths.{longest};
 ghost use Rattle.roll_frame.specs.Timeline.{front, row_at, timeline};
 ghost use Rattle.roll_frame.specs.declared.entry.Entry.TheVariants.{Advance as Advances};
 ghost use Rattle.roll_frame.specs.declared.row.Cell.TheVariants.{Gone};
-ghost use Rattle.roll_inputs.specs.Boards.{disconnect_refusal, local_refusal, remote_refusal, with_player};
+ghost use Rattle.roll_inputs.specs.Boards.{confirmed_word, disconnect_refusal, local_refusal, remote_refusal, with_player};
 ghost use Rattle.roll_laws.specs.Laws.{has_no_other};
 ghost use Rattle.roll_plan.specs.Plans.{made_of};
 ghost use Rattle.roll_tree.specs.SavedStates.{CanGrow, state_named, paths_of, with_state};
@@ -285,6 +285,13 @@ impl<S> Saves<S> {
         ensures { result.now ≡ self.now.tree }
     {
         &self.tree
+    }
+
+    /// The confirmed word of a player at a frame, settled or not.
+    pub fn confirmed_word(&self, player: u8, frame: u32) -> Option<u32>
+        ensures { result ≡ confirmed_word self.now.inputs.players player frame }
+    {
+        self.board.confirmed_word(&self.past, player, frame)
     }
 
     /// A settled row. None from the settled frame on.

@@ -1,17 +1,20 @@
 //! The session.
-ghost use Rattle.std.specs.Prelude.{◌≡◌, ℕ, ◌≤◌, ◌<◌, ◌+◌, ◌-◌, ◌∷◌, [], ◌++◌, length, true, false, map, max, vec_capacity, vec_len, nat_lt, IfOk, OnOk, IfErr, OnErr, IfSome, IsSome, is_none, unwrap_or, option_copied, None, Some, if◌then◌else◌};
+ghost use Rattle.std.specs.Prelude.{◌≡◌, ℕ, ◌≤◌, ◌<◌, ◌+◌, ◌-◌, ◌∷◌, [], ◌++◌, length, true, false, map, max, vec_capacity, vec_len, nat_lt, IfOk, OnOk, IfErr, OnErr, IfSome, IsSome, is_none, unwrap_or, option_and_then, option_copied, None, Some, if◌then◌else◌};
+ghost use Rattle.std.specs.Option.{option_map};
 ghost use Rattle.roll_frame.specs.Claims.{claim_of, path_from, IsRight};
 ghost use Rattle.roll_frame.specs.Core.{depth, kept as kept_of, settled as settled_frame};
 ghost use Rattle.roll_frame.specs.Events.{answer, branch_of, is_repeat, refusal, tests_of};
 ghost use Rattle.roll_frame.specs.Grafts.{new_paths};
 ghost use Rattle.roll_frame.specs.Refusals.{first_refusal};
+ghost use Rattle.roll_frame.specs.Inputs.{of_player, player_at};
 ghost use Rattle.roll_frame.specs.Order.{in_order};
 ghost use Rattle.roll_frame.specs.Paths.{run as run_of};
-ghost use Rattle.roll_frame.specs.Settings.{start_refusal};
+ghost use Rattle.roll_frame.specs.Settings.{delay_at, start_refusal};
 ghost use Rattle.roll_frame.specs.Timeline.{row_at as row_of, timeline};
 ghost use Rattle.roll_frame.specs.declared.entry.Entry.TheVariants.{Graft as Grafts};
 ghost use Rattle.roll_game.specs.Counts.{counted};
 ghost use Rattle.roll_game.specs.declared.counts.Call.TheVariants.{Load as Loads, Copy as Copies};
+ghost use Rattle.roll_inputs.specs.Boards.{confirmed_word, source_at};
 ghost use Rattle.roll_laws.specs.Sessions.{IsLog};
 ghost use Rattle.roll_session.specs.Guessing.{guess_job_of, guess_refusal_of, IsCopied};
 ghost use Rattle.roll_session.specs.Held.{HasRoom, Shows};
@@ -29,7 +32,7 @@ use crate::saves::Saves;
 use roll_branch::{Branch, Job, Parts as BranchParts};
 use roll_frame::{Claim, Entry, Event, Path, Refusal, Reply, Row, Settings};
 use roll_game::{Game, StartFault};
-use roll_inputs::{Board, Heard};
+use roll_inputs::{Board, Heard, Source};
 use roll_plan::{Plan, Planner};
 use std::alloc::{AllocError, Global};
 use std::marker::Model;
@@ -383,6 +386,63 @@ impl<G: Game> Session<G> {
         ensures { result ≡ (core_of self.now).frame }
     {
         self.saves.board().frame()
+    }
+
+    /// The settings that it was started with.
+    pub fn settings(&self) -> &Settings
+        ensures { result.now ≡ self.now.settings }
+    {
+        &self.settings
+    }
+
+    /// How many players there are. They are numbered from 1.
+    pub fn players(&self) -> u8
+        ensures { result ≡ length (core_of self.now).players }
+    {
+        self.settings.players
+    }
+
+    /// Whether there is such a player, and it is local.
+    pub fn is_local(&self, player: u8) -> bool
+        ensures { result ≡ of_player (λ p. p.local) (core_of self.now).players player }
+    {
+        self.saves.board().is_local(player)
+    }
+
+    /// The frame in which a local player's next word counts: as many frames from now as its delay, and one more once it
+    /// has given its word of this frame. None where there is no such player, or it isn't local.
+    pub fn input_frame(&self, player: u8) -> Option<u32>
+        ensures counted { result ≡ option_and_then (λ p. if p.local then Some (length p.words) else None) (player_at (core_of self.now).players player) }
+        ensures delayed { IfSome result (λ frame. frame ≡ (core_of self.now).frame + delay_at self.now.settings (player - 1) + (if of_player (λ p. p.given) (core_of self.now).players player then 1 else 0)) }
+    {
+        let board = self.saves.board();
+        if board.is_local(player) {
+            board.confirmed(player)
+        } else {
+            None
+        }
+    }
+
+    /// How many words of a player are confirmed: the frame whose word must come next. None where there is no such player.
+    pub fn confirmed(&self, player: u8) -> Option<u32>
+        ensures { result ≡ option_map (λ p. length p.words) (player_at (core_of self.now).players player) }
+    {
+        self.saves.board().confirmed(player)
+    }
+
+    /// The confirmed word of a player at a frame, settled or not. None where it isn't confirmed, and where there is no such
+    /// player.
+    pub fn confirmed_word(&self, player: u8, frame: u32) -> Option<u32>
+        ensures { result ≡ confirmed_word (core_of self.now).players player frame }
+    {
+        self.saves.confirmed_word(player, frame)
+    }
+
+    /// Where a player's cell of a frame, past or to come, is from. None where there is no such player.
+    pub fn source(&self, player: u8, frame: u32) -> Option<Source>
+        ensures { result ≡ option_map (source_at frame) (player_at (core_of self.now).players player) }
+    {
+        self.saves.board().source(player, frame)
     }
 
     /// The state that is shown.

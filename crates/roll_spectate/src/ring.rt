@@ -1,6 +1,8 @@
 //! A spectator's ring of rows.
-ghost use Rattle.std.specs.Prelude.{◌≡◌, ◌⊎◌, ◌<◌, ◌≤◌, ◌+◌, [], ◌∷◌, ◌++◌, length, IfOk, IsTrue, IsFalse};
+ghost use Rattle.std.specs.Prelude.{◌≡◌, ◌⊎◌, ◌<◌, ◌≤◌, ◌+◌, [], ◌∷◌, ◌++◌, length, nat_lt, Some, None, IfOk, IsTrue, IsFalse, if◌then◌else◌};
 ghost use Rattle.rtrb.specs.Ring.{received};
+ghost use Rattle.roll_frame.specs.Core.{settled};
+ghost use Rattle.roll_frame.specs.Timeline.{row_at};
 ghost use Rattle.roll_frame.specs.declared.limits.TheConstants.{FRAME_LIMIT};
 ghost use Rattle.roll_session.specs.Seen.{core_of};
 ghost use Rattle.roll_session.specs.Standing.{settled_rows};
@@ -74,12 +76,19 @@ impl RowSender {
     {
         session.laws();
         let from = self.count;
-        while let Some(row) = session.settled_row(self.count as usize) {
+        while let Some(row) = self.next(session) {
             if !self.send(row) {
                 break;
             }
         }
         self.count - from
+    }
+
+    /// The first settled row that was not sent. None where all were.
+    fn next<G: Game>(&self, session: &Session<G>) -> Option<Row>
+        ensures { result ≡ (if nat_lt (length self.now) (settled (core_of session.now)) then Some (row_at (core_of session.now).players (length self.now)) else None) }
+    {
+        session.settled_row(self.count as usize)
     }
 
     /// Sends a row if the ring has a place for it, and says whether it did.

@@ -10,13 +10,13 @@ use roll_session::{Grafted, Reached, Session};
 use std::process::Abort;
 use std::test::Fail;
 
-/// The branch of these rows, at most 8, from a state of this worth at the end of a path.
-fn grown_from(
+/// The job of these rows, at most 8, from a state of this worth at the end of a path.
+fn job_from(
     rt: &(impl Abort + AllocGlobal),
     path: Path,
     from: u32,
     rows: &[Row],
-) -> Result<Branch<Tally>, Fail> {
+) -> Result<Job<Tally>, Fail> {
     let mut run = ArrayVec::new();
     for row in rows {
         if !run.is_full() {
@@ -28,6 +28,17 @@ fn grown_from(
     let Some(job) = Job::new(route, from, room) else {
         panic!(rt; "no job");
     };
+    Ok(job)
+}
+
+/// The branch of that job.
+fn grown_from(
+    rt: &(impl Abort + AllocGlobal),
+    path: Path,
+    from: u32,
+    rows: &[Row],
+) -> Result<Branch<Tally>, Fail> {
+    let job = job_from(rt, path, from, rows)?;
     let Done::Grown(branch) = extend(&mut Tally::new(), job) else {
         panic!(rt; "no branch");
     };
@@ -35,7 +46,7 @@ fn grown_from(
 }
 
 /// The branch of two rows from frame 0, and a state of this worth.
-fn grown(rt: &(impl Abort + AllocGlobal), from: u32) -> Result<Branch<Tally>, Fail> {
+pub fn grown(rt: &(impl Abort + AllocGlobal), from: u32) -> Result<Branch<Tally>, Fail> {
     grown_from(rt, path(0, &[]), from, &[row(1, 3); 2])
 }
 
@@ -65,7 +76,7 @@ fn costs_nothing_where_a_guess_was_right(rt: HostRuntime) -> Result<(), Fail> {
 }
 
 /// Rows, as the cells of each.
-type Rows = &'static [&'static [Cell]];
+pub type Rows = &'static [&'static [Cell]];
 
 const ZEROS: &[Cell] = &[Word(0), Word(0)];
 
@@ -93,7 +104,7 @@ const BROAD: &[Cell] = &[Word(0); 3];
 
 /// A branch made by hand: the base and the own rows of its path, the worth of the state there, and the rows that are run;
 /// and what a session says of it.
-type Made = (u32, Rows, u32, Rows, Result<u32, Refusal>);
+pub type Made = (u32, Rows, u32, Rows, Result<u32, Refusal>);
 
 /// The rows of these cells; none for no cells.
 fn rows_of(rt: &(impl Abort + AllocGlobal), rows: Rows) -> Result<Vec<Row>, Fail> {
@@ -106,8 +117,15 @@ fn rows_of(rt: &(impl Abort + AllocGlobal), rows: Rows) -> Result<Vec<Row>, Fail
     Ok(made)
 }
 
+/// The job of a branch made by hand.
+pub fn hand_job(rt: &(impl Abort + AllocGlobal), made: &Made) -> Result<Job<Tally>, Fail> {
+    let (base, own, from, rows, _) = made;
+    let start = path(*base, rows_of(rt, own)?.as_slice());
+    job_from(rt, start, *from, rows_of(rt, rows)?.as_slice())
+}
+
 /// Grafts each of these branches in turn.
-fn graft_all(
+pub fn graft_all(
     rt: &(impl Abort + AllocGlobal),
     session: &mut Session<Tally>,
     table: &[Made],
@@ -148,7 +166,7 @@ fn is_judged_when_made_by_hand(rt: HostRuntime) -> Result<(), Fail> {
 }
 
 /// A session of two frames, of which the row of the first is settled: the states of frames 1 and 2 are worth 1 and 11.
-fn settled_one(rt: &(impl Abort + AllocGlobal)) -> Result<Session<Tally>, Fail> {
+pub fn settled_one(rt: &(impl Abort + AllocGlobal)) -> Result<Session<Tally>, Fail> {
     let mut session = played(rt.alloc(), &LATE_CALLS[..4])?;
     session.remote_input(2, 0, 0)?;
     session.synchronize_input()?;
@@ -156,7 +174,7 @@ fn settled_one(rt: &(impl Abort + AllocGlobal)) -> Result<Session<Tally>, Fail> 
 }
 
 /// Branches for that session. The number of the last is wrong at the end of its path, and right where the settled rows end.
-const PAST_SETTLED: [Made; 15] = [
+pub const PAST_SETTLED: [Made; 15] = [
     (2, &[], 11, &[NEXT], Err(Refusal::Stranger)),
     (1, &[ZEROS; 17], 0, &[ZEROS; 8], Err(Refusal::TooFar)),
     (0, &[], 7, &[BOTH], Err(Refusal::Late)),

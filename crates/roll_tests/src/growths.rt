@@ -7,7 +7,11 @@ use roll_cli::{GameName, PlayFault, Task};
 use roll_duel::Duel;
 use roll_frame::{Advice, Cell, Event, Refusal, Settings};
 use roll_game::{RawGame, Tally};
-use roll_session::{Request, Session};
+use roll_host::Host;
+use roll_link::{LinkSender, Remote};
+use roll_pool::{OpenGate, Owner, Worked, WorkerEnd};
+use roll_session::{Call, Request, Session};
+use roll_spectate::{Feed, RowReceiver, Spectator};
 use roll_synctest::{SyncTest, Verdict};
 use roll_tree::Tree;
 use std::alloc::Global;
@@ -43,10 +47,13 @@ pub enum Example {
     Duel,
     Advice,
     SyncTest,
+    Feed,
+    Links,
+    Workers,
 }
 
 impl Example {
-    pub const ALL: [Example; 11] = [
+    pub const ALL: [Example; 14] = [
         Example::Script,
         Example::Guess,
         Example::DuelScript,
@@ -58,6 +65,9 @@ impl Example {
         Example::Duel,
         Example::Advice,
         Example::SyncTest,
+        Example::Feed,
+        Example::Links,
+        Example::Workers,
     ];
 
     pub fn run(self, alloc: Global) -> Ending {
@@ -78,6 +88,9 @@ impl Example {
             Example::Duel => counts_refusals(alloc),
             Example::Advice => advises(alloc),
             Example::SyncTest => verifies_rows(alloc).unwrap_or(Wrong),
+            Example::Feed => sends_rows(alloc).unwrap_or(Wrong),
+            Example::Links => hears_by_a_link(alloc).unwrap_or(Wrong),
+            Example::Workers => takes_in_a_guess(alloc).unwrap_or(Wrong),
         }
     }
 }
@@ -138,21 +151,28 @@ fn seen(session: &Session<Tally>) -> (usize, u32, usize, Option<u32>) {
     )
 }
 
-/// Each call that is refused changes nothing, and is made once more: the end is the same.
-fn goes_on(alloc: Global) -> Result<Ending, Refusal> {
-    let (mut session, mut ending) = started(alloc, TWO)?;
-    for call in LATE_CALLS {
-        let before = seen(&session);
-        if session.perform(Request::Call(call)).is_err() {
+/// Makes calls. One that is refused changes nothing, and is made once more.
+fn makes(session: &mut Session<Tally>, calls: &[Call], ending: Ending) -> Ending {
+    let mut ending = ending;
+    for call in calls {
+        let before = seen(session);
+        if session.perform(Request::Call(*call)).is_err() {
             if ending == Refused
-                || seen(&session) != before
-                || session.perform(Request::Call(call)).is_err()
+                || seen(session) != before
+                || session.perform(Request::Call(*call)).is_err()
             {
-                return Ok(Wrong);
+                return Wrong;
             }
             ending = Refused;
         }
     }
+    ending
+}
+
+/// The end is the same, whichever call was refused.
+fn goes_on(alloc: Global) -> Result<Ending, Refusal> {
+    let (mut session, ending) = started(alloc, TWO)?;
+    let ending = makes(&mut session, &LATE_CALLS, ending);
     Ok(ending.where_so(seen(&session) == (6, 2, 1, Some(77))))
 }
 
@@ -246,4 +266,111 @@ fn verifies_rows(alloc: Global) -> Result<Ending, Refusal> {
         && verified == Verdict::Verified(2)
         && counts(test.game()) == (4, 0);
     Ok(ending.where_so(so))
+}
+
+/// A feed, and a spectator's ring.
+fn feed_of_one(alloc: Global, ending: Ending) -> Result<(Feed, RowReceiver, Ending), Refusal> {
+    let (mut feed, ending) = match Feed::new(alloc) {
+        Ok(feed) => (feed, ending),
+        Err(Refusal::NoMemory) => (Feed::new(alloc)?, Refused),
+        Err(why) => return Err(why),
+    };
+    match feed.add() {
+        Ok(receiver) => Ok((feed, receiver, ending)),
+        Err(Refusal::NoMemory) => {
+            let receiver = feed.add()?;
+            Ok((feed, receiver, Refused))
+        }
+        Err(why) => Err(why),
+    }
+}
+
+/// A ring that is refused leaves no spectator behind. To send and to watch takes no memory.
+fn sends_rows(alloc: Global) -> Result<Ending, Refusal> {
+    let (mut session, ending) = started(alloc, TWO)?;
+    let ending = makes(&mut session, &LATE_CALLS, ending);
+    let (mut feed, receiver, ending) = feed_of_one(alloc, ending)?;
+    let mut spectator = match Spectator::new(Tally::new(), &Tally::opening(), receiver) {
+        Ok(spectator) => spectator,
+        Err(fault) => return Err(fault.why),
+    };
+    let sent = feed.push(&session);
+    let frame = spectator.step()?;
+    let so = sent == 1 && frame == 1 && spectator.state().copied() == Some(7);
+    Ok(ending.where_so(so))
+}
+
+/// A host of a session and its link, each made once more where it is refused.
+fn linked(alloc: Global) -> Result<(Host<Tally>, LinkSender, Ending), Refusal> {
+    let (session, ending) = started(alloc, TWO)?;
+    let (mut host, ending) = match Host::new(alloc, session) {
+        Ok(host) => (host, ending),
+        Err(failed) => (Host::new(alloc, failed.value)?, Refused),
+    };
+    match host.add_link() {
+        Ok(sender) => Ok((host, sender, ending)),
+        Err(Refusal::NoMemory) => {
+            let sender = host.add_link()?;
+            Ok((host, sender, Refused))
+        }
+        Err(why) => Err(why),
+    }
+}
+
+/// A word for which the log can't grow is held, and comes with the next pump.
+fn hears_by_a_link(alloc: Global) -> Result<Ending, Refusal> {
+    let (mut host, mut sender, ending) = linked(alloc)?;
+    let word = Remote {
+        player: 2,
+        frame: 0,
+        word: 3,
+    };
+    let sent = sender.send(word).is_ok();
+    let did = host.pump();
+    let (did, ending) = match did.held {
+        Some(Refusal::NoMemory) => (host.pump(), Refused),
+        _ => (did, ending),
+    };
+    let so = sent && did.applied == 1 && did.refused == 0 && did.held.is_none();
+    Ok(ending.where_so(so && host.session().log().len() == 1))
+}
+
+/// A pool of a worker and a host, each made once more where it is refused.
+fn staffed(alloc: Global) -> Result<(Host<Tally>, Vec<WorkerEnd<Tally>>, Ending), Refusal> {
+    let (session, ending) = started(alloc, TWO)?;
+    let ((owner, ends), ending) = match Owner::open(alloc, 1) {
+        Ok(pool) => (pool, ending),
+        Err(Refusal::NoMemory) => (Owner::open(alloc, 1)?, Refused),
+        Err(why) => return Err(why),
+    };
+    match Host::with_workers(alloc, session, owner) {
+        Ok(host) => Ok((host, ends, ending)),
+        Err(failed) => {
+            let (session, owner) = failed.value;
+            let host = Host::with_workers(alloc, session, owner)?;
+            Ok((host, ends, Refused))
+        }
+    }
+}
+
+/// A guess that is refused is made once more. A branch for which the log can't grow is dropped.
+fn takes_in_a_guess(alloc: Global) -> Result<Ending, Refusal> {
+    let (mut host, mut ends, ending) = staffed(alloc)?;
+    let (ticket, ending) = match host.speculate(2, &[3], 2) {
+        Ok(ticket) => (ticket, ending),
+        Err(Refusal::NoMemory) => (host.speculate(2, &[3], 2)?, Refused),
+        Err(why) => return Err(why),
+    };
+    let mut game = Tally::new();
+    let mut did = false;
+    for end in ends.iter_mut() {
+        did = end.work_one(&mut game, &OpenGate) == Worked::Did(0);
+    }
+    let absorbed = host.absorb();
+    let so = ticket == Some(0) && did && absorbed.taken == 1 && absorbed.unmade == 0;
+    match (absorbed.added, absorbed.dropped) {
+        (2, 0) => Ok(ending.where_so(so)),
+        (0, 1) => Ok(Refused.where_so(so)),
+        _ => Ok(Wrong),
+    }
 }

@@ -18,9 +18,15 @@ mod frame;
 mod game;
 mod growths;
 #[cfg(test)]
+mod host_workers;
+#[cfg(test)]
 mod laws;
 #[cfg(test)]
+mod main_loop;
+#[cfg(test)]
 mod messages;
+#[cfg(test)]
+mod pool;
 #[cfg(test)]
 mod program;
 #[cfg(test)]
@@ -29,6 +35,8 @@ mod refused;
 mod session;
 #[cfg(test)]
 mod shared;
+#[cfg(test)]
+mod spectator;
 #[cfg(test)]
 mod sync_test;
 #[cfg(test)]

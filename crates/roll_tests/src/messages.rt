@@ -1,8 +1,9 @@
 //! How refusals and faults are told.
 use roll_cert::Flaw;
 use roll_cli::{PlayFault, ScriptFault};
-use roll_frame::Refusal;
+use roll_frame::{Refusal, SettingsFault};
 use roll_game::NoMemory;
+use roll_session::ReplayFault;
 use roll_text::{ReadFault, WriteFault};
 use std::alloc::Global;
 use std::fmt::Display;
@@ -62,6 +63,52 @@ const FLAWS: [(Flaw, &str); 6] = [
     (Flaw::Missing(255), "missing 255"),
 ];
 
+const SETTINGS_FAULTS: [(SettingsFault, &str); 9] = [
+    (
+        SettingsFault::Players,
+        "the number of players is out of range",
+    ),
+    (SettingsFault::NoLocalPlayer, "no player is local"),
+    (
+        SettingsFault::LocalPlayerOutside { player: 3 },
+        "local player 3 is not one of the players",
+    ),
+    (
+        SettingsFault::LongDelay { player: 1 },
+        "the delay of player 1 is too long",
+    ),
+    (
+        SettingsFault::DelayOfRemotePlayer { player: 2 },
+        "player 2 is not local and has a delay",
+    ),
+    (
+        SettingsFault::Threshold,
+        "the prediction threshold is out of range",
+    ),
+    (SettingsFault::FrameLimit, "the frame limit is out of range"),
+    (SettingsFault::LogLimit, "the log limit is out of range"),
+    (
+        SettingsFault::NoPlayer { player: 9 },
+        "there is no player 9",
+    ),
+];
+
+const REPLAY_FAULTS: [(ReplayFault, &str); 4] = [
+    (ReplayFault::NotACall { place: 4 }, "entry 4 is no call"),
+    (ReplayFault::Repeated { place: 0 }, "entry 0 repeats a word"),
+    (
+        ReplayFault::Refused {
+            place: 2,
+            why: Refusal::Gap,
+        },
+        "entry 2 is refused: an earlier input is missing",
+    ),
+    (
+        ReplayFault::NoMemory { place: 1 },
+        "out of memory at entry 1",
+    ),
+];
+
 /// The text of what can be shown.
 fn told<T: Display + Drop>(alloc: Global, it: T) -> Result<String, Fail> {
     Ok(format!(in alloc; "{it}")?)
@@ -74,6 +121,12 @@ fn tells_refusals_and_flaws(rt: HostRuntime) -> Result<(), Fail> {
     }
     for (flaw, text) in FLAWS {
         assert_eq!(rt; told(rt.alloc(), flaw)?.as_str(), text);
+    }
+    for (fault, text) in SETTINGS_FAULTS {
+        assert_eq!(rt; told(rt.alloc(), fault)?.as_str(), text);
+    }
+    for (fault, text) in REPLAY_FAULTS {
+        assert_eq!(rt; told(rt.alloc(), fault)?.as_str(), text);
     }
     Ok(())
 }

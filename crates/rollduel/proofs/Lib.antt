@@ -4,3 +4,4 @@ pub mod FaultPlaces
 pub mod Places
 pub mod TakenPlaces
 pub mod WordExamples
+pub mod LocalFlags

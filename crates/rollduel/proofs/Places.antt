@@ -8,7 +8,7 @@ use Rattle.clap.specs.Walk.{Held, Outcome, Row, Rule, Step, Text, Waiting, Walk,
 use Rattle.clap.specs.Walk.{bundle, bundle_met, bundle_step, done, finished, flag_met, has_long, idle, is_multiple, is_pending, long_met, long_or_other, next, next_position}
 use Rattle.clap.specs.Walk.{nothing_held, option, option_met, option_word, plain, plain_word, positional, pushed, reacted, refused, rows_after, settled, settled_rows, short_met, short_or_plain}
 use Rattle.clap.specs.Walk.{stop_after, subcommand, subcommand_met, subcommand_or_other, takes_several, takes_values, to_positional, trailing, used, used_by_id, value, waits, walk, walk_from, walked, walked_from, with_default, word_met}
-use Rattle.rollduel.specs.Commands.{Games, app_with, file_rule, frames_rule, game_rule}
+use Rattle.rollduel.specs.Commands.{Games, app_with, explain_rule, file_rule, frames_rule, game_rule}
 
 -- the arguments of a command, once it is built: the file, the game, and more
 abbrev pub file : Rule
@@ -24,11 +24,14 @@ rules more g = file ∷ game g ∷ more
 abbrev help : Rule
 help = with_index 2 (filled help_rule)
 
+abbrev explain : Rule
+explain = with_index 2 (filled explain_rule)
+
 abbrev pub more_played : List Rule
-more_played = help ∷ []
+more_played = explain ∷ help ∷ []
 
 abbrev pub more_tested : List Rule
-more_tested = with_index 2 (filled frames_rule) ∷ help ∷ []
+more_tested = with_index 2 (filled frames_rule) ∷ explain ∷ help ∷ []
 
 pub pick : {X Y : Type 0} (F G : Y → X) (b : Bool) (x y u v : Y) → F x ≡ G y → F u ≡ G v → F (cond b x u) ≡ G (cond b y v)
 pick F G true x y u v e f = e

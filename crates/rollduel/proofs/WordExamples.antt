@@ -5,7 +5,7 @@ use Rattle.clap.proofs.OnLiterals.{clap_on_literals}
 use Rattle.clap.specs.Faults.{fault_of, is_simple_and_free}
 use Rattle.clap.specs.Simple.{is_simple}
 use Rattle.clap.specs.Takes.{takes}
-use Rattle.clap.specs.declared.error.kind.ErrorKind.TheVariants.{DisplayHelp, InvalidSubcommand, InvalidValue, MissingRequiredArgument, UnknownArgument, ValueValidation}
+use Rattle.clap.specs.declared.error.kind.ErrorKind.TheVariants.{DisplayHelp, DisplayVersion, InvalidSubcommand, InvalidValue, MissingRequiredArgument, UnknownArgument, ValueValidation}
 use Rattle.roll_cli.specs.declared.program.Ending.{Ending}
 use Rattle.roll_cli.specs.declared.program.GameName.TheVariants.{Tally, Duel}
 use Rattle.roll_cli.specs.declared.program.Task.TheVariants.{Play, SyncTest, Certify}
@@ -19,31 +19,35 @@ simple played tested = refl
 pub free : (played tested : Games) → is_simple_and_free (app_with played tested) ≡ true
 free played tested = refl
 
-pub no_command : asked_by (codes "rollduel" ∷ []) ≡ (None, Play Tally)
+pub no_command : asked_by (codes "rollduel" ∷ []) ≡ (None, Play Tally, false)
 unfolding clap_on_literals
 no_command = refl
 
-pub plays_a_file : asked_by (codes "rollduel" ∷ codes "play" ∷ codes "a.roll" ∷ []) ≡ (Some (codes "a.roll"), Play Tally)
+pub plays_a_file : asked_by (codes "rollduel" ∷ codes "play" ∷ codes "a.roll" ∷ []) ≡ (Some (codes "a.roll"), Play Tally, false)
 unfolding clap_on_literals
 plays_a_file = refl
 
-pub plays_a_duel : asked_by (codes "rollduel" ∷ codes "play" ∷ codes "-" ∷ codes "--game" ∷ codes "duel" ∷ []) ≡ (None, Play Duel)
+pub plays_a_duel : asked_by (codes "rollduel" ∷ codes "play" ∷ codes "-" ∷ codes "--game" ∷ codes "duel" ∷ []) ≡ (None, Play Duel, false)
 unfolding clap_on_literals
 plays_a_duel = refl
 
-pub game_in_front : asked_by (codes "rollduel" ∷ codes "play" ∷ codes "--game=duel" ∷ codes "a.roll" ∷ []) ≡ (Some (codes "a.roll"), Play Duel)
+pub game_in_front : asked_by (codes "rollduel" ∷ codes "play" ∷ codes "--game=duel" ∷ codes "a.roll" ∷ []) ≡ (Some (codes "a.roll"), Play Duel, false)
 unfolding clap_on_literals
 game_in_front = refl
 
-pub certifies : asked_by (codes "rollduel" ∷ codes "certify" ∷ codes "a.claim" ∷ []) ≡ (Some (codes "a.claim"), Certify)
+pub explains : asked_by (codes "rollduel" ∷ codes "play" ∷ codes "a.roll" ∷ codes "--explain" ∷ []) ≡ (Some (codes "a.roll"), Play Tally, true)
+unfolding clap_on_literals
+explains = refl
+
+pub certifies : asked_by (codes "rollduel" ∷ codes "certify" ∷ codes "a.claim" ∷ []) ≡ (Some (codes "a.claim"), Certify, false)
 unfolding clap_on_literals
 certifies = refl
 
-pub tests_a_file : asked_by (codes "rollduel" ∷ codes "synctest" ∷ codes "a.rows" ∷ []) ≡ (Some (codes "a.rows"), SyncTest Tally 1)
+pub tests_a_file : asked_by (codes "rollduel" ∷ codes "synctest" ∷ codes "a.rows" ∷ []) ≡ (Some (codes "a.rows"), SyncTest Tally 1, false)
 unfolding clap_on_literals
 tests_a_file = refl
 
-pub tests_eight_frames : asked_by (codes "rollduel" ∷ codes "synctest" ∷ codes "-" ∷ codes "--frames" ∷ codes "8" ∷ codes "--game=duel" ∷ []) ≡ (None, SyncTest Duel 8)
+pub tests_eight_frames : asked_by (codes "rollduel" ∷ codes "synctest" ∷ codes "-" ∷ codes "--frames" ∷ codes "8" ∷ codes "--game=duel" ∷ []) ≡ (None, SyncTest Duel 8, false)
 unfolding clap_on_literals
 tests_eight_frames = refl
 
@@ -106,6 +110,10 @@ stray_word_fault = refl
 pub help_is_asked_for : fault_of rollduel_app (codes "rollduel" ∷ codes "play" ∷ codes "--help" ∷ []) ≡ DisplayHelp ∷ []
 unfolding clap_on_literals
 help_is_asked_for = refl
+
+pub version_is_asked_for : fault_of rollduel_app (codes "rollduel" ∷ codes "--version" ∷ []) ≡ DisplayVersion ∷ []
+unfolding clap_on_literals
+version_is_asked_for = refl
 
 -- without a file the program ends with status 2
 pub no_file_status : (ending : Ending) → EndsRefused (fault_of rollduel_app (codes "rollduel" ∷ codes "play" ∷ [])) ending → ending.status ≡ 2

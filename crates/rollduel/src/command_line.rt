@@ -5,12 +5,12 @@ ghost use Rattle.clap.specs.Kinds.{FailsBy};
 ghost use Rattle.clap.specs.declared.builder.command.Command.TheViews.{out-Command as fields_of};
 ghost use Rattle.clap.specs.Words.{app_of, first_value, found_of, kind_of, rule_of, takes};
 ghost use Rattle.clap.specs.declared.error.kind.ErrorKind.TheVariants.{OutOfMemory};
-ghost use Rattle.rollduel.specs.Commands.{AreGames, Games, app_with, certify_app, file_rule, frames_rule, game_rule, play_app, rollduel_app, synctest_app};
-ghost use Rattle.rollduel.specs.Requests.{asked_by, asked_of, frames_named, game_named, path_named, path_of, task_named};
+ghost use Rattle.rollduel.specs.Commands.{AreGames, Games, app_with, certify_app, explain_rule, file_rule, frames_rule, game_rule, play_app, rollduel_app, synctest_app};
+ghost use Rattle.rollduel.specs.Requests.{asked_by, asked_of, frames_named, game_named, is_named, path_named, path_of, task_named};
 
 use crate::help;
 use clap::builder::ValueParser;
-use clap::{Arg, ArgMatches, Command, Error};
+use clap::{Arg, ArgAction, ArgMatches, Command, Error};
 use roll_cli::{GameName, Task};
 use std::alloc::{AllocError, Global};
 
@@ -19,6 +19,8 @@ use std::alloc::{AllocError, Global};
 pub struct Request<'a> {
     pub input: Input<'a>,
     pub task: Task,
+    /// Whether what is wrong or refused is to be explained.
+    pub explain: bool,
 }
 
 /// Where the text is.
@@ -30,18 +32,19 @@ pub enum Input<'a> {
 }
 
 /// Reads the words, of which the first is the program's name. The error is a fault of usage, or help that was asked
-/// for.
-pub fn read<'a>(alloc: Global, words: &'a [String]) -> Result<Request<'a>, Error>
+/// for: `script` is what it tells of scripts.
+pub fn read<'a>(alloc: Global, words: &'a [String], script: &'a str) -> Result<Request<'a>, Error>
     ensures request { IfOk result (λ request. asked_of request ≡ asked_by (map string_bytes words.now)) }
     ensures taken { IfErr result (λ error. takes rollduel_app (map string_bytes words.now) ≡ true → kind_of error ≡ OutOfMemory) }
     ensures kinds { FailsBy (fault_of rollduel_app (map string_bytes words.now)) result }
 {
-    let matches = program_command(alloc)?.try_get_matches_from(words)?;
+    let matches = program_command(alloc, script)?.try_get_matches_from(words)?;
     match matches.subcommand() {
         Some((name, found)) => Ok(request_of(name, found)),
         None => Ok(Request {
             input: Input::Standard,
             task: Task::Play(GameName::Tally),
+            explain: false,
         }),
     }
 }
@@ -50,10 +53,12 @@ pub fn read<'a>(alloc: Global, words: &'a [String]) -> Result<Request<'a>, Error
 fn request_of<'a>(name: &str, found: &ArgMatches<'a>) -> Request<'a>
     ensures input { path_of result.input ≡ path_named (first_value (found_of found.now) (codes "FILE")) }
     ensures task { result.task ≡ task_named name.now (first_value (found_of found.now) (codes "game")) (first_value (found_of found.now) (codes "frames")) }
+    ensures explain { result.explain ≡ is_named (first_value (found_of found.now) (codes "explain")) }
 {
     Request {
         input: input_of(found),
         task: task_of(name, found),
+        explain: is_explained(found),
     }
 }
 
@@ -97,32 +102,45 @@ fn frames_of(found: &ArgMatches<'_>) -> u32
     }
 }
 
+fn is_explained(found: &ArgMatches<'_>) -> bool
+    ensures { result ≡ is_named (first_value (found_of found.now) (codes "explain")) }
+{
+    match found.get_str(EXPLAIN) {
+        Some(value) => value == "true",
+        None => false,
+    }
+}
+
 const FILE: &str = "FILE";
 
 const GAME: &str = "game";
 
 const FRAMES: &str = "frames";
 
-fn program_command<'a>(alloc: Global) -> Result<Command<'a>, AllocError>
+const EXPLAIN: &str = "explain";
+
+fn program_command<'a>(alloc: Global, script: &'a str) -> Result<Command<'a>, AllocError>
     ensures { IfOk result (λ command. (played : Games) × (tested : Games) × AreGames played × AreGames tested × (app_of command ≡ app_with played tested)) }
 {
     Command::new(alloc, "rollduel")
+        .version(help::VERSION)
         .about(help::PROGRAM)
-        .after_help(help::SCRIPT)
-        .subcommand(play_command(alloc)?)?
+        .after_help(script)
+        .subcommand(play_command(alloc, script)?)?
         .subcommand(synctest_command(alloc)?)?
         .subcommand(certify_command(alloc)?)
 }
 
-fn play_command<'a>(alloc: Global) -> Result<Command<'a>, AllocError>
+fn play_command<'a>(alloc: Global, script: &'a str) -> Result<Command<'a>, AllocError>
     ensures app { IfOk result (λ command. (games : Games) × AreGames games × (app_of command ≡ play_app games)) }
     ensures local { IfOk result (λ command. (fields_of command).has_globals ≡ false) }
 {
     Command::new(alloc, "play")
         .about(help::PLAY)
-        .after_help(help::SCRIPT)
+        .after_help(script)
         .arg(file_arg(alloc).help("The script; - is standard input"))?
-        .arg(game_arg(alloc))
+        .arg(game_arg(alloc))?
+        .arg(explain_arg(alloc))
 }
 
 fn synctest_command<'a>(alloc: Global) -> Result<Command<'a>, AllocError>
@@ -134,7 +152,8 @@ fn synctest_command<'a>(alloc: Global) -> Result<Command<'a>, AllocError>
         .after_help(help::ROWS)
         .arg(file_arg(alloc).help("The rows of inputs; - is standard input"))?
         .arg(game_arg(alloc))?
-        .arg(frames_arg(alloc))
+        .arg(frames_arg(alloc))?
+        .arg(explain_arg(alloc))
 }
 
 fn certify_command<'a>(alloc: Global) -> Result<Command<'a>, AllocError>
@@ -144,7 +163,8 @@ fn certify_command<'a>(alloc: Global) -> Result<Command<'a>, AllocError>
     Command::new(alloc, "certify")
         .about(help::CERTIFY)
         .after_help(help::CLAIM)
-        .arg(file_arg(alloc).help("The claim; - is standard input"))
+        .arg(file_arg(alloc).help("The claim; - is standard input"))?
+        .arg(explain_arg(alloc))
 }
 
 fn file_arg<'a>(alloc: Global) -> Arg<'a>
@@ -176,4 +196,14 @@ fn frames_arg<'a>(alloc: Global) -> Arg<'a>
         .value_parser(ValueParser::unsigned(1, 8))
         .default_value("1")
         .help("How many frames are run again at once, from 1 to 8")
+}
+
+fn explain_arg<'a>(alloc: Global) -> Arg<'a>
+    ensures rule { rule_of result ≡ explain_rule }
+    ensures local { result.global ≡ false }
+{
+    Arg::new(alloc, EXPLAIN)
+        .long(EXPLAIN)
+        .action(ArgAction::SetTrue)
+        .help("Says more on standard error: what is wrong with a line, and what refusals mean")
 }

@@ -1,4 +1,8 @@
-//! Texts of `--help`.
+//! Texts of `--help` and `--version`.
+
+use std::alloc::{AllocError, Global};
+
+pub const VERSION: &str = "0.1.0";
 
 pub const PROGRAM: &str = "\
 Plays scripts of rollback sessions, tests games, and checks the claims of rollbacks.
@@ -16,7 +20,7 @@ frames. It can be checked without the session that made it: `rollduel certify --
 
 pub const PLAY: &str = "Plays a script, and prints what the session answers to each line";
 
-pub const SCRIPT: &str = "\
+const SCRIPT: &str = "\
 A script's first line opens the session, and each further line is a call:
 
   roll 1 players P local p,.. delay d,.. threshold K
@@ -63,6 +67,15 @@ It prints:
 
 Exit status: 0; 1 where an answer was `refused N`; 2 where the script can't be read, a line of it
 is unreadable, memory runs out, or the answers can't be written.";
+
+/// What is told of scripts: their lines, the answers, and at the end the refusals.
+pub fn script(alloc: Global) -> Result<String, AllocError> {
+    let mut text = String::new(alloc);
+    text.push_str(SCRIPT)?;
+    text.push_str("\n\nWhat `refused N` means:\n")?;
+    roll_cli::push_refusals(&mut text)?;
+    Ok(text)
+}
 
 pub const SYNCTEST: &str =
     "Tests whether a game comes out the same twice, and prints what is found at each row";

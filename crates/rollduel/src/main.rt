@@ -22,64 +22,84 @@ use clap::error::ErrorKind;
 use command_line::{Input, Request};
 use roll_cli::{Ending, PlayFault};
 use std::alloc::{AllocGlobal, Global};
-use std::io::{Eprint, Read, Write};
+use std::fmt::Write as _;
+use std::io::{Eprint, IsTerminal, Read, Write};
 use std::process::ExitCode;
 use std::rt::Runtime;
 use std::{env, fs, io};
 
 fn main(rt: HostRuntime) -> ExitCode {
-    let ending = run(&rt);
-    finish(&rt, &ending)
+    let mut notes = String::new(rt.alloc());
+    let ending = run(&rt, &mut notes);
+    finish(&rt, &ending, &notes)
 }
 
-/// Tells the fault, if there is one, and answers what the program exits with.
-fn finish<R: Eprint>(rt: &R, ending: &Ending) -> ExitCode
+/// Tells the fault, if there is one, and after it the notes, and answers what the program exits with.
+fn finish<R: Eprint>(rt: &R, ending: &Ending, notes: &str) -> ExitCode
     ensures { exit_status result ≡ ending.now.status }
 {
+    // Where standard error can't be written either, the status alone tells.
     if let Some(fault) = ending.fault {
-        // Where standard error can't be written either, the status alone tells.
         let _ = eprintln!(rt; "rollduel: {fault}");
     }
+    let _ = eprint!(rt; "{notes}");
     ExitCode::from(ending.status)
 }
 
 /// Does what the words of the command line ask for.
-fn run<R: Runtime + AllocGlobal>(rt: &R) -> Ending
+fn run<R: Runtime + AllocGlobal>(rt: &R, notes: &mut String) -> Ending
+where
+    R::Reader: IsTerminal,
     ensures status { HasStatus result }
 {
     match words(rt) {
-        Ok(words) => run_words(rt, &words),
+        Ok(words) => run_words(rt, &words, notes),
         Err(fault) => Ending::from(fault),
     }
 }
 
 /// Does what these words ask for, of which the first is the program's name.
-fn run_words<R: Runtime + AllocGlobal>(rt: &R, words: &[String]) -> Ending
+fn run_words<R: Runtime + AllocGlobal>(rt: &R, words: &[String], notes: &mut String) -> Ending
+where
+    R::Reader: IsTerminal,
     ensures refused { EndsRefused (fault_of rollduel_app (map string_bytes words.now)) result }
     ensures status { HasStatus result }
 {
     let opener = |path: &str| fs::open(rt, path);
+    let mut standard = rt.reader();
+    let is_typed = standard.is_terminal();
+    let notice = || {
+        if is_typed {
+            let _ = eprintln!(rt; "rollduel: reads from the terminal, up to its end (Ctrl-D)");
+        }
+    };
     match perform(
         rt.alloc(),
         words,
-        &mut rt.reader(),
+        &mut standard,
+        notice,
         opener,
         &mut io::writer(rt),
+        notes,
     ) {
         Ok(ending) => ending,
         Err(error) => print(rt, &error),
     }
 }
 
-/// Does what the words ask for, with standard input or the file that is opened. The error is to be printed.
-fn perform<S: Read, F: Read + Drop, W: Write, O: FnOnce(&str) -> io::Result<F>>(
+/// Does what the words ask for, with standard input, of which notice is given, or the file that is opened, and notes what
+/// it explains. The error is to be printed.
+fn perform<S: Read, N: FnOnce(), F: Read + Drop, W: Write, O: FnOnce(&str) -> io::Result<F>>(
     alloc: Global,
     words: &[String],
     standard: &mut S,
+    notice: N,
     opener: O,
     writer: &mut W,
+    notes: &mut String,
 ) -> Result<Ending, Error>
-    requires { O.IsAlwaysCallable opener }
+    requires notice { N.IsAlwaysCallable notice }
+    requires opener { O.IsAlwaysCallable opener }
     ensures standard { IfOk result (λ ending. (asked_by (map string_bytes words.now)).0 ≡ None
         → EndsOn W.contents (asked_by (map string_bytes words.now)).1 writer.old writer.new ending (S.remaining standard.old)) }
     ensures file { IfOk result (λ ending. IfSome (asked_by (map string_bytes words.now)).0 (λ path.
@@ -89,8 +109,9 @@ fn perform<S: Read, F: Read + Drop, W: Write, O: FnOnce(&str) -> io::Result<F>>(
     ensures untouched { IfErr result (λ error. (standard.new ≡ standard.old) × (writer.new ≡ writer.old)) }
     ensures kinds { FailsBy (fault_of rollduel_app (map string_bytes words.now)) result }
 {
-    let asked = command_line::read(alloc, words)?;
-    Ok(answer(alloc, &asked, standard, opener, writer))
+    let script = help::script(alloc)?;
+    let asked = command_line::read(alloc, words, &script)?;
+    Ok(answer(alloc, &asked, standard, notice, opener, writer, notes))
 }
 
 /// The words of the command line, with the program's name in front. One that is not UTF-8 can't be read.
@@ -120,15 +141,18 @@ fn print<R: Runtime + AllocGlobal>(rt: &R, error: &Error) -> Ending
     }
 }
 
-/// Does what is asked for, with standard input or the file that is opened.
-fn answer<S: Read, F: Read + Drop, W: Write, O: FnOnce(&str) -> io::Result<F>>(
+/// Does what is asked for, with standard input, of which notice is given, or the file that is opened.
+fn answer<S: Read, N: FnOnce(), F: Read + Drop, W: Write, O: FnOnce(&str) -> io::Result<F>>(
     alloc: Global,
     asked: &Request<'_>,
     standard: &mut S,
+    notice: N,
     opener: O,
     writer: &mut W,
+    notes: &mut String,
 ) -> Ending
-    requires { O.IsAlwaysCallable opener }
+    requires notice { N.IsAlwaysCallable notice }
+    requires opener { O.IsAlwaysCallable opener }
     ensures standard { path_of asked.now.input ≡ None
         → EndsOn W.contents asked.now.task writer.old writer.new result (S.remaining standard.old) }
     ensures file { IfSome (path_of asked.now.input) (λ path.
@@ -137,10 +161,42 @@ fn answer<S: Read, F: Read + Drop, W: Write, O: FnOnce(&str) -> io::Result<F>>(
     ensures status { HasStatus result }
 {
     match asked.input {
-        Input::Standard => roll_cli::run(alloc, asked.task, standard, writer),
+        Input::Standard => {
+            notice();
+            work(alloc, asked, standard, writer, notes)
+        }
         Input::File(path) => match opener(path) {
-            Ok(mut file) => roll_cli::run(alloc, asked.task, &mut file, writer),
-            Err(_) => Ending::from(PlayFault::Read),
+            Ok(mut file) => {
+                let ending = work(alloc, asked, &mut file, writer, notes);
+                if asked.explain && ending.fault == Some(PlayFault::Read) {
+                    let _ = writeln!(notes, "{path}: a read failed");
+                }
+                ending
+            }
+            Err(error) => {
+                if asked.explain {
+                    let _ = writeln!(notes, "{path}: {error}");
+                }
+                Ending::from(PlayFault::Read)
+            }
         },
+    }
+}
+
+/// Does what is asked for with the text that a reader holds.
+fn work<R: Read, W: Write>(
+    alloc: Global,
+    asked: &Request<'_>,
+    reader: &mut R,
+    writer: &mut W,
+    notes: &mut String,
+) -> Ending
+    ensures ends { EndsOn W.contents asked.now.task writer.old writer.new result (R.remaining reader.old) }
+    ensures status { HasStatus result }
+{
+    if asked.explain {
+        roll_cli::explain(alloc, asked.task, reader, writer, notes)
+    } else {
+        roll_cli::run(alloc, asked.task, reader, writer)
     }
 }

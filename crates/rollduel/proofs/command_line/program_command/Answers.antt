@@ -1,6 +1,7 @@
 use Rattle.std.proofs.Common.{rules, ap₂, codes, ◌≡◌, ◌∙◌}
 use Rattle.std.proofs.lemmas.Result.{IfOk-weaker}
 use Rattle.clap.specs.Simple.{App, app_of, new_app, with_subcommand}
+use Rattle.rollduel.specs.Commands.{with_version}
 use Rattle.rollduel.proofs.command_line.program_command.Goals as goal
 
 abbrev with_app : App → App → App
@@ -10,7 +11,7 @@ pub returns : goal.returns
 returns c =
     let played = c.in_ok-play_command.ensures.app in
     let tested = c.in_ok-synctest_command.ensures.app in
-    let new_is : app_of c.after_help.result ≡ new_app (codes "rollduel") = search rules in
+    let new_is : app_of c.after_help.result ≡ with_version (new_app (codes "rollduel")) = search rules in
     let with_play = c.in_ok-subcommand.ensures.shape c.in_ok-play_command.ensures.local ∙ ap₂ with_app new_is played.2 in
     let with_test = c.in_ok-subcommand-2.ensures.shape c.in_ok-synctest_command.ensures.local ∙ ap₂ with_app with_play tested.2 in
     IfOk-weaker c.subcommand-3.result _ _ (λ command added.

@@ -35,7 +35,7 @@ returns-in-Some-clause-request c =
     let parse = c.in_ok-matches in
     let name = c.in-Some.name.now in
     let found = found_of c.in-Some.found.now in
-    asked_of_found c.request_of.result name found c.request_of.ensures.input c.request_of.ensures.task
+    asked_of_found c.request_of.result name found c.request_of.ensures.input c.request_of.ensures.task c.request_of.ensures.explain
     ∙ ap asked_in (met parse.matches name _ c.in-Some.ensures.name c.in-Some.ensures.rows
     ∙ (parse.ensures.matches (ap is_simple command.4)).1 ∙ ap (λ a. subcommand_of a words) command.4 ∙ subcommand_same command.0 some_games command.1 some_games words)
 

@@ -8,10 +8,10 @@ use Rattle.roll_inputs.proofs.Starts.{short_delays, first_board}
 use Rattle.roll_inputs.proofs.board.Board.new.Goals as goal
 
 pub first_queues-requires-clause-delays : goal.first_queues-requires-clause-delays
-first_queues-requires-clause-delays c = short_delays c.args.settings.now (sym c.refusal.ensures ∙ c.in_default.is)
+first_queues-requires-clause-delays c = short_delays c.args.settings.now (sym c.refusal.ensures.refused ∙ c.in_default.is)
 
 pub invariant_of-result : goal.invariant_of-result
-invariant_of-result c = rw c.in-Ok.ensures (first_board c.args.settings.now (sym c.refusal.ensures ∙ c.in_default.is))
+invariant_of-result c = rw c.in-Ok.ensures (first_board c.args.settings.now (sym c.refusal.ensures.refused ∙ c.in_default.is))
 
 pub returns-clause-board : goal.returns-clause-board
 returns-clause-board c =

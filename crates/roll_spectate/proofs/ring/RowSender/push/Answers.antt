@@ -14,20 +14,16 @@ loop-row-init g c =
 
 pub send-requires : goal.send-requires
 send-requires g c =
-    let i = c.self-in-loop-row.inside in
-    let count : i.count ≡ length c.loop-row.self = c.self-in-loop-row.invariant.0 ∙ ap length c.self-in-loop-row.view_is in
-    let there = row_read (core_of c.args.session.now).players (settled (core_of c.args.session.now)) i.count c.in-Some.row (sym c.in-Some.is ∙ c.settled_row.ensures) in
-    omega (arith, count, there.0, few_settled _ _ _ c.laws.ensures.log)
+    let there = row_read (core_of c.args.session.now).players (settled (core_of c.args.session.now)) (length c.loop-row.self) c.in-Some.row (sym c.in-Some.is ∙ c.next.ensures) in
+    omega (arith, there.0, few_settled _ _ _ c.laws.ensures.log)
 
 pub loop-row-preserved : goal.loop-row-preserved
 loop-row-preserved g c =
-    let i = c.self-in-loop-row.inside in
     let players = (core_of c.args.session.now).players in
-    let count : i.count ≡ length c.loop-row.self = c.self-in-loop-row.invariant.0 ∙ ap length c.self-in-loop-row.view_is in
-    let there = row_read players (settled (core_of c.args.session.now)) i.count c.in-Some.row (sym c.in-Some.is ∙ c.settled_row.ensures) in
+    let there = row_read players (settled (core_of c.args.session.now)) (length c.loop-row.self) c.in-Some.row (sym c.in-Some.is ∙ c.next.ensures) in
     let sent : c.send.new.self ≡ c.loop-row.self ++ c.in-Some.row ∷ [] = c.if-not-send.ensures.sent refl in
     let n = one_longer c.loop-row.self c.in-Some.row c.send.new.self sent in (
-      (λ first. next_part players (settled (core_of c.args.session.now)) c.loop-row.self c.in-Some.row c.send.new.self (omega (arith, count, there.0)) (rw (← count) there.1) sent (c.loop-row.invariant.0 first)),
+      (λ first. next_part players (settled (core_of c.args.session.now)) c.loop-row.self c.in-Some.row c.send.new.self there.0 there.1 sent (c.loop-row.invariant.0 first)),
       part_more c.args.self.now c.loop-row.self c.in-Some.row c.send.new.self c.loop-row.invariant.1 sent,
       c.loop-row.invariant.2,
       omega (arith, c.loop-row.invariant.3, n),
@@ -35,16 +31,14 @@ loop-row-preserved g c =
 
 pub returns-clause-pushed : goal.returns-clause-pushed
 returns-clause-pushed g c =
-    let i = c.self-in-loop-row.inside in
     let at = settled (core_of c.args.session.now) in
     let players = (core_of c.args.session.now).players in
     let inv = c.loop-row.invariant in
-    let count : i.count ≡ length c.loop-row.self = c.self-in-loop-row.invariant.0 ∙ ap length c.self-in-loop-row.view_is in
-    elim c.match-settled_row.branch [
+    elim c.match-next.branch [
       | in-Some+then-not-send w ↦
           let full = w.if-not-send.ensures.full refl in
           rw (w.self-is ∙ full.0) (record { grown = inv.1; first = inv.0; all = inr full.1 })
       | in_default w ↦
-          let low : at ≤ i.count = none_read players at i.count (sym w.in_default.is ∙ c.settled_row.ensures) in
-          rw w.self-is (record { grown = inv.1; first = inv.0; all = inl (omega (arith, count, low, length_timeline players at)) })
+          let low = none_read players at (length c.loop-row.self) (sym w.in_default.is ∙ c.next.ensures) in
+          rw w.self-is (record { grown = inv.1; first = inv.0; all = inl (omega (arith, low, length_timeline players at)) })
     ]

@@ -1,0 +1,4 @@
+pub mod Frame
+pub mod Ranges
+pub mod Text
+pub mod Values

@@ -1,0 +1,243 @@
+//! What no clause says: that the rule is the game that was meant, and that a sync test and a session run it.
+use crate::fight::Fight;
+use crate::fighter::Fighter;
+use crate::state::State;
+use roll_frame::{Cell, Refusal, Row, Settings};
+use roll_game::{Call as Asked, Counts, Game, NoMemory, RawGame, Refusing};
+use roll_session::{Call, Request, Session};
+use roll_synctest::{SyncTest, Verdict};
+use std::alloc::Global;
+use std::test::Fail;
+
+/// A session of two players, of whom the first is local. The second is predicted to hold what it held.
+fn open<G: Game + Drop>(
+    alloc: Global,
+    game: G,
+    opening: G::Snapshot,
+) -> Result<Session<G>, Refusal> {
+    let settings = Settings::new(2, &[1])?;
+    match Session::start(alloc, game, opening, settings) {
+        Ok(session) => Ok(session),
+        Err(fault) => Err(fault.why),
+    }
+}
+
+fn fighter(place: u16, health: u8, cool: u8) -> Fighter {
+    Fighter {
+        place,
+        health,
+        cool,
+    }
+}
+
+/// Two fighters who have all their health and have cooled.
+fn fresh(one: u16, two: u16) -> State {
+    State {
+        one: fighter(one, 100, 0),
+        two: fighter(two, 100, 0),
+    }
+}
+
+fn row(first: u32, second: u32) -> Row {
+    Row::from_cells(&[Cell::Word(first), Cell::Word(second)])
+}
+
+/// The snapshot after some rows. The game is reached through the trait alone, as a session reaches it.
+fn run<G: Game>(game: &mut G, from: &G::Snapshot, rows: &[Row]) -> Result<G::Snapshot, NoMemory> {
+    let from = game.copy(from)?;
+    let mut state = game.load(&from)?;
+    for row in rows {
+        game.advance(&mut state, row)?;
+    }
+    game.save(&state)
+}
+
+// LEFT is 1, RIGHT is 2, HIT is 4.
+#[test]
+fn plays_by_the_rule(rt: HostRuntime) -> Result<(), NoMemory> {
+    let cases = [
+        ("walk", Fight::opening(), row(2, 1), fresh(474, 526)),
+        ("both ways", fresh(300, 700), row(3, 8), fresh(300, 700)),
+        ("first place", fresh(3, 700), row(1, 0), fresh(0, 700)),
+        ("last place", fresh(300, 996), row(0, 2), fresh(300, 999)),
+        ("out of reach", fresh(300, 341), row(4, 4), fresh(300, 341)),
+        (
+            "in reach",
+            fresh(300, 340),
+            row(4, 0),
+            State {
+                one: fighter(300, 100, 12),
+                two: fighter(340, 90, 0),
+            },
+        ),
+        (
+            "from the right",
+            fresh(340, 300),
+            row(4, 0),
+            State {
+                one: fighter(340, 100, 12),
+                two: fighter(300, 90, 0),
+            },
+        ),
+        (
+            "at the same time",
+            fresh(300, 310),
+            row(4, 4),
+            State {
+                one: fighter(300, 90, 12),
+                two: fighter(310, 90, 12),
+            },
+        ),
+        (
+            "walk, then hit",
+            fresh(300, 348),
+            row(6, 1),
+            State {
+                one: fighter(304, 100, 12),
+                two: fighter(344, 90, 0),
+            },
+        ),
+        (
+            "cooling",
+            State {
+                one: fighter(300, 100, 2),
+                two: fighter(310, 100, 1),
+            },
+            row(4, 4),
+            State {
+                one: fighter(300, 90, 1),
+                two: fighter(310, 100, 12),
+            },
+        ),
+        (
+            "little health",
+            State {
+                one: fighter(300, 100, 0),
+                two: fighter(310, 7, 0),
+            },
+            row(4, 0),
+            State {
+                one: fighter(300, 100, 12),
+                two: fighter(310, 0, 0),
+            },
+        ),
+    ];
+    for (name, before, row, after) in cases {
+        assert_eq!(rt; run(&mut Fight::new(), &before, &[row])?, after, "{name}");
+    }
+    Ok(())
+}
+
+#[test]
+fn asks_nothing_of_who_is_not_there(rt: HostRuntime) -> Result<(), NoMemory> {
+    let rows = [
+        row(2, 0),
+        Row::new(Cell::Word(2)),
+        Row::from_cells(&[Cell::Word(2), Cell::Gone]),
+        Row::from_cells(&[Cell::Word(2), Cell::Word(0), Cell::Word(7)]),
+    ];
+    for row in rows {
+        let after = run(&mut Fight::new(), &fresh(300, 310), &[row])?;
+        assert_eq!(rt; after, fresh(304, 310), "{row:?}");
+    }
+    Ok(())
+}
+
+#[test]
+fn counts_what_it_is_asked_for(rt: HostRuntime) -> Result<(), NoMemory> {
+    let mut game = Fight::default();
+    run(&mut game, &Fight::opening(), &[row(0, 0), row(0, 0)])?;
+    let want = Counts {
+        loads: 1,
+        saves: 1,
+        copies: 1,
+        turns: 2,
+        refusals: 0,
+    };
+    assert_eq!(rt; game.counts(), want);
+    Ok(())
+}
+
+#[test]
+fn passes_its_sync_test(rt: HostRuntime) -> Result<(), Refusal> {
+    let mut test = match SyncTest::new(rt.alloc(), Fight::new(), fresh(300, 340), 2) {
+        Ok(test) => test,
+        Err(fault) => return Err(fault.why),
+    };
+    for (row, want) in [
+        (row(6, 1), Verdict::Run),
+        (row(4, 4), Verdict::Verified(2)),
+        (row(0, 0), Verdict::Run),
+    ] {
+        assert_eq!(rt; test.step(&row)?, want);
+    }
+    Ok(())
+}
+
+/// Player 1 hits in frame 0. Player 2 seems to stand still, and then turns out to have walked out of reach.
+const LATE: [Call; 6] = [
+    Call::Local { player: 1, word: 4 },
+    Call::Advance,
+    Call::Local { player: 1, word: 0 },
+    Call::Advance,
+    Call::Remote {
+        player: 2,
+        frame: 0,
+        word: 2,
+    },
+    Call::Sync,
+];
+
+#[test]
+fn takes_back_a_hit_that_missed(rt: HostRuntime) -> Result<(), Fail> {
+    let mut session = open(rt.alloc(), Fight::new(), fresh(300, 340))?;
+    for call in &LATE[..4] {
+        session.perform(Request::Call(*call))?;
+    }
+    let health = session.current().map(|state| state.two.health);
+    assert_eq!(rt; health, Some(90));
+    for call in &LATE[4..] {
+        session.perform(Request::Call(*call))?;
+    }
+    let serial = run(&mut Fight::new(), &fresh(300, 340), &[row(4, 2), row(0, 2)])?;
+    assert_eq!(rt; serial, fresh(300, 348));
+    assert_eq!(rt; session.current().copied(), Some(serial));
+    Ok(())
+}
+
+/// Makes the calls, each a second time where it was refused, and answers how many were.
+fn insist<G: Game + Drop>(session: &mut Session<G>) -> Result<u32, NoMemory> {
+    let mut refused: u32 = 0;
+    for call in LATE {
+        if session.perform(Request::Call(call)).is_err() {
+            refused = refused.saturating_add(1);
+            session.perform(Request::Call(call))?;
+        }
+    }
+    Ok(refused)
+}
+
+#[test]
+fn goes_on_after_a_refused_call(rt: HostRuntime) -> Result<(), Fail> {
+    for asked in [Asked::Load, Asked::Save, Asked::Copy, Asked::Advance] {
+        for k in 1..8 {
+            let game = Refusing::new(Fight::new(), asked, k);
+            let mut session = match open(rt.alloc(), game, fresh(300, 340)) {
+                Ok(session) => session,
+                Err(why) => {
+                    assert_eq!(rt; why, Refusal::NoMemory, "{asked:?} {k}");
+                    continue;
+                }
+            };
+            let refused = insist(&mut session)?;
+            assert_eq!(rt;
+                session.current().copied(),
+                Some(fresh(300, 348)),
+                "{asked:?} {k}"
+            );
+            let due = session.into_parts().game.due();
+            assert_eq!(rt; refused == 1, due == 0, "{asked:?} {k}");
+        }
+    }
+    Ok(())
+}

@@ -1,0 +1,7 @@
+pub mod Hearing
+pub mod Taking
+pub mod Joining
+pub mod Fates
+pub mod Speculating
+pub mod Copies
+pub mod Running

@@ -1,0 +1,14 @@
+use Rattle.std.proofs.Common.{◌≡◌, ◌≤◌, ◌+◌, length, vec_len, vec_capacity}
+use Rattle.roll_host.specs.Hosted.{rings_of}
+use Rattle.roll_host.specs.Requests.{IsDoneTo}
+use Rattle.roll_host.proofs.host.Host.run.Given as goal
+
+abbrev pub invariant-loop-request : goal.invariant-loop-request
+invariant-loop-request g l = record {
+  done : IsDoneTo g.G.Game.step l.fn.self l.self l.fn.requests.items l.requests.items l.fn.replies.items l.replies.items;
+  rings : rings_of l.self.links ≡ rings_of l.fn.self.links;
+  room : vec_len l.replies + length l.requests.items ≤ vec_capacity l.replies;
+}
+
+abbrev pub decreases-loop-request : goal.decreases-loop-request
+decreases-loop-request g l = length l.requests.items

@@ -1,0 +1,51 @@
+-- A host as its callers see it, and a link of it that is added or ended.
+use Rattle.std.specs.Prelude.{◌≡◌, ◌++◌, ℕ, List, [], length, map, false, true, Option, None, Some, slice_get, slice_set}
+use Rattle.roll_branch.specs.Routed.{Routed}
+use Rattle.roll_link.specs.Linked.{Linked, Sending, left}
+use Rattle.roll_link.specs.Rings.{Ring}
+use Rattle.roll_pool.specs.Owners.{Pool}
+use Rattle.roll_pool.specs.Rings.{Place}
+use Rattle.roll_session.specs.Seen.{Seen}
+
+pub record Hosted (D : Type 0) : Type 0 where
+  pub session : Seen
+  -- numbered 0, 1, .. in the order in which they were added
+  pub links : List Linked
+  -- that of its workers, if it has any
+  pub pool : Option (Pool D)
+
+-- which links they are
+abbrev pub rings_of : List Linked → List Ring
+rings_of links = map (λ l. l.ring) links
+
+-- a link by which nothing came yet
+abbrev pub new_link : Ring → Linked
+new_link ring = record { ring = ring; applied = []; held = None; known = []; ended = false }
+
+-- a link's sender has finished: so many of the items that it sent are not applied, and all of them are known
+pub record EndsLink {D : Type 0} (old new : Hosted D) (place : ℕ) (finished : Sending) (count : ℕ) : Type 0 where
+  pub before : Linked
+  pub after : Linked
+  pub before_is : slice_get old.links place ≡ Some before
+  pub after_is : after ≡ record before { known = after.known; ended = true }
+  pub new_is : new ≡ record old { links = slice_set old.links place after }
+  pub sent : finished.sent ≡ after.applied ++ left after
+  pub count_is : count ≡ length (left after)
+
+module _ {D : Type 0} where
+  -- the workers' places, and the jobs that were issued
+  abbrev pub places_of : Option (Pool D) → List Place
+  places_of None = []
+  places_of (Some pool) = pool.places
+
+  abbrev pub issued_of : Option (Pool D) → List Routed
+  issued_of None = []
+  issued_of (Some pool) = pool.issued
+
+  -- what was collected from each worker
+  abbrev pub came_by : Option (Pool D) → List (List D)
+  came_by None = []
+  came_by (Some pool) = pool.came
+
+  abbrev pub with_came : List (List D) → Pool D → Pool D
+  with_came came pool = record pool { came = came }

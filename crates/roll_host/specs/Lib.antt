@@ -1,0 +1,7 @@
+pub mod Hosted
+pub mod Heard
+pub mod Pumps
+pub mod Outcomes
+pub mod Requests
+pub mod Absorbs
+pub mod Guesses

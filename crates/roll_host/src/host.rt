@@ -1,0 +1,302 @@
+//! A session, its links and its workers.
+ghost use Rattle.std.specs.Prelude.{◌≡◌, ◌+◌, ◌<◌, ◌≤◌, [], ◌∷◌, ◌++◌, drop, length, map, max, nat_le, nat_lt, option_map, slice_get, None, Some, if◌then◌else◌, IfNone, IfOk, IfErr, OnOk, OnErr};
+ghost use Rattle.roll_session.specs.Answered.{replied, IsAnswered, IsReplied, IsShort};
+ghost use Rattle.roll_session.specs.Calls.{asked, event_of};
+ghost use Rattle.roll_session.specs.Seen.{core_of, IsLeast};
+ghost use Rattle.roll_session.specs.declared.event.Call.TheVariants.{Local as LocalCall, Disconnect as DisconnectCall, Sync as SyncCall, Advance as AdvanceCall};
+ghost use Rattle.roll_host.specs.Absorbs.{IsAbsorbed};
+ghost use Rattle.roll_host.specs.Guesses.{Speculates};
+ghost use Rattle.roll_host.specs.Hosted.{came_by, issued_of, new_link, places_of, rings_of, with_came, EndsLink};
+ghost use Rattle.roll_host.specs.Pumps.{IsPumped};
+ghost use Rattle.roll_host.specs.declared.limits.TheConstants.{LINK_LIMIT as LINKS};
+ghost use Rattle.roll_pool.specs.Owners.{collected};
+ghost use Rattle.roll_pool.specs.Rule.{SameItems};
+ghost use Rattle.roll_pool.specs.Settled.{Settles, tickets_of};
+ghost use Rattle.std.specs.List.{range_with_len};
+
+use crate::absorb::{Absorbed, absorb_results};
+use crate::limits::LINK_LIMIT;
+use crate::pump::{Pumped, pump_links};
+use roll_frame::{Event, Refusal, Reply, Row};
+use roll_game::{Game, NoMemory};
+use roll_link::{Finished, Link, LinkSender};
+use roll_pool::{JOBS_OUT, Outcome, Owner, WorkerEnd};
+use roll_session::{Reached, Request, Session};
+use std::alloc::{AllocFailed, Global};
+use std::marker::Model;
+
+/// A session whose remote words come by links, and whose guesses are run by workers where it has some. It waits for no other
+/// thread.
+#[derive(Drop)]
+pub struct Host<G: Game> {
+    session: Session<G>,
+    links: Vec<Link>,
+    pool: Option<Owner<G>>,
+    alloc: Global,
+}
+
+/// A clause sees the session, the links and the pool of the workers.
+impl<G: Game> Model for Host<G> {
+    ghost use Rattle.std.specs.Prelude.{◌≤◌, length, vec_capacity};
+    ghost use Rattle.roll_branch.specs.declared.branch.Done.{Done};
+    ghost use Rattle.roll_host.specs.Hosted.{Hosted};
+    ghost use Rattle.roll_host.specs.declared.limits.TheConstants.{LINK_LIMIT};
+
+    ghost Value = { Hosted (Done G G.State G.Snapshot) };
+
+    ghost view = { λ h. record { session = h.session; links = h.links.items; pool = h.pool } };
+
+    ghost invariant = { λ h. (LINK_LIMIT ≤ vec_capacity h.links) × (length h.links.items ≤ LINK_LIMIT) };
+}
+
+impl<G: Game> Host<G> {
+    /// A host with no link, room for 4, and no workers. Where the allocator has no room, the session is handed back.
+    pub fn new(alloc: Global, session: Session<G>) -> Result<Host<G>, AllocFailed<Session<G>>>
+        ensures host { IfOk result (λ host. host ≡ record { session = session; links = []; pool = None }) }
+        ensures back { IfErr result (λ failed. failed.value ≡ session) }
+    {
+        match Vec::with_capacity(alloc, LINK_LIMIT) {
+            Ok(links) => Ok(Host {
+                session,
+                links,
+                pool: None,
+                alloc,
+            }),
+            Err(_) => Err(AllocFailed { value: session }),
+        }
+    }
+
+    /// A host with the workers of a pool, with no link, and room for 4. Where the allocator has no room, the session and the
+    /// pool's owner are handed back.
+    pub fn with_workers(
+        alloc: Global,
+        session: Session<G>,
+        owner: Owner<G>,
+    ) -> Result<Host<G>, AllocFailed<(Session<G>, Owner<G>)>>
+        ensures host { IfOk result (λ host. host ≡ record { session = session; links = []; pool = Some owner }) }
+        ensures back { IfErr result (λ failed. failed.value ≡ (session, owner)) }
+    {
+        match Host::new(alloc, session) {
+            Ok(host) => Ok(Host {
+                pool: Some(owner),
+                ..host
+            }),
+            Err(AllocFailed { value: session }) => Err(AllocFailed {
+                value: (session, owner),
+            }),
+        }
+    }
+
+    /// One link more, and its sender's end. Links are numbered 0, 1, .. in the order in which they are added.
+    ///
+    /// # Errors
+    ///
+    /// `InvalidRequest` where there are 4, else `NoMemory` where the allocator has no room.
+    pub fn add_link(&mut self) -> Result<LinkSender, Refusal>
+        ensures added { IfOk result (λ sender. self.new ≡ record self.old { links = self.old.links ++ new_link sender.ring ∷ [] }) }
+        ensures sender { IfOk result (λ sender. sender.sent ≡ []) }
+        ensures place { OnOk result (length self.old.links < LINKS) }
+        ensures refused { IfErr result (λ why. why ≡ (if nat_le LINKS (length self.old.links) then Refusal.InvalidRequest else Refusal.NoMemory)) }
+        ensures unchanged { OnErr result (self.new ≡ self.old) }
+    {
+        if self.links.len() >= LINK_LIMIT {
+            return Err(Refusal::InvalidRequest);
+        }
+        let (sender, link) = Link::open(self.alloc)?;
+        self.links.push_reserved(link);
+        Ok(sender)
+    }
+
+    /// Applies what came by the links, in their order, at most 64 items of each, as `remote_input` would. An item that is
+    /// refused for good counts as applied; one that is refused as `QueueFull`, `LogFull` or `NoMemory` is held, its link
+    /// stops, and the next pump tries it first.
+    pub fn pump(&mut self) -> Pumped
+        ensures pumped { IsPumped G.step self.old.session self.old.links self.new.session self.new.links result }
+        ensures rings { rings_of self.new.links ≡ rings_of self.old.links }
+        ensures pool { self.new.pool ≡ self.old.pool }
+    {
+        pump_links(&mut self.session, &mut self.links)
+    }
+
+    /// Collects what the workers have run, at most 64 results, and grafts each branch among them, in the order in which they
+    /// are collected. A branch that is refused is dropped, also where it is for want of memory.
+    pub fn absorb(&mut self) -> Absorbed
+        ensures absorbed { IsAbsorbed G.step self.old.session (came_by self.old.pool) self.new.session (came_by self.new.pool) result }
+        ensures rest { self.new ≡ record self.old { session = self.new.session; pool = option_map (with_came (came_by self.new.pool)) self.old.pool } }
+        ensures places { places_of self.new.pool ≡ places_of self.old.pool }
+        ensures alone { IfNone self.old.pool ((self.new ≡ self.old) × (result ≡ record { taken = 0; added = 0; dropped = 0; unmade = 0 })) }
+    {
+        match &mut self.pool {
+            Some(owner) => absorb_results(&mut self.session, owner),
+            None => Absorbed::default(),
+        }
+    }
+
+    /// Hands the job of a guess to the workers: if this player gave these words next, up to a frame. The number of the job,
+    /// or `None` where all that it would run is kept already.
+    ///
+    /// # Errors
+    ///
+    /// `Full` where 64 jobs are out, or where there are no workers; else those of `Session::guess`; else those of
+    /// `Owner::issue`, and the job is dropped.
+    pub fn speculate(
+        &mut self,
+        player: u8,
+        words: &[u32],
+        until: u32,
+    ) -> Result<Option<u64>, Refusal>
+        ensures speculated { Speculates G.step self.old self.new player words.now until result }
+        ensures links { self.new.links ≡ self.old.links }
+        ensures places { places_of self.new.pool ≡ places_of self.old.pool }
+    {
+        let Some(owner) = &mut self.pool else {
+            return Err(Refusal::Full);
+        };
+        if owner.out() >= JOBS_OUT {
+            return Err(Refusal::Full);
+        }
+        let Some(job) = self.session.guess(self.alloc, player, words, until)? else {
+            return Ok(None);
+        };
+        match owner.issue(job) {
+            Ok(ticket) => Ok(Some(ticket)),
+            Err(fault) => Err(fault.why),
+        }
+    }
+
+    /// Tells the workers, if there are any, to stop. Each still ends the job that it is at.
+    pub fn close(&self) {
+        if let Some(owner) = &self.pool {
+            owner.close();
+        }
+    }
+
+    /// The sender of a link has finished: how many of the items that it sent are not applied yet. Pumps go on taking these.
+    pub fn end_link(&mut self, link: usize, finished: Finished) -> u32
+        requires { slice_get (rings_of self.old.links) link ≡ Some finished.ring }
+        ensures ended { EndsLink self.old self.new link finished result }
+        ensures rings { rings_of self.new.links ≡ rings_of self.old.links }
+    {
+        self.links[link].end(finished)
+    }
+
+    /// Gives a local player's word of this frame.
+    ///
+    /// # Errors
+    ///
+    /// Those of `Session::add_local_input`.
+    pub fn add_local_input(&mut self, player: u8, word: u32) -> Result<(), Refusal>
+        ensures answered { IsAnswered G.step self.old.session self.new.session (event_of (LocalCall player word)) (replied (λ done. Reply.Done) result) }
+        ensures rest { self.new ≡ record self.old { session = self.new.session } }
+    {
+        self.session.add_local_input(player, word)
+    }
+
+    /// A remote player leaves.
+    ///
+    /// # Errors
+    ///
+    /// Those of `Session::disconnect_player`.
+    pub fn disconnect_player(&mut self, player: u8) -> Result<Event, Refusal>
+        ensures answered { IsAnswered G.step self.old.session self.new.session (event_of (DisconnectCall player)) (replied (λ event. Reply.Disconnected player) result) }
+        ensures event { IfOk result (λ event. event ≡ Event.DisconnectedFromPeer player) }
+        ensures rest { self.new ≡ record self.old { session = self.new.session } }
+    {
+        self.session.disconnect_player(player)
+    }
+
+    /// The row of this frame. Rolls back where a prediction was wrong.
+    ///
+    /// # Errors
+    ///
+    /// Those of `Session::synchronize_input`.
+    pub fn synchronize_input(&mut self) -> Result<Row, Refusal>
+        ensures answered { IsAnswered G.step self.old.session self.new.session (event_of SyncCall) (replied (λ row. Reply.Synchronized row) result) }
+        ensures least { IsLeast (core_of self.old.session) (core_of self.old.session).frame }
+        ensures rest { self.new ≡ record self.old { session = self.new.session } }
+    {
+        self.session.synchronize_input()
+    }
+
+    /// The next frame. Rolls back where a prediction was wrong.
+    ///
+    /// # Errors
+    ///
+    /// Those of `Session::advance_frame`.
+    pub fn advance_frame(&mut self) -> Result<Reached, Refusal>
+        ensures answered { IsAnswered G.step self.old.session self.new.session (event_of AdvanceCall) (replied (λ reached. Reply.Reached reached.frame reached.from reached.rerun) result) }
+        ensures least { IsLeast (core_of self.old.session) ((core_of self.old.session).frame + 1) }
+        ensures rest { self.new ≡ record self.old { session = self.new.session } }
+    {
+        self.session.advance_frame()
+    }
+
+    /// Makes room for so many more events, as the session does: while the game refuses nothing, none of them is refused, or
+    /// held, for want of memory.
+    ///
+    /// # Errors
+    ///
+    /// Those of `Session::reserve_log`.
+    pub fn reserve_log(&mut self, events: u32) -> Result<(), Refusal>
+        ensures fits { OnOk result ((core_of self.old.session).logged + events ≤ self.old.session.settings.log) }
+        ensures reserved { OnOk result (self.new ≡ record self.old { session = record self.old.session { reserved = max self.old.session.reserved events } }) }
+        ensures refused { IfErr result (λ why. why ≡ (if nat_lt self.old.session.settings.log ((core_of self.old.session).logged + events) then Refusal.LogFull else Refusal.NoMemory)) }
+        ensures short { OnErr result ((core_of self.old.session).logged + events ≤ self.old.session.settings.log → self.old.session.reserved < events) }
+        ensures unchanged { OnErr result (self.new ≡ self.old) }
+    {
+        self.session.reserve_log(events)
+    }
+
+    /// Does what the session is asked for.
+    pub(crate) fn ask(&mut self, request: Request<G>) -> Result<Reply, NoMemory>
+        ensures replied { IfOk result (λ said. IsReplied G.step self.old.session self.new.session (asked request) said) }
+        ensures short { OnErr result (IsShort G.step self.old.session self.new.session (asked request)) }
+        ensures rest { self.new ≡ record self.old { session = self.new.session } }
+    {
+        self.session.perform(request)
+    }
+
+    /// The session.
+    pub fn session(&self) -> &Session<G>
+        ensures { result.now ≡ self.now.session }
+    {
+        &self.session
+    }
+
+    /// Ends a host whose workers have come back, with all their ends in order of worker: the session, and what became of the
+    /// jobs. Without workers there are no ends and no jobs. It takes no memory, and lets go of the links.
+    pub fn settle(self, ends: Vec<WorkerEnd<G>>) -> (Session<G>, Outcome<G>)
+        requires { map (λ end. end.place) ends.items ≡ places_of self.pool }
+        ensures session { result.0 ≡ self.session }
+        ensures counts { (result.1.issued ≡ length (issued_of self.pool)) × (result.1.collected ≡ length (collected (came_by self.pool))) }
+        ensures jobs { Settles (issued_of self.pool) (collected (came_by self.pool)) result.1.late.items result.1.left.items }
+        ensures left { result.1.left.items ≡ drop (length (collected (came_by self.pool)) + length result.1.late.items) (issued_of self.pool) }
+        ensures tickets { SameItems (tickets_of (collected (came_by self.pool) ++ result.1.late.items) result.1.left.items) (range_with_len 0 result.1.issued) }
+    {
+        let Host {
+            session,
+            links: _,
+            pool,
+            alloc,
+        } = self;
+        match pool {
+            Some(owner) => (session, owner.settle(ends)),
+            None => {
+                let outcome = Outcome {
+                    issued: 0,
+                    collected: 0,
+                    late: Vec::new(alloc),
+                    left: Vec::new(alloc),
+                };
+                (session, outcome)
+            }
+        }
+    }
+
+    /// The session. The links are let go of, and so is the owner of the workers' pool.
+    pub fn into_session(self) -> Session<G>
+        ensures { result ≡ self.session }
+    {
+        self.session
+    }
+}

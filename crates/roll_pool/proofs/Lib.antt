@@ -1,0 +1,6 @@
+pub mod Passes
+pub mod Moves
+pub mod Zipped
+pub mod Issuing
+pub mod Collecting
+pub mod Settling

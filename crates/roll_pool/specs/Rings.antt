@@ -1,0 +1,26 @@
+-- Which ring an end is of, and which deque: two with the same are of one.
+use Rattle.std.specs.Prelude.{ℕ, List}
+use Rattle.rtrb.specs.Shared.{Names}
+use Rattle.rtrb.specs.declared.AnyItems.{AnyItems}
+use Rattle.rtrb.specs.declared.end.End.{End}
+use Rattle.std.specs.declared.alloc.Global.{Global}
+use denote.RawPtr.{Ptr}
+
+abbrev pub Ring : Type 0
+Ring = Ptr × Ptr × Names × Global
+
+abbrev pub ring_at : {T : Type 0} → End T Global AnyItems → Ring
+ring_at e = (e.words, e.slots, e.names, e.heap)
+
+abbrev pub DequeId : Type 0
+DequeId = (ℕ × ℕ) × Global
+
+-- a worker's place in a pool: the deque that it takes jobs from, and the ring of its results
+pub record Place : Type 0 where
+  pub deque : DequeId
+  pub ring : Ring
+
+-- the owner's end of a worker's ring, and what was collected by it, in order
+pub record Inbox (D : Type 0) : Type 0 where
+  pub ring : Ring
+  pub came : List D

@@ -1,0 +1,17 @@
+//! A pool of workers that run branches ahead of a session: one owner hands out jobs, each worker takes some of them, and the
+//! results come back by a ring for each worker.
+#![tactic(auto)]
+
+mod crew;
+mod open;
+mod owner;
+mod results;
+mod rule;
+mod settle;
+mod worker;
+
+pub use crew::{Crew, start_all};
+pub use owner::{IssueFault, JOBS_OUT, Owner, WORKER_LIMIT};
+pub use results::RESULT_PLACES;
+pub use settle::Outcome;
+pub use worker::{Gate, OpenGate, Worked, WorkerEnd};

@@ -1,0 +1,84 @@
+//! A new pool.
+ghost use Rattle.std.specs.Prelude.{◌≡◌, ◌≤◌, [], true, IfOk};
+ghost use Rattle.crossbeam_deque.specs.Handles.{worker_view, worker_deque, worker_flavor, worker_index, worker_capacity};
+ghost use Rattle.roll_pool.specs.Rule.{counting_out};
+
+use crate::owner::{JOBS_OUT, Owner, WORKER_LIMIT};
+use crate::results::{RESULT_PLACES, Results};
+use crate::rule::{Deque, Hand};
+use crate::worker::WorkerEnd;
+use roll_frame::Refusal;
+use roll_game::Game;
+use rtrb::RingBuffer;
+use std::alloc::{AllocError, Global};
+use std::sync::Arc;
+use std::sync::atomic::AtomicBool;
+
+impl<G: Game> Owner<G> {
+    ghost use Rattle.std.specs.Prelude.{◌≡◌, ◌≤◌, [], map, length, replicate, nat_eq, nat_lt, IfOk, IfErr, OnOk, ◌||◌, if◌then◌else◌};
+    ghost use Rattle.roll_pool.specs.Workers.{fresh};
+    ghost use Rattle.roll_pool.specs.declared.owner.TheConstants.{JOBS_OUT as MOST, WORKER_LIMIT as TEAM};
+
+    /// A pool of so many workers, 1 to 4, in which nothing was issued: its owner, and the ends of the workers in order.
+    ///
+    /// # Errors
+    ///
+    /// `InvalidRequest` where the number is not 1 to 4; else `NoMemory` where the allocator has no room.
+    pub fn open(alloc: Global, workers: usize) -> Result<(Owner<G>, Vec<WorkerEnd<G>>), Refusal>
+        ensures places { IfOk result (λ pool. map (λ end. end.place) pool.1.items ≡ pool.0.places) }
+        ensures ends { IfOk result (λ pool. pool.1.items ≡ map fresh pool.0.places) }
+        ensures team { IfOk result (λ pool. (length pool.0.places ≡ workers) × (pool.0.came ≡ replicate workers [])) }
+        ensures new { IfOk result (λ pool. pool.0.issued ≡ []) }
+        ensures capacity { IfOk result (λ pool. MOST ≤ pool.0.capacity) }
+        ensures refused { IfErr result (λ why. why ≡ (if nat_eq workers 0 || nat_lt TEAM workers then Refusal.InvalidRequest else Refusal.NoMemory)) }
+        ensures range { OnOk result ((1 ≤ workers) × (workers ≤ TEAM)) }
+    {
+        if workers == 0 || workers > WORKER_LIMIT {
+            return Err(Refusal::InvalidRequest);
+        }
+        let mut deque = Deque::fifo_as(alloc, JOBS_OUT)?;
+        let closed = Arc::new(alloc, AtomicBool::new(false))?;
+        let late = Vec::with_capacity(alloc, JOBS_OUT)?;
+        let left = Vec::with_capacity(alloc, JOBS_OUT)?;
+        let mut rings = Vec::with_capacity(alloc, workers)?;
+        let mut ends = Vec::with_capacity(alloc, workers)?;
+        for _ in 0..workers {
+            let (ring, end) = hire(alloc, &mut deque, &closed)?;
+            rings.push_reserved(ring);
+            ends.push_reserved(end);
+        }
+        let owner = Owner {
+            deque,
+            rings,
+            issued: 0,
+            collected: 0,
+            closed,
+            late,
+            left,
+        };
+        Ok((owner, ends))
+    }
+}
+
+/// One more worker: the owner's end of its ring, and its own end.
+fn hire<G: Game>(
+    alloc: Global,
+    deque: &mut Deque<G>,
+    closed: &Arc<AtomicBool, Global>,
+) -> Result<(Results<G>, WorkerEnd<G>), AllocError>
+    requires { (worker_view deque.old).owns ≡ true }
+    ensures same { IfOk result (λ _. (worker_deque deque.new ≡ worker_deque deque.old) × (worker_flavor deque.new ≡ worker_flavor deque.old) × (worker_index deque.new ≡ worker_index deque.old) × (worker_capacity deque.old ≤ worker_capacity deque.new)) }
+    ensures view { IfOk result (λ _. worker_view deque.new ≡ counting_out (worker_view deque.old)) }
+    ensures ends { IfOk result (λ ends. (ends.0.came ≡ []) × (ends.1 ≡ record { place = record { deque = worker_deque deque.new; ring = ends.0.ring }; jobs = []; results = [] })) }
+{
+    let thief = deque.stealer()?;
+    let (results, consumer) = RingBuffer::new(alloc, RESULT_PLACES)?;
+    let closed = Arc::try_clone(closed)?;
+    let end = WorkerEnd {
+        thief,
+        pass: deque.another::<Hand>(),
+        results,
+        closed,
+    };
+    Ok((Results { consumer }, end))
+}
