@@ -2,13 +2,74 @@
 # Measures rollduel against the plain program, and what guesses save and cost: bench/run.sh ROLLDUEL
 # Both play the same scripts, and must write the same bytes. A time is that of a whole run, the least of 25. It takes some
 # two minutes.
+#
+# Measures the library by rollbench, all tables or one of them:
+#     bench/run.sh --all ROLLBENCH
+#     bench/run.sh --alone|--calls|--links|--match|--sessions ROLLBENCH [COUNT]
+# The match takes 12 minutes, the calls some six, the others a few together.
 set -euo pipefail
-[ $# = 1 ] || { echo "usage: bench/run.sh ROLLDUEL" >&2; exit 2; }
-rollduel=$(realpath -- "$1")
+usage="usage: bench/run.sh ROLLDUEL, or bench/run.sh --all|--alone|--calls|--links|--match|--sessions ROLLBENCH [COUNT]"
 here=$(dirname -- "$(realpath -- "$0")")
 work=$(mktemp -d)
 trap 'rm -rf -- "$work"' EXIT
 
+# Words through a link, beside those through a channel of the standard library; each as a multiple of the fastest of these.
+links() {
+    rustc -O -o "$work/links" "$here/links.rs"
+    python3 - "$work/links" "$@" <<'END'
+import subprocess
+import sys
+
+plain, rollbench, *count = sys.argv[1:]
+
+
+def rows(*command):
+    lines = subprocess.run(command, stdout=subprocess.PIPE, check=True, text=True).stdout.splitlines()
+    return [line for line in lines if " ns |" in line]
+
+
+def nanoseconds(row):
+    return float(row.split("|")[2].split()[0])
+
+
+theirs, ours = rows(plain, *count), rows(rollbench, "links", *count)
+least = min(map(nanoseconds, theirs))
+print("| Way | A word | Words a second | Of the fastest channel |")
+print("|---|---|---|---|")
+for row in theirs + ours:
+    print(f"{row} {nanoseconds(row) / least:.2f} |")
+END
+}
+
+# One table of rollbench.
+table() {
+    local what=$1
+    shift
+    case $what in
+        links) links "$@" ;;
+        alone | calls | match | sessions) "$1" "$what" "${@:2}" ;;
+        *) echo "$usage" >&2; exit 2 ;;
+    esac
+}
+
+[ $# != 0 ] || { echo "$usage" >&2; exit 2; }
+if [ "$1" = --all ]; then
+    [ $# = 2 ] || { echo "$usage" >&2; exit 2; }
+    for what in alone links calls sessions match; do
+        printf '%s\n\n' "$what"
+        table "$what" "$(realpath -- "$2")"
+        echo
+    done
+    exit
+fi
+if [[ $1 = --* ]]; then
+    [ $# = 2 ] || [ $# = 3 ] || { echo "$usage" >&2; exit 2; }
+    table "${1#--}" "$(realpath -- "$2")" "${@:3}"
+    exit
+fi
+
+[ $# = 1 ] || { echo "$usage" >&2; exit 2; }
+rollduel=$(realpath -- "$1")
 rustc -O -o "$work/plain" "$here/plain.rs"
 for frames in 1000 10000 50000; do
     python3 "$here/script.py" "$frames" 1 > "$work/$frames.roll"

@@ -5,9 +5,11 @@ use Rattle.fighter.specs.declared.fighter.Fighter.{Fighter}
 use Rattle.fighter.specs.declared.state.State.{State}
 use Rattle.fighter.specs.Values.{state_of}
 
+abbrev pub readiness_text : Fighter → List ℕ
+readiness_text fighter = codes " cool " ++ decimal fighter.cool
+
 abbrev pub fighter_text : Fighter → List ℕ
-fighter_text fighter =
-    decimal fighter.place ++ (codes " hp " ++ (decimal fighter.health ++ (codes " cool " ++ decimal fighter.cool)))
+fighter_text fighter = decimal fighter.place ++ (codes " hp " ++ (decimal fighter.health ++ readiness_text fighter))
 
 -- as p1 300 hp 100 cool 0 | p2 700 hp 100 cool 0
 abbrev pub state_text : State → List ℕ

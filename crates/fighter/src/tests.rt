@@ -52,79 +52,92 @@ fn run<G: Game>(game: &mut G, from: &G::Snapshot, rows: &[Row]) -> Result<G::Sna
     game.save(&state)
 }
 
-// LEFT is 1, RIGHT is 2, HIT is 4.
+/// A fighter's place, health and frames to cool.
+type Shape = (u16, u8, u8);
+
+/// Two fighters, a row of words, and what it makes of them. LEFT is 1, RIGHT is 2, HIT is 4.
+type Case = (&'static str, [Shape; 2], [u32; 2], [Shape; 2]);
+
+const CASES: [Case; 10] = [
+    (
+        "both ways",
+        [(300, 100, 0), (700, 100, 0)],
+        [3, 8],
+        [(300, 100, 0), (700, 100, 0)],
+    ),
+    (
+        "first place",
+        [(3, 100, 0), (700, 100, 0)],
+        [1, 0],
+        [(0, 100, 0), (700, 100, 0)],
+    ),
+    (
+        "last place",
+        [(300, 100, 0), (996, 100, 0)],
+        [0, 2],
+        [(300, 100, 0), (999, 100, 0)],
+    ),
+    (
+        "out of reach",
+        [(300, 100, 0), (341, 100, 0)],
+        [4, 4],
+        [(300, 100, 0), (341, 100, 0)],
+    ),
+    (
+        "in reach",
+        [(300, 100, 0), (340, 100, 0)],
+        [4, 0],
+        [(300, 100, 12), (340, 90, 0)],
+    ),
+    (
+        "from the right",
+        [(340, 100, 0), (300, 100, 0)],
+        [4, 0],
+        [(340, 100, 12), (300, 90, 0)],
+    ),
+    (
+        "at the same time",
+        [(300, 100, 0), (310, 100, 0)],
+        [4, 4],
+        [(300, 90, 12), (310, 90, 12)],
+    ),
+    (
+        "walk, then hit",
+        [(300, 100, 0), (348, 100, 0)],
+        [6, 1],
+        [(304, 100, 12), (344, 90, 0)],
+    ),
+    (
+        "cooling",
+        [(300, 100, 2), (310, 100, 1)],
+        [4, 4],
+        [(300, 90, 1), (310, 100, 12)],
+    ),
+    (
+        "little health",
+        [(300, 100, 0), (310, 7, 0)],
+        [4, 0],
+        [(300, 100, 12), (310, 0, 0)],
+    ),
+];
+
+fn state(shapes: [Shape; 2]) -> State {
+    let [one, two] = shapes;
+    State {
+        one: fighter(one.0, one.1, one.2),
+        two: fighter(two.0, two.1, two.2),
+    }
+}
+
 #[test]
 fn plays_by_the_rule(rt: HostRuntime) -> Result<(), NoMemory> {
-    let cases = [
-        ("walk", Fight::opening(), row(2, 1), fresh(474, 526)),
-        ("both ways", fresh(300, 700), row(3, 8), fresh(300, 700)),
-        ("first place", fresh(3, 700), row(1, 0), fresh(0, 700)),
-        ("last place", fresh(300, 996), row(0, 2), fresh(300, 999)),
-        ("out of reach", fresh(300, 341), row(4, 4), fresh(300, 341)),
-        (
-            "in reach",
-            fresh(300, 340),
-            row(4, 0),
-            State {
-                one: fighter(300, 100, 12),
-                two: fighter(340, 90, 0),
-            },
-        ),
-        (
-            "from the right",
-            fresh(340, 300),
-            row(4, 0),
-            State {
-                one: fighter(340, 100, 12),
-                two: fighter(300, 90, 0),
-            },
-        ),
-        (
-            "at the same time",
-            fresh(300, 310),
-            row(4, 4),
-            State {
-                one: fighter(300, 90, 12),
-                two: fighter(310, 90, 12),
-            },
-        ),
-        (
-            "walk, then hit",
-            fresh(300, 348),
-            row(6, 1),
-            State {
-                one: fighter(304, 100, 12),
-                two: fighter(344, 90, 0),
-            },
-        ),
-        (
-            "cooling",
-            State {
-                one: fighter(300, 100, 2),
-                two: fighter(310, 100, 1),
-            },
-            row(4, 4),
-            State {
-                one: fighter(300, 90, 1),
-                two: fighter(310, 100, 12),
-            },
-        ),
-        (
-            "little health",
-            State {
-                one: fighter(300, 100, 0),
-                two: fighter(310, 7, 0),
-            },
-            row(4, 0),
-            State {
-                one: fighter(300, 100, 12),
-                two: fighter(310, 0, 0),
-            },
-        ),
-    ];
-    for (name, before, row, after) in cases {
-        assert_eq!(rt; run(&mut Fight::new(), &before, &[row])?, after, "{name}");
+    for (name, before, words, after) in CASES {
+        let row = row(words[0], words[1]);
+        let reached = run(&mut Fight::new(), &state(before), &[row])?;
+        assert_eq!(rt; reached, state(after), "{name}");
     }
+    let walked = run(&mut Fight::new(), &Fight::opening(), &[row(2, 1)])?;
+    assert_eq!(rt; walked, fresh(474, 526));
     Ok(())
 }
 

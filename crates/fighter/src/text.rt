@@ -1,6 +1,6 @@
 //! The text of a state, which playing a script prints.
 ghost use Rattle.std.specs.Prelude.{◌≡◌, ◌++◌, OnOk};
-ghost use Rattle.fighter.specs.Text.{fighter_text, state_text};
+ghost use Rattle.fighter.specs.Text.{fighter_text, readiness_text, state_text};
 
 use crate::fight::Fight;
 use crate::fighter::Fighter;
@@ -35,6 +35,12 @@ fn push_fighter(out: &mut Vec<u8>, fighter: &Fighter) -> Result<(), AllocError>
     push_number(out, u32::from(fighter.place))?;
     out.extend_from_slice(b" hp ")?;
     push_number(out, u32::from(fighter.health))?;
+    push_readiness(out, fighter)
+}
+
+fn push_readiness(out: &mut Vec<u8>, fighter: &Fighter) -> Result<(), AllocError>
+    ensures { OnOk result (out.new.items ≡ out.old.items ++ readiness_text fighter.now) }
+{
     out.extend_from_slice(b" cool ")?;
     push_number(out, u32::from(fighter.cool))
 }

@@ -8,8 +8,13 @@ pub mod Tested
 pub mod Asked
 pub mod Guessed
 pub mod Written
+pub mod Outlined
 pub mod Claimed
 pub mod Played
 pub mod Starts
 pub mod Ended
 pub mod Unread
+pub mod Diagnosed
+pub mod Rising
+pub mod Said
+pub mod LinesOf

@@ -17,7 +17,8 @@ use Rattle.roll_cli.specs.declared.command.Command.{Command}
 use Rattle.roll_cli.specs.Commands.{line_of}
 use Rattle.roll_cli.specs.Output.{Texts, first_playing, output_under, refusals_under, refused_line, refusals_from, written_from}
 use Rattle.roll_cli.specs.Playings.{Played}
-use Rattle.roll_cli.specs.Plays.{Play, play_lines}
+use Rattle.roll_cli.specs.Headers.{Setup, header_of}
+use Rattle.roll_cli.specs.Plays.{IsOutlined, Play, play_lines}
 use Rattle.roll_cli.proofs.Guessed.{played_of, refused_so}
 
 lines_fit : (lines : List (List ℕ)) → length lines ≤ length (text_of lines)
@@ -53,6 +54,10 @@ pub refusals_refused : (game : Game) (commands : List Command) (settings : Setti
 refusals_refused game commands settings why e ne = sym (rw (refused_so (start_refusal settings) why e ne) refl)
 
 -- of a call that answered, where both are known
-pub on_ok_both : {X E : Type 0} {P Q : Type 0} {A : X → Type 0} (r : Result X E) → ((x : X) → A x → P → Q) → IfOk r A → OnOk r P → OnOk r Q
-on_ok_both (Ok x) f a p = f x a p
-on_ok_both (Err e) f a p = tt
+pub if_ok_both : {X E : Type 0} {A B : X → Type 0} {P : Type 0} (r : Result X E) → ((x : X) → A x → P → B x) → IfOk r A → OnOk r P → IfOk r B
+if_ok_both (Ok x) f a p = f x a p
+if_ok_both (Err e) f a p = tt
+
+-- a text that isn't too long is short
+pub few_bytes : (setup : Setup) (rest text : List ℕ) → IsOutlined setup rest text → length text ≤ TEXT_LIMIT → length rest < 2 ^ 32
+few_bytes setup rest text outlined short = omega (arith, ap length outlined.whole, length-append (ended (header_of setup)) rest)

@@ -1,7 +1,7 @@
 -- What a roll's line is, by what a session shows.
 use Rattle.std.proofs.lemmas.List.{length-set}
-use Rattle.std.proofs.Common.{◌≡◌, ℕ, ◌≤◌, ◌+◌, ◌-◌, ◌++◌, length, length-append, List, [], ◌∷◌, Bool, true, false, arith, append_assoc, codes, refl, sym, ap, ◌∙◌, Option, Some, None}
-use Rattle.std.specs.Prelude.{IfSome, if◌then◌else◌, is_none, Result, Ok, Err}
+use Rattle.std.proofs.Common.{◌≡◌, ℕ, ◌≤◌, ◌+◌, ◌-◌, ◌++◌, length, length-append, List, [], ◌∷◌, true, false, arith, append_assoc, codes, refl, sym, ap, ◌∙◌, Option, Some, None}
+use Rattle.std.specs.Prelude.{IfSome, is_none, Result, Ok, Err}
 use Rattle.std.proofs.lemmas.Bool.{false≢true}
 use Rattle.std.specs.Fmt.{decimal}
 use Rattle.std.specs.Option.{option_map_or}
@@ -18,7 +18,7 @@ use Rattle.roll_session.specs.Planned.{IsPlanOfRoll}
 use Rattle.roll_frame.specs.declared.settings.Settings.{Settings}
 use Rattle.roll_cli.specs.declared.command.Command.{Command}
 use Rattle.roll_cli.specs.declared.command.Command.TheVariants.{Local as Gives, Remote as Tells, Disconnect as Leaves, Sync as Syncs, Advance as Advances, Guess, Extend, Claim}
-use Rattle.roll_cli.specs.Output.{Playing, Texts, after_command, frame_line, guessed, refused_by, refusals_from, with_job, written_by, written_from}
+use Rattle.roll_cli.specs.Output.{Playing, Texts, after_command, frame_line, guessed, with_job}
 
 no_roll : (last : Option Roll) → true ≡ is_none last → last ≡ None
 no_roll None e = refl
@@ -81,21 +81,6 @@ rolled_line value texts game core players plan state frame base some is h f b =
 -- six pieces, one after another
 pub six_pieces : (o a b c d e f o1 o2 o3 o4 o5 o6 : List ℕ) → o1 ≡ o ++ a → o2 ≡ o1 ++ b → o3 ≡ o2 ++ c → o4 ≡ o3 ++ d → o5 ≡ o4 ++ e → o6 ≡ o5 ++ f → o6 ≡ o ++ (a ++ (b ++ (c ++ (d ++ (e ++ f)))))
 six_pieces o a b c d e f o1 o2 o3 o4 o5 o6 h1 h2 h3 h4 h5 h6 = rw (h6, h5, h4, h3, h2, h1) (simp append_assoc refl)
-
--- one more command's reply was written
-pub one_written : (texts : Texts) (settings : Settings) (game : Game) (old new : Playing) (command : Command) (rest left : List Command) (out more total : List ℕ)
-    → left ≡ command ∷ rest → more ≡ out ++ written_by texts settings game old command → new ≡ after_command settings game old command
-    → out ++ written_from texts settings game old left ≡ total → more ++ written_from texts settings game new rest ≡ total
-one_written texts settings game old new command rest left out more total l m n t =
-    rw (m, n) (append_assoc out (written_by texts settings game old command) (written_from texts settings game (after_command settings game old command) rest))
-    ∙ ap (λ commands. out ++ written_from texts settings game old commands) (sym l) ∙ t
-
-pub one_counted : (settings : Settings) (game : Game) (old new : Playing) (command : Command) (rest left : List Command) (refused more total : ℕ) (is : Bool)
-    → left ≡ command ∷ rest → is ≡ refused_by settings game old command → more ≡ refused + (if is then 1 else 0) → new ≡ after_command settings game old command
-    → refused + refusals_from settings game old left ≡ total → more + refusals_from settings game new rest ≡ total
-one_counted settings game old new command rest left refused more total is l r m n t =
-    let whole : refusals_from settings game old left ≡ (if is then 1 else 0) + refusals_from settings game new rest = ap (refusals_from settings game old) l ∙ rw (r, n) refl in
-    omega (arith, m, whole, t)
 
 -- a command gives at most one job
 with_job_within : (jobs : List (Option Routed)) (result : Result (Option Routed) Refusal) → length (with_job jobs result) ≤ length jobs + 1

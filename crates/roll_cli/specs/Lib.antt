@@ -10,3 +10,6 @@ pub mod SyncTests
 pub mod Faults
 pub mod Certified
 pub mod Programs
+pub mod Diagnoses
+pub mod Refused
+pub mod DiagnosisTexts

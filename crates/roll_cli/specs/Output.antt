@@ -29,8 +29,8 @@ use Rattle.roll_session.specs.Seen.{plain}
 use Rattle.roll_text.specs.Lines.{ended, text_of}
 use Rattle.roll_cli.specs.declared.command.Command.{Command}
 use Rattle.roll_cli.specs.declared.command.Command.TheVariants.{Local as Gives, Remote as Tells, Disconnect as Leaves, Sync as Syncs, Advance as Advances, Guess, Extend, Claim}
-use Rattle.roll_cli.specs.Headers.{settings_of}
-use Rattle.roll_cli.specs.Plays.{Play, IsPlay, play_lines}
+use Rattle.roll_cli.specs.Headers.{Setup, settings_of}
+use Rattle.roll_cli.specs.Plays.{AreCommands, Play, IsPlay, play_lines}
 use Rattle.roll_cli.specs.Shown.{duel_text}
 
 -- how a game's states are printed, by their values
@@ -183,3 +183,10 @@ pub record IsOutput (output_of : Play → List ℕ) (refusals_of : Play → ℕ)
   pub spelled : text ≡ text_of (play_lines play)
   pub output_is : written ≡ output_of play
   pub refused_is : refused ≡ refusals_of play
+
+-- the text is that of commands, which with this header write this, with so many refusals
+pub record IsOutputAfter (setup : Setup) (output_of : Play → List ℕ) (refusals_of : Play → ℕ) (text written : List ℕ) (refused : ℕ) : Type 0 where
+  pub commands : List Command
+  pub are : AreCommands text commands
+  pub output_is : written ≡ output_of (record { setup = setup; commands = commands })
+  pub refused_is : refused ≡ refusals_of (record { setup = setup; commands = commands })

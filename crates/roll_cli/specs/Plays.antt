@@ -1,6 +1,7 @@
 -- Whole scripts.
-use Rattle.std.specs.Prelude.{ℕ, List, ◌∷◌, map}
+use Rattle.std.specs.Prelude.{◌≡◌, ℕ, List, ◌∷◌, ◌++◌, map, Option, Some, None}
 use Rattle.std.specs.List.{AllByRecursion}
+use Rattle.roll_text.specs.Lines.{ended, text_of}
 use Rattle.roll_text.specs.Text.{Spells}
 use Rattle.roll_cli.specs.declared.command.Command.{Command}
 use Rattle.roll_cli.specs.declared.script.Script.{Script}
@@ -26,3 +27,20 @@ play_lines play = header_of play.setup ∷ map line_of play.commands
 -- the texts that can be played
 abbrev pub IsScript : List ℕ → Type 0
 IsScript text = Spells IsPlay play_lines text
+
+-- the commands whose lines the text is
+pub record AreCommands (text : List ℕ) (commands : List Command) : Type 0 where
+  pub each : AllByRecursion IsCommand commands
+  pub spelled : text ≡ text_of (map line_of commands)
+
+-- the command in the first line of a text, and what follows that line; none where no command's line comes first
+abbrev pub CutsCommand : List ℕ → Option (Command × List ℕ) → Type 0
+CutsCommand text (Some cut) = IsCommand cut.0 × (text ≡ ended (line_of cut.0) ++ cut.1)
+CutsCommand text None = (command : Command) (after : List ℕ) → IsCommand command → text ≡ ended (line_of command) ++ after → ⊥
+
+-- a header's line comes first, and then the lines of commands alone
+pub record IsOutlined (setup : Setup) (rest text : List ℕ) : Type 0 where
+  pub fits : IsSetup setup
+  pub whole : text ≡ ended (header_of setup) ++ rest
+  pub commands : List Command
+  pub are : AreCommands rest commands

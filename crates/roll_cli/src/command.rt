@@ -1,11 +1,15 @@
 //! The commands of a script.
-ghost use Rattle.std.specs.Prelude.{◌≡◌, ◌∷◌, [], IfOk, map, codes};
+ghost use Rattle.std.specs.Prelude.{◌≡◌, ◌∷◌, [], ◌++◌, IfOk, IfSome, map, codes};
 ghost use Rattle.std.specs.Fmt.{decimal};
+ghost use Rattle.std.specs.Option.{option_map};
+ghost use Rattle.roll_text.specs.Lines.{ended};
+ghost use Rattle.roll_text.specs.Numbers.{IsWord};
+ghost use Rattle.roll_cli.specs.Plays.{CutsCommand};
 ghost use Rattle.roll_cli.specs.Commands.{IsCommand, fields_of, line_of};
 ghost use Rattle.roll_text.specs.Text.{Reads};
 
 use roll_frame::PATH_LIMIT;
-use roll_text::{few_fields, number, numbers};
+use roll_text::{few_fields, leading_number, number, numbers, split_line};
 use std::alloc::{AllocError, Global};
 
 /// A command has at most this many fields.
@@ -69,6 +73,108 @@ impl Command {
             [kind, player, frame, values] => with_values(alloc, kind, player, frame, values),
             _ => Ok(None),
         }
+    }
+}
+
+/// The command in the first line of a text, and what follows that line. None where no command's line comes first.
+#[inline(always)]
+pub fn first_command(alloc: Global, text: &[u8]) -> Result<Option<(Command, &[u8])>, AllocError>
+    ensures { IfOk result (λ found. CutsCommand text.now (option_map (λ cut. (cut.0, cut.1.now)) found)) }
+{
+    if let Some(found) = frequent(text) {
+        Ok(Some(found))
+    } else {
+        any_command(alloc, text)
+    }
+}
+
+/// As `first_command`, by a look for the line's end.
+#[inline(never)]
+fn any_command(alloc: Global, text: &[u8]) -> Result<Option<(Command, &[u8])>, AllocError>
+    ensures { IfOk result (λ found. CutsCommand text.now (option_map (λ cut. (cut.0, cut.1.now)) found)) }
+{
+    let Some((line, after)) = split_line(text) else {
+        return Ok(None);
+    };
+    let Some(command) = Command::read(alloc, line)? else {
+        return Ok(None);
+    };
+    Ok(Some((command, after)))
+}
+
+/// The command in the first line of a text, and what follows that line, if it is one of those that each frame has. They are
+/// read from left to right, without a look for the line's end.
+#[inline(always)]
+fn frequent(text: &[u8]) -> Option<(Command, &[u8])>
+    ensures { IfSome result (λ cut. IsCommand cut.0 × (text.now ≡ ended (line_of cut.0) ++ cut.1.now)) }
+{
+    let Some((kind, rest)) = text.split_first() else {
+        return None;
+    };
+    match *kind {
+        b'L' => frequent_local(rest),
+        b'R' => frequent_remote(rest),
+        b'A' => ended_by(Command::Advance, rest),
+        b'S' => ended_by(Command::Sync, rest),
+        _ => None,
+    }
+}
+
+#[inline(always)]
+fn frequent_local(text: &[u8]) -> Option<(Command, &[u8])>
+    ensures { IfSome result (λ cut. IsCommand cut.0 × (76 ∷ text.now ≡ ended (line_of cut.0) ++ cut.1.now)) }
+{
+    let Some((player, rest)) = spaced_number(text) else {
+        return None;
+    };
+    let Some((word, rest)) = spaced_number(rest) else {
+        return None;
+    };
+    ended_by(Command::Local { player, word }, rest)
+}
+
+#[inline(always)]
+fn frequent_remote(text: &[u8]) -> Option<(Command, &[u8])>
+    ensures { IfSome result (λ cut. IsCommand cut.0 × (82 ∷ text.now ≡ ended (line_of cut.0) ++ cut.1.now)) }
+{
+    let Some((player, rest)) = spaced_number(text) else {
+        return None;
+    };
+    let Some((frame, rest)) = spaced_number(rest) else {
+        return None;
+    };
+    let Some((word, rest)) = spaced_number(rest) else {
+        return None;
+    };
+    ended_by(
+        Command::Remote {
+            player,
+            frame,
+            word,
+        },
+        rest,
+    )
+}
+
+/// The number after a space at the beginning of a text, and what follows it.
+#[inline(always)]
+fn spaced_number(text: &[u8]) -> Option<(u32, &[u8])>
+    ensures { IfSome result (λ cut. IsWord cut.0 × (text.now ≡ 32 ∷ decimal cut.0 ++ cut.1.now)) }
+{
+    match text.split_first() {
+        Some((b' ', rest)) => leading_number(rest),
+        _ => None,
+    }
+}
+
+/// A command with what follows the end of its line, which is at the beginning of a text.
+#[inline(always)]
+fn ended_by(command: Command, text: &[u8]) -> Option<(Command, &[u8])>
+    ensures { IfSome result (λ cut. (cut.0 ≡ command) × (text.now ≡ 10 ∷ cut.1.now)) }
+{
+    match text.split_first() {
+        Some((b'\n', after)) => Some((command, after)),
+        _ => None,
     }
 }
 

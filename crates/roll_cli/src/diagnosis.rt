@@ -1,5 +1,8 @@
 //! What can be wrong with a line that can't be read, and how it is told.
 
+ghost use Rattle.std.specs.Fmt.{WritesOnOk};
+ghost use Rattle.roll_cli.specs.DiagnosisTexts.{length_text};
+
 use std::fmt::{self, Display, Formatter};
 
 /// What is wrong with a line of a text.
@@ -63,6 +66,11 @@ pub enum NumberFault {
 }
 
 impl Display for NumberFault {
+    ghost use Rattle.std.specs.Prelude.{Some};
+    ghost use Rattle.roll_cli.specs.DiagnosisTexts.{why_text};
+
+    ghost output = { λ why. Some (why_text why) };
+
     fn fmt<W: fmt::Write>(&self, f: &mut Formatter<W>) -> fmt::Result {
         f.write_str(match self {
             NumberFault::Empty => "it is empty",
@@ -74,6 +82,10 @@ impl Display for NumberFault {
 }
 
 impl Display for Diagnosis<'_> {
+    ghost use Rattle.roll_cli.specs.DiagnosisTexts.{diagnosis_text};
+
+    ghost output = { diagnosis_text };
+
     fn fmt<W: fmt::Write>(&self, f: &mut Formatter<W>) -> fmt::Result {
         match self {
             Diagnosis::Missing => f.write_str("is missing: the text ends before it"),
@@ -111,7 +123,9 @@ fn write_length<W: fmt::Write>(
     found: usize,
     least: usize,
     most: usize,
-) -> fmt::Result {
+) -> fmt::Result
+    ensures { WritesOnOk W.write_str_gives f.old result (length_text found least most) f.new }
+{
     if least == most {
         write!(f, "{found} in a list; {least} were expected")
     } else {

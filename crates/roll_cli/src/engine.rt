@@ -5,14 +5,16 @@ ghost use Rattle.roll_text.specs.Lines.{ended, text_of as text_of_lines};
 ghost use Rattle.roll_text.specs.Streams.{AppendsPart, IsBadAt};
 ghost use Rattle.roll_text.specs.declared.streams.TheConstants.{TEXT_LIMIT};
 ghost use Rattle.roll_cli.specs.Faults.{TakesAtMost};
-ghost use Rattle.roll_cli.specs.Output.{IsOutput, duel_output, duel_refusals, output, output_under, refusals, refusals_under, refused_line};
-ghost use Rattle.roll_cli.specs.Plays.{IsPlay, IsScript, play_lines, play_of};
+ghost use Rattle.roll_cli.specs.Output.{IsOutput, IsOutputAfter, duel_output, duel_refusals, output, output_under, refusals, refusals_under, refused_line};
+ghost use Rattle.roll_cli.specs.Headers.{IsSetup, setup_of};
+ghost use Rattle.roll_cli.specs.Plays.{AreCommands, IsPlay, IsScript, play_lines, play_of};
+ghost use Rattle.roll_cli.specs.declared.command.Command.{Command};
 ghost use Rattle.roll_cli.specs.declared.engine.PlayFault.TheVariants.{NoMemory, Unreadable, Write as CannotWrite};
 
-use crate::command::Command;
+use crate::header::Header;
 use crate::output::push_refused;
 use crate::playing::Playing;
-use crate::script::{Script, ScriptFault};
+use crate::script::{Script, ScriptFault, outline};
 use crate::shown::Shown;
 use roll_duel::Duel;
 use roll_frame::{Refusal, Settings};
@@ -138,8 +140,9 @@ pub fn play<G: Shown + Drop, R: Read, W: Write>(
     ensures untouched { IfErr result (λ fault. (fault ≡ CannotWrite) ⊎ (writer.new ≡ writer.old)) }
     ensures taken { TakesAtMost (TEXT_LIMIT + 1) (R.remaining reader.old) (R.remaining reader.new) }
 {
-    let script = read_script(alloc, reader)?;
-    write_played(alloc, writer, &script, game, opening, helper)
+    let text = read_all(alloc, reader)?;
+    let (header, commands) = outline(alloc, &text)?;
+    write_played(alloc, writer, &header, commands, game, opening, helper)
 }
 
 /// Plays a script of the ship duel, as `play` does, with a ship for each player. A script with one player or more than
@@ -157,12 +160,13 @@ pub fn play_duel<R: Read, W: Write>(
     ensures untouched { IfErr result (λ fault. (fault ≡ CannotWrite) ⊎ (writer.new ≡ writer.old)) }
     ensures taken { TakesAtMost (TEXT_LIMIT + 1) (R.remaining reader.old) (R.remaining reader.new) }
 {
-    let script = read_script(alloc, reader)?;
-    write_duel(alloc, writer, &script)
+    let text = read_all(alloc, reader)?;
+    let (header, commands) = outline(alloc, &text)?;
+    write_duel(alloc, writer, &header, commands)
 }
 
 /// The script that a reader holds.
-fn read_script<R: Read>(alloc: Global, reader: &mut R) -> Result<Script, PlayFault>
+pub fn read_script<R: Read>(alloc: Global, reader: &mut R) -> Result<Script, PlayFault>
     ensures fits { IfOk result (λ script. IsPlay (play_of script)) }
     ensures few { IfOk result (λ script. length script.commands.items < 2 ^ 32) }
     ensures spelled { IfOk result (λ script. IfSome (R.remaining reader.old) (λ text. text ≡ text_of_lines (play_lines (play_of script)))) }
@@ -175,45 +179,54 @@ fn read_script<R: Read>(alloc: Global, reader: &mut R) -> Result<Script, PlayFau
     Ok(script)
 }
 
-/// Plays a script, and writes all that it writes at once.
+/// Plays the commands whose lines a text is, with a script's header, and writes all that they write at once.
 fn write_played<G: Shown + Drop, W: Write>(
     alloc: Global,
     writer: &mut W,
-    script: &Script,
+    header: &Header,
+    commands: &[u8],
     game: G,
     opening: G::Snapshot,
     helper: G,
 ) -> Result<u32, PlayFault>
-    requires fits { IsPlay (play_of script.now) }
-    requires few { length script.now.commands.items < 2 ^ 32 }
-    ensures written { OnOk result (Appends (W.contents writer.old) (W.contents writer.new) (output G.text_of (record { opening = G.snapshot_value opening; step = G.step }) (play_of script.now))) }
-    ensures refused { IfOk result (λ refused. refused ≡ refusals (record { opening = G.snapshot_value opening; step = G.step }) (play_of script.now)) }
-    ensures cut { result ≡ Err CannotWrite → AppendsPart (W.contents writer.old) (W.contents writer.new) (output G.text_of (record { opening = G.snapshot_value opening; step = G.step }) (play_of script.now)) }
+    requires fits { IsSetup (setup_of header.now) }
+    requires readable { (list : List Command) × AreCommands commands.now list }
+    requires few { length commands.now < 2 ^ 32 }
+    ensures written { IfOk result (λ refused. (written : List ℕ)
+        × IsOutputAfter (setup_of header.now) (output G.text_of (record { opening = G.snapshot_value opening; step = G.step })) (refusals (record { opening = G.snapshot_value opening; step = G.step })) commands.now written refused
+        × Appends (W.contents writer.old) (W.contents writer.new) written) }
+    ensures cut { result ≡ Err CannotWrite → (whole : List ℕ) × (refused : ℕ)
+        × IsOutputAfter (setup_of header.now) (output G.text_of (record { opening = G.snapshot_value opening; step = G.step })) (refusals (record { opening = G.snapshot_value opening; step = G.step })) commands.now whole refused
+        × AppendsPart (W.contents writer.old) (W.contents writer.new) whole }
     ensures fault { IfErr result (λ fault. (fault ≡ CannotWrite) ⊎ ((fault ≡ NoMemory) × (writer.new ≡ writer.old))) }
 {
     let mut out = Vec::new(alloc);
-    let settings = script.header.settings();
-    let commands = &script.commands;
+    let settings = header.settings();
     let refused = push_output(alloc, &mut out, settings, commands, game, opening, helper)?;
     write_all(writer, &out)?;
     Ok(refused)
 }
 
-/// Plays a script of the ship duel, and writes all that it writes at once.
-fn write_duel<W: Write>(alloc: Global, writer: &mut W, script: &Script) -> Result<u32, PlayFault>
-    requires fits { IsPlay (play_of script.now) }
-    requires few { length script.now.commands.items < 2 ^ 32 }
-    ensures written { OnOk result (Appends (W.contents writer.old) (W.contents writer.new) (duel_output (play_of script.now))) }
-    ensures refused { IfOk result (λ refused. refused ≡ duel_refusals (play_of script.now)) }
-    ensures cut { result ≡ Err CannotWrite → AppendsPart (W.contents writer.old) (W.contents writer.new) (duel_output (play_of script.now)) }
+/// Plays commands of the ship duel, as `write_played` does.
+fn write_duel<W: Write>(
+    alloc: Global,
+    writer: &mut W,
+    header: &Header,
+    commands: &[u8],
+) -> Result<u32, PlayFault>
+    requires fits { IsSetup (setup_of header.now) }
+    requires readable { (list : List Command) × AreCommands commands.now list }
+    requires few { length commands.now < 2 ^ 32 }
+    ensures written { IfOk result (λ refused. (written : List ℕ) × IsOutputAfter (setup_of header.now) duel_output duel_refusals commands.now written refused × Appends (W.contents writer.old) (W.contents writer.new) written) }
+    ensures cut { result ≡ Err CannotWrite → (whole : List ℕ) × (refused : ℕ) × IsOutputAfter (setup_of header.now) duel_output duel_refusals commands.now whole refused × AppendsPart (W.contents writer.old) (W.contents writer.new) whole }
     ensures fault { IfErr result (λ fault. (fault ≡ CannotWrite) ⊎ ((fault ≡ NoMemory) × (writer.new ≡ writer.old))) }
 {
-    let ships = script.header.players as u8;
+    let ships = header.players as u8;
     let (Ok(duel), Ok(helper)) = (Duel::new(alloc, ships), Duel::new(alloc, ships)) else {
         return write_not_started(alloc, writer, Refusal::PlayerOutOfRange);
     };
     let opening = duel.opening()?;
-    write_played(alloc, writer, script, duel, opening, helper)
+    write_played(alloc, writer, header, commands, duel, opening, helper)
 }
 
 /// Writes why there is no game to play.
@@ -233,19 +246,22 @@ pub fn write_not_started<W: Write>(
     Ok(refused)
 }
 
-/// Writes all that the commands of a session write at the end, and answers how many replies are refusals.
-pub fn push_output<G: Shown + Drop>(
+/// Writes all that the commands of a session write at the end, whose lines a text is, and answers how many replies are
+/// refusals.
+fn push_output<G: Shown + Drop>(
     alloc: Global,
     out: &mut Vec<u8>,
     settings: Settings,
-    commands: &[Command],
+    commands: &[u8],
     game: G,
     opening: G::Snapshot,
     helper: G,
 ) -> Result<u32, PlayFault>
+    requires readable { (list : List Command) × AreCommands commands.now list }
     requires few { length commands.now < 2 ^ 32 }
-    ensures written { OnOk result (out.new.items ≡ out.old.items ++ output_under G.text_of settings (record { opening = G.snapshot_value opening; step = G.step }) commands.now) }
-    ensures refused { IfOk result (λ refused. refused ≡ refusals_under settings (record { opening = G.snapshot_value opening; step = G.step }) commands.now) }
+    ensures written { IfOk result (λ refused. (list : List Command) × AreCommands commands.now list
+        × (out.new.items ≡ out.old.items ++ output_under G.text_of settings (record { opening = G.snapshot_value opening; step = G.step }) list)
+        × (refused ≡ refusals_under settings (record { opening = G.snapshot_value opening; step = G.step }) list)) }
     ensures fault { IfErr result (λ fault. fault ≡ NoMemory) }
 {
     match Session::start(alloc, game, opening, settings) {

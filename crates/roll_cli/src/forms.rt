@@ -1,4 +1,8 @@
 //! What is wrong with a line of a script, a file of rows or a claim.
+ghost use Rattle.std.specs.Prelude.{◌≡◌, ◌≢◌, ◌-◌, [], IfSome, None, drop, length, slice_index_or};
+ghost use Rattle.roll_text.specs.Lines.{lines_of};
+ghost use Rattle.roll_cli.specs.declared.program.GameName.{GameName};
+ghost use Rattle.roll_cli.specs.Diagnoses.{IsCommandForm, IsCommandLine, IsSaidOf, IsTrueInside, IsTrueOf, fields};
 
 use crate::diagnosis::Diagnosis;
 use crate::lines::{ANY, Item, extra_space, fields_fault, path_fault};
@@ -8,14 +12,25 @@ use roll_frame::{FRAME_LIMIT, PATH_LIMIT};
 use roll_text::{number, split_line};
 
 /// What is wrong with the line of this number, from 1, which can't be read as a task wants it.
-pub fn diagnose<'a>(task: Task, text: &'a [u8], number: u64) -> Diagnosis<'a> {
+pub fn diagnose<'a>(task: Task, text: &'a [u8], number: u64) -> Diagnosis<'a>
+    ensures said { IsSaidOf text.now number result }
+    ensures form { (game : GameName) → task ≡ Task.Play game → number ≢ 1 → result ≡ Diagnosis.Other → IsCommandLine number text.now }
+{
     let rest = from_line(text, number);
     if rest.is_empty() {
         return Diagnosis::Missing;
     }
-    let Some((line, _)) = split_line(rest) else {
-        return Diagnosis::Unended;
-    };
+    match split_line(rest) {
+        None => Diagnosis::Unended,
+        Some((line, _)) => line_diagnosis(task, text, line, number),
+    }
+}
+
+/// What is wrong with a line of a text.
+fn line_diagnosis<'a>(task: Task, text: &'a [u8], line: &'a [u8], number: u64) -> Diagnosis<'a>
+    ensures said { IsTrueOf line.now result }
+    ensures form { (game : GameName) → task ≡ Task.Play game → number ≢ 1 → result ≡ Diagnosis.Other → IsCommandForm (fields line.now) }
+{
     if line.last() == Some(&b'\r') {
         return Diagnosis::CarriageReturn;
     }
@@ -34,7 +49,9 @@ pub fn diagnose<'a>(task: Task, text: &'a [u8], number: u64) -> Diagnosis<'a> {
 }
 
 /// A text from the line of this number on.
-fn from_line(text: &[u8], number: u64) -> &[u8] {
+fn from_line(text: &[u8], number: u64) -> &[u8]
+    ensures { lines_of result.now ≡ drop (number - 1) (lines_of text.now) }
+{
     let mut rest = text;
     for _ in 1..number {
         let Some((_, after)) = split_line(rest) else {
@@ -53,7 +70,10 @@ fn named_at(text: &[u8], at: u64, name: &[u8]) -> u32 {
     }
 }
 
-fn script_fault(line: &[u8], number: u64) -> Option<Diagnosis<'_>> {
+fn script_fault(line: &[u8], number: u64) -> Option<Diagnosis<'_>>
+    ensures form { number ≢ 1 → result ≡ None → IsCommandForm (fields line.now) }
+    ensures said { IfSome result (IsTrueInside line.now) }
+{
     if number == 1 {
         header_fault(line)
     } else {
@@ -61,45 +81,30 @@ fn script_fault(line: &[u8], number: u64) -> Option<Diagnosis<'_>> {
     }
 }
 
-fn header_fault(line: &[u8]) -> Option<Diagnosis<'_>> {
-    let version = Item::Number { least: 1, most: 3 };
-    let players = Item::Number { least: 1, most: 8 };
+fn header_fault(line: &[u8]) -> Option<Diagnosis<'_>>
+    ensures { IfSome result (IsTrueInside line.now) }
+{
     let each = list_of_players(line);
+    let mut items = [
+        Item::Word("roll"),
+        Item::Number { least: 1, most: 3 },
+        Item::Word("players"),
+        Item::Number { least: 1, most: 8 },
+        Item::Word("local"),
+        Item::Players,
+        Item::Word("delay"),
+        each,
+        Item::Word("mask"),
+        each,
+        Item::Word("threshold"),
+        ANY,
+    ];
     if line.starts_with(b"roll 2 ") || line.starts_with(b"roll 3 ") {
-        fields_fault(
-            line,
-            &[
-                Item::Word("roll"),
-                version,
-                Item::Word("players"),
-                players,
-                Item::Word("local"),
-                Item::Players,
-                Item::Word("delay"),
-                each,
-                Item::Word("mask"),
-                each,
-                Item::Word("threshold"),
-                ANY,
-            ],
-        )
-    } else {
-        fields_fault(
-            line,
-            &[
-                Item::Word("roll"),
-                version,
-                Item::Word("players"),
-                players,
-                Item::Word("local"),
-                Item::Players,
-                Item::Word("delay"),
-                each,
-                Item::Word("threshold"),
-                ANY,
-            ],
-        )
+        return fields_fault(line, &items);
     }
+    items.swap(8, 10);
+    items.swap(9, 11);
+    fields_fault(line, &items[..10])
 }
 
 /// A list with a number for each player of a script's first line.
@@ -114,15 +119,15 @@ fn list_of_players(line: &[u8]) -> Item {
     }
 }
 
-fn command_fault(line: &[u8]) -> Option<Diagnosis<'_>> {
+fn command_fault(line: &[u8]) -> Option<Diagnosis<'_>>
+    ensures form { result ≡ None → IsCommandForm (fields line.now) }
+    ensures said { IfSome result (IsTrueInside line.now) }
+{
     let words = Item::List {
         least: 1,
         most: PATH_LIMIT,
     };
-    let letter = match line.iter().position(|b| *b == b' ') {
-        Some(end) => &line[..end],
-        None => line,
-    };
+    let letter = first_field(line);
     match letter {
         b"L" => fields_fault(line, &[Item::Word("L"), ANY, ANY]),
         b"R" => fields_fault(line, &[Item::Word("R"), ANY, ANY, ANY]),
@@ -136,7 +141,15 @@ fn command_fault(line: &[u8]) -> Option<Diagnosis<'_>> {
     }
 }
 
-fn rows_fault<'a>(text: &'a [u8], line: &'a [u8], number: u64) -> Option<Diagnosis<'a>> {
+fn first_field(line: &[u8]) -> &[u8]
+    ensures { slice_index_or (fields line.now) 0 [] ≡ result.now }
+{
+    line.split(|b| *b == b' ').next().unwrap_or(line)
+}
+
+fn rows_fault<'a>(text: &'a [u8], line: &'a [u8], number: u64) -> Option<Diagnosis<'a>>
+    ensures { IfSome result (IsTrueInside line.now) }
+{
     if number == 1 {
         return fields_fault(
             line,
@@ -153,7 +166,9 @@ fn rows_fault<'a>(text: &'a [u8], line: &'a [u8], number: u64) -> Option<Diagnos
 }
 
 /// The lines of a claim: five of one number, the rows of time, the kept paths behind their number, and so the entries.
-fn claim_fault<'a>(text: &'a [u8], line: &'a [u8], number: u64) -> Option<Diagnosis<'a>> {
+fn claim_fault<'a>(text: &'a [u8], line: &'a [u8], number: u64) -> Option<Diagnosis<'a>>
+    ensures { IfSome result (IsTrueInside line.now) }
+{
     let kept_at = 6 + u64::from(named_at(text, 5, b"time "));
     let differs_at = kept_at + 1 + u64::from(named_at(text, kept_at, b"kept "));
     let end = differs_at + u64::from(named_at(text, differs_at, b"differs "));
@@ -185,7 +200,9 @@ fn claim_fault<'a>(text: &'a [u8], line: &'a [u8], number: u64) -> Option<Diagno
     }
 }
 
-fn claim_head_fault<'a>(text: &[u8], line: &'a [u8], number: u64) -> Option<Diagnosis<'a>> {
+fn claim_head_fault<'a>(text: &[u8], line: &'a [u8], number: u64) -> Option<Diagnosis<'a>>
+    ensures { IfSome result (IsTrueInside line.now) }
+{
     match number {
         1 => fields_fault(
             line,
@@ -226,7 +243,9 @@ fn claim_head_fault<'a>(text: &[u8], line: &'a [u8], number: u64) -> Option<Diag
 }
 
 /// What is wrong with a line that says how many lines follow it, at most 256.
-fn counted_fault<'a>(line: &'a [u8], name: &'static str) -> Option<Diagnosis<'a>> {
+fn counted_fault<'a>(line: &'a [u8], name: &'static str) -> Option<Diagnosis<'a>>
+    ensures { IfSome result (IsTrueInside line.now) }
+{
     fields_fault(
         line,
         &[

@@ -14,6 +14,7 @@ use roll_text::{push_number, push_signed};
 use std::alloc::{AllocError, Global};
 
 /// Writes the claim of the last roll, or the refusal where there is none, and answers whether it was refused.
+#[inline(never)]
 pub fn push_claim<G: Shown>(
     alloc: Global,
     out: &mut Vec<u8>,
@@ -38,6 +39,7 @@ pub fn push_claim<G: Shown>(
 }
 
 /// Writes the line of a reply.
+#[inline(always)]
 pub fn push_reply<G: Shown>(
     out: &mut Vec<u8>,
     session: &Session<G>,
@@ -69,6 +71,7 @@ pub fn push_job(out: &mut Vec<u8>, number: u32, rows: u32) -> Result<(), AllocEr
 }
 
 /// Writes what a roll led to, without the line's end.
+#[inline(never)]
 fn push_frame<G: Shown>(out: &mut Vec<u8>, session: &Session<G>) -> Result<(), PlayFault>
     ensures written { OnOk result (out.new.items ≡ out.old.items ++ frame_line G.text_of (game_of G.step session.now) (core_of session.now)) }
     ensures fault { IfErr result (λ fault. fault ≡ PlayFault.NoMemory) }
@@ -96,6 +99,7 @@ fn settled<G: Shown>(session: &Session<G>) -> u32
 }
 
 /// Writes a refusal, without the line's end.
+#[inline(never)]
 pub fn push_refused(out: &mut Vec<u8>, why: Refusal) -> Result<(), AllocError>
     ensures { OnOk result (out.new.items ≡ out.old.items ++ refused_line why) }
 {
@@ -105,6 +109,7 @@ pub fn push_refused(out: &mut Vec<u8>, why: Refusal) -> Result<(), AllocError>
 }
 
 /// Writes a number behind its name.
+#[inline(always)]
 pub fn push_named(out: &mut Vec<u8>, name: &[u8], n: u32) -> Result<(), AllocError>
     ensures { OnOk result (out.new.items ≡ out.old.items ++ (name.now ++ decimal n)) }
 {

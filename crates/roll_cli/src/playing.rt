@@ -1,5 +1,5 @@
 //! Scripts that are being played.
-ghost use Rattle.std.specs.Prelude.{◌≡◌, ◌<◌, ◌+◌, ◌^◌, ◌++◌, [], IfErr, IfOk, OnOk, is_err, length, slice_set, None};
+ghost use Rattle.std.specs.Prelude.{◌≡◌, List, ◌<◌, ◌+◌, ◌^◌, ◌++◌, [], IfErr, IfOk, OnOk, is_err, length, slice_set, None};
 ghost use Rattle.roll_frame.specs.Events.{after, reply};
 ghost use Rattle.roll_session.specs.Calls.{asked};
 ghost use Rattle.roll_session.specs.Seen.{core_of};
@@ -7,8 +7,10 @@ ghost use Rattle.roll_text.specs.Lines.{ended};
 ghost use Rattle.roll_cli.specs.Calls.{call_of, narrowed};
 ghost use Rattle.roll_cli.specs.Output.{after_command, event_text, guess_line, guessed, is_refused as refuses, job_at, refusals_from, refused_by, with_job, written_by, written_from};
 ghost use Rattle.roll_cli.specs.Playings.{game_of};
+ghost use Rattle.roll_cli.specs.Plays.{AreCommands};
+ghost use Rattle.roll_cli.specs.declared.command.Command.{Command};
 
-use crate::command::Command;
+use crate::command::{Command, first_command};
 use crate::engine::PlayFault;
 use crate::output::{push_claim, push_job, push_reply};
 use crate::refusals::{push_refused, refusal_in};
@@ -51,23 +53,30 @@ impl<G: Shown> Playing<G> {
         }
     }
 
-    /// Plays the commands, writes their replies at the end, and answers how many are refusals.
+    /// Plays the commands whose lines a text is, writes their replies at the end, and answers how many are refusals.
     pub fn play_all(
         &mut self,
         alloc: Global,
         out: &mut Vec<u8>,
-        commands: &[Command],
+        commands: &[u8],
     ) -> Result<u32, PlayFault>
-        requires { length self.old.now.jobs + length commands.now < 2 ^ 32 }
-        ensures written { OnOk result (out.new.items ≡ out.old.items ++ written_from G.text_of self.old.settings (game_of G.step self.old) self.old.now commands.now) }
-        ensures refused { IfOk result (λ refused. refused ≡ refusals_from self.old.settings (game_of G.step self.old) self.old.now commands.now) }
+        requires readable { (list : List Command) × AreCommands commands.now list }
+        requires few { length self.old.now.jobs + length commands.now < 2 ^ 32 }
+        ensures played { IfOk result (λ refused. (list : List Command) × AreCommands commands.now list
+            × (out.new.items ≡ out.old.items ++ written_from G.text_of self.old.settings (game_of G.step self.old) self.old.now list)
+            × (refused ≡ refusals_from self.old.settings (game_of G.step self.old) self.old.now list)) }
         ensures fault { IfErr result (λ fault. fault ≡ PlayFault.NoMemory) }
     {
+        let mut rest = commands;
         let mut refused = 0;
-        for command in commands {
-            if self.play(alloc, out, command)? {
+        while !rest.is_empty() {
+            let Some((command, after)) = first_command(alloc, rest)? else {
+                unreachable!()
+            };
+            if self.play(alloc, out, &command)? {
                 refused += 1;
             }
+            rest = after;
         }
         Ok(refused)
     }
@@ -96,6 +105,7 @@ impl<G: Shown> Playing<G> {
     }
 
     /// Plays a command, writes its reply, and answers whether it was refused.
+    #[inline(always)]
     fn play(
         &mut self,
         alloc: Global,
@@ -124,6 +134,7 @@ impl<G: Shown> Playing<G> {
     }
 
     /// Does what is asked for, writes the reply, and answers whether it was refused.
+    #[inline(always)]
     fn answer(&mut self, out: &mut Vec<u8>, request: Request<G>) -> Result<bool, PlayFault>
         ensures played { OnOk result (self.new ≡ record self.old { now = record self.old.now { core = after self.old.settings (game_of G.step self.old) self.old.now.core (asked request) } }) }
         ensures written { OnOk result (out.new.items ≡ out.old.items ++ event_text G.text_of self.old.settings (game_of G.step self.old) self.old.now.core (asked request)) }
@@ -136,6 +147,7 @@ impl<G: Shown> Playing<G> {
     }
 
     /// Takes a job, runs it, and asks for its branch to be taken in.
+    #[inline(never)]
     fn extend(&mut self, out: &mut Vec<u8>, number: u32) -> Result<bool, PlayFault>
         ensures played { OnOk result (self.new ≡ record self.old { now = after_command self.old.settings (game_of G.step self.old) self.old.now (Command.Extend number) }) }
         ensures written { OnOk result (out.new.items ≡ out.old.items ++ written_by G.text_of self.old.settings (game_of G.step self.old) self.old.now (Command.Extend number)) }
@@ -153,6 +165,7 @@ impl<G: Shown> Playing<G> {
     }
 
     /// Has a guess made, and writes its job's number, which is the next.
+    #[inline(never)]
     fn guess(
         &mut self,
         alloc: Global,
@@ -194,6 +207,7 @@ fn take_job<G: Game>(jobs: &mut Vec<Option<Job<G>>>, number: usize) -> Option<Jo
     jobs.get_mut(number)?.take()
 }
 
+#[inline(always)]
 fn is_refused(reply: &Reply) -> bool
     ensures { result ≡ refuses reply.now }
 {
@@ -201,7 +215,8 @@ fn is_refused(reply: &Reply) -> bool
 }
 
 /// The call that a command asks for. A number that is past those of any player stands for none, as 0 does.
-fn call(command: &Command) -> Option<Call>
+#[inline(always)]
+pub fn call(command: &Command) -> Option<Call>
     ensures { result ≡ call_of command.now }
 {
     match command {
@@ -227,7 +242,8 @@ fn call(command: &Command) -> Option<Call>
     }
 }
 
-fn player_number(n: u32) -> u8
+/// A player's number as a call has it: 0, which is nobody's, for one that is past those of any player.
+pub fn player_number(n: u32) -> u8
     ensures { result ≡ narrowed n }
 {
     u8::try_from(n).unwrap_or(0)

@@ -1,15 +1,20 @@
 //! Whole scripts.
-ghost use Rattle.std.specs.Prelude.{◌≡◌, ℕ, Err, IfOk};
+ghost use Rattle.std.specs.Prelude.{◌≡◌, ◌≤◌, ℕ, ◌++◌, Err, IfOk, length};
 ghost use Rattle.roll_text.specs.Text.{IsUnreadableAt};
-ghost use Rattle.roll_cli.specs.Plays.{IsPlay, IsScript, play_lines, play_of};
+ghost use Rattle.roll_cli.specs.Headers.{IsSetup, header_of, setup_of};
+ghost use Rattle.roll_cli.specs.Plays.{IsOutlined, IsPlay, IsScript, play_lines, play_of};
 ghost use Rattle.roll_cli.specs.declared.script.ScriptFault.TheVariants.{NoMemory, Unreadable};
-ghost use Rattle.roll_text.specs.Lines.{text_of};
+ghost use Rattle.roll_text.specs.Lines.{ended, text_of};
+ghost use Rattle.roll_text.specs.declared.streams.TheConstants.{TEXT_LIMIT};
 
-use crate::command::Command;
+use crate::command::{Command, first_command};
 use crate::header::Header;
 use roll_text::split_line;
 use std::alloc::{AllocError, AllocFailed, Global};
 use thiserror::Error;
+
+/// The line of a script's first command.
+const FIRST_COMMAND: u64 = 2;
 
 /// A script: how its session is opened, and what is asked of it.
 #[derive(Debug, Drop)]
@@ -51,19 +56,11 @@ impl Script {
         ensures spelled { IfOk result (λ script. text.now ≡ text_of (play_lines (play_of script))) }
         ensures unreadable { (line : ℕ) → result ≡ Err (Unreadable line) → IsUnreadableAt line IsScript text.now }
     {
-        let Some((first, mut rest)) = split_line(text) else {
-            return Err(ScriptFault::Unreadable(1));
-        };
-        let Some(header) = Header::read(alloc, first)? else {
-            return Err(ScriptFault::Unreadable(1));
-        };
+        let (header, mut rest) = split_header(alloc, text)?;
         let mut commands = Vec::new(alloc);
-        let mut line = 2;
+        let mut line = FIRST_COMMAND;
         while !rest.is_empty() {
-            let Some((front, after)) = split_line(rest) else {
-                return Err(ScriptFault::Unreadable(line));
-            };
-            let Some(command) = Command::read(alloc, front)? else {
+            let Some((command, after)) = first_command(alloc, rest)? else {
                 return Err(ScriptFault::Unreadable(line));
             };
             commands.push(command)?;
@@ -72,4 +69,37 @@ impl Script {
         }
         Ok(Script { header, commands })
     }
+}
+
+/// Sees that a text is a script's. Of the script it keeps the header alone, and where the commands' lines begin.
+pub fn outline(alloc: Global, text: &[u8]) -> Result<(Header, &[u8]), ScriptFault>
+    requires { length text.now ≤ TEXT_LIMIT }
+    ensures outlined { IfOk result (λ found. IsOutlined (setup_of found.0) found.1.now text.now) }
+    ensures unreadable { (line : ℕ) → result ≡ Err (Unreadable line) → IsUnreadableAt line IsScript text.now }
+{
+    let (header, commands) = split_header(alloc, text)?;
+    let mut rest = commands;
+    let mut line = FIRST_COMMAND;
+    while !rest.is_empty() {
+        let Some((_, after)) = first_command(alloc, rest)? else {
+            return Err(ScriptFault::Unreadable(line));
+        };
+        rest = after;
+        line += 1;
+    }
+    Ok((header, commands))
+}
+
+/// The header of a script, and what follows its line.
+fn split_header(alloc: Global, text: &[u8]) -> Result<(Header, &[u8]), ScriptFault>
+    ensures header { IfOk result (λ found. IsSetup (setup_of found.0) × (text.now ≡ ended (header_of (setup_of found.0)) ++ found.1.now)) }
+    ensures unreadable { (line : ℕ) → result ≡ Err (Unreadable line) → IsUnreadableAt line IsScript text.now }
+{
+    let Some((first, rest)) = split_line(text) else {
+        return Err(ScriptFault::Unreadable(1));
+    };
+    let Some(header) = Header::read(alloc, first)? else {
+        return Err(ScriptFault::Unreadable(1));
+    };
+    Ok((header, rest))
 }

@@ -5,3 +5,4 @@ pub mod Fates
 pub mod Speculating
 pub mod Copies
 pub mod Running
+pub mod Branches

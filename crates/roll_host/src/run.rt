@@ -1,6 +1,6 @@
 //! Requests of a host as values, and whole lists of them.
 ghost use Rattle.std.specs.Prelude.{◌≡◌, ◌≤◌, ◌+◌, [], length, vec_capacity, vec_len, IfOk, OnErr, OnOk};
-ghost use Rattle.roll_host.specs.Hosted.{rings_of};
+ghost use Rattle.roll_host.specs.Hosted.{places_of, rings_of};
 ghost use Rattle.roll_host.specs.Requests.{IsDone, IsDoneTo, IsEndedEarly, IsShortOf};
 
 use crate::host::Host;
@@ -16,6 +16,7 @@ impl<G: Game> Host<G> {
         ensures done { IfOk result (λ reply. IsDone G.step self.old self.new request reply) }
         ensures short { OnErr result (IsShortOf G.step self.old self.new request) }
         ensures rings { rings_of self.new.links ≡ rings_of self.old.links }
+        ensures places { places_of self.new.pool ≡ places_of self.old.pool }
     {
         match request {
             HostRequest::Session(request) => {
@@ -48,6 +49,7 @@ impl<G: Game> Host<G> {
         ensures empty { OnOk result (requests.new.items ≡ []) }
         ensures left { OnErr result (IsEndedEarly G.step self.old self.new requests.old.items requests.new.items replies.old.items replies.new.items) }
         ensures rings { rings_of self.new.links ≡ rings_of self.old.links }
+        ensures places { places_of self.new.pool ≡ places_of self.old.pool }
     {
         while let Some(request) = requests.pop_front() {
             let reply = self.perform(request)?;

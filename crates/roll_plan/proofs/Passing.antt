@@ -10,8 +10,7 @@ use Rattle.roll_frame.specs.Cells.{Rows}
 use Rattle.roll_frame.specs.Order.{in_order}
 use Rattle.roll_tree.specs.SavedStates.{SavedStates, Saved, path_of, paths_of}
 use Rattle.roll_frame.specs.Claims.{least_place}
-use Rattle.roll_plan.specs.Ranks.{entries_by, is_passed, marked_for}
-use Rattle.roll_plan.specs.declared.planner.Ranked.{Ranked}
+use Rattle.roll_plan.specs.Ranks.{entries_by, is_passed, marked_for, path_named}
 use Rattle.roll_plan.proofs.Making.{all_ordered}
 
 module _ {S : Type 0} where
@@ -50,12 +49,12 @@ module _ {S : Type 0} where
       entries_none t from to 0 (in_order (paths_of t))
       (recursion_from_All P (in_order (paths_of t)) (all_ordered P (paths_of t) (All-from_recursion P (paths_of t) (none_each t from to t.states none))))
 
-  -- entries of paths with names
-  entries_of_paths : (t : SavedStates S) (from to place : ℕ) (kept : List Ranked) → entries_by (λ state (k : Ranked). marked_for t from to state k.path) place kept ≡ entries_by (marked_for t from to) place (map (λ (k : Ranked). k.path) kept)
-  entries_of_paths t from to place [] = refl
-  entries_of_paths t from to place (k ∷ kept) = ap (cons_option (marked_for t from to place k.path)) (entries_of_paths t from to (suc place) kept)
+  -- entries of names are those of their paths
+  entries_of_names : (t : SavedStates S) (from to place : ℕ) (names : List ℕ) → entries_by (λ state name. marked_for t from to state (path_of t.base (path_named t name))) place names ≡ entries_by (marked_for t from to) place (map (path_of t.base) (map (path_named t) names))
+  entries_of_names t from to place [] = refl
+  entries_of_names t from to place (name ∷ names) = ap (cons_option (marked_for t from to place (path_of t.base (path_named t name)))) (entries_of_names t from to (suc place) names)
 
-  -- the entries of the kept paths, which these are
-  pub entries_ranked : (t : SavedStates S) (from to : ℕ) (kept : List Ranked) → map (λ (k : Ranked). k.path) kept ≡ map (path_of t.base) (in_order (paths_of t))
-      → entries_by (λ state (k : Ranked). marked_for t from to state k.path) 0 kept ≡ entries_by (marked_for t from to) 0 (map (path_of t.base) (in_order (paths_of t)))
-  entries_ranked t from to kept are = entries_of_paths t from to 0 kept ∙ ap (entries_by (marked_for t from to) 0) are
+  -- the entries of the kept paths, which these names have
+  pub entries_ranked : (t : SavedStates S) (from to : ℕ) (names : List ℕ) → map (path_named t) names ≡ in_order (paths_of t)
+      → entries_by (λ state name. marked_for t from to state (path_of t.base (path_named t name))) 0 names ≡ entries_by (marked_for t from to) 0 (map (path_of t.base) (in_order (paths_of t)))
+  entries_ranked t from to names are = entries_of_names t from to 0 names ∙ ap (λ (paths : List Rows). entries_by (marked_for t from to) 0 (map (path_of t.base) paths)) are

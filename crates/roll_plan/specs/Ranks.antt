@@ -1,12 +1,13 @@
 -- What is taken down of the states of a tree.
-use Rattle.std.specs.Prelude.{◌≡◌, ℕ, suc, List, [], ◌∷◌, ◌&&◌, nat_lt, nat_le, Bool, Option, Some, None, option_map, if◌then◌else◌}
+use Rattle.std.specs.Prelude.{ℕ, suc, List, [], ◌∷◌, ◌&&◌, nat_lt, nat_le, Bool, Option, None, option_map, IsSome, if◌then◌else◌}
 use Rattle.std.specs.List.{cons_option}
+use Rattle.std.specs.Option.{option_map_or}
+use Rattle.roll_frame.specs.Cells.{Rows}
 use Rattle.roll_frame.specs.declared.claim.Differ.{Differ}
 use Rattle.roll_frame.specs.declared.path.Path.{Path}
 use Rattle.roll_frame.specs.Order.{frames_of}
-use Rattle.roll_tree.specs.SavedStates.{SavedStates, Saved, state_named, path_of}
+use Rattle.roll_tree.specs.SavedStates.{SavedStates, state_named}
 use Rattle.roll_frame.specs.Claims.{least_place}
-use Rattle.roll_plan.specs.declared.planner.Ranked.{Ranked}
 
 -- the entries that are made of these, the first of them at this place
 abbrev pub entries_by : {X : Type 0} → (ℕ → X → Option Differ) → ℕ → List X → List Differ
@@ -18,12 +19,13 @@ abbrev pub is_passed : ℕ → ℕ → Path → Bool
 is_passed from to path = nat_lt from (frames_of path) && nat_le (frames_of path) to
 
 module _ {S : Type 0} where
-  abbrev pub ranked_of : ℕ → Saved S → Ranked
-  ranked_of base s = record { path = path_of base s.path; node = s.name }
+  -- the path of the state of this name, and no rows where there is none
+  abbrev pub path_named : SavedStates S → ℕ → Rows
+  path_named t name = option_map_or (λ s. s.path) (state_named t name) []
 
-  -- the state of this name has this path
-  abbrev pub HasNode : SavedStates S → Ranked → Type 0
-  HasNode t k = option_map (λ s. s.path) (state_named t k.node) ≡ Some k.path.rows.items
+  -- a state of this name is kept
+  abbrev pub IsKept : SavedStates S → ℕ → Type 0
+  IsKept t name = IsSome (state_named t name)
 
   -- the entry of a path that a plan between these frames passes over, by its marks
   abbrev pub marked_for : SavedStates S → ℕ → ℕ → ℕ → Path → Option Differ

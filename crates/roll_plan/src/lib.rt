@@ -3,6 +3,7 @@
 
 mod plan;
 mod planner;
+mod rank;
 
 pub use plan::Plan;
 pub use planner::Planner;

@@ -4,11 +4,12 @@ ghost use Rattle.std.specs.List.{list_any};
 ghost use Rattle.roll_frame.specs.Claims.{IsRight};
 ghost use Rattle.roll_frame.specs.Order.{in_order};
 ghost use Rattle.roll_tree.specs.SavedStates.{state_named, path_of, paths_of as kept_paths, time_to};
-ghost use Rattle.roll_plan.specs.Ranks.{HasNode, entries_by, is_passed, marked_for, ranked_of};
+ghost use Rattle.roll_plan.specs.Ranks.{IsKept, entries_by, is_passed, marked_for, path_named};
 ghost use Rattle.roll_plan.specs.Spelled.{path_before, path_in, spelled};
 ghost use Rattle.roll_plan.specs.Plans.{CanPlan, IsClaimOf, IsPlanOf, made_of};
 
 use crate::plan::Plan;
+use crate::rank::rank;
 use arrayvec::ArrayVec;
 use roll_frame::{Claim, Differ, Items, PATH_LIMIT, PLAYER_LIMIT, Path, Refusal, Row, TREE_LIMIT};
 use roll_tree::{Above, Tree};
@@ -22,13 +23,6 @@ pub struct Taken {
     pub above: Option<Above>,
 }
 
-/// A kept path, and its state's name.
-#[derive(Debug, Drop, PartialEq, Eq, PartialOrd, Ord)]
-pub struct Ranked {
-    pub path: Path,
-    pub node: usize,
-}
-
 /// Makes plans, and the claim of the last one.
 ///
 /// Only `new` and `claim` take memory.
@@ -39,8 +33,8 @@ pub struct Planner {
     time: ArrayVec<Row, PATH_LIMIT>,
     // The kept states, each after the one above it.
     taken: Vec<Taken>,
-    // Room for the kept paths, in their order.
-    ranked: Vec<Ranked>,
+    // Room for the names of the kept states, in the order of their paths.
+    ranked: Vec<usize>,
     plan: Plan,
     // Whether there is a last plan.
     is_made: bool,
@@ -174,7 +168,7 @@ fn take_down<S>(taken: &mut Vec<Taken>, tree: &Tree<S>)
 /// Makes an entry for each path that a plan passes over. Mostly there is none, and then no path is looked at.
 fn name_passed<S>(
     differs: &mut Vec<Differ>,
-    ranked: &mut Vec<Ranked>,
+    ranked: &mut Vec<usize>,
     tree: &Tree<S>,
     from: u32,
     to: u32,
@@ -215,62 +209,32 @@ fn is_passed_over<S>(tree: &Tree<S>, node: usize, from: u32, to: u32) -> bool
     from < end && end <= to
 }
 
-/// Takes down the kept paths of a tree, in their order.
-fn rank<S>(ranked: &mut Vec<Ranked>, tree: &Tree<S>)
-    requires room { TREE_LIMIT ≤ vec_capacity ranked.old }
-    ensures paths { map (λ k. k.path) ranked.new.items ≡ map (path_of tree.now.base) (in_order (kept_paths tree.now)) }
-    ensures nodes { All (HasNode tree.now) ranked.new.items }
-    ensures few { length ranked.new.items ≤ TREE_LIMIT }
-    ensures room { TREE_LIMIT ≤ vec_capacity ranked.new }
-{
-    tree.laws();
-    list_paths(ranked, tree);
-    ranked.sort_unstable();
-}
-
-/// Takes down the kept paths of a tree, in the order of its states.
-fn list_paths<S>(ranked: &mut Vec<Ranked>, tree: &Tree<S>)
-    requires room { TREE_LIMIT ≤ vec_capacity ranked.old }
-    ensures ranked { ranked.new.items ≡ map (ranked_of tree.now.base) tree.now.states }
-    ensures room { TREE_LIMIT ≤ vec_capacity ranked.new }
-{
-    tree.laws();
-    ranked.clear();
-    for node in tree.names() {
-        ranked.push_reserved(Ranked {
-            path: tree.path(*node),
-            node: *node,
-        });
-    }
-}
-
-/// Makes an entry for each of these paths that a plan passes over.
-fn name_differs<S>(differs: &mut Vec<Differ>, tree: &Tree<S>, kept: &[Ranked], from: u32, to: u32)
-    requires nodes { All (HasNode tree.now) kept.now }
+/// Makes an entry for each of these states whose path a plan passes over.
+fn name_differs<S>(differs: &mut Vec<Differ>, tree: &Tree<S>, kept: &[usize], from: u32, to: u32)
+    requires kept { All (IsKept tree.now) kept.now }
     requires few { length kept.now ≤ TREE_LIMIT }
     requires room { TREE_LIMIT ≤ vec_capacity differs.old }
-    ensures entries { differs.new.items ≡ entries_by (λ state k. marked_for tree.now from to state k.path) 0 kept.now }
+    ensures entries { differs.new.items ≡ entries_by (λ state name. marked_for tree.now from to state (path_of tree.now.base (path_named tree.now name))) 0 kept.now }
     ensures room { TREE_LIMIT ≤ vec_capacity differs.new }
 {
     differs.clear();
-    for (state, ranked) in kept.iter().enumerate() {
-        if let Some(entry) = entry(tree, state, ranked, from, to) {
+    for (state, node) in kept.iter().enumerate() {
+        if let Some(entry) = entry(tree, state, *node, from, to) {
             differs.push_reserved(entry);
         }
     }
 }
 
-/// The entry of a path, where a plan passes over it.
-fn entry<S>(tree: &Tree<S>, state: usize, ranked: &Ranked, from: u32, to: u32) -> Option<Differ>
-    requires node { HasNode tree.now ranked.now }
+/// The entry of a state, where a plan passes over its path.
+fn entry<S>(tree: &Tree<S>, state: usize, node: usize, from: u32, to: u32) -> Option<Differ>
+    requires kept { IsKept tree.now node }
     requires few { state < TREE_LIMIT }
-    ensures { result ≡ marked_for tree.now from to state ranked.now.path }
+    ensures { result ≡ marked_for tree.now from to state (path_of tree.now.base (path_named tree.now node)) }
 {
-    let end = ranked.path.frames();
-    if end <= u64::from(from) || u64::from(to) < end {
+    if !is_passed_over(tree, node, from, to) {
         return None;
     }
-    match tree.first_mark(ranked.node) {
+    match tree.first_mark(node) {
         Some((frame, player)) => Some(Differ {
             state: state as u32,
             frame,

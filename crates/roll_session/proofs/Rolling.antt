@@ -102,6 +102,7 @@ pub record IsOnWay {S : Type 0} (value : S → Value) (step : Value → List Cel
   pub inputs : now.inputs ≡ old.inputs
   pub room : now.room ≡ old.room
   pub base : now.tree.base ≡ old.inputs.settled
+  pub time : now.tree.time ≡ old.tree.time
   pub low : from ≤ frame
   pub high : frame ≤ to
   pub paths : paths_of now.tree ≡ paths_of old.tree ++ prefixes (rows_to old.inputs to) (way_to old to) (frame - from)
@@ -137,6 +138,7 @@ module _ {S : Type 0} (value : S → Value) (step : Value → List Cell → Valu
         inputs = refl;
         room = refl;
         base = base;
+        time = refl;
         low = omega arith;
         high = within;
         paths = rw none (sym (append-nil (paths_of old.tree)));
@@ -166,20 +168,21 @@ module _ {S : Type 0} (value : S → Value) (step : Value → List Cell → Valu
 
   -- one frame more
   pub way_more : (now new : Standing S) (frame at name : ℕ) (state state' : Value) (snapshot : S) (row : List Cell) → IsOnWay value step old now from to frame at state → frame < to → row ≡ row_at now.inputs.players frame → state' ≡ step state row → value snapshot ≡ step state row
-      → new.inputs ≡ now.inputs → new.room ≡ now.room → state_named now.tree name ≡ None → IfSome (state_named now.tree at) (λ u. new.tree ≡ with_state now.tree (record { name = name; path = u.path ++ row_at now.inputs.players frame ∷ []; snapshot = snapshot }))
+      → new.inputs ≡ now.inputs → new.room ≡ now.room → state_named now.tree name ≡ None → IfSome (state_named now.tree at) (λ u. new.tree ≡ with_state now.tree (record { name = name; path = u.path ++ row ∷ []; snapshot = snapshot }))
       → IsOnWay value step old new from to (frame + 1) name state'
   way_more now new frame at name state state' snapshot row w high row_is state_is snap inputs room vacant added =
       let s = some_is (state_named now.tree at) (λ u. u.path ≡ rows_from old.inputs.players old.inputs.settled (frame - old.inputs.settled)) w.here in
-      let u : Saved S = record { name = name; path = s.0.path ++ row_at now.inputs.players frame ∷ []; snapshot = snapshot } in
-      let tree : new.tree ≡ with_state now.tree u = if_some (state_named now.tree at) s.0 (λ v. new.tree ≡ with_state now.tree (record { name = name; path = v.path ++ row_at now.inputs.players frame ∷ []; snapshot = snapshot })) s.1 added in
+      let u : Saved S = record { name = name; path = s.0.path ++ row ∷ []; snapshot = snapshot } in
+      let tree : new.tree ≡ with_state now.tree u = if_some (state_named now.tree at) s.0 (λ v. new.tree ≡ with_state now.tree (record { name = name; path = v.path ++ row ∷ []; snapshot = snapshot })) s.1 added in
       let low : old.inputs.settled ≤ frame = omega (arith, start, w.low) in
-      let path : u.path ≡ rows_from old.inputs.players old.inputs.settled (frame + 1 - old.inputs.settled) = rw (w.inputs, s.2) (next_rows old.inputs.players old.inputs.settled frame low) in
+      let path : u.path ≡ rows_from old.inputs.players old.inputs.settled (frame + 1 - old.inputs.settled) = rw (row_is, w.inputs, s.2) (next_rows old.inputs.players old.inputs.settled frame low) in
       let led : (opening : Value) → HaveValues value step opening (timeline old.inputs.players old.inputs.settled) old.tree.states → step state row ≡ run step opening (timeline old.inputs.players (frame + 1)) =
       λ opening h. rw (w.reached opening h, row_is, w.inputs, add-one) (sym (fold_push step opening (timeline old.inputs.players frame) (row_at old.inputs.players frame))) in
       record {
         inputs = inputs ∙ w.inputs;
         room = room ∙ w.room;
         base = ap (λ (t : SavedStates S). t.base) tree ∙ w.base;
+        time = ap (λ (t : SavedStates S). t.time) tree ∙ w.time;
         low = omega (arith, w.low);
         high = omega (arith, high);
         paths = ap paths_of tree ∙ map-append (λ (v : Saved S). v.path) now.tree.states (u ∷ []) ∙ rw (w.paths, path, prefixes_more old.inputs.players old.inputs.settled to (way_to old to) from frame start w.low high) (append_assoc (paths_of old.tree) (prefixes (rows_to old.inputs to) (way_to old to) (frame - from)) (rows_from old.inputs.players old.inputs.settled (frame + 1 - old.inputs.settled) ∷ []));

@@ -1,13 +1,14 @@
 -- The timeline's rows from a frame on, and the longest of paths that go on from the same rows.
-use Rattle.std.proofs.Common.{◌≡◌, ℕ, suc, ◌+◌, ◌-◌, ◌<◌, ◌≤◌, List, [], ◌∷◌, ◌++◌, length, refl, ap, sym, ◌∙◌, Bool, true, false, arith, take, drop, inl, inr, max}
+use Rattle.std.proofs.Common.{◌≡◌, ℕ, suc, ◌+◌, ◌-◌, ◌<◌, ◌≤◌, List, [], ◌∷◌, ◌++◌, length, get_or, refl, ap, sym, ◌∙◌, Bool, true, false, arith, take, drop, inl, inr, max}
 use Rattle.std.specs.Prelude.{◌⊎◌, filter}
 use Rattle.std.proofs.lemmas.Bool.{false≢true, cases_Bool, cases_lt}
-use Rattle.std.proofs.lemmas.List.{length-drop, drop_all, drop-append-le, drop-take, take-append-drop, drop-drop, length-append}
+use Rattle.std.proofs.lemmas.List.{get_or-drop, length-drop, drop_all, drop-append-le, drop-take, take-append-drop, drop-drop, length-append}
+use Rattle.roll_frame.specs.declared.row.Cell.{Cell}
 use Rattle.roll_frame.specs.Cells.{Rows}
 use Rattle.roll_frame.specs.Paths.{begins_with, longest}
 use Rattle.roll_frame.specs.Timeline.{Player, row_at, timeline}
 use Rattle.roll_laws.proofs.Saved.{In, longest_at_least, take_timeline}
-use Rattle.roll_frame.proofs.Timelines.{length_timeline}
+use Rattle.roll_frame.proofs.Timelines.{length_timeline, timeline_row}
 use Rattle.roll_frame.proofs.Beginnings.{begins-behind}
 use Rattle.roll_session.specs.Standing.{rows_from, from_start}
 
@@ -80,3 +81,14 @@ longest_some f (x ∷ xs) q h = go (cases_Bool (begins_with q x)) (cases_Bool (f
     go (inl e) (inr g) rest = absurd (false≢true (sym g ∙ h x (inl refl) e))
     go (inr e) (inl g) rest = rw g (rw e rest)
     go (inr e) (inr g) rest = rw g (rw e rest)
+
+-- a row of them
+pub row_from : (players : List Player) (from count k : ℕ) (other : List Cell) → k < count → get_or (rows_from players from count) k other ≡ row_at players (from + k)
+row_from players from count k other h = get_or-drop from (timeline players (from + count)) k other ∙ timeline_row players (from + count) (from + k) other (omega (arith, h))
+
+-- the row of a frame, read where the timeline's rows from a frame on are told
+pub row_told : (players : List Player) (from frame : ℕ) (rows time : Rows) (other : List Cell) → rows ≡ time → time ≡ rows_from players from (length time) → from ≤ frame → frame < from + length time
+    → get_or rows (frame - from) other ≡ row_at players frame
+row_told players from frame rows time other same told low high =
+    let here : from + (frame - from) ≡ frame = omega (arith, low) in
+    ap (λ (q : Rows). get_or q (frame - from) other) (same ∙ told) ∙ row_from players from (length time) (frame - from) other (omega (arith, low, high)) ∙ ap (row_at players) here

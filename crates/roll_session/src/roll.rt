@@ -28,6 +28,7 @@ fn run_on<G: Game>(
     requires from { from ≡ saves.old.inputs.settled + way_to saves.old to }
     requires within { from ≤ to }
     requires near { to ≤ saves.old.inputs.settled + PATH_LIMIT }
+    requires told { to ≤ saves.old.inputs.settled + length saves.old.tree.time }
     requires start { IsSomeAnd (state_named saves.old.tree start) (λ s. s.path ≡ rows_from saves.old.inputs.players saves.old.inputs.settled (way_to saves.old to)) }
     requires fits { length saves.old.tree.states + (to - from) ≤ TREE_LIMIT }
     ensures inputs { saves.new.inputs ≡ saves.old.inputs }
@@ -46,11 +47,11 @@ fn run_on<G: Game>(
     let mut state = loaded;
     let mut at = start;
     for frame in from..to {
-        let row = saves.board().row(frame);
+        let row = saves.told_row(frame);
         let Ok(snapshot) = advance_and_save(game, &mut state, &row) else {
             return Err(frame - from);
         };
-        at = saves.grow(at, frame, snapshot);
+        at = saves.hang(at, row, snapshot);
     }
     Ok(state)
 }

@@ -14,6 +14,7 @@ use std::collections::VecDeque;
 
 impl<G: Game> Session<G> {
     /// Does what is asked for, and answers its reply. A refusal is a reply like any other; only want of memory is an error.
+    #[inline(always)]
     pub fn perform(&mut self, request: Request<G>) -> Result<Reply, NoMemory>
         ensures replied { IfOk result (λ said. IsReplied G.step self.old self.new (asked request) said) }
         ensures short { OnErr result (IsShort G.step self.old self.new (asked request)) }
@@ -26,6 +27,7 @@ impl<G: Game> Session<G> {
     }
 
     /// Does what is asked for, and answers the reply where it is accepted.
+    #[inline(always)]
     fn answer(&mut self, request: Request<G>) -> Result<Reply, Refusal>
         ensures answered { IsAnswered G.step self.old self.new (asked request) (replied (λ said. said) result) }
         ensures said { IfOk result (λ said. said ≢ Reply.Refused Refusal.NoMemory) }
@@ -40,6 +42,7 @@ impl<G: Game> Session<G> {
     }
 
     /// Makes one call, and answers the reply where it is accepted.
+    #[inline(always)]
     fn make(&mut self, call: Call) -> Result<Reply, Refusal>
         ensures answered { IsAnswered G.step self.old self.new (event_of call) (replied (λ said. said) result) }
         ensures said { IfOk result (λ said. said ≢ Reply.Refused Refusal.NoMemory) }

@@ -215,20 +215,13 @@ impl<S> Saves<S> {
         self.tree.deepest(to)
     }
 
-    /// Saves the state that a frame of the timeline leads to from another.
-    pub fn grow(&mut self, parent: usize, frame: u32, snapshot: S) -> usize
-    where
-        S: Drop,
-        requires frame { self.old.inputs.settled ≤ frame }
-        requires fits { CanGrow self.old.tree parent (row_at self.old.inputs.players frame) }
-        requires few { length self.old.tree.states < TREE_LIMIT }
-        ensures inputs { self.new.inputs ≡ self.old.inputs }
-        ensures room { self.new.room ≡ self.old.room }
-        ensures vacant { state_named self.old.tree result ≡ None }
-        ensures added { IfSome (state_named self.old.tree parent) (λ s. self.new.tree ≡ with_state self.old.tree (record { name = result; path = s.path ++ row_at self.old.inputs.players frame ∷ []; snapshot = snapshot })) }
+    /// The timeline's row of a frame that the tree was told of.
+    pub fn told_row(&self, frame: u32) -> Row
+        requires from { self.now.inputs.settled ≤ frame }
+        requires told { frame < self.now.inputs.settled + length self.now.tree.time }
+        ensures { result ≡ row_at self.now.inputs.players frame }
     {
-        let row = self.board.row(frame);
-        self.hang(parent, row, snapshot)
+        self.tree.time()[(frame - self.board.settled()) as usize]
     }
 
     /// Saves a state one row below another.

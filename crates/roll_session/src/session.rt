@@ -219,6 +219,7 @@ impl<G: Game> Session<G> {
     }
 
     /// Takes a player's input, or sees that it was taken before.
+    #[inline(always)]
     fn take(&mut self, call: Call) -> Result<Heard, Refusal>
         requires input { IsInput call }
         ensures { IsAnswered G.step self.old self.new (event_of call) (replied (λ heard. input_reply call heard) result) }
@@ -246,6 +247,7 @@ impl<G: Game> Session<G> {
     }
 
     /// Judges a call, and makes sure that there is room for its entry.
+    #[inline(always)]
     fn admit(&mut self, call: Call) -> Result<Heard, Refusal>
         ensures heard { IfOk result (λ heard. IsAdmitted G.step self.old self.new call heard) }
         ensures refused { IfErr result (λ why. IsAnswered G.step self.old self.new (event_of call) (Reply.Refused why)) }
@@ -261,6 +263,7 @@ impl<G: Game> Session<G> {
     }
 
     /// What the rules say of a call, apart from a full log.
+    #[inline(always)]
     fn judge(&self, call: Call) -> Result<Heard, Refusal>
         ensures { result ≡ judged (is_repeat (core_of self.now) (entry_of call)) (first_refusal (tests_of self.now.settings (game_of G.step self.now) (core_of self.now) [] (entry_of call))) }
     {

@@ -142,7 +142,7 @@ pub fn graft_all(
 
 /// Branches for a session that has run nothing, the only one that it takes last. The wrong number of the second comes to
 /// what is right after its row.
-const AT_THE_START: [Made; 11] = [
+pub const AT_THE_START: [Made; 11] = [
     (0, &[], 4, &[GUESS], Err(Refusal::Stranger)),
     (0, &[], 100_000, &[ZEROS], Err(Refusal::Stranger)),
     (1, &[], 0, &[ZEROS], Err(Refusal::Stranger)),

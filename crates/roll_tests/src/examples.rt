@@ -15,6 +15,10 @@ pub const LATE: &[u8] =
 pub const LATE_OUTPUT: &[u8] =
     b"ok\nframe 1 from 0 rerun 1 settled 0 state 1\nok\nframe 2 from 1 rerun 1 settled 0 state 11\ntaken\nframe 2 from 0 rerun 2 settled 1 state 77\nrollcert 1\nplayers 2\nbase 0\nfrom 0\ntime 2\n1,3\n1,3\nkept 1\n-\ndiffers 0\n";
 
+/// What that script writes where it is played with workers.
+pub const LATE_LIVE: &[u8] =
+    b"ok\nframe 1 state 1\nok\nframe 2 state 11\ntaken\nframe 2 state 77\n";
+
 /// The calls of that script.
 pub const LATE_CALLS: [Call; 6] = [
     Call::Local { player: 1, word: 1 },

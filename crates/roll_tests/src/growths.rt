@@ -9,12 +9,15 @@ use roll_frame::{Advice, Cell, Event, Refusal, Settings};
 use roll_game::{RawGame, Tally};
 use roll_host::Host;
 use roll_link::{LinkSender, Remote};
+use roll_live::Live;
 use roll_pool::{OpenGate, Owner, Worked, WorkerEnd};
 use roll_session::{Call, Request, Session};
 use roll_spectate::{Feed, RowReceiver, Spectator};
 use roll_synctest::{SyncTest, Verdict};
 use roll_tree::Tree;
 use std::alloc::Global;
+use std::sync::Wait;
+use std::thread::Threads;
 
 /// What came of an example.
 #[derive(Clone, Copy, Debug, PartialEq, Eq)]
@@ -50,10 +53,11 @@ pub enum Example {
     Feed,
     Links,
     Workers,
+    Live,
 }
 
 impl Example {
-    pub const ALL: [Example; 14] = [
+    pub const ALL: [Example; 15] = [
         Example::Script,
         Example::Guess,
         Example::DuelScript,
@@ -68,9 +72,13 @@ impl Example {
         Example::Feed,
         Example::Links,
         Example::Workers,
+        Example::Live,
     ];
 
-    pub fn run(self, alloc: Global) -> Ending {
+    pub fn run<R>(self, rt: &R, alloc: Global) -> Ending
+    where
+        R: Threads + Wait + Copy + Send + 'static,
+    {
         match self {
             Example::Script => answers(alloc, Task::Play(GameName::Tally), LATE, LATE_OUTPUT),
             Example::Guess => answers(
@@ -91,6 +99,7 @@ impl Example {
             Example::Feed => sends_rows(alloc).unwrap_or(Wrong),
             Example::Links => hears_by_a_link(alloc).unwrap_or(Wrong),
             Example::Workers => takes_in_a_guess(alloc).unwrap_or(Wrong),
+            Example::Live => plays_live(rt, alloc),
         }
     }
 }
@@ -122,6 +131,30 @@ fn answers(alloc: Global, task: Task, text: &[u8], output: &[u8]) -> Ending {
     let mut left = out.as_mut_slice();
     let ended = roll_cli::run(alloc, task, &mut reader, &mut left);
     let whole = out.starts_with(output) && out.get(output.len()) == Some(&0);
+    match ended.fault {
+        None if ended.status == 0 && whole => Whole,
+        Some(PlayFault::NoMemory) if out[0] == 0 => Refused,
+        _ => Wrong,
+    }
+}
+
+/// A script with a guess, and what playing it writes with workers.
+const GUESSING_LIVE: &[u8] = b"ok\nframe 1 state 1\nok\nframe 2 state 11\ntaken\nframe 2 state 11\nok\nframe 3 state 111\ntaken\nframe 3 state 177\n";
+
+/// Two workers: the whole output, or nothing. The threads have ended, also where one can't be started.
+fn plays_live<R>(rt: &R, alloc: Global) -> Ending
+where
+    R: Threads + Wait + Copy + Send + 'static,
+{
+    let asked = Live {
+        game: GameName::Tally,
+        workers: 2,
+    };
+    let mut reader = GUESSING;
+    let mut out = [0u8; 500];
+    let mut left = out.as_mut_slice();
+    let ended = roll_live::run(alloc, rt, asked, &mut reader, &mut left);
+    let whole = out.starts_with(GUESSING_LIVE) && out.get(GUESSING_LIVE.len()) == Some(&0);
     match ended.fault {
         None if ended.status == 0 && whole => Whole,
         Some(PlayFault::NoMemory) if out[0] == 0 => Refused,

@@ -1,6 +1,6 @@
 //! A host whose guesses are run by workers.
-use crate::branch::{PAST_SETTLED, graft_all, hand_job, settled_one};
 use crate::examples::{LATE_CALLS, TWO, open, played, row};
+use crate::pool::one_worker;
 use roll_frame::Refusal;
 use roll_game::{Call, Game, Refusing, Tally};
 use roll_host::{Absorbed, Host};
@@ -9,20 +9,8 @@ use roll_session::Session;
 use std::process::Abort;
 use std::test::Fail;
 
-/// A pool of one worker, and its end.
-fn one_worker<G: Game + Drop>(
-    rt: &(impl Abort + AllocGlobal),
-) -> Result<(Owner<G>, WorkerEnd<G>), Fail> {
-    let (owner, ends) = Owner::open(rt.alloc(), 1)?;
-    let mut in_order = ends.into_iter();
-    let Some(end) = in_order.next() else {
-        panic!(rt; "no end");
-    };
-    Ok((owner, end))
-}
-
 /// A host of this session with this pool.
-fn hosted<G: Game + Drop>(
+pub fn hosted<G: Game + Drop>(
     rt: &(impl Abort + AllocGlobal),
     session: Session<G>,
     owner: Owner<G>,
@@ -117,29 +105,24 @@ fn a_host_without_workers_takes_no_guess(rt: HostRuntime) -> Result<(), Fail> {
 }
 
 #[test]
-fn keeps_of_each_branch_what_a_graft_does(rt: HostRuntime) -> Result<(), Fail> {
-    let (mut owner, mut end) = one_worker(&rt)?;
-    for made in &PAST_SETTLED {
-        let Ok(_ticket) = owner.issue(hand_job(&rt, made)?) else {
-            panic!(&rt; "not issued");
+fn hands_back_what_no_worker_ran(rt: HostRuntime) -> Result<(), Fail> {
+    for workers in 1..5 {
+        let (owner, ends) = Owner::open(rt.alloc(), workers)?;
+        let session = played(rt.alloc(), &LATE_CALLS[..4])?;
+        let Ok(mut host) = Host::with_workers(rt.alloc(), session, owner) else {
+            panic!(&rt; "no memory");
         };
+        assert_eq!(rt; host.speculate(2, &[3], 2), Ok(Some(0)));
+        assert_eq!(rt; host.speculate(2, &[4], 2), Ok(Some(1)));
+        assert_eq!(rt; host.speculate(2, &[5], 2), Ok(Some(2)));
+        host.close();
+        let (session, outcome) = host.settle(ends);
+        assert_eq!(rt; session.frame(), 2);
+        assert!(rt; outcome.issued == 3 && outcome.collected == 0 && outcome.late.is_empty());
+        for (ticket, job) in outcome.left.iter().enumerate() {
+            assert_eq!(rt; job.ticket(), ticket as u64);
+        }
+        assert_eq!(rt; outcome.left.len(), 3);
     }
-    let mut host = hosted(&rt, settled_one(&rt)?, owner)?;
-    let mut game = Tally::new();
-    for ticket in 0..15 {
-        assert_eq!(rt; end.work_one(&mut game, &OpenGate), Worked::Did(ticket));
-    }
-    let absorbed = Absorbed {
-        taken: 15,
-        added: 2,
-        dropped: 11,
-        unmade: 0,
-    };
-    assert_eq!(rt; host.absorb(), absorbed);
-    let mut session = settled_one(&rt)?;
-    graft_all(&rt, &mut session, &PAST_SETTLED)?;
-    let kept = host.session().kept(rt.alloc())?;
-    let wanted = session.kept(rt.alloc())?;
-    assert_eq!(rt; kept.as_slice(), wanted.as_slice());
     Ok(())
 }

@@ -18,11 +18,21 @@ mod frame;
 mod game;
 mod growths;
 #[cfg(test)]
+mod host_branches;
+#[cfg(test)]
+mod host_guesses;
+#[cfg(test)]
+mod host_links;
+#[cfg(test)]
 mod host_workers;
 #[cfg(test)]
 mod laws;
 #[cfg(test)]
+mod live;
+#[cfg(test)]
 mod main_loop;
+#[cfg(test)]
+mod matches;
 #[cfg(test)]
 mod messages;
 #[cfg(test)]
@@ -31,6 +41,8 @@ mod pool;
 mod program;
 #[cfg(test)]
 mod refused;
+#[cfg(test)]
+mod serial;
 #[cfg(test)]
 mod session;
 #[cfg(test)]
@@ -50,6 +62,8 @@ use std::alloc::{AllocError, AllocGlobal, Global};
 use std::io::{self, Read};
 use std::process::ExitCode;
 use std::rt::Runtime;
+use std::sync::Wait;
+use std::thread::Threads;
 
 fn main(rt: HostRuntime) -> ExitCode {
     match run(&rt) {
@@ -59,12 +73,15 @@ fn main(rt: HostRuntime) -> ExitCode {
 }
 
 /// Prints how each example ends, and answers whether each does so well.
-fn run<R: Runtime + AllocGlobal>(rt: &R) -> io::Result<bool> {
+fn run<R>(rt: &R) -> io::Result<bool>
+where
+    R: Runtime + AllocGlobal + Threads + Wait + Copy + Send + 'static,
+{
     let alloc = rt.alloc();
     let _first = taken(alloc, asked(&mut rt.reader())?);
     let mut well = true;
     for example in Example::ALL {
-        let ending = example.run(alloc);
+        let ending = example.run(rt, alloc);
         println!(rt; "{example:?}: {ending:?}")?;
         well &= ending != Ending::Wrong;
     }

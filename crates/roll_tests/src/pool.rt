@@ -8,12 +8,13 @@ use roll_frame::{Boxed, Cell, Refusal, Route, Row};
 use roll_game::{Call, Game, Refusing, Tally};
 use roll_pool::{Gate, OpenGate, Owner, Worked, WorkerEnd, start_all};
 use std::alloc::{AllocError, AllocGlobal, Global};
+use std::process::Abort;
 use std::sync::atomic::{AtomicBool, Ordering};
 use std::test::Fail;
 use std::thread;
 
 /// How often a test looks for what another thread does.
-const TURNS: u32 = 10_000_000;
+pub const TURNS: u32 = 10_000_000;
 
 /// The job of a row, from a state at frame 0.
 fn job<G: Game>(alloc: Global, from: G::Snapshot) -> Result<Job<G>, AllocError> {
@@ -26,6 +27,39 @@ fn job<G: Game>(alloc: Global, from: G::Snapshot) -> Result<Job<G>, AllocError> 
         Some(job) => Ok(job),
         None => Err(AllocError),
     }
+}
+
+/// A pool of one worker, and its end.
+pub fn one_worker<G: Game + Drop>(
+    rt: &(impl Abort + AllocGlobal),
+) -> Result<(Owner<G>, WorkerEnd<G>), Fail> {
+    let (owner, ends) = Owner::open(rt.alloc(), 1)?;
+    let mut in_order = ends.into_iter();
+    let Some(end) = in_order.next() else {
+        panic!(rt; "no end");
+    };
+    Ok((owner, end))
+}
+
+/// A pool of two workers, and their ends in order.
+fn two_workers(
+    rt: &(impl Abort + AllocGlobal),
+) -> Result<(Owner<Tally>, WorkerEnd<Tally>, WorkerEnd<Tally>), Fail> {
+    let (owner, ends) = Owner::open(rt.alloc(), 2)?;
+    let mut in_order = ends.into_iter();
+    let (Some(first), Some(second)) = (in_order.next(), in_order.next()) else {
+        panic!(rt; "not two ends");
+    };
+    Ok((owner, first, second))
+}
+
+/// So many games.
+pub fn tallies(alloc: Global, count: usize) -> Result<Vec<Tally>, AllocError> {
+    let mut games = Vec::with_capacity(alloc, count)?;
+    for _ in 0..count {
+        games.push(Tally::new())?;
+    }
+    Ok(games)
 }
 
 /// Issues so many jobs.
@@ -95,14 +129,7 @@ fn work_until_one(end: &mut WorkerEnd<Tally>, gate: &Meeting) {
 
 #[test]
 fn two_workers_overlap(rt: HostRuntime) -> Result<(), Fail> {
-    let (mut owner, ends) = Owner::open(rt.alloc(), 2)?;
-    let mut in_order = ends.into_iter();
-    let Some(mut first) = in_order.next() else {
-        panic!(&rt; "no end");
-    };
-    let Some(mut second) = in_order.next() else {
-        panic!(&rt; "one end");
-    };
+    let (mut owner, mut first, mut second) = two_workers(&rt)?;
     issue_all(rt.alloc(), &mut owner, 2)?;
     let meeting = Meeting {
         left: AtomicBool::new(false),
@@ -124,11 +151,7 @@ fn two_workers_overlap(rt: HostRuntime) -> Result<(), Fail> {
 
 #[test]
 fn a_worker_stops_at_a_full_ring(rt: HostRuntime) -> Result<(), Fail> {
-    let (mut owner, ends) = Owner::open(rt.alloc(), 1)?;
-    let mut in_order = ends.into_iter();
-    let Some(mut end) = in_order.next() else {
-        panic!(&rt; "no end");
-    };
+    let (mut owner, mut end) = one_worker(&rt)?;
     issue_all(rt.alloc(), &mut owner, 17)?;
     let mut game = Tally::new();
     for ticket in 0..16 {
@@ -142,11 +165,7 @@ fn a_worker_stops_at_a_full_ring(rt: HostRuntime) -> Result<(), Fail> {
 
 #[test]
 fn the_65th_job_is_handed_back(rt: HostRuntime) -> Result<(), Fail> {
-    let (mut owner, ends) = Owner::open(rt.alloc(), 1)?;
-    let mut in_order = ends.into_iter();
-    let Some(mut end) = in_order.next() else {
-        panic!(&rt; "no end");
-    };
+    let (mut owner, mut end) = one_worker(&rt)?;
     issue_all(rt.alloc(), &mut owner, 64)?;
     let mut extra = job(rt.alloc(), Tally::opening())?;
     extra.set_ticket(9);
@@ -176,14 +195,7 @@ fn a_pool_has_1_to_4_workers(rt: HostRuntime) -> Result<(), Fail> {
 
 #[test]
 fn collects_from_the_first_worker_first(rt: HostRuntime) -> Result<(), Fail> {
-    let (mut owner, ends) = Owner::open(rt.alloc(), 2)?;
-    let mut in_order = ends.into_iter();
-    let Some(mut first) = in_order.next() else {
-        panic!(&rt; "no end");
-    };
-    let Some(mut second) = in_order.next() else {
-        panic!(&rt; "one end");
-    };
+    let (mut owner, mut first, mut second) = two_workers(&rt)?;
     issue_all(rt.alloc(), &mut owner, 3)?;
     let mut game = Tally::new();
     assert_eq!(rt; second.work_one(&mut game, &OpenGate), Worked::Did(0));
@@ -199,11 +211,7 @@ fn collects_from_the_first_worker_first(rt: HostRuntime) -> Result<(), Fail> {
 
 #[test]
 fn a_refused_job_answers_its_number(rt: HostRuntime) -> Result<(), Fail> {
-    let (mut owner, ends) = Owner::open(rt.alloc(), 1)?;
-    let mut in_order = ends.into_iter();
-    let Some(mut end) = in_order.next() else {
-        panic!(&rt; "no end");
-    };
+    let (mut owner, mut end) = one_worker(&rt)?;
     let mut game = Refusing::new(Tally::new(), Call::Advance, 1);
     for _ in 0..2 {
         assert!(rt; owner.issue(job(rt.alloc(), Tally::opening())?).is_ok());
@@ -282,10 +290,7 @@ fn collect_some(
 fn four_workers_run_each_job_once(rt: HostRuntime) -> Result<(), Fail> {
     let alloc = rt.alloc();
     let (mut owner, ends) = Owner::open(alloc, 4)?;
-    let mut games = Vec::new(alloc);
-    for _ in 0..ends.len() {
-        games.push(Tally::new())?;
-    }
+    let games = tallies(alloc, ends.len())?;
     let mut tickets = Vec::with_capacity(alloc, 40)?;
     assert!(rt; games.len() == ends.len());
     let crew = start_all(rt, alloc, &owner, ends, games)?;

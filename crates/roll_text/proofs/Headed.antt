@@ -1,9 +1,10 @@
 -- Texts of a head's line and a line for each item: where one goes wrong that is no such text.
-use Rattle.std.proofs.Common.{◌≡◌, ℕ, ◌+◌, ◌<◌, ◌++◌, List, [], ◌∷◌, refl, sym, ap, ◌∙◌, arith, length, map, get_or, drop}
+use Rattle.std.proofs.Common.{◌≡◌, ℕ, ◌+◌, ◌<◌, ◌++◌, inl, inr, List, [], ◌∷◌, refl, sym, ap, ◌∙◌, arith, length, map, get_or, drop}
 use Rattle.std.specs.List.{AllByRecursion}
 use Rattle.std.proofs.lemmas.List.{append-nil, length-map}
 use Rattle.roll_text.specs.Lines.{Lacks, ended, text_of}
 use Rattle.roll_text.specs.Text.{IsUnreadableAt, Spells}
+use Rattle.roll_text.proofs.LineTexts.{first_line}
 use Rattle.roll_text.proofs.Spelled.{IsAfter, unended_line, bad_line, no_line, next_spelled}
 
 -- values of a head and items: which fit, and what their lines are
@@ -76,3 +77,12 @@ module _ {H I X : Type 0} {IsHead : H → Type 0} {IsItem : H → I → Type 0} 
       (λ other more other_fits e.
       let next = next_spelled (IsItem (head other)) item_line (items other) (map item_line is) front more (headed.items_fit other other_fits) (ap (drop 1) e) in
       none next.0 (headed.same_items (head other) h (headed.head_fits other other_fits) fits (ap (λ lines. get_or lines 0 []) e) next.0 next.1) next.2)
+
+  -- these were read, and then something comes with which no item's line begins
+  pub no_item_next : (h : H) (is : List I) (text rest : List ℕ) (line : ℕ) → IsHead h → AllByRecursion (IsItem h) is
+      → text ≡ text_of (lines_so_far h is) ++ rest → line ≡ length is + 2 → 0 < length rest
+      → ((i : I) (after : List ℕ) → IsItem h i → rest ≡ ended (item_line i) ++ after → ⊥) → IsUnreadableAt line (Spells Fits all_lines) text
+  no_item_next h is text rest line fits each whole count some none = elim (first_line rest) [
+    | inl lacks ↦ no_end_after h is text rest line fits each whole count some lacks
+    | inr cut ↦ no_item h is text rest cut.0 cut.1 line fits each whole count (cut.2, cut.3) (λ i is_item e. none i cut.1 is_item (cut.3 ∙ ap (λ t. ended t ++ cut.1) e))
+  ]

@@ -1,3 +1,4 @@
+pub mod Digits
 mod Examples
 pub mod Headed
 pub mod Joined

@@ -1,7 +1,7 @@
 -- The lines of a text.
 use Rattle.std.proofs.Common.{◌≡◌, ℕ, ◌<◌, ◌==◌, ◌++◌, ◌⊎◌, inl, inr, Bool, true, List, [], ◌∷◌, false, refl, sym, ap, ◌∙◌, subst, rules, arith, append_assoc, length, map}
 use Rattle.std.specs.List.{onto_first, AllByRecursion}
-use Rattle.std.proofs.lemmas.List.{append-nil, append_cancel_right}
+use Rattle.std.proofs.lemmas.List.{append-nil, append_cancel_left, append_cancel_right}
 use Rattle.std.proofs.lemmas.Grind.{flat_map-append}
 use Rattle.std.proofs.lemmas.List.Elements.{recursion_from_All, All-nil, All-cons}
 use Rattle.roll_text.specs.Lines.{Lacks, ended, text_of, lines_of}
@@ -78,3 +78,10 @@ cut_at false b bs is (inr h) = inr (b ∷ h.0, h.1, All-cons (λ x. (x == 10) �
 pub first_line : (text : List ℕ) → Lacks 10 text ⊎ ((line : List ℕ) × (after : List ℕ) × Lacks 10 line × (text ≡ ended line ++ after))
 first_line [] = inl (All-nil _)
 first_line (b ∷ bs) = cut_at (b == 10) b bs refl (first_line bs)
+
+-- a text has one first line
+pub first_line-unique : (a b x y : List ℕ) → Lacks 10 a → Lacks 10 b → ended a ++ x ≡ ended b ++ y → (a ≡ b) × (x ≡ y)
+first_line-unique a b x y h k e =
+    let lines : ended a ∷ lines_of x ≡ ended b ∷ lines_of y = sym (lines_of-ended a x h) ∙ ap lines_of e ∙ lines_of-ended b y k in
+    let same : a ≡ b = ended-injective a b (cc) in
+    (same, append_cancel_left (ended b) x y (ap (λ t. ended t ++ x) (sym same) ∙ e))

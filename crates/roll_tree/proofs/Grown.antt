@@ -165,8 +165,8 @@ module _ {S : Type 0} where
       }
 
   -- the tree after `insert`
-  pub grown_tree : (t u : Inside S) (name : ℕ) (child parent : Node S) (edge : Edge) → u.base ≡ t.base → u.root ≡ t.root → u.order.items ≡ t.order.items ++ name ∷ [] → u.time.items ≡ t.time.items → AreMarks (slice_get t.time.items (child.end - t.base - 1)) edge.row edge.marks → IsTree t → IsGrown t.base t.nodes.slots u.nodes.slots name child parent edge → FitsBelow t parent edge.row → slab_len u.nodes ≡ slab_len t.nodes + 1 → slab_len u.nodes ≤ TREE_LIMIT → TREE_LIMIT ≤ u.nodes.capacity → TREE_LIMIT ≤ vec_capacity u.order → IsTree u
-  grown_tree t u name child parent edge base root order time marks tree grown fits len few room space =
+  pub grown_tree : (t u : Inside S) (name : ℕ) (child parent : Node S) (edge : Edge) → u.base ≡ t.base → u.root ≡ t.root → u.order.items ≡ t.order.items ++ name ∷ [] → u.time.items ≡ t.time.items → AreMarks (slice_get t.time.items (child.end - t.base - 1)) edge.row edge.marks → IsTree t → IsGrown t.base t.nodes.slots u.nodes.slots name child parent edge → FitsBelow t parent edge.row → slab_len u.nodes ≡ slab_len t.nodes + 1 → slab_len u.nodes ≤ TREE_LIMIT → TREE_LIMIT ≤ u.nodes.capacity → TREE_LIMIT ≤ vec_capacity u.order → t.tip ≤ u.tip → child.end ≤ u.tip → IsTree u
+  grown_tree t u name child parent edge base root order time marks tree grown fits len few room space taller high =
       let old = t.nodes.slots in
       let new = u.nodes.slots in
       let within = grown_within t.base old new name child parent edge tree.links grown in
@@ -186,8 +186,13 @@ module _ {S : Type 0} where
         few = few;
         room = room;
         space = space;
+        tall = λ k node found. tall k node found (cases_eq k name);
       }
     where
+      tall : (k : ℕ) (node : Node S) → node_at u.nodes.slots k ≡ Some node → (k ≡ name) ⊎ (k ≡ name → ⊥) → node.end ≤ u.tip
+      tall k node found (inl same) = let here : child ≡ node = same_Some _ _ (sym grown.changed ∙ ap (node_at u.nodes.slots) (sym same) ∙ found) in subst (λ (n : Node S). n.end ≤ u.tip) here high
+      tall k node found (inr differs) = omega (arith, tree.tall k node (sym (grown.others k differs) ∙ found), taller)
+
       rooted_within : IsWithin t.nodes.slots u.nodes.slots → (node_at t.nodes.slots t.root ≡ None) ⊎ ((node : Node S) × (node_at t.nodes.slots t.root ≡ Some node)) → option_map (λ (n : Node S). n.end) (node_at u.nodes.slots u.root) ≡ Some u.base
       rooted_within within (inl none) = absurd (none-some t.base (ap (option_map (λ (n : Node S). n.end)) (sym none) ∙ tree.rooted))
       rooted_within within (inr some) =
@@ -215,8 +220,8 @@ module _ {S : Type 0} where
       subst (λ (k : SavedStates S). kept_of u ≡ with_state k (record { name = name; path = s.path ++ edge.row ∷ []; snapshot = child.snapshot })) view (λ i. record { base = base i; root = root i; states = states i; time = time i })
 
   -- a tree of a root alone
-  pub new_tree : (u : Inside S) (node : Node S) → node_at u.nodes.slots u.root ≡ Some node → ((other : ℕ) → other ≢ u.root → node_at u.nodes.slots other ≡ None) → node.edge ≡ None → node.end ≡ u.base → u.order.items ≡ u.root ∷ [] → slab_len u.nodes ≡ 1 → TREE_LIMIT ≤ u.nodes.capacity → TREE_LIMIT ≤ vec_capacity u.order → IsTree u
-  new_tree u node found others edge end order len room space = record {
+  pub new_tree : (u : Inside S) (node : Node S) → node_at u.nodes.slots u.root ≡ Some node → ((other : ℕ) → other ≢ u.root → node_at u.nodes.slots other ≡ None) → node.edge ≡ None → node.end ≡ u.base → u.order.items ≡ u.root ∷ [] → slab_len u.nodes ≡ 1 → TREE_LIMIT ≤ u.nodes.capacity → TREE_LIMIT ≤ vec_capacity u.order → u.base ≤ u.tip → IsTree u
+  new_tree u node found others edge end order len room space tip = record {
     links = record {
       low = λ k other at. omega (arith, only k other at);
       high = λ k other at. omega (arith, only k other at);
@@ -232,6 +237,7 @@ module _ {S : Type 0} where
     few = omega (arith, len);
     room = room;
     space = space;
+    tall = λ k other at. omega (arith, (only k other at).0, tip);
   }
     where
       named : (k : ℕ) (other : Node S) → node_at u.nodes.slots k ≡ Some other → k ≡ u.root

@@ -128,8 +128,8 @@ module _ {S : Type 0} where
             ∙ sym (ap (option_map (saved_of base old k)) was.1)
 
   -- the tree with other marks, and another time
-  pub marked_tree : (t u : Inside S) → u.base ≡ t.base → u.root ≡ t.root → u.order ≡ t.order → IsTree t → AreLike t.nodes.slots u.nodes.slots → AreFresh t.base u.time.items u.nodes.slots → slab_len u.nodes ≡ slab_len t.nodes → u.nodes.capacity ≡ t.nodes.capacity → IsTree u
-  marked_tree t u base root order tree like fresh len capacity =
+  pub marked_tree : (t u : Inside S) → u.base ≡ t.base → u.root ≡ t.root → u.order ≡ t.order → IsTree t → AreLike t.nodes.slots u.nodes.slots → AreFresh t.base u.time.items u.nodes.slots → slab_len u.nodes ≡ slab_len t.nodes → u.nodes.capacity ≡ t.nodes.capacity → u.tip ≡ t.tip → IsTree u
+  marked_tree t u base root order tree like fresh len capacity tip =
       let old = t.nodes.slots in
       let new = u.nodes.slots in
       let names : u.order.items ≡ t.order.items = ap (λ o. o.items) order in
@@ -144,6 +144,7 @@ module _ {S : Type 0} where
         few = omega (arith, tree.few, len);
         room = omega (arith, tree.room, capacity);
         space = subst (λ o. TREE_LIMIT ≤ vec_capacity o) (sym order) tree.space;
+        tall = λ name now found. let was = was_like t.base old new tree.links like name now found in omega (arith, tree.tall name was.0 was.1, same_end was.0 now was.2, tip);
       }
     where
       ends : (o p : Option (Node S)) → option_map bare o ≡ option_map bare p → option_map (λ (n : Node S). n.end) o ≡ option_map (λ (n : Node S). n.end) p
@@ -292,3 +293,11 @@ other_row [] row zero h = absurd (h refl)
 other_row [] row (suc k) h = refl
 other_row (r ∷ time) row zero h = refl
 other_row (r ∷ time) row (suc k) h = other_row time row k (λ e. h (omega (arith, e)))
+
+-- where all nodes end before a row, it marks none of them
+pub fresh_before : {S : Type 0} (base tip : ℕ) (time : Rows) (row : List Cell) (slots : List (Option (Node S))) → AreLinked base slots → AreFresh base time slots → ((name : ℕ) (node : Node S) → node_at slots name ≡ Some node → node.end ≤ tip) → tip < base + length time + 1
+    → AreFresh base (time ++ row ∷ []) slots
+fresh_before base tip time row slots links fresh tall high name node e found is =
+    let up = with_edge base slots links name node e found is in
+    let deep = links.low up.0.edge.parent up.0.parent up.0.parent_is in
+    subst (λ o. AreMarks o e.row e.marks) (sym (other_row time row (node.end - base - 1) (λ same. absurd (omega (arith, same, tall name node found, high, up.0.next, deep))))) (fresh name node e found is)

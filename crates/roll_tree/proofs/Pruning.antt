@@ -1,6 +1,6 @@
 -- What `cut` and `settle` make of a tree.
-use Rattle.std.proofs.Common.{◌≡◌, ◌≢◌, ◌⊎◌, ℕ, zero, suc, drop, arith, ◌+◌, ◌-◌, ◌≤◌, List, [], ◌∷◌, ◌++◌, length, map, Option, Some, None, Bool, not, refl, sym, ap, subst, ◌∙◌, inl, inr, vec_capacity}
-use Rattle.std.specs.Prelude.{option_map, slice_get, IsSomeAnd, IfSome}
+use Rattle.std.proofs.Common.{◌≡◌, ◌≢◌, ◌⊎◌, ℕ, zero, suc, drop, arith, ◌+◌, ◌-◌, ◌≤◌, List, [], ◌∷◌, ◌++◌, length, map, Option, Some, None, Bool, true, false, not, refl, sym, ap, subst, ◌∙◌, inl, inr, vec_capacity}
+use Rattle.std.specs.Prelude.{option_map, slice_get, IsSomeAnd, IfSome, ◌==◌, if◌then◌else◌}
 use Rattle.std.specs.List.{filter}
 use Rattle.std.proofs.lemmas.Option.{none-some, same_Some}
 use Rattle.std.proofs.lemmas.Bool.{cases_eq}
@@ -10,14 +10,17 @@ use Rattle.roll_frame.specs.declared.limits.TheConstants.{TREE_LIMIT}
 use Rattle.roll_frame.specs.Cells.{Rows}
 use Rattle.roll_frame.specs.Paths.{begins_with}
 use Rattle.roll_tree.specs.SavedStates.{Saved, SavedStates, state_named, later, has_other}
-use Rattle.roll_tree.specs.Layout.{node_at, kept_of, IsAfter, AreOrdered, IsTree}
+use Rattle.roll_frame.specs.Claims.{cell_in}
+use Rattle.roll_frame.specs.Cells.{cell_eq}
+use Rattle.std.specs.Option.{option_map_or}
+use Rattle.roll_tree.specs.Layout.{node_at, kept_of, saved_of, IsAfter, AreOrdered, IsTree}
 use Rattle.roll_tree.specs.Rule.{IsLive, IsPruned}
 use Rattle.roll_tree.specs.declared.node.Node.{Node}
 use Rattle.roll_tree.specs.declared.prune.Rule.TheVariants.{Any, Agrees}
 use Rattle.roll_tree.specs.declared.tree.Tree.TheInside.{Inside}
 use Rattle.roll_tree.proofs.Names.{option_cases}
 use Rattle.roll_tree.proofs.Nodes.{path_at, path_at-top, length-path_at}
-use Rattle.roll_tree.proofs.States.{states_at, root_held}
+use Rattle.roll_tree.proofs.States.{states_at, states-none, states-some, root_held}
 use Rattle.roll_tree.proofs.Cuts.{detached}
 use Rattle.roll_tree.proofs.Rules.{live_by, is_live, left_states, left_tree}
 use Rattle.roll_tree.proofs.Fronts.{cut_rule, settle_rule}
@@ -53,8 +56,8 @@ module _ {S : Type 0} where
     abbrev passes : Saved S → Bool
     passes s = not (has_other player (frame - t.base) cell s.path)
 
-    pub cut_tree : TREE_LIMIT ≤ u.nodes.capacity → TREE_LIMIT ≤ vec_capacity u.order → IsTree u
-    cut_tree room space =
+    pub cut_tree : TREE_LIMIT ≤ u.nodes.capacity → TREE_LIMIT ≤ vec_capacity u.order → u.tip ≡ t.tip → IsTree u
+    cut_tree room space tip =
         let first = root_node t tree in
         let rule = cut_rule t tree first.0 frame player place cell first.1 first.2 low is in
         let at_top = root_stays t tree first.0 first.1 first.2 in
@@ -62,7 +65,7 @@ module _ {S : Type 0} where
         left_tree t t.root first.0 (Agrees place frame cell) passes t.nodes tree rule at_top (λ name differs. refl) u.nodes u.order.items (pruned (live_by t t.root first.0 (Agrees place frame cell) passes) live)
         u (base ∙ sym first.2) root refl refl
         (λ k. let same : k ≡ first.0.end - t.base + k = omega (arith, first.2) in ap (λ (r : Rows). slice_get r k) time ∙ ap (slice_get t.time.items) same)
-        refl room space
+        refl room space tip
 
     pub cut_view : (kept : SavedStates S) → kept_of t ≡ kept → kept_of u ≡ record kept { states = filter (λ s. not (has_other player (frame - kept.base) cell s.path)) kept.states }
     cut_view kept view =
@@ -87,16 +90,45 @@ cut_all place cell (s ∷ states) = ap (λ l. s ∷ l) (cut_all place cell state
 pub cut_nobody : {S : Type 0} (kept : SavedStates S) (place : ℕ) (cell : Cell) → kept ≡ record kept { states = filter (λ s. not (has_other 0 place cell s.path)) kept.states }
 cut_nobody kept place cell = ap (λ l. record kept { states = l }) (cut_all place cell kept.states)
 
+-- no row of a path that ends before it has another cell there
+shorter : (player place : ℕ) (cell : Cell) (path : Rows) → length path ≤ place → has_other player place cell path ≡ false
+shorter player place cell path short = go (player == 0)
+  where
+    beyond : (rows : Rows) (k : ℕ) → length rows ≤ k → cell_in rows k (player - 1) ≡ None
+    beyond [] k h = refl
+    beyond (r ∷ rows) zero h = absurd (omega (arith, h))
+    beyond (r ∷ rows) (suc k) h = beyond rows k (omega (arith, h))
+
+    go : (b : Bool) → option_map_or (λ c. not (cell_eq c cell)) (if b then None else cell_in path place (player - 1)) false ≡ false
+    go true = refl
+    go false = rw (beyond path place short) refl
+
+-- where all paths end before a frame, nothing is cut there
+pub cut_beyond : {S : Type 0} (t : Inside S) → IsTree t → (frame player : ℕ) (cell : Cell) (kept : SavedStates S) → kept_of t ≡ kept → t.tip ≤ frame → kept ≡ record kept { states = filter (λ s. not (has_other player (frame - kept.base) cell s.path)) kept.states }
+cut_beyond {S} t tree frame player cell kept view high = subst (λ (k : SavedStates S). k ≡ record k { states = filter (λ s. not (has_other player (frame - k.base) cell s.path)) k.states }) view (λ i. record (kept_of t) { states = all t.order.items i })
+  where
+    all : (names : List ℕ) → states_at t.base t.nodes.slots names ≡ filter (λ s. not (has_other player (frame - t.base) cell s.path)) (states_at t.base t.nodes.slots names)
+    all [] = refl
+    all (n ∷ names) = go (option_cases (node_at t.nodes.slots n)) (all names)
+      where
+        go : (node_at t.nodes.slots n ≡ None) ⊎ ((node : Node S) × (node_at t.nodes.slots n ≡ Some node)) → states_at t.base t.nodes.slots names ≡ filter (λ s. not (has_other player (frame - t.base) cell s.path)) (states_at t.base t.nodes.slots names)
+            → states_at t.base t.nodes.slots (n ∷ names) ≡ filter (λ s. not (has_other player (frame - t.base) cell s.path)) (states_at t.base t.nodes.slots (n ∷ names))
+        go (inl none) rest = rw (states-none t.base t.nodes.slots n names none) rest
+        go (inr some) rest =
+            let long = length-path_at t.base t.nodes.slots tree.links n some.0 some.1 in
+            let none : has_other player (frame - t.base) cell (path_at t.base t.nodes.slots some.0) ≡ false = shorter player (frame - t.base) cell (path_at t.base t.nodes.slots some.0) (omega (arith, long, tree.tall n some.0 some.1, high)) in
+            rw (states-some t.base t.nodes.slots n names some.0 some.1, none) (ap (λ (l : List (Saved S)). saved_of t.base t.nodes.slots n some.0 ∷ l) rest)
+
 module _ {S : Type 0} (t : Inside S) (tree : IsTree t) (top : ℕ) (first : Node S) (first_is : node_at t.nodes.slots top ≡ Some first) (mid : Slab (Node S)) (at_top : get mid top ≡ Some (detached first)) (others : (name : ℕ) → name ≢ top → get mid name ≡ get t.nodes name) (len : slab_len mid ≡ slab_len t.nodes) (u : Inside S) (base : u.base ≡ first.end) (root : u.root ≡ top) (time : u.time.items ≡ drop (first.end - t.base) t.time.items) (pruned : (live : ℕ → Bool) → IsLive top Any mid.slots live → IsPruned live mid u.nodes t.order.items u.order.items) where
   abbrev begins_there : Saved S → Bool
   begins_there s = begins_with s.path (path_at t.base t.nodes.slots first)
 
-  pub settle_tree : TREE_LIMIT ≤ u.nodes.capacity → TREE_LIMIT ≤ vec_capacity u.order → IsTree u
-  settle_tree room space =
+  pub settle_tree : TREE_LIMIT ≤ u.nodes.capacity → TREE_LIMIT ≤ vec_capacity u.order → u.tip ≡ t.tip → IsTree u
+  settle_tree room space tip =
       let rule = settle_rule t tree top first first_is in
       let live = is_live t top first Any begins_there mid tree rule at_top others in
       left_tree t top first Any begins_there mid tree rule at_top others u.nodes u.order.items (pruned (live_by t top first Any begins_there) live)
-      u base root refl refl (λ k. ap (λ (r : Rows). slice_get r k) time ∙ slice_get-drop (first.end - t.base) t.time.items k) len room space
+      u base root refl refl (λ k. ap (λ (r : Rows). slice_get r k) time ∙ slice_get-drop (first.end - t.base) t.time.items k) len room space tip
 
   pub settle_view : (kept : SavedStates S) → kept_of t ≡ kept → kept_of u ≡ settled kept top (path_at t.base t.nodes.slots first)
   settle_view kept view =

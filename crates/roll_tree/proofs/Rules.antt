@@ -125,8 +125,8 @@ module _ {S : Type 0} (t : Inside S) (top : ℕ) (first : Node S) (rule : Rule) 
                     ap (option_map (saved_of first.end new.slots name)) left.now_is ∙ ap Some (λ i. record { name = name; path = path i; snapshot = left.snapshot_is i }),
               )
 
-      pub left_tree : (u : Inside S) → u.base ≡ first.end → u.root ≡ top → u.nodes ≡ new → u.order.items ≡ kept → ((k : ℕ) → slice_get u.time.items k ≡ slice_get t.time.items (first.end - t.base + k)) → slab_len mid ≡ slab_len t.nodes → TREE_LIMIT ≤ new.capacity → TREE_LIMIT ≤ vec_capacity u.order → IsTree u
-      left_tree u base root nodes order time len room space =
+      pub left_tree : (u : Inside S) → u.base ≡ first.end → u.root ≡ top → u.nodes ≡ new → u.order.items ≡ kept → ((k : ℕ) → slice_get u.time.items k ≡ slice_get t.time.items (first.end - t.base + k)) → slab_len mid ≡ slab_len t.nodes → TREE_LIMIT ≤ new.capacity → TREE_LIMIT ≤ vec_capacity u.order → u.tip ≡ t.tip → IsTree u
+      left_tree u base root nodes order time len room space tip =
           let slots : u.nodes.slots ≡ new.slots = ap (λ (s : Slab (Node S)). s.slots) nodes in
           let counted : length u.order.items ≡ slab_len u.nodes = omega (arith, ap (λ (l : List ℕ). length l) order, ap (λ (s : Slab (Node S)). slab_len s) nodes, pruned.counted, tree.counted, len) in
           let few : length u.order.items ≤ length t.order.items = omega (arith, ap (λ (l : List ℕ). length l) (order ∙ pruned.kept_is), length-filter live_by t.order.items) in
@@ -148,4 +148,7 @@ module _ {S : Type 0} (t : Inside S) (top : ℕ) (first : Node S) (rule : Rule) 
             few = omega (arith, counted, few, tree.counted, tree.few);
             room = omega (arith, room, ap (λ (s : Slab (Node S)). s.capacity) nodes);
             space = space;
+            tall = λ name node found.
+                let was = was_at t.base top first live_by t.nodes.slots new.slots is_cut name node (sym (ap (λ (l : List (Option (Node S))). node_at l name) slots) ∙ found) in
+                omega (arith, tree.tall name was.0 was.1, was.3, tip);
           }

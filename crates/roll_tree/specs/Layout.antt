@@ -101,3 +101,4 @@ module _ {S : Type 0} where
     pub few : slab_len t.nodes ≤ TREE_LIMIT
     pub room : TREE_LIMIT ≤ t.nodes.capacity
     pub space : TREE_LIMIT ≤ vec_capacity t.order
+    pub tall : (name : ℕ) (node : Node S) → node_at t.nodes.slots name ≡ Some node → node.end ≤ t.tip

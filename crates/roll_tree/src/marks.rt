@@ -22,19 +22,31 @@ pub fn marks_in(time: &[Row], place: usize, row: &Row) -> u8
     }
 }
 
-/// Marks the edges of the frame after the last that is known, of which this is the row.
-pub fn mark_next<S>(nodes: &mut Slab<Node<S>>, order: &[usize], base: u32, time: &[Row], row: &Row)
+/// Marks the edges of the frame after the last that is known, of which this is the row. There is none where all paths end
+/// before, as `tip` tells.
+pub fn mark_next<S>(
+    nodes: &mut Slab<Node<S>>,
+    order: &[usize],
+    base: u32,
+    tip: u32,
+    time: &[Row],
+    row: &Row,
+)
     requires short { length time.now < PATH_LIMIT }
     requires linked { AreLinked base nodes.old.slots }
     requires ordered { AreOrdered nodes.old.slots [] order.now }
     requires listed { (name : ℕ) (node : Node S) → node_at nodes.old.slots name ≡ Some node → has_name order.now name ≡ true }
     requires fresh { AreFresh base time.now nodes.old.slots }
+    requires tall { (name : ℕ) (node : Node S) → node_at nodes.old.slots name ≡ Some node → node.end ≤ tip }
     ensures like { AreLike nodes.old.slots nodes.new.slots }
     ensures fresh { AreFresh base (time.now ++ row.now ∷ []) nodes.new.slots }
     ensures len { slab_len nodes.new ≡ slab_len nodes.old }
     ensures capacity { nodes.new.capacity ≡ nodes.old.capacity }
 {
     let end = u64::from(base) + time.len() as u64 + 1;
+    if u64::from(tip) < end {
+        return;
+    }
     for name in order {
         let node = &nodes[*name];
         if u64::from(node.end) != end {

@@ -23,6 +23,8 @@ pub struct Tree<S> {
     // The names of the nodes, each after its parent's.
     order: Vec<usize>,
     time: ArrayVec<Row, PATH_LIMIT>,
+    // No path is longer than this, from frame 0.
+    tip: u32,
 }
 
 /// The state above another, and the row between them.
@@ -89,6 +91,7 @@ impl<S> Tree<S> {
             nodes,
             order,
             time: ArrayVec::new(),
+            tip: base,
         })
     }
 
@@ -143,14 +146,16 @@ impl<S> Tree<S> {
         if self.order.len() == TREE_LIMIT {
             return Err(TreeFull { snapshot });
         }
-        let end = self.nodes[parent].end;
-        let marks = marks_in(&self.time, (end - self.base) as usize, &row);
+        let above = self.nodes[parent].end;
+        let marks = marks_in(&self.time, (above - self.base) as usize, &row);
+        let end = above + 1;
         let name = self.nodes.insert_reserved(Node {
             edge: Some(Edge { parent, row, marks }),
-            end: end + 1,
+            end,
             snapshot,
         });
         self.order.push_reserved(name);
+        self.tip = self.tip.max(end);
         Ok(name)
     }
 
@@ -167,7 +172,7 @@ impl<S> Tree<S> {
         requires { IsSome (state_named self.now node) }
         ensures { IfSome (state_named self.now node) (λ s. IsAbove self.now s.path result) }
     {
-        match self.nodes[node].edge {
+        match &self.nodes[node].edge {
             Some(edge) => Some(Above {
                 node: edge.parent,
                 row: edge.row,
@@ -252,7 +257,8 @@ impl<S> Tree<S> {
         requires { length self.old.time < PATH_LIMIT }
         ensures { self.new ≡ record self.old { time = self.old.time ++ row ∷ [] } }
     {
-        mark_next(&mut self.nodes, &self.order, self.base, &self.time, &row);
+        let (base, tip) = (self.base, self.tip);
+        mark_next(&mut self.nodes, &self.order, base, tip, &self.time, &row);
         self.time.push(row);
     }
 
@@ -350,6 +356,9 @@ impl<S> Tree<S> {
         requires { self.old.base ≤ frame }
         ensures { self.new ≡ record self.old { states = filter (λ s. not (has_other player (frame - self.old.base) cell s.path)) self.old.states } }
     {
+        if frame >= self.tip {
+            return;
+        }
         let Some(place) = usize::from(player).checked_sub(1) else {
             return;
         };

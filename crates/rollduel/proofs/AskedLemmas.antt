@@ -1,5 +1,5 @@
 -- What the matches of a parse ask for.
-use Rattle.std.proofs.Common.{◌≡◌, ◌∙◌, ap, ap₂, Bool, codes, refl, sym, List, Option, Some, None}
+use Rattle.std.proofs.Common.{◌≡◌, ap, refl, sym, List, Option, Some, None}
 use Rattle.std.specs.Box.{box_value}
 use Rattle.std.specs.Prelude.{option_map}
 use Rattle.clap.proofs.WalkLemmas.{first_value-rows}
@@ -9,9 +9,7 @@ use Rattle.clap.specs.Walk.{Row, Text, rows_of}
 use Rattle.clap.specs.declared.parser.matches.ArgMatches.{ArgMatches}
 use Rattle.clap.specs.declared.parser.matches.ArgMatches.TheViews.{out-ArgMatches, out-SubCommand}
 use Rattle.clap.specs.declared.parser.matches.Found.{Found}
-use Rattle.roll_cli.specs.declared.program.Task.{Task}
-use Rattle.rollduel.specs.Requests.{Asked, asked_in, asked_of, is_named, path_named, path_of, task_named}
-use Rattle.rollduel.specs.declared.command_line.Request.{Request}
+use Rattle.rollduel.specs.Requests.{asked_in, asked_named}
 
 both_parts : {A X Y : Type 0} (f : A → X) (g : A → Y) (o : Option A) (x : X) (y : Y) → Some x ≡ option_map f o
     → Some y ≡ option_map (λ p. p.1) (option_map (λ a. let p : X × Y = (f a, g a) in p) o) → Some (x, y) ≡ option_map (λ a. let p : X × Y = (f a, g a) in p) o
@@ -31,13 +29,6 @@ none_met f (Some a) e = cc
 pub not_met : (m : ArgMatches) → None ≡ option_map (λ p. p.1) (subcommand_rows_of m) → None ≡ subcommand_rows_of m
 not_met m e = sym (none_met (λ p. p.1) (subcommand_rows_of m) e)
 
-same_asked : (p q : Option Text) (t u : Task) (b d : Bool) → p ≡ q → t ≡ u → b ≡ d → (let asked : Asked = (p, t, b) in asked) ≡ (let asked : Asked = (q, u, d) in asked)
-same_asked p q t u b d is_path is_task is_explain = rw (is_path, is_task, is_explain) refl
-
--- the request of a command's name and its matches
-pub asked_of_found : (request : Request) (name : Text) (f : Found) → path_of request.input ≡ path_named (first_value f (codes "FILE"))
-    → request.task ≡ task_named name (first_value f (codes "game")) (first_value f (codes "frames")) → request.explain ≡ is_named (first_value f (codes "explain"))
-    → asked_of request ≡ asked_in (Some (name, rows_of f))
-asked_of_found request name f input task explain = same_asked _ _ _ _ _ _
-    (input ∙ ap path_named (first_value-rows f (codes "FILE"))) (task ∙ ap₂ (task_named name) (first_value-rows f (codes "game")) (first_value-rows f (codes "frames")))
-    (explain ∙ ap is_named (first_value-rows f (codes "explain")))
+-- what a command's name and its matches ask for
+pub asked_of_found : (name : Text) (f : Found) → asked_named name (first_value f) ≡ asked_in (Some (name, rows_of f))
+asked_of_found name f = ap (asked_named name) (λ i id. first_value-rows f id i)

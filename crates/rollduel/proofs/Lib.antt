@@ -5,3 +5,4 @@ pub mod Places
 pub mod TakenPlaces
 pub mod WordExamples
 pub mod LocalFlags
+pub mod NumberLemmas

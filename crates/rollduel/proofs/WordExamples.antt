@@ -9,47 +9,84 @@ use Rattle.clap.specs.declared.error.kind.ErrorKind.TheVariants.{DisplayHelp, Di
 use Rattle.roll_cli.specs.declared.program.Ending.{Ending}
 use Rattle.roll_cli.specs.declared.program.GameName.TheVariants.{Tally, Duel}
 use Rattle.roll_cli.specs.declared.program.Task.TheVariants.{Play, SyncTest, Certify}
-use Rattle.rollduel.specs.Commands.{Games, app_with, rollduel_app}
+use Rattle.roll_match.specs.declared.options.Guesses.TheVariants.{Off, Turns}
+use Rattle.rollduel.specs.Commands.{Choices, app_with, rollduel_app}
 use Rattle.rollduel.specs.Endings.{EndsRefused}
-use Rattle.rollduel.specs.Requests.{asked_by}
+use Rattle.rollduel.specs.Requests.{asked_by, live, «match», on_text}
 
-pub simple : (played tested : Games) → is_simple (app_with played tested) ≡ true
-simple played tested = refl
+pub simple : (games guesses : Choices) → is_simple (app_with games guesses) ≡ true
+simple games guesses = refl
 
-pub free : (played tested : Games) → is_simple_and_free (app_with played tested) ≡ true
-free played tested = refl
+pub free : (games guesses : Choices) → is_simple_and_free (app_with games guesses) ≡ true
+free games guesses = refl
 
-pub no_command : asked_by (codes "rollduel" ∷ []) ≡ (None, Play Tally, false)
+pub no_command : asked_by (codes "rollduel" ∷ []) ≡ on_text None (Play Tally) false
 unfolding clap_on_literals
 no_command = refl
 
-pub plays_a_file : asked_by (codes "rollduel" ∷ codes "play" ∷ codes "a.roll" ∷ []) ≡ (Some (codes "a.roll"), Play Tally, false)
+pub plays_a_file : asked_by (codes "rollduel" ∷ codes "play" ∷ codes "a.roll" ∷ []) ≡ on_text (Some (codes "a.roll")) (Play Tally) false
 unfolding clap_on_literals
 plays_a_file = refl
 
-pub plays_a_duel : asked_by (codes "rollduel" ∷ codes "play" ∷ codes "-" ∷ codes "--game" ∷ codes "duel" ∷ []) ≡ (None, Play Duel, false)
+pub plays_a_duel : asked_by (codes "rollduel" ∷ codes "play" ∷ codes "-" ∷ codes "--game" ∷ codes "duel" ∷ []) ≡ on_text None (Play Duel) false
 unfolding clap_on_literals
 plays_a_duel = refl
 
-pub game_in_front : asked_by (codes "rollduel" ∷ codes "play" ∷ codes "--game=duel" ∷ codes "a.roll" ∷ []) ≡ (Some (codes "a.roll"), Play Duel, false)
+pub game_in_front : asked_by (codes "rollduel" ∷ codes "play" ∷ codes "--game=duel" ∷ codes "a.roll" ∷ []) ≡ on_text (Some (codes "a.roll")) (Play Duel) false
 unfolding clap_on_literals
 game_in_front = refl
 
-pub explains : asked_by (codes "rollduel" ∷ codes "play" ∷ codes "a.roll" ∷ codes "--explain" ∷ []) ≡ (Some (codes "a.roll"), Play Tally, true)
+pub explains : asked_by (codes "rollduel" ∷ codes "play" ∷ codes "a.roll" ∷ codes "--explain" ∷ []) ≡ on_text (Some (codes "a.roll")) (Play Tally) true
 unfolding clap_on_literals
 explains = refl
 
-pub certifies : asked_by (codes "rollduel" ∷ codes "certify" ∷ codes "a.claim" ∷ []) ≡ (Some (codes "a.claim"), Certify, false)
+pub certifies : asked_by (codes "rollduel" ∷ codes "certify" ∷ codes "a.claim" ∷ []) ≡ on_text (Some (codes "a.claim")) Certify false
 unfolding clap_on_literals
 certifies = refl
 
-pub tests_a_file : asked_by (codes "rollduel" ∷ codes "synctest" ∷ codes "a.rows" ∷ []) ≡ (Some (codes "a.rows"), SyncTest Tally 1, false)
+pub tests_a_file : asked_by (codes "rollduel" ∷ codes "synctest" ∷ codes "a.rows" ∷ []) ≡ on_text (Some (codes "a.rows")) (SyncTest Tally 1) false
 unfolding clap_on_literals
 tests_a_file = refl
 
-pub tests_eight_frames : asked_by (codes "rollduel" ∷ codes "synctest" ∷ codes "-" ∷ codes "--frames" ∷ codes "8" ∷ codes "--game=duel" ∷ []) ≡ (None, SyncTest Duel 8, false)
+pub tests_eight_frames : asked_by (codes "rollduel" ∷ codes "synctest" ∷ codes "-" ∷ codes "--frames" ∷ codes "8" ∷ codes "--game=duel" ∷ []) ≡ on_text None (SyncTest Duel 8) false
 unfolding clap_on_literals
 tests_eight_frames = refl
+
+pub plays_live : asked_by (codes "rollduel" ∷ codes "live" ∷ codes "a.roll" ∷ []) ≡ live (Some (codes "a.roll")) (record { game = Tally; workers = 1 })
+unfolding clap_on_literals
+plays_live = refl
+
+pub plays_live_with_workers : asked_by (codes "rollduel" ∷ codes "live" ∷ codes "--workers" ∷ codes "4" ∷ codes "-" ∷ codes "--game=duel" ∷ []) ≡ live None (record { game = Duel; workers = 4 })
+unfolding clap_on_literals
+plays_live_with_workers = refl
+
+pub plays_a_match : asked_by (codes "rollduel" ∷ codes "match" ∷ []) ≡ «match» (record {
+  frames = 1000;
+  seed = 1;
+  late = 8;
+  lost = 0;
+  hold = 10;
+  delay = 0;
+  threshold = 8;
+  guesses = Off;
+  game = Tally;
+})
+unfolding clap_on_literals
+plays_a_match = refl
+
+pub plays_a_match_so : asked_by (codes "rollduel" ∷ codes "match" ∷ codes "--seed=18446744073709551615" ∷ codes "--delay" ∷ codes "9" ∷ codes "--guesses" ∷ codes "turns" ∷ codes "--game=duel" ∷ codes "--lost=99" ∷ []) ≡ «match» (record {
+  frames = 1000;
+  seed = 18446744073709551615;
+  late = 8;
+  lost = 99;
+  hold = 10;
+  delay = 9;
+  threshold = 8;
+  guesses = Turns;
+  game = Duel;
+})
+unfolding clap_on_literals
+plays_a_match_so = refl
 
 pub takes_nothing : takes rollduel_app (codes "rollduel" ∷ []) ≡ true
 unfolding clap_on_literals
@@ -98,6 +135,18 @@ no_frames_fault = refl
 pub nine_frames_fault : fault_of rollduel_app (codes "rollduel" ∷ codes "synctest" ∷ codes "a" ∷ codes "--frames=9" ∷ []) ≡ ValueValidation ∷ []
 unfolding clap_on_literals
 nine_frames_fault = refl
+
+pub five_workers_fault : fault_of rollduel_app (codes "rollduel" ∷ codes "live" ∷ codes "a" ∷ codes "--workers" ∷ codes "5" ∷ []) ≡ ValueValidation ∷ []
+unfolding clap_on_literals
+five_workers_fault = refl
+
+pub stray_file_fault : fault_of rollduel_app (codes "rollduel" ∷ codes "match" ∷ codes "a.roll" ∷ []) ≡ UnknownArgument ∷ []
+unfolding clap_on_literals
+stray_file_fault = refl
+
+pub unexplained_fault : fault_of rollduel_app (codes "rollduel" ∷ codes "live" ∷ codes "a" ∷ codes "--explain" ∷ []) ≡ UnknownArgument ∷ []
+unfolding clap_on_literals
+unexplained_fault = refl
 
 pub stray_option_fault : fault_of rollduel_app (codes "rollduel" ∷ codes "certify" ∷ codes "a.claim" ∷ codes "--game" ∷ codes "duel" ∷ []) ≡ UnknownArgument ∷ []
 unfolding clap_on_literals

@@ -1,24 +1,33 @@
 -- The command of the program, as its parser sees it.
-use Rattle.std.specs.Prelude.{◌≡◌, List, [], ◌∷◌, Some, codes, true}
+use Rattle.std.specs.Prelude.{◌≡◌, ◌^◌, ◌-◌, ℕ, List, [], ◌∷◌, Some, codes, map, true}
 use Rattle.std.specs.Borrow.{Bor}
 use Rattle.clap.specs.Simple.{App, new_app, new_rule, on_top, with_rule, with_subcommand}
 use Rattle.clap.specs.Walk.{Rule, Text, texts}
 use Rattle.clap.specs.declared.builder.action.ArgAction.TheVariants.{SetTrue}
 use Rattle.clap.specs.declared.builder.value_parser.ValueParser.TheVariants as parser
 
--- the names of the games, where they stand in memory
-abbrev pub Games : Type 0
-Games = Bor (List (Bor Text))
+-- the texts that an option takes, where they stand in memory
+abbrev pub Choices : Type 0
+Choices = Bor (List (Bor Text))
 
-abbrev pub AreGames : Games → Type 0
-AreGames games = texts games.now ≡ codes "tally" ∷ codes "duel" ∷ []
+abbrev pub the_games : List Text
+the_games = codes "tally" ∷ codes "duel" ∷ []
+
+abbrev pub AreGames : Choices → Type 0
+AreGames games = texts games.now ≡ the_games
+
+abbrev pub the_guesses : List Text
+the_guesses = codes "none" ∷ codes "words" ∷ codes "turns" ∷ []
+
+abbrev pub AreGuesses : Choices → Type 0
+AreGuesses guesses = texts guesses.now ≡ the_guesses
 
 -- FILE
 abbrev pub file_rule : Rule
 file_rule = record (new_rule (codes "FILE")) { required = true }
 
 -- --game GAME
-abbrev pub game_rule : Games → Rule
+abbrev pub game_rule : Choices → Rule
 game_rule games = record (new_rule (codes "game")) {
   long = Some (codes "game");
   value_names = 1;
@@ -26,43 +35,73 @@ game_rule games = record (new_rule (codes "game")) {
   parser = Some (parser.Names games);
 }
 
--- --frames N, from 1 to 8
-abbrev pub frames_rule : Rule
-frames_rule = record (new_rule (codes "frames")) {
-  long = Some (codes "frames");
+-- --guesses GUESSES
+abbrev pub guesses_rule : Choices → Rule
+guesses_rule guesses = record (new_rule (codes "guesses")) {
+  long = Some (codes "guesses");
   value_names = 1;
-  defaults = codes "1" ∷ [];
-  parser = Some (parser.Unsigned 1 8);
+  defaults = codes "none" ∷ [];
+  parser = Some (parser.Names guesses);
+}
+
+-- an option that takes a number from `least` to `most`
+abbrev pub number_rule : Text → Text → ℕ → ℕ → Rule
+number_rule name default least most = record (new_rule name) {
+  long = Some name;
+  value_names = 1;
+  defaults = default ∷ [];
+  parser = Some (parser.Unsigned least most);
 }
 
 -- --explain
 abbrev pub explain_rule : Rule
 explain_rule = record (new_rule (codes "explain")) { long = Some (codes "explain"); action = Some SetTrue }
 
-abbrev pub play_app : Games → App
-play_app games = with_rule (with_rule (with_rule (new_app (codes "play")) file_rule) (game_rule games)) explain_rule
+-- a command with these arguments
+abbrev pub with_rules : App → List Rule → App
+with_rules app [] = app
+with_rules app (rule ∷ rules) = with_rules (with_rule app rule) rules
 
-abbrev pub synctest_app : Games → App
-synctest_app games = with_rule (with_rule (with_rule (with_rule (new_app (codes "synctest")) file_rule) (game_rule games)) frames_rule) explain_rule
+abbrev pub play_app : Choices → App
+play_app games = with_rules (new_app (codes "play")) (file_rule ∷ game_rule games ∷ explain_rule ∷ [])
+
+abbrev pub live_app : Choices → App
+live_app games = with_rules (new_app (codes "live")) (file_rule ∷ game_rule games ∷ number_rule (codes "workers") (codes "1") 1 4 ∷ [])
+
+-- the command of a match, as far as the players' words and their line go
+abbrev pub line_app : App
+line_app = with_rules (new_app (codes "match")) (
+    number_rule (codes "frames") (codes "1000") 1 1048576 ∷
+    number_rule (codes "seed") (codes "1") 0 (2 ^ 64 - 1) ∷
+    number_rule (codes "late") (codes "8") 0 60 ∷
+    number_rule (codes "lost") (codes "0") 0 99 ∷
+    number_rule (codes "hold") (codes "10") 1 1000000 ∷ [])
+
+abbrev pub match_app : Choices → Choices → App
+match_app games guesses = with_rules line_app (
+    number_rule (codes "delay") (codes "0") 0 255 ∷
+    number_rule (codes "threshold") (codes "8") 0 255 ∷
+    guesses_rule guesses ∷ game_rule games ∷ [])
+
+abbrev pub synctest_app : Choices → App
+synctest_app games = with_rules (new_app (codes "synctest")) (file_rule ∷ game_rule games ∷ number_rule (codes "frames") (codes "1") 1 8 ∷ explain_rule ∷ [])
 
 abbrev pub certify_app : App
-certify_app = with_rule (with_rule (new_app (codes "certify")) file_rule) explain_rule
+certify_app = with_rules (new_app (codes "certify")) (file_rule ∷ explain_rule ∷ [])
 
 -- a command with --version
 abbrev pub with_version : App → App
 with_version = on_top (λ shape. record shape { has_version = true })
 
--- the program, with the names of the games for `play` and for `synctest`
-abbrev pub app_with : Games → Games → App
-app_with played tested =
-    with_subcommand (with_subcommand (with_subcommand (with_version (new_app (codes "rollduel"))) (play_app played).top) (synctest_app tested).top) certify_app.top
+-- the program, with the texts that its options take
+abbrev pub app_with : Choices → Choices → App
+app_with games guesses =
+    with_subcommand (with_subcommand (with_subcommand (with_subcommand (with_subcommand (with_version (new_app (codes "rollduel")))
+    (play_app games).top) (live_app games).top) (match_app games guesses).top) (synctest_app games).top) certify_app.top
 
--- the names at some place: where they stand changes nothing
-abbrev pub some_games : Games
-some_games = record {
-  ref_ptr = (0, 0);
-  now = record { ref_ptr = (0, 0); now = codes "tally" } ∷ record { ref_ptr = (0, 0); now = codes "duel" } ∷ [];
-}
+-- texts at some place: where they stand changes nothing
+abbrev pub placed : List Text → Choices
+placed names = record { ref_ptr = (0, 0); now = map (λ name. record { ref_ptr = (0, 0); now = name }) names }
 
 abbrev pub rollduel_app : App
-rollduel_app = app_with some_games some_games
+rollduel_app = app_with (placed the_games) (placed the_guesses)

@@ -6,8 +6,6 @@ use Rattle.clap.specs.declared.error.kind.ErrorKind.TheVariants.{DisplayHelp, Di
 use Rattle.roll_cli.specs.declared.engine.PlayFault.{PlayFault}
 use Rattle.roll_cli.specs.declared.engine.PlayFault.TheVariants.{NoMemory, Read, Write}
 use Rattle.roll_cli.specs.declared.program.Ending.{Ending}
-use Rattle.roll_cli.specs.declared.program.Task.{Task}
-use Rattle.roll_cli.specs.Programs.{Ends}
 
 -- the program ends with a fault
 abbrev pub faulted : PlayFault → Ending
@@ -41,11 +39,12 @@ abbrev pub EndsRefused : Kinds → Ending → Type 0
 EndsRefused [] ending = ⊤
 EndsRefused (kind ∷ kinds) ending = (ending ≡ faulted NoMemory) ⊎ IsToldOfOne (kind ∷ kinds) ending
 
--- how the program ends at a task, where the writer was old and is new
-module _ {W : Type 0} (contents : W → Option (List ℕ)) (task : Task) (old new : W) (ending : Ending) where
+-- how the program ends, where `ends` says it for a text, what was written before and after, and the ending, and where the
+-- writer was old and is new
+module _ {W : Type 0} (contents : W → Option (List ℕ)) (ends : List ℕ → Option (List ℕ) → Option (List ℕ) → Ending → Type 0) (old new : W) (ending : Ending) where
   -- with the text that a reader holds, if it tells
   abbrev pub EndsOn : Option (List ℕ) → Type 0
-  EndsOn held = IfSome held (λ text. Ends task text (contents old) (contents new) ending)
+  EndsOn held = IfSome held (λ text. ends text (contents old) (contents new) ending)
 
   -- with the text of a file, if it can be opened
   abbrev pub EndsOnFile : {F E : Type 0} → (F → Option (List ℕ)) → Result F E → Type 0

@@ -1,16 +1,23 @@
 -- What the words ask for.
-use Rattle.std.specs.Prelude.{ℕ, Bool, false, List, Option, None, Some, codes, if◌then◌else◌}
+use Rattle.std.specs.Prelude.{◌≤◌, ◌^◌, ◌&&◌, ℕ, Bool, false, List, Option, None, Some, ⊤, codes, if◌then◌else◌, nat_le, nat_lt}
 use Rattle.std.specs.Str.{bytes_eq}
+use Rattle.std.specs.Str.Parse.{digits_value, without_leading_plus}
 use Rattle.clap.specs.Simple.{subcommand_of}
+use Rattle.clap.specs.ValueTests.{is_numeral}
 use Rattle.clap.specs.Walk.{Row, Text, byte_or_zero, first_of}
 use Rattle.roll_cli.specs.declared.program.GameName.{GameName}
 use Rattle.roll_cli.specs.declared.program.GameName.TheVariants.{Tally, Duel}
 use Rattle.roll_cli.specs.declared.program.Task.{Task}
 use Rattle.roll_cli.specs.declared.program.Task.TheVariants.{Play, SyncTest, Certify}
+use Rattle.roll_live.specs.declared.program.Live.{Live}
+use Rattle.roll_match.specs.declared.options.Guesses.{Guesses}
+use Rattle.roll_match.specs.declared.options.Guesses.TheVariants.{Off, Words, Turns}
+use Rattle.roll_match.specs.declared.options.MatchOptions.{MatchOptions}
 use Rattle.rollduel.specs.Commands.{rollduel_app}
 use Rattle.rollduel.specs.declared.command_line.Input.{Input}
 use Rattle.rollduel.specs.declared.command_line.Input.TheVariants.{Standard, File}
 use Rattle.rollduel.specs.declared.command_line.Request.{Request}
+use Rattle.rollduel.specs.declared.command_line.Request.TheVariants as request
 
 -- the path of an input, none of standard input
 abbrev pub path_of : Input → Option Text
@@ -27,10 +34,32 @@ abbrev pub game_named : Option Text → GameName
 game_named None = Tally
 game_named (Some value) = if bytes_eq value (codes "duel") then Duel else Tally
 
+-- the guesses that the value of --guesses names
+abbrev pub guesses_named : Option Text → Guesses
+guesses_named None = Off
+guesses_named (Some value) = if bytes_eq value (codes "words") then Words else (if bytes_eq value (codes "turns") then Turns else Off)
+
 -- the number that the value of --frames names in decimal; what names none below 256, and no parse takes, counts as 0
 abbrev pub frames_named : Option Text → ℕ
 frames_named None = 1
 frames_named (Some value) = byte_or_zero value
+
+-- the number of so many bits that a text names in decimal; one that names none counts as 0
+abbrev pub number_in : ℕ → Text → ℕ
+number_in bits text =
+    let digits = without_leading_plus text in
+    if is_numeral digits && nat_lt (digits_value 10 digits) (2 ^ bits) then digits_value 10 digits else 0
+
+abbrev pub number_named : ℕ → Option Text → ℕ
+number_named bits None = 0
+number_named bits (Some value) = number_in bits value
+
+-- the number that the value of --workers names; what isn't from 1 to 4, and no parse takes, counts as 1
+abbrev pub workers_in : ℕ → ℕ
+workers_in n = if nat_le 1 n && nat_le n 4 then n else 1
+
+abbrev pub workers_named : Option Text → ℕ
+workers_named value = workers_in (number_named 8 value)
 
 -- whether the value of a flag says that it was given
 abbrev pub is_named : Option Text → Bool
@@ -42,23 +71,67 @@ abbrev pub task_named : Text → Option Text → Option Text → Task
 task_named name game frames = if bytes_eq name (codes "certify") then Certify
     else (if bytes_eq name (codes "synctest") then SyncTest (game_named game) (frames_named frames) else Play (game_named game))
 
--- what is asked for: the path of the text, none of standard input, what is to be done with it, and whether that is to
--- be explained
-abbrev pub Asked : Type 0
-Asked = Option Text × Task × Bool
+-- how a script is to be played live, where `value` gives the value of each argument
+abbrev pub live_named : (Text → Option Text) → Live
+live_named value = record { game = game_named (value (codes "game")); workers = workers_named (value (codes "workers")) }
+
+-- how a match is to be played
+abbrev pub options_named : (Text → Option Text) → MatchOptions
+options_named value = record {
+  frames = number_named 32 (value (codes "frames"));
+  seed = number_named 64 (value (codes "seed"));
+  late = number_named 32 (value (codes "late"));
+  lost = number_named 32 (value (codes "lost"));
+  hold = number_named 32 (value (codes "hold"));
+  delay = number_named 32 (value (codes "delay"));
+  threshold = number_named 32 (value (codes "threshold"));
+  guesses = guesses_named (value (codes "guesses"));
+  game = game_named (value (codes "game"));
+}
+
+-- what is asked for: something with a text, the path of which is none where it is standard input, and whether that is
+-- to be explained; a script that is played live; or a match
+pub data Asked : Type 0 where
+  on_text : Option Text → Task → Bool → Asked
+  live : Option Text → Live → Asked
+  «match» : MatchOptions → Asked
 
 abbrev pub asked_of : Request → Asked
-asked_of request = (path_of request.input, request.task, request.explain)
+asked_of (request.Text asked) = on_text (path_of asked.input) asked.task asked.explain
+asked_of (request.Live input how) = live (path_of input) how
+asked_of (request.Match options) = «match» options
+
+-- there are 1 to 4 workers
+abbrev pub HasWorkers : Request → Type 0
+HasWorkers (request.Live input how) = (1 ≤ how.workers) × (how.workers ≤ 4)
+HasWorkers _ = ⊤
+
+-- what the command of this name asks for
+abbrev pub asked_named : Text → (Text → Option Text) → Asked
+asked_named name value = if bytes_eq name (codes "live") then live (path_named (value (codes "FILE"))) (live_named value)
+    else (if bytes_eq name (codes "match") then «match» (options_named value)
+    else on_text (path_named (value (codes "FILE"))) (task_named name (value (codes "game")) (value (codes "frames"))) (is_named (value (codes "explain"))))
 
 -- what a command with these arguments asks for, or no command
 abbrev pub asked_in : Option (Text × List Row) → Asked
-asked_in None = (None, Play Tally, false)
-asked_in (Some met) = (
-  path_named (first_of (codes "FILE") met.1),
-  task_named met.0 (first_of (codes "game") met.1) (first_of (codes "frames") met.1),
-  is_named (first_of (codes "explain") met.1),
-)
+asked_in None = on_text None (Play Tally) false
+asked_in (Some met) = asked_named met.0 (λ name. first_of name met.1)
 
 -- what the words ask for, of which the first is the program's name
 abbrev pub asked_by : List Text → Asked
 asked_by words = asked_in (subcommand_of rollduel_app words)
+
+-- a fact where something with a text is asked for
+abbrev pub IfText : Asked → (Option Text → Task → Type 0) → Type 0
+IfText (on_text path task explain) P = P path task
+IfText _ P = ⊤
+
+-- a fact where a script is to be played live
+abbrev pub IfLive : Asked → (Option Text → Live → Type 0) → Type 0
+IfLive (live path how) P = P path how
+IfLive _ P = ⊤
+
+-- a fact where a match is asked for
+abbrev pub IfMatch : Asked → (MatchOptions → Type 0) → Type 0
+IfMatch («match» options) P = P options
+IfMatch _ P = ⊤

@@ -5,12 +5,13 @@ use std::alloc::{AllocError, Global};
 pub const VERSION: &str = "0.1.0";
 
 pub const PROGRAM: &str = "\
-Plays scripts of rollback sessions, tests games, and checks the claims of rollbacks.
+Plays scripts and matches of rollback sessions, tests games, and checks the claims of rollbacks.
 
 A rollback session keeps a game for several players going while inputs of remote players are
 under way: it predicts them, and where a prediction turns out wrong, it goes back and runs those
 frames again. A script stands for the players and the network, so that this can be followed line
-by line. Without a command a script is read from standard input, and the game is tally.
+by line. Without a command a script is read from standard input, and the game is tally. A match is
+played without a script, by two peers with a bad line between them: `rollduel match --help` tells how.
 
 A game for such a session has to come out the same each time that frames are run again. A sync test
 looks for one that doesn't: `rollduel synctest --help` tells how.
@@ -77,8 +78,131 @@ pub fn script(alloc: Global) -> Result<String, AllocError> {
     Ok(text)
 }
 
+pub const LIVE: &str = "Plays a script on threads: a link, and workers that run guesses ahead";
+
+pub const LIVE_SCRIPT: &str = "\
+The script is one for `rollduel play`, whose help explains the lines. Here a host plays it, as a game
+does whose remote inputs come from a network thread: they go through a link, and the guesses are run by
+worker threads while the script goes on. So these lines are answered in another way:
+
+  R p f w  the word is sent on the link, and what has come on it is taken: `taken`, `repeated`, or
+           `refused N` where the session doesn't take the word
+  S        `frame N state X`: how many frames were run again depends on what the workers have done
+  A        the same
+  G        nothing: the guess goes to the workers
+  B j      nothing: the states are saved that the workers have finished by now, whatever j is
+  C        nothing
+
+What is printed is the same however the threads run. A word whose frame is 100 or more past the
+session's frame makes its line unreadable.
+
+Example (the file examples/late-input.roll), where player 2's word for frame 0 comes late:
+
+  roll 1 players 2 local 1 delay 0,0 threshold 8
+  L 1 1
+  A
+  L 1 1
+  A
+  R 2 0 3
+  S
+
+It prints, with any number of workers:
+
+  ok
+  frame 1 state 1
+  ok
+  frame 2 state 11
+  taken
+  frame 2 state 77
+
+Exit status: 0; 1 where an answer was `refused N`; 2 where the script can't be read, a line of it
+is unreadable, memory runs out, a thread can't be started, or the answers can't be written.";
+
+pub const WORKERS: &str = "How many worker threads there are, from 1 to 4";
+
+pub const MATCH: &str = "Plays a match over a bad line, and prints what its rollbacks cost";
+
+pub const MATCH_TABLE: &str = "\
+Two peers play one game in this process, each by a session of its own in which the other is remote,
+as over a line on which words come late or are lost. The players' words and what becomes of them on
+the line are drawn from the seed. In each simulated frame a peer takes the words that have come, and
+runs frames again where one was predicted wrong. Then it gives its own word and advances, unless it is
+too far ahead of the other's words and has to wait. At last, where it is to guess, it runs ahead what
+the other player may do next: where the words come so, nothing needs to be run again.
+
+A word is under way for 0 to L frames, and none overtakes another. One that is lost comes with the
+next that arrives. The guesses are:
+
+  none     none
+  words    for each of four likely words, that the other player holds it from now on
+  turns    those too; and that the player holds the last word for 1 to 8 frames more, and then each
+           of the four
+
+A table is printed, with a column for each peer, of these numbers:
+
+  frames            the frames that it played
+  rollbacks         how often it ran frames again, since a word had been predicted wrong
+  frames re-run     how many frames were run again in all of them
+  by GGPO's policy  how many GGPO runs again, from the first frame on that was predicted wrong
+  deepest rollback  the most frames that one rollback ran again
+  frames waited     how often it was too far ahead, and waited for a frame
+  guesses           how many guesses were run ahead
+  states added      how many states were saved for them
+  branches dropped  how many of them were out of date once they were run
+  claims checked    how many claims of rollbacks were checked: that none ran a frame too many
+  claims wrong      how many of those were wrong: none can be
+
+Then comes up to which frame the settled rows of both sides are the same, with the state after them,
+and at last a line of all numbers for scripts: name=value, or name=first,second for both peers.
+
+A delay over 8, or a threshold of 0 or over 8, is answered by `refused 11`: no session starts with it.
+
+Example:
+
+  rollduel match --frames 60 --seed 3 --late 8 --lost 10 --guesses turns
+
+It prints, and after it the line for scripts:
+
+  60 frames of tally, seed 3
+  words 0 to 8 frames late, 10 in 100 lost, held 10 frames on average
+  delay 0, threshold 8, guesses turns
+
+                              player 1    player 2
+  frames                            60          60
+  rollbacks                          1           0
+  frames re-run                      5           0
+  by GGPO's policy                  19          35
+  deepest rollback                   5           0
+  frames waited                      1           1
+  guesses                          849         876
+  states added                     882        1068
+  branches dropped                   0           0
+  claims checked                    84          83
+  claims wrong                       0           0
+
+  both sides agree up to frame 60: 666666
+
+Exit status: 0; 1 where the answer is `refused 11`, or the peers differ or a claim is wrong, neither of
+which can be; 2 where memory runs out, or the table can't be written.";
+
+pub const LENGTH: &str = "How many frames each peer plays, up to 1048576";
+
+pub const SEED: &str = "What the words and the line are drawn from: the same seed prints the same";
+
+pub const LATE: &str = "The most frames that a word is under way, up to 60";
+
+pub const LOST: &str = "How many words of a hundred are lost, up to 99";
+
+pub const HOLD: &str = "For how many frames a player holds a word on average, up to 1000000";
+
+pub const DELAY: &str = "Each peer's input delay in frames, up to 8";
+
+pub const THRESHOLD: &str = "How many frames a peer may go past the confirmed ones, from 1 to 8";
+
 pub const SYNCTEST: &str =
     "Tests whether a game comes out the same twice, and prints what is found at each row";
+
+pub const AGAIN: &str = "How many frames are run again at once, from 1 to 8";
 
 pub const ROWS: &str = "\
 A rollback is right only where a game comes out the same each time that it runs the same inputs from

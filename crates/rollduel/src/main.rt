@@ -1,6 +1,6 @@
-//! The program `rollduel`: plays scripts and prints what the session shows, tests games, and checks claims.
+//! The program `rollduel`: plays scripts and prints what the session shows, plays matches, tests games, and checks claims.
 //!
-//! The work is done in `roll_cli`. Here are the command line, the streams and the exit status.
+//! The work is done in `roll_cli`, `roll_live` and `roll_match`. Here are the command line, the streams and the exit status.
 #![tactic(auto)]
 
 ghost use Rattle.std.specs.Fn.{FnOnceReturnsAt};
@@ -9,28 +9,33 @@ ghost use Rattle.std.specs.Process.{exit_status};
 ghost use Rattle.clap.specs.Faults.{fault_of};
 ghost use Rattle.clap.specs.Kinds.{FailsBy};
 ghost use Rattle.clap.specs.Words.{kind_of};
-ghost use Rattle.roll_cli.specs.declared.engine.PlayFault.TheVariants.{NoMemory, Read as CannotRead};
+ghost use Rattle.roll_cli.specs.declared.engine.PlayFault.TheVariants.{NoMemory, Read as CannotRead, Write as CannotWrite};
 ghost use Rattle.rollduel.specs.Commands.{rollduel_app};
 ghost use Rattle.rollduel.specs.Endings.{HasStatus, EndsOn, EndsOnFile, EndsRefused, IsPrinted};
-ghost use Rattle.rollduel.specs.Requests.{asked_by, path_of};
+ghost use Rattle.rollduel.specs.Requests.{IfLive, IfMatch, IfText, asked_by};
+ghost use Rattle.roll_cli.specs.Programs.{Ends};
+ghost use Rattle.roll_live.specs.Lives.{Ends as EndsLive};
 
 mod command_line;
+mod commands;
 mod help;
+mod work;
 
 use clap::Error;
 use clap::error::ErrorKind;
-use command_line::{Input, Request};
+use command_line::Request;
 use roll_cli::{Ending, PlayFault};
-use std::alloc::{AllocGlobal, Global};
-use std::fmt::Write as _;
+use std::alloc::AllocGlobal;
 use std::io::{Eprint, IsTerminal, Read, Write};
 use std::process::ExitCode;
 use std::rt::Runtime;
+use std::sync::Wait;
+use std::thread::Threads;
 use std::{env, fs, io};
 
 fn main(rt: HostRuntime) -> ExitCode {
     let mut notes = String::new(rt.alloc());
-    let ending = run(&rt, &mut notes);
+    let ending = run(&rt, &rt, &mut notes);
     finish(&rt, &ending, &notes)
 }
 
@@ -47,21 +52,25 @@ fn finish<R: Eprint>(rt: &R, ending: &Ending, notes: &str) -> ExitCode
 }
 
 /// Does what the words of the command line ask for.
-fn run<R: Runtime + AllocGlobal>(rt: &R, notes: &mut String) -> Ending
+fn run<R, T>(rt: &R, threads: &T, notes: &mut String) -> Ending
 where
+    R: Runtime + AllocGlobal,
     R::Reader: IsTerminal,
+    T: AllocGlobal + Threads + Wait + Copy + Send + 'static,
     ensures status { HasStatus result }
 {
     match words(rt) {
-        Ok(words) => run_words(rt, &words, notes),
+        Ok(words) => run_words(rt, threads, &words, notes),
         Err(fault) => Ending::from(fault),
     }
 }
 
 /// Does what these words ask for, of which the first is the program's name.
-fn run_words<R: Runtime + AllocGlobal>(rt: &R, words: &[String], notes: &mut String) -> Ending
+fn run_words<R, T>(rt: &R, threads: &T, words: &[String], notes: &mut String) -> Ending
 where
+    R: Runtime + AllocGlobal,
     R::Reader: IsTerminal,
+    T: AllocGlobal + Threads + Wait + Copy + Send + 'static,
     ensures refused { EndsRefused (fault_of rollduel_app (map string_bytes words.now)) result }
     ensures status { HasStatus result }
 {
@@ -74,7 +83,7 @@ where
         }
     };
     match perform(
-        rt.alloc(),
+        threads,
         words,
         &mut standard,
         notice,
@@ -89,8 +98,8 @@ where
 
 /// Does what the words ask for, with standard input, of which notice is given, or the file that is opened, and notes what
 /// it explains. The error is to be printed.
-fn perform<S: Read, N: FnOnce(), F: Read + Drop, W: Write, O: FnOnce(&str) -> io::Result<F>>(
-    alloc: Global,
+fn perform<T, S, N, F, W, O>(
+    threads: &T,
     words: &[String],
     standard: &mut S,
     notice: N,
@@ -98,20 +107,45 @@ fn perform<S: Read, N: FnOnce(), F: Read + Drop, W: Write, O: FnOnce(&str) -> io
     writer: &mut W,
     notes: &mut String,
 ) -> Result<Ending, Error>
+where
+    T: AllocGlobal + Threads + Wait + Copy + Send + 'static,
+    S: Read,
+    N: FnOnce(),
+    F: Read + Drop,
+    W: Write,
+    O: FnOnce(&str) -> io::Result<F>,
     requires notice { N.IsAlwaysCallable notice }
     requires opener { O.IsAlwaysCallable opener }
-    ensures standard { IfOk result (λ ending. (asked_by (map string_bytes words.now)).0 ≡ None
-        → EndsOn W.contents (asked_by (map string_bytes words.now)).1 writer.old writer.new ending (S.remaining standard.old)) }
-    ensures file { IfOk result (λ ending. IfSome (asked_by (map string_bytes words.now)).0 (λ path.
+    ensures standard { IfOk result (λ ending. IfText (asked_by (map string_bytes words.now)) (λ path task. path ≡ None
+        → EndsOn W.contents (Ends task) writer.old writer.new ending (S.remaining standard.old))) }
+    ensures file { IfOk result (λ ending. IfText (asked_by (map string_bytes words.now)) (λ path task. IfSome path (λ path.
         (standard.new ≡ standard.old) × ((opened : _) × FnOnceReturnsAt O.FnOnce opener path opened
-        × EndsOnFile W.contents (asked_by (map string_bytes words.now)).1 writer.old writer.new ending F.remaining opened))) }
+        × EndsOnFile W.contents (Ends task) writer.old writer.new ending F.remaining opened)))) }
+    ensures live { IfOk result (λ ending. IfLive (asked_by (map string_bytes words.now)) (λ path live. path ≡ None
+        → EndsOn W.contents (EndsLive live.game) writer.old writer.new ending (S.remaining standard.old))) }
+    ensures live_file { IfOk result (λ ending. IfLive (asked_by (map string_bytes words.now)) (λ path live. IfSome path (λ path.
+        (standard.new ≡ standard.old) × ((opened : _) × FnOnceReturnsAt O.FnOnce opener path opened
+        × EndsOnFile W.contents (EndsLive live.game) writer.old writer.new ending F.remaining opened)))) }
+    ensures played { IfOk result (λ ending. IfMatch (asked_by (map string_bytes words.now)) (λ options.
+        (standard.new ≡ standard.old) × IfSome ending.fault (λ fault. (fault ≡ CannotWrite) ⊎ (writer.new ≡ writer.old)))) }
     ensures status { IfOk result (λ ending. HasStatus ending) }
     ensures untouched { IfErr result (λ error. (standard.new ≡ standard.old) × (writer.new ≡ writer.old)) }
     ensures kinds { FailsBy (fault_of rollduel_app (map string_bytes words.now)) result }
 {
+    let alloc = threads.alloc();
     let script = help::script(alloc)?;
     let asked = command_line::read(alloc, words, &script)?;
-    Ok(answer(alloc, &asked, standard, notice, opener, writer, notes))
+    match asked {
+        Request::Text(asked) => {
+            let ending = work::answer(alloc, &asked, standard, notice, opener, writer, notes);
+            Ok(ending)
+        }
+        Request::Live { input, live } => {
+            let ending = work::play_live(threads, input, live, standard, notice, opener, writer);
+            Ok(ending)
+        }
+        Request::Match(options) => Ok(roll_match::run(alloc, &options, writer)),
+    }
 }
 
 /// The words of the command line, with the program's name in front. One that is not UTF-8 can't be read.
@@ -138,65 +172,5 @@ fn print<R: Runtime + AllocGlobal>(rt: &R, error: &Error) -> Ending
             fault: None,
         },
         Err(_) => Ending::from(PlayFault::Write),
-    }
-}
-
-/// Does what is asked for, with standard input, of which notice is given, or the file that is opened.
-fn answer<S: Read, N: FnOnce(), F: Read + Drop, W: Write, O: FnOnce(&str) -> io::Result<F>>(
-    alloc: Global,
-    asked: &Request<'_>,
-    standard: &mut S,
-    notice: N,
-    opener: O,
-    writer: &mut W,
-    notes: &mut String,
-) -> Ending
-    requires notice { N.IsAlwaysCallable notice }
-    requires opener { O.IsAlwaysCallable opener }
-    ensures standard { path_of asked.now.input ≡ None
-        → EndsOn W.contents asked.now.task writer.old writer.new result (S.remaining standard.old) }
-    ensures file { IfSome (path_of asked.now.input) (λ path.
-        (standard.new ≡ standard.old) × ((opened : _) × FnOnceReturnsAt O.FnOnce opener path opened
-        × EndsOnFile W.contents asked.now.task writer.old writer.new result F.remaining opened)) }
-    ensures status { HasStatus result }
-{
-    match asked.input {
-        Input::Standard => {
-            notice();
-            work(alloc, asked, standard, writer, notes)
-        }
-        Input::File(path) => match opener(path) {
-            Ok(mut file) => {
-                let ending = work(alloc, asked, &mut file, writer, notes);
-                if asked.explain && ending.fault == Some(PlayFault::Read) {
-                    let _ = writeln!(notes, "{path}: a read failed");
-                }
-                ending
-            }
-            Err(error) => {
-                if asked.explain {
-                    let _ = writeln!(notes, "{path}: {error}");
-                }
-                Ending::from(PlayFault::Read)
-            }
-        },
-    }
-}
-
-/// Does what is asked for with the text that a reader holds.
-fn work<R: Read, W: Write>(
-    alloc: Global,
-    asked: &Request<'_>,
-    reader: &mut R,
-    writer: &mut W,
-    notes: &mut String,
-) -> Ending
-    ensures ends { EndsOn W.contents asked.now.task writer.old writer.new result (R.remaining reader.old) }
-    ensures status { HasStatus result }
-{
-    if asked.explain {
-        roll_cli::explain(alloc, asked.task, reader, writer, notes)
-    } else {
-        roll_cli::run(alloc, asked.task, reader, writer)
     }
 }

@@ -1,8 +1,19 @@
-use Rattle.std.proofs.Common.{refl}
+use Rattle.std.proofs.Common.{◌∙◌, sym}
 use Rattle.std.proofs.lemmas.Option.{IfSome_then}
+use Rattle.std.proofs.lemmas.Result.{IfOk-weaker}
+use Rattle.roll_cli.specs.Headers.{setup_of}
+use Rattle.roll_cli.proofs.Outlined.{output_of_outline}
 use Rattle.roll_cli.proofs.engine.play.Goals as goal
 
+pub returns-clause-written : goal.returns-clause-written
+returns-clause-written g c =
+    IfOk-weaker c.write_played.result _ _
+    (λ refused h. IfSome_then (g.R.Read.remaining c.args.reader.now) c.in_ok-text.ensures.all
+    (λ known same. (h.0, output_of_outline (setup_of c.in_ok-header.header) c.in_ok-header.commands.now c.deref.result.now known _ _ h.0 refused c.in_ok-header.ensures.outlined (sym same ∙ sym c.deref.ensures.value) h.1, h.2)))
+    c.write_played.ensures.written
+
 pub returns-clause-cut : goal.returns-clause-cut
-returns-clause-cut g c =
-    λ failed. IfSome_then (g.R.Read.remaining c.args.reader.now) c.in_ok-script.ensures.spelled
-    (λ text spelled. (_, _, record { play = _; fits = c.in_ok-script.ensures.fits; spelled = spelled; output_is = refl; refused_is = refl }, c.write_played.ensures.cut failed))
+returns-clause-cut g c = λ failed.
+    let h = c.write_played.ensures.cut failed in
+    IfSome_then (g.R.Read.remaining c.args.reader.now) c.in_ok-text.ensures.all
+    (λ known same. (h.0, h.1, output_of_outline (setup_of c.in_ok-header.header) c.in_ok-header.commands.now c.deref.result.now known _ _ h.0 h.1 c.in_ok-header.ensures.outlined (sym same ∙ sym c.deref.ensures.value) h.2, h.3))

@@ -1,4 +1,5 @@
 use Rattle.std.proofs.Common.{◌≡◌, suc, ◌+◌, ◌-◌, refl, arith, ◌∙◌}
+use Rattle.roll_frame.specs.Timeline.{row_at}
 use Rattle.roll_frame.specs.declared.limits.TheConstants.{TREE_LIMIT}
 use Rattle.roll_session.proofs.Rolling.{can_grow, still_few, way_more, way_start}
 use Rattle.roll_session.proofs.roll.run_on.Goals as goal
@@ -11,12 +12,14 @@ loop-frame-init g c =
       counts = rw none c.in-Ok.ensures.counts;
     }
 
-pub grow-at-requires-clause-fits : goal.grow-at-requires-clause-fits
-grow-at-requires-clause-fits g c =
-    can_grow g.G.RawGame.snapshot_value g.G.Game.step c.args.saves.now c.args.from c.args.to c.requires.from c.loop-frame.saves c.loop-frame.frame c.loop-frame.at (g.G.RawGame.state_value c.loop-frame.state) c.loop-frame.invariant.way (omega (arith, c.loop-frame-test.true)) (omega (arith, c.ranges.to.fits)) c.requires.near
+pub hang-at-requires-clause-fits : goal.hang-at-requires-clause-fits
+hang-at-requires-clause-fits g c =
+    let row : c.told_row-row.result ≡ row_at c.loop-frame.saves.inputs.players c.loop-frame.frame = c.told_row-row.ensures in
+    rw row (
+    can_grow g.G.RawGame.snapshot_value g.G.Game.step c.args.saves.now c.args.from c.args.to c.requires.from c.loop-frame.saves c.loop-frame.frame c.loop-frame.at (g.G.RawGame.state_value c.loop-frame.state) c.loop-frame.invariant.way (omega (arith, c.loop-frame-test.true)) (omega (arith, c.ranges.to.fits)) c.requires.near)
 
-pub grow-at-requires-clause-few : goal.grow-at-requires-clause-few
-grow-at-requires-clause-few g c =
+pub hang-at-requires-clause-few : goal.hang-at-requires-clause-few
+hang-at-requires-clause-few g c =
     still_few g.G.RawGame.snapshot_value g.G.Game.step c.args.saves.now c.args.from c.args.to c.requires.from c.loop-frame.saves c.loop-frame.frame c.loop-frame.at TREE_LIMIT (g.G.RawGame.state_value c.loop-frame.state) c.loop-frame.invariant.way (omega (arith, c.loop-frame-test.true)) c.requires.fits
 
 pub loop-frame-preserved : goal.loop-frame-preserved
@@ -25,8 +28,8 @@ loop-frame-preserved g c =
     let stepped = (g.met.G.Game.is_step _ _ _).0 c.in-Ok-advance_and_save.ensures.ran in
     record {
       way =
-          way_more g.G.RawGame.snapshot_value g.G.Game.step c.args.saves.now c.args.from c.args.to c.requires.from c.loop-frame.saves c.grow-at.new.self c.loop-frame.frame c.loop-frame.at c.grow-at.result (g.G.RawGame.state_value c.loop-frame.state) (g.G.RawGame.state_value c.advance_and_save.new.state)
-          c.in-Ok-advance_and_save.snapshot c.row-row.result now.way (omega (arith, c.loop-frame-test.true)) (rw c.board.ensures at c.row-row.ensures) stepped (c.in-Ok-advance_and_save.ensures.snapshot ∙ stepped) c.grow-at.ensures.inputs c.grow-at.ensures.room c.grow-at.ensures.vacant c.grow-at.ensures.added;
+          way_more g.G.RawGame.snapshot_value g.G.Game.step c.args.saves.now c.args.from c.args.to c.requires.from c.loop-frame.saves c.hang-at.new.self c.loop-frame.frame c.loop-frame.at c.hang-at.result (g.G.RawGame.state_value c.loop-frame.state) (g.G.RawGame.state_value c.advance_and_save.new.state)
+          c.in-Ok-advance_and_save.snapshot c.told_row-row.result now.way (omega (arith, c.loop-frame-test.true)) (c.told_row-row.ensures) stepped (c.in-Ok-advance_and_save.ensures.snapshot ∙ stepped) c.hang-at.ensures.inputs c.hang-at.ensures.room c.hang-at.ensures.vacant c.hang-at.ensures.added;
       counts =
           let one : c.loop-frame.frame + 1 - c.args.from ≡ suc (c.loop-frame.frame - c.args.from) = omega (arith, now.way.low) in
           rw (one, c.in-Ok-advance_and_save.ensures.counts, now.counts) refl;

@@ -1,20 +1,14 @@
-use Rattle.std.proofs.Common.{◌≡◌, rules, arith, ◌∙◌}
-use Rattle.std.proofs.lemmas.Fmt.{parse-decimal, IsAscii-decimal}
-use Rattle.std.proofs.lemmas.Str.{IsUtf8-from_ascii}
+use Rattle.std.proofs.Common.{◌∙◌, [], arith, sym}
+use Rattle.std.specs.Fmt.{decimal}
+use Rattle.std.proofs.lemmas.List.{append-nil}
+use Rattle.std.proofs.lemmas.Grind.{common_steps}
+use Rattle.roll_text.proofs.Digits.{not_whole}
 use Rattle.roll_text.proofs.decimal.number.Goals as goal
 
--- digits are text
 pub returns-in_default : goal.returns-in_default
-returns-in_default c = λ n small same. c.in_default.ensures.cases.0 (rw same (IsUtf8-from_ascii _ (IsAscii-decimal n (omega arith))))
+returns-in_default c = λ n word whole. c.in_default.ensures n [] word (λ some. absurd (omega (arith, some))) (whole ∙ sym (append-nil (decimal n)))
 
--- digits are parsed
-pub returns-in_default-parse : goal.returns-in_default-parse
-returns-in_default-parse c = λ n small same.
-    let read = parse-decimal 32 n _ _ small (omega arith) (c.in-Ok.ensures.cases.0 ∙ same) c.parse.ensures.value.0 in cc (c.in_default-parse.is)
-
--- what is parsed and has other digits has no spelling
-pub returns-else-eq : goal.returns-else-eq
-returns-else-eq c = λ n small same.
-    let e = c.in-Ok.ensures.cases.0 ∙ same in
-    let read = parse-decimal 32 n _ _ small (omega arith) e c.parse.ensures.value.0 in
-    let text : c.format.result.now ≡ c.in-Ok.text.now = cc in search rules
+pub returns-else-is_empty : goal.returns-else-is_empty
+returns-else-is_empty c = λ n word whole.
+    let cut = c.in-Some.ensures in
+    not_whole c.in-Some.n c.in-Some.rest.now c.args.text.now cut.0 cut.1 cut.2 n word whole (grind (arith, common_steps))

@@ -1,33 +1,68 @@
-use Rattle.std.proofs.Common.{◌≡◌, ◌∙◌, ◌+◌, ◌∷◌, drop, length, ap, refl, arith}
+use Rattle.std.proofs.Common.{◌≡◌, ◌∙◌, ◌+◌, ◌≤◌, ap, refl, arith}
 use Rattle.std.specs.Prelude.{if◌then◌else◌}
 use Rattle.std.proofs.lemmas.Grind.{common_steps}
 use Rattle.roll_frame.specs.Games.{Value, Game}
-use Rattle.roll_cli.specs.Output.{Playing, after_command}
+use Rattle.roll_cli.specs.Output.{after_command}
 use Rattle.roll_cli.specs.Playings.{Played, game_of}
-use Rattle.roll_cli.proofs.Written.{one_counted, one_written, jobs_within}
+use Rattle.roll_cli.proofs.Outlined.{not_none_first, played_none, played_more}
 use Rattle.roll_cli.proofs.playing.Playing.play_all.Goals as goal
 use Rattle.roll_cli.proofs.playing.Playing.play_all.Goals.{then-branch, else-branch}
 
-pub loop-command-preserved : goal.loop-command-preserved
-loop-command-preserved g c =
-    let now = c.loop-command.invariant in
+pub loop-rest-init : goal.loop-rest-init
+loop-rest-init g c = record {
+  settings = refl;
+  opening = refl;
+  played = played_none g.G.Shown.text_of c.args.self.now.settings (game_of g.G.Game.step c.args.self.now) c.args.self.now.now c.args.out.now.items c.args.commands.now c.requires.readable;
+}
+
+pub unreachable-requires : goal.unreachable-requires
+unreachable-requires g c =
+    let now = c.loop-rest.invariant.played in
+    let none = rw c.in_default.is at c.in_ok-command.ensures in
+    not_none_first c.loop-rest.rest.now now.left now.are (grind (arith, common_steps)) none
+
+pub loop-rest-preserved-after-branch : goal.loop-rest-preserved-after-branch
+loop-rest-preserved-after-branch g c =
+    let now = c.loop-rest.invariant in
     let first : Played = c.args.self.now in
-    let old : Played = c.loop-command.self in
+    let old : Played = c.loop-rest.self in
     let new : Played = c.play.new.self in
     let game : Game = game_of g.G.Game.step first in
     let e = c.in_ok-play.ensures in
-    let rest : drop c.loop-command.command-index c.args.commands.now ≡ c.command-item.result ∷ drop (c.loop-command.command-index + 1) c.args.commands.now = grind (arith, common_steps) in
+    let cut = rw c.in-Some.is at c.in_ok-command.ensures in
     let same_game : game_of g.G.Game.step old ≡ game = ap (λ (x : Value). record { opening = x; step = g.G.Game.step }) now.opening in
-    let playing : new.now ≡ after_command first.settings game old.now c.command-item.result = ap (λ (v : Played). v.now) e.played ∙ rw (now.settings, same_game) refl in
-    let count : c.if-branch.refused ≡ c.loop-command.refused + (if c.in_ok-play.field-0 then 1 else 0) = elim c.if-branch.branch [
+    let playing : new.now ≡ after_command first.settings game old.now c.in-Some.command = ap (λ (v : Played). v.now) e.played ∙ rw (now.settings, same_game) refl in
+    let count : c.if-branch.refused ≡ c.loop-rest.refused + (if c.in_ok-play.field-0 then 1 else 0) = elim c.if-branch.branch [
       | then-branch w ↦ w.refused-is ∙ rw w.if-branch.true refl
       | else-branch w ↦ w.refused-is ∙ rw w.if-branch.false (omega arith)
     ] in
+    let one : c.if-branch.refused ≤ c.loop-rest.refused + 1 = elim c.if-branch.branch [ then-branch w ↦ omega (arith, w.refused-is) | else-branch w ↦ omega (arith, w.refused-is) ] in
     record {
       settings = ap (λ (v : Played). v.settings) e.played ∙ now.settings;
       opening = ap (λ (v : Played). v.opening) e.played ∙ now.opening;
-      written = one_written g.G.Shown.text_of first.settings game old.now new.now c.command-item.result _ _ c.loop-command.out.items c.play.new.out.items _ rest (e.written ∙ rw (now.settings, same_game) refl) playing now.written;
-      counted = one_counted first.settings game old.now new.now c.command-item.result _ _ c.loop-command.refused c.if-branch.refused _ c.in_ok-play.field-0 rest (e.refused ∙ rw (now.settings, same_game) refl) count playing now.counted;
-      few = elim c.if-branch.branch [ then-branch w ↦ omega (arith, w.refused-is, now.few) | else-branch w ↦ omega (arith, w.refused-is, now.few) ];
-      jobs = omega (arith, now.jobs, ap (λ (p : Playing). length p.jobs) playing, jobs_within first.settings game old.now c.command-item.result);
+      played = played_more g.G.Shown.text_of first.settings game first.now old.now new.now c.args.out.now.items c.loop-rest.out.items c.play.new.out.items c.args.commands.now c.loop-rest.rest.now c.in-Some.after.now c.loop-rest.refused c.if-branch.refused c.in-Some.command c.in_ok-play.field-0
+          now.played (grind (arith, common_steps)) cut.0 cut.1 playing (e.written ∙ rw (now.settings, same_game) refl) (e.refused ∙ rw (now.settings, same_game) refl) count one;
+    }
+
+pub loop-rest-preserved : goal.loop-rest-preserved
+loop-rest-preserved g c =
+    let now = c.loop-rest.invariant in
+    let first : Played = c.args.self.now in
+    let old : Played = c.loop-rest.self in
+    let new : Played = c.play.new.self in
+    let game : Game = game_of g.G.Game.step first in
+    let e = c.in_ok-play.ensures in
+    let cut = rw c.in-Some.is at c.in_ok-command.ensures in
+    let same_game : game_of g.G.Game.step old ≡ game = ap (λ (x : Value). record { opening = x; step = g.G.Game.step }) now.opening in
+    let playing : new.now ≡ after_command first.settings game old.now c.in-Some.command = ap (λ (v : Played). v.now) e.played ∙ rw (now.settings, same_game) refl in
+    let count : c.if-branch.refused ≡ c.loop-rest.refused + (if c.in_ok-play.field-0 then 1 else 0) = elim c.if-branch.branch [
+      | then-branch w ↦ w.refused-is ∙ rw w.if-branch.true refl
+      | else-branch w ↦ w.refused-is ∙ rw w.if-branch.false (omega arith)
+    ] in
+    let one : c.if-branch.refused ≤ c.loop-rest.refused + 1 = elim c.if-branch.branch [ then-branch w ↦ omega (arith, w.refused-is) | else-branch w ↦ omega (arith, w.refused-is) ] in
+    record {
+      settings = ap (λ (v : Played). v.settings) e.played ∙ now.settings;
+      opening = ap (λ (v : Played). v.opening) e.played ∙ now.opening;
+      played = played_more g.G.Shown.text_of first.settings game first.now old.now new.now c.args.out.now.items c.loop-rest.out.items c.play.new.out.items c.args.commands.now c.loop-rest.rest.now c.in-Some.after.now c.loop-rest.refused c.if-branch.refused c.in-Some.command c.in_ok-play.field-0
+          now.played (grind (arith, common_steps)) cut.0 cut.1 playing (e.written ∙ rw (now.settings, same_game) refl) (e.refused ∙ rw (now.settings, same_game) refl) count one;
     }

@@ -28,4 +28,4 @@ pub returns-in-Err : goal.returns-in-Err
 returns-in-Err g c =
     let did = subst (λ ws. Speculates g.G.Game.step c.args.self.now c.speculate.new.self c.in-Speculate.player ws c.in-Speculate.until (Err c.in-Err.why)) c.as_slice.ensures.value c.in-Err.ensures.speculated in
     let other : c.in-Err.why ≡ NoMemory → ⊥ = search rules in
-    record { done = rw c.in-Speculate.is (record { events = []; done = (refl, did, λ e. other (cc e)) }); short = tt; rings = ap (λ ls. rings_of ls) c.speculate.ensures.links }
+    record { done = rw c.in-Speculate.is (record { events = []; done = (refl, did, λ e. other (cc e)) }); short = tt; rings = ap (λ ls. rings_of ls) c.speculate.ensures.links; places = c.speculate.ensures.places }

@@ -26,7 +26,7 @@ invariant_of-self g c =
     let fits = fits_below c.self.inside c.args.self.now c.args.parent c.args.row parent c.self.view_is c.self.invariant c.requires c.index.ensures in
     let edge : Edge = record { parent = c.args.parent; row = c.args.row; marks = c.marks_in-marks.result } in
     let child : Node g.row.S.Denot = record { edge = Some edge; end = parent.end + 1; snapshot = c.args.snapshot } in
-    let after : Inside g.row.S.Denot = record { base = c.self.inside.base; root = c.self.inside.root; nodes = c.insert_reserved-name.new.self; order = c.push_reserved.new.self; time = c.self.inside.time } in
+    let after : Inside g.row.S.Denot = record { base = c.self.inside.base; root = c.self.inside.root; nodes = c.insert_reserved-name.new.self; order = c.push_reserved.new.self; time = c.self.inside.time; tip = c.max-self-inside.result } in
     let grown : IsGrown c.self.inside.base c.self.inside.nodes.slots after.nodes.slots c.insert_reserved-name.result child parent edge = record {
       vacant = c.insert_reserved-name.ensures.was_vacant;
       edge_is = refl;
@@ -46,6 +46,7 @@ invariant_of-self g c =
     (omega (arith, c.insert_reserved-name.ensures.len, c.self.invariant.counted, c.self.invariant.few, c.if-len-eq-TREE_LIMIT.false))
     (omega (arith, c.insert_reserved-name.ensures.capacity, c.self.invariant.room))
     (omega (arith, c.push_reserved.ensures.capacity, c.self.invariant.space))
+    (omega (arith, c.max-self-inside.ensures)) (omega (arith, c.max-self-inside.ensures))
 
 pub returns-clause-added : goal.returns-clause-added
 returns-clause-added g c =
@@ -53,7 +54,7 @@ returns-clause-added g c =
     let fits = fits_below c.self.inside c.args.self.now c.args.parent c.args.row parent c.self.view_is c.self.invariant c.requires c.index.ensures in
     let edge : Edge = record { parent = c.args.parent; row = c.args.row; marks = c.marks_in-marks.result } in
     let child : Node g.row.S.Denot = record { edge = Some edge; end = parent.end + 1; snapshot = c.args.snapshot } in
-    let after : Inside g.row.S.Denot = record { base = c.self.inside.base; root = c.self.inside.root; nodes = c.insert_reserved-name.new.self; order = c.push_reserved.new.self; time = c.self.inside.time } in
+    let after : Inside g.row.S.Denot = record { base = c.self.inside.base; root = c.self.inside.root; nodes = c.insert_reserved-name.new.self; order = c.push_reserved.new.self; time = c.self.inside.time; tip = c.max-self-inside.result } in
     let grown : IsGrown c.self.inside.base c.self.inside.nodes.slots after.nodes.slots c.insert_reserved-name.result child parent edge = record {
       vacant = c.insert_reserved-name.ensures.was_vacant;
       edge_is = refl;

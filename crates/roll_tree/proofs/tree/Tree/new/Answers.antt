@@ -10,7 +10,7 @@ get_nothing n d = refl
 
 pub invariant_of-result : goal.invariant_of-result
 invariant_of-result g c =
-    let after : Inside g.row.S.Denot = record { base = c.args.base; root = c.insert_reserved-root.result; nodes = c.insert_reserved-root.new.self; order = c.push_reserved.new.self; time = c.new.result } in
+    let after : Inside g.row.S.Denot = record { base = c.args.base; root = c.insert_reserved-root.result; nodes = c.insert_reserved-root.new.self; order = c.push_reserved.new.self; time = c.new.result; tip = c.args.base } in
     let node : Node g.row.S.Denot = record { edge = None; end = c.args.base; snapshot = c.args.root } in
     let pushed = c.push_reserved.ensures.items in
     let empty = ap (λ (l : List (Option (Node g.row.S.Denot))). l) c.in-Ok.ensures.empty in
@@ -21,3 +21,4 @@ invariant_of-result g c =
     (c.insert_reserved-root.ensures.len ∙ rw empty refl)
     (omega (arith, c.insert_reserved-root.ensures.capacity, c.in-Ok.ensures.capacity))
     (omega (arith, c.push_reserved.ensures.capacity, c.in-Ok-with_capacity.ensures.capacity))
+    (omega arith)

@@ -17,14 +17,14 @@ prune-requires g c =
 
 pub invariant_of-self : goal.invariant_of-self
 invariant_of-self g c =
-    let after : Inside g.row.S.Denot = record { base = c.index.result.now.end; root = c.args.node; nodes = c.prune.new.nodes; order = c.prune.new.order; time = c.drop_first.new.rows } in
+    let after : Inside g.row.S.Denot = record { base = c.index.result.now.end; root = c.args.node; nodes = c.prune.new.nodes; order = c.prune.new.order; time = c.drop_first.new.rows; tip = c.self.inside.tip } in
     let lost = rw c.index.ensures at c.set_edge.ensures.changed in
     settle_tree c.self.inside c.self.invariant c.args.node c.index.result.now c.index.ensures c.set_edge.new.nodes lost c.set_edge.ensures.others c.set_edge.ensures.len after refl refl c.drop_first.ensures c.prune.ensures.pruned
-    (omega (arith, c.prune.ensures.capacity, c.set_edge.ensures.capacity, c.self.invariant.room)) (omega (arith, c.prune.ensures.space, c.self.invariant.space))
+    (omega (arith, c.prune.ensures.capacity, c.set_edge.ensures.capacity, c.self.invariant.room)) (omega (arith, c.prune.ensures.space, c.self.invariant.space)) refl
 
 pub returns : goal.returns
 returns g c =
-    let after : Inside g.row.S.Denot = record { base = c.index.result.now.end; root = c.args.node; nodes = c.prune.new.nodes; order = c.prune.new.order; time = c.drop_first.new.rows } in
+    let after : Inside g.row.S.Denot = record { base = c.index.result.now.end; root = c.args.node; nodes = c.prune.new.nodes; order = c.prune.new.order; time = c.drop_first.new.rows; tip = c.self.inside.tip } in
     let lost = rw c.index.ensures at c.set_edge.ensures.changed in
     rw (held_node c.self.inside c.args.self.now c.args.node c.index.result.now c.self.view_is c.self.invariant c.index.ensures)
     (settle_view c.self.inside c.self.invariant c.args.node c.index.result.now c.index.ensures c.set_edge.new.nodes lost c.set_edge.ensures.others c.set_edge.ensures.len after refl refl c.drop_first.ensures c.prune.ensures.pruned c.args.self.now c.self.view_is)

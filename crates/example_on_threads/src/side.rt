@@ -1,0 +1,153 @@
+//! This side of the match: its frame loop.
+ghost use Rattle.std.specs.Prelude.{◌≡◌};
+ghost use Rattle.roll_host.specs.Hosted.{places_of};
+
+use fighter::{Fight, State};
+use roll_frame::{Advice, Refusal};
+use roll_host::Host;
+use roll_spectate::{Feed, Spectator};
+use std::alloc::Global;
+use std::sync::Wait;
+use std::thread;
+
+/// The last frame of the match.
+pub const LAST_FRAME: u32 = 300;
+
+/// This side's player, and the other.
+pub const ME: u8 = 1;
+
+pub const OTHER: u8 = 2;
+
+/// What the frame loop keeps beside the host.
+#[derive(Drop)]
+pub struct Side {
+    feed: Feed,
+    viewer: Spectator<Fight>,
+    /// The frame that the viewer has seen.
+    seen: u32,
+    advice: Advice,
+    /// How many turns more this side waits for the other.
+    wait: u32,
+}
+
+impl Side {
+    pub fn new(alloc: Global) -> Result<Side, Refusal> {
+        let mut feed = Feed::new(alloc)?;
+        let viewer = match Spectator::new(Fight::new(), &Fight::opening(), feed.add()?) {
+            Ok(viewer) => viewer,
+            Err(fault) => return Err(fault.why),
+        };
+        Ok(Side {
+            feed,
+            viewer,
+            seen: 0,
+            advice: Advice::new(alloc)?,
+            wait: 0,
+        })
+    }
+
+    /// Plays until the viewer has seen all frames: the state after them, and what the viewer saw.
+    pub fn play<R: Wait>(
+        &mut self,
+        rt: &R,
+        host: &mut Host<Fight>,
+    ) -> Result<(State, State), Refusal>
+        ensures { places_of host.new.pool ≡ places_of host.old.pool }
+    {
+        for _ in rt.forever() {
+            self.turn(host)?;
+            if self.seen == LAST_FRAME {
+                let seen = self.viewer.state().copied();
+                return Ok((
+                    *host.session().settled_state(),
+                    seen.ok_or(Refusal::Stopped)?,
+                ));
+            }
+            thread::yield_now();
+        }
+        unreachable!()
+    }
+
+    /// A turn of the frame loop.
+    fn turn(&mut self, host: &mut Host<Fight>) -> Result<(), Refusal>
+        ensures { places_of host.new.pool ≡ places_of host.old.pool }
+    {
+        // What the network heard, and what the workers ran.
+        let did = host.pump();
+        if did.held == Some(Refusal::NoMemory) || did.held == Some(Refusal::LogFull) {
+            return Err(Refusal::NoMemory);
+        }
+        host.absorb();
+        if did.applied > 0 {
+            host.synchronize_input()?;
+        }
+        self.compare(host);
+        self.advance(host)?;
+        guess(host);
+        self.show(host)
+    }
+
+    /// Sends the viewer what is settled, and has it run. A viewer may as well run on a thread of its own.
+    fn show(&mut self, host: &Host<Fight>) -> Result<(), Refusal> {
+        self.feed.push(host.session());
+        for _ in 0..LAST_FRAME {
+            match self.viewer.step() {
+                Ok(frame) => self.seen = frame,
+                // No row is there.
+                Err(Refusal::PredictionThreshold) => break,
+                Err(why) => return Err(why),
+            }
+        }
+        Ok(())
+    }
+
+    /// Plays the next frame, unless this side has to wait.
+    fn advance(&mut self, host: &mut Host<Fight>) -> Result<(), Refusal>
+        ensures { places_of host.new.pool ≡ places_of host.old.pool }
+    {
+        let frame = host.session().frame();
+        if frame == LAST_FRAME || self.is_to_wait(frame) {
+            return Ok(());
+        }
+        match host.add_local_input(ME, buttons(ME, frame)) {
+            Ok(()) => {}
+            // Too far ahead of what is confirmed.
+            Err(Refusal::PredictionThreshold) => return Ok(()),
+            Err(why) => return Err(why),
+        }
+        host.advance_frame()?;
+        Ok(())
+    }
+
+    /// Notes how far this side is behind the other, which sees the same from its end.
+    fn compare(&mut self, host: &Host<Fight>) {
+        let session = host.session();
+        let (own, other) = (session.frame(), session.confirmed(OTHER).unwrap_or(0));
+        let behind = other.min(LAST_FRAME) as i32 - own.min(LAST_FRAME) as i32;
+        self.advice.note(behind, -behind);
+    }
+
+    /// Whether the other is to catch up first.
+    fn is_to_wait(&mut self, frame: u32) -> bool {
+        if self.wait == 0 && frame % 40 == 39 {
+            self.wait = self.advice.frames_ahead();
+        }
+        let waits = self.wait > 0;
+        self.wait = self.wait.saturating_sub(1);
+        waits
+    }
+}
+
+/// Has the workers run what comes of it if the other presses the next buttons. A guess that is refused costs nothing.
+fn guess(host: &mut Host<Fight>)
+    ensures { places_of host.new.pool ≡ places_of host.old.pool }
+{
+    let frame = host.session().frame();
+    let next = host.session().confirmed(OTHER).unwrap_or(0);
+    let _ = host.speculate(OTHER, &[buttons(OTHER, next)], frame);
+}
+
+/// What a player presses in a frame: it stands for a controller.
+pub fn buttons(player: u8, frame: u32) -> u32 {
+    frame / (4 + u32::from(player)) % 8
+}

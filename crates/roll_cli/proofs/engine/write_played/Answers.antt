@@ -1,0 +1,20 @@
+use Rattle.std.proofs.Common.{◌∙◌, ◌++◌, ap}
+use Rattle.roll_frame.specs.Games.{Game}
+use Rattle.roll_frame.specs.declared.settings.Settings.{Settings}
+use Rattle.roll_cli.specs.Output.{output_under, refusals_under}
+use Rattle.roll_cli.proofs.engine.write_played.Goals as goal
+
+pub returns-in_err-write_all-clause-cut : goal.returns-in_err-write_all-clause-cut
+returns-in_err-write_all-clause-cut g c = λ failed.
+    let game : Game = record { opening = g.G.RawGame.snapshot_value c.args.opening; step = g.G.Game.step } in
+    let h = c.in_ok-refused.ensures.written in (
+      c.deref.result.now,
+      c.in_ok-refused.refused,
+      record {
+        commands = h.0;
+        are = h.1;
+        output_is = c.deref.ensures.value ∙ h.2 ∙ (λ i. c.new-out.ensures.items i ++ output_under g.G.Shown.text_of (c.settings-settings.ensures i) game h.0);
+        refused_is = h.3 ∙ ap (λ (s : Settings). refusals_under s game h.0) c.settings-settings.ensures;
+      },
+      c.in_err-write_all.ensures.err,
+    )

@@ -1,0 +1,73 @@
+-- How a script that is played live ends.
+use Rattle.std.proofs.Common.{◌≡◌, ◌≢◌, ◌⊎◌, ◌∙◌, ℕ, ◌++◌, List, [], refl, ap, sym, inl, inr, Option, Some, None}
+use Rattle.std.specs.Prelude.{IfOk, IfSome, IfErr, IsErrAnd, OnOk, Result, Ok, Err, ⊤, unwrap_or}
+use Rattle.std.proofs.lemmas.Option.{IfSome_then}
+use Rattle.roll_frame.specs.Games.{Game, Value}
+use Rattle.roll_frame.specs.Settings.{start_refusal}
+use Rattle.roll_frame.specs.declared.refusal.Refusal.{Refusal}
+use Rattle.roll_frame.specs.declared.refusal.Refusal.TheVariants.{NoMemory as NoRoom}
+use Rattle.roll_frame.specs.declared.settings.Settings.{Settings}
+use Rattle.roll_game.specs.declared.counts.Counts.{Counts}
+use Rattle.roll_session.specs.Seen.{Seen}
+use Rattle.roll_text.specs.Lines.{ended}
+use Rattle.roll_text.specs.Streams.{AppendsPart, IsBadAt}
+use Rattle.roll_cli.specs.Output.{Texts, refused_line}
+use Rattle.roll_cli.specs.Plays.{IsScript, Play}
+use Rattle.roll_cli.specs.declared.command.Command.{Command}
+use Rattle.roll_cli.specs.declared.engine.PlayFault.{PlayFault}
+use Rattle.roll_cli.specs.declared.engine.PlayFault.TheVariants.{Unreadable, NoMemory, Read, Write}
+use Rattle.roll_cli.specs.declared.program.GameName.{GameName}
+use Rattle.roll_cli.proofs.Guessed.{refused_so}
+use Rattle.roll_live.specs.Lives.{FarOf, IsFault, IsOutput, IsUnreadable, WritesOf, WritesUnder, started}
+
+-- a fault that is handed on names a line only where it is that of a line too far ahead
+pub far_here : {Y : Type 0} (answer : Result Y PlayFault) (fault : PlayFault) (line at : ℕ) (Far : Type 0) → IsErrAnd answer (λ other. other ≡ fault) → answer ≡ Err (Unreadable line)
+    → (fault ≡ NoMemory) ⊎ ((fault ≡ Unreadable at) × Far) → (line ≡ at) × Far
+far_here answer fault line at Far h e p = go (rw e at h) p
+  where
+    go : Unreadable line ≡ fault → (fault ≡ NoMemory) ⊎ ((fault ≡ Unreadable at) × Far) → (line ≡ at) × Far
+    go is (inl room) = let wrong : Unreadable line ≡ NoMemory = is ∙ room in absurd (cc wrong)
+    go is (inr so) = (let same : Unreadable line ≡ Unreadable at = is ∙ so.0 in cc, so.1)
+
+-- what is written where the session doesn't start
+pub not_started : (texts : Texts) (game : Game) (settings : Settings) (commands : List Command) (why : Refusal) (out new : List ℕ) (r : Result ℕ PlayFault) → why ≡ unwrap_or (start_refusal settings) NoRoom
+    → OnOk r (new ≡ out ++ ended (refused_line why)) → IfOk r (λ n. (n ≡ 1) × (why ≢ NoRoom)) → IfOk r (λ refused. (written : List ℕ) × WritesUnder texts game settings commands written refused × (new ≡ out ++ written))
+not_started texts game settings commands why out new (Err fault) e w h = tt
+not_started texts game settings commands why out new (Ok n) e w h = (ended (refused_line why), rw (refused_so (start_refusal settings) why e h.1) (refl, h.0), w)
+
+-- a session that has just started, with the counts that it has
+pub started_so : (s : Seen) (settings : Settings) (opening : Value) (counts : Counts) → s ≡ record { settings = settings; opening = opening; log = []; counts = counts; reserved = 0 } → s ≡ started settings opening s.counts
+started_so s settings opening counts e = e ∙ ap (started settings opening) (sym (ap (λ (x : Seen). x.counts) e))
+
+-- a line that isn't one of a script can't be read
+pub bad_line : {X Y : Type 0} (r : Result X PlayFault) (answer : Result Y PlayFault) (fault : PlayFault) (known : Option (List ℕ)) (Far : Play → ℕ → Type 0) → r ≡ Err fault → IsErrAnd answer (λ other. other ≡ fault)
+    → ((line : ℕ) → r ≡ Err (Unreadable line) → IfSome known (IsBadAt IsScript line)) → (line : ℕ) → answer ≡ Err (Unreadable line) → IfSome known (λ text. IsUnreadable Far text line)
+bad_line r answer fault known Far was h bad line e =
+    let is : Unreadable line ≡ fault = rw e at h in
+    IfSome_then known (bad line (was ∙ ap Err (sym is))) (λ text b. inl b)
+
+of_any : (known : Option (List ℕ)) → IfSome known (λ text. ⊤)
+of_any None = tt
+of_any (Some text) = tt
+
+is_fault : (game : GameName) (known old new : Option (List ℕ)) (fault : PlayFault)
+    → ((line : ℕ) → fault ≡ Unreadable line → IfSome known (λ text. IsUnreadable (FarOf game) text line))
+    → (fault ≡ Write → IfSome known (λ text. (written : List ℕ) × (refused : ℕ) × IsOutput (WritesOf game) text written refused × AppendsPart old new written))
+    → IfSome known (λ text. IsFault game text old new fault)
+is_fault game known old new (Unreadable line) bad cut = bad line refl
+is_fault game known old new NoMemory bad cut = of_any known
+is_fault game known old new Read bad cut = of_any known
+is_fault game known old new Write bad cut = cut refl
+
+-- a fault is one of the game where a line that it names can't be read, and what a failed writer has is cut short
+pub ends_in_fault : {X : Type 0} (game : GameName) (known old new : Option (List ℕ)) (result : Result X PlayFault)
+    → ((line : ℕ) → result ≡ Err (Unreadable line) → IfSome known (λ text. IsUnreadable (FarOf game) text line))
+    → (result ≡ Err Write → IfSome known (λ text. (written : List ℕ) × (refused : ℕ) × IsOutput (WritesOf game) text written refused × AppendsPart old new written))
+    → IfErr result (λ fault. IfSome known (λ text. IsFault game text old new fault))
+ends_in_fault game known old new (Ok x) bad cut = tt
+ends_in_fault game known old new (Err fault) bad cut = is_fault game known old new fault (λ line e. bad line (ap Err e)) (λ e. cut (ap Err e))
+
+-- a fault of reading is none of writing
+pub never_cut : {X : Type 0} (result : Result X PlayFault) (P : Type 0) → IfErr result (λ fault. fault ≢ Write) → result ≡ Err Write → P
+never_cut (Ok x) P h e = absurd (cc e)
+never_cut (Err fault) P h e = let is : fault ≡ Write = cc in absurd (h is)

@@ -1,0 +1,5 @@
+pub mod Logged
+pub mod Judged
+pub mod Printed
+pub mod Played
+pub mod Ending

@@ -1,0 +1,47 @@
+-- Commands that were played live, one after another.
+use Rattle.std.proofs.Common.{◌≡◌, ◌∙◌, ℕ, ◌+◌, List, [], ◌∷◌, ◌++◌, length, Bool, cond, refl, ap, sym, subst, arith, append-nil}
+use Rattle.std.specs.List.{flat_map}
+use Rattle.std.proofs.lemmas.Grind.{flat_map-append}
+use Rattle.std.proofs.lemmas.List.{map-append}
+use Rattle.std.proofs.lemmas.List.Sums.{sum_by-append}
+use Rattle.roll_host.specs.Heard.{AreHeard}
+use Rattle.roll_host.proofs.Hearing.{heard_more}
+use Rattle.roll_link.specs.declared.remote.Remote.{Remote}
+use Rattle.roll_session.specs.Seen.{Seen, Step}
+use Rattle.roll_cli.specs.Output.{Texts}
+use Rattle.roll_cli.specs.declared.command.Command.{Command}
+use Rattle.roll_live.specs.Told.{Line, IsTold}
+use Rattle.roll_live.specs.Lives.{AreTold, IsLive, Telling}
+
+module _ (step : Step) where
+  -- items that were heard after none
+  pub heard_later : (old mid new : Seen) (items : List Remote) (refused : ℕ) → AreHeard step old mid [] 0 → AreHeard step mid new items refused → AreHeard step old new items refused
+  heard_later old mid new items refused a b = let n : 0 + refused ≡ refused = omega arith in subst (AreHeard step old new items) n (heard_more step old mid new [] items 0 refused a b)
+
+  pub nothing_heard : (old mid new : Seen) (items : List Remote) (refused : ℕ) → AreHeard step old mid [] 0 → AreHeard step mid new items refused → length items ≡ 0 → AreHeard step old new [] 0
+  nothing_heard old mid new [] refused a b e = let n : refused ≡ 0 = b.refusals in subst (AreHeard step old new []) n (heard_later old mid new [] refused a b)
+  nothing_heard old mid new (item ∷ items) refused a b e = absurd (omega (arith, e))
+
+module _ (step : Step) (texts : Texts) where
+  told_push : (old mid new : Seen) (tellings : List Telling) (command : Command) (line : Line) → AreTold step texts old tellings mid → IsTold step texts mid new command line
+      → AreTold step texts old (tellings ++ record { command = command; line = line; after = new } ∷ []) new
+  told_push old mid new [] command line a t = (subst (λ (s : Seen). IsTold step texts s new command line) a t, refl)
+  told_push old mid new (first ∷ more) command line a t = (a.0, told_push first.after mid new more command line a.1 t)
+
+  -- no command was played yet
+  pub live_none : (s : Seen) → IsLive step texts s s [] [] 0
+  live_none s = record { tellings = []; commands_are = refl; are_told = refl; written_is = refl; refused_is = refl }
+
+  -- one more was
+  pub live_more : (old mid new : Seen) (commands : List Command) (written : List ℕ) (refused : ℕ) (command : Command) (text : List ℕ) (is : Bool) → IsLive step texts old mid commands written refused
+      → IsTold step texts mid new command (record { text = text; refused = is }) → IsLive step texts old new (commands ++ command ∷ []) (written ++ text) (refused + cond is 1 0)
+  live_more old mid new commands written refused command text is a t =
+      let line : Line = record { text = text; refused = is } in
+      let last : Telling = record { command = command; line = line; after = new } in
+      record {
+        tellings = a.tellings ++ last ∷ [];
+        commands_are = rw a.commands_are (sym (map-append (λ (x : Telling). x.command) a.tellings (last ∷ [])));
+        are_told = told_push old mid new a.tellings command line a.are_told t;
+        written_is = ap (λ w. w ++ text) a.written_is ∙ ap (λ w. flat_map (λ (x : Telling). x.line.text) a.tellings ++ w) (sym (append-nil text)) ∙ sym (flat_map-append (λ (x : Telling). x.line.text) a.tellings (last ∷ []));
+        refused_is = let all = sum_by-append (λ (x : Telling). cond x.line.refused 1 0) a.tellings (last ∷ []) in omega (arith, a.refused_is, all);
+      }

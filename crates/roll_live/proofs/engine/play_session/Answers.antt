@@ -1,0 +1,10 @@
+use Rattle.std.proofs.Common.{◌≡◌, ap, subst}
+use Rattle.roll_session.specs.Seen.{Seen}
+use Rattle.roll_host.specs.Hosted.{Hosted}
+use Rattle.roll_live.specs.Lives.{IsFarAt}
+use Rattle.roll_live.proofs.engine.play_session.Goals as goal
+
+pub returns-in-Ok-with_workers-clause-far : goal.returns-in-Ok-with_workers-clause-far
+returns-in-Ok-with_workers-clause-far g c = λ line e.
+    let same : c.in-Ok-with_workers.host.session ≡ c.args.session = ap (λ (h : Hosted _). h.session) c.in-Ok-with_workers.ensures.host in
+    subst (λ (s : Seen). IsFarAt g.G.Game.step g.G.Shown.text_of s c.args.commands.now line) same (c.play_hosted.ensures.far line e)

@@ -1,0 +1,13 @@
+use Rattle.std.proofs.Common.{◌≡◌, ◌≤◌, ◌+◌, ◌++◌, ℕ, List, take}
+use Rattle.roll_host.specs.Hosted.{places_of}
+use Rattle.roll_live.specs.Lives.{IsLive}
+use Rattle.roll_live.proofs.playing.Playing.play_all.Given as goal
+
+-- the commands so far were played, and what they wrote stands written
+abbrev pub invariant-loop-command : goal.invariant-loop-command
+invariant-loop-command g l = record {
+  played : (written : List ℕ) × IsLive g.G.Game.step g.G.Shown.text_of l.fn.self.host.session l.self.host.session (take l.command-index l.commands) written l.refused × (l.out.items ≡ l.fn.out.items ++ written);
+  places : places_of l.self.host.pool ≡ places_of l.fn.self.host.pool;
+  line : l.line ≡ l.command-index + 1;
+  few : l.refused ≤ l.command-index;
+}

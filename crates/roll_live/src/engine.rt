@@ -1,0 +1,204 @@
+//! Scripts that are played live, from a reader to a writer.
+ghost use Rattle.std.specs.Prelude.{◌≡◌, ◌≢◌, ◌≤◌, ◌⊎◌, ◌<◌, ◌+◌, ◌^◌, ◌++◌, ℕ, List, Err, IfErr, IfOk, IfSome, OnOk, length, vec_len};
+ghost use Rattle.std.specs.Io.KnownBytes.{Appends};
+ghost use Rattle.roll_frame.specs.Settings.{start_refusal};
+ghost use Rattle.roll_host.specs.Hosted.{places_of};
+ghost use Rattle.roll_pool.specs.declared.owner.TheConstants.{WORKER_LIMIT as TEAM};
+ghost use Rattle.roll_session.specs.Seen.{Seen};
+ghost use Rattle.roll_text.specs.Streams.{AppendsPart};
+ghost use Rattle.roll_text.specs.declared.streams.TheConstants.{TEXT_LIMIT};
+ghost use Rattle.roll_cli.specs.Faults.{TakesAtMost};
+ghost use Rattle.roll_cli.specs.Plays.{IsPlay, play_of};
+ghost use Rattle.roll_cli.specs.declared.engine.PlayFault.TheVariants.{NoMemory, Unreadable, Write as CannotWrite};
+ghost use Rattle.roll_live.specs.Lives.{IsFarAt, IsFarOf, IsFarUnder, IsLive, IsOutput, IsUnreadable, Writes, WritesUnder};
+
+use crate::playing::Playing;
+use roll_cli::{Command, PlayFault, Script, Shown, push_not_started, read_script};
+use roll_frame::Settings;
+use roll_game::Game;
+use roll_host::Host;
+use roll_pool::{Crew, Owner, start_all};
+use roll_session::Session;
+use roll_text::write_all;
+use std::alloc::{AllocFailed, Global};
+use std::io::{Read, Write};
+use std::sync::Wait;
+use std::thread::Threads;
+
+/// Plays a script live: reads all of it, plays it through a host with one link and a worker for each helper, writes the replies,
+/// and answers how many of them are refusals. The game starts at `opening`; the helpers, 1 to 4, are games of its kind, each for a
+/// thread of its own.
+///
+/// At most 1,048,577 bytes are read. Nothing is written unless the whole script can be read and played, and then all in large
+/// pieces at the end. Where the session doesn't start, its refusal is all that is written, and counts as one. A worker that
+/// can't be started, and a word that is held, end the run as one for which there is no memory. All threads have ended by then,
+/// whatever came of the script.
+pub fn live<RT, G, R, W>(
+    alloc: Global,
+    rt: &RT,
+    reader: &mut R,
+    writer: &mut W,
+    game: G,
+    opening: G::Snapshot,
+    helpers: Vec<G>,
+) -> Result<u32, PlayFault>
+where
+    RT: Threads + Wait + Copy + Send + 'static,
+    G: Shown + Send + Drop + 'static,
+    G::State: Send + 'static,
+    G::Snapshot: Send + 'static,
+    R: Read,
+    W: Write,
+    requires { (1 ≤ vec_len helpers) × (vec_len helpers ≤ TEAM) }
+    ensures written { IfOk result (λ refused. IfSome (R.remaining reader.old) (λ text.
+        (written : List ℕ) × IsOutput (Writes G.text_of (record { opening = G.snapshot_value opening; step = G.step })) text written refused × Appends (W.contents writer.old) (W.contents writer.new) written)) }
+    ensures unreadable { (line : ℕ) → result ≡ Err (Unreadable line) → IfSome (R.remaining reader.old) (λ text. IsUnreadable (IsFarOf G.text_of (record { opening = G.snapshot_value opening; step = G.step })) text line) }
+    ensures cut { result ≡ Err CannotWrite → IfSome (R.remaining reader.old) (λ text.
+        (whole : List ℕ) × (refused : ℕ) × IsOutput (Writes G.text_of (record { opening = G.snapshot_value opening; step = G.step })) text whole refused × AppendsPart (W.contents writer.old) (W.contents writer.new) whole) }
+    ensures untouched { IfErr result (λ fault. (fault ≡ CannotWrite) ⊎ (writer.new ≡ writer.old)) }
+    ensures taken { TakesAtMost (TEXT_LIMIT + 1) (R.remaining reader.old) (R.remaining reader.new) }
+{
+    let script = read_script(alloc, reader)?;
+    write_live(alloc, rt, writer, &script, game, opening, helpers)
+}
+
+/// Plays a script live, and writes all that it writes at once.
+pub fn write_live<RT, G, W>(
+    alloc: Global,
+    rt: &RT,
+    writer: &mut W,
+    script: &Script,
+    game: G,
+    opening: G::Snapshot,
+    helpers: Vec<G>,
+) -> Result<u32, PlayFault>
+where
+    RT: Threads + Wait + Copy + Send + 'static,
+    G: Shown + Send + Drop + 'static,
+    G::State: Send + 'static,
+    G::Snapshot: Send + 'static,
+    W: Write,
+    requires fits { IsPlay (play_of script.now) }
+    requires few { length script.now.commands.items < 2 ^ 32 }
+    requires workers { (1 ≤ vec_len helpers) × (vec_len helpers ≤ TEAM) }
+    ensures written { IfOk result (λ refused. (written : List ℕ) × Writes G.text_of (record { opening = G.snapshot_value opening; step = G.step }) (play_of script.now) written refused × Appends (W.contents writer.old) (W.contents writer.new) written) }
+    ensures far { (line : ℕ) → result ≡ Err (Unreadable line) → IsFarOf G.text_of (record { opening = G.snapshot_value opening; step = G.step }) (play_of script.now) line }
+    ensures cut { result ≡ Err CannotWrite → (whole : List ℕ) × (refused : ℕ) × Writes G.text_of (record { opening = G.snapshot_value opening; step = G.step }) (play_of script.now) whole refused × AppendsPart (W.contents writer.old) (W.contents writer.new) whole }
+    ensures untouched { IfErr result (λ fault. (fault ≡ CannotWrite) ⊎ (writer.new ≡ writer.old)) }
+{
+    let mut out = Vec::new(alloc);
+    let settings = script.header.settings();
+    let commands = &script.commands;
+    let refused = push_live(
+        alloc, rt, &mut out, settings, commands, game, opening, helpers,
+    )?;
+    write_all(writer, &out)?;
+    Ok(refused)
+}
+
+/// Writes all that the commands of a session write at the end, and answers how many replies are refusals.
+fn push_live<RT, G>(
+    alloc: Global,
+    rt: &RT,
+    out: &mut Vec<u8>,
+    settings: Settings,
+    commands: &[Command],
+    game: G,
+    opening: G::Snapshot,
+    helpers: Vec<G>,
+) -> Result<u32, PlayFault>
+where
+    RT: Threads + Wait + Copy + Send + 'static,
+    G: Shown + Send + Drop + 'static,
+    G::State: Send + 'static,
+    G::Snapshot: Send + 'static,
+    requires few { length commands.now < 2 ^ 32 }
+    requires workers { (1 ≤ vec_len helpers) × (vec_len helpers ≤ TEAM) }
+    ensures written { IfOk result (λ refused. (written : List ℕ) × WritesUnder G.text_of (record { opening = G.snapshot_value opening; step = G.step }) settings commands.now written refused × (out.new.items ≡ out.old.items ++ written)) }
+    ensures far { (line : ℕ) → result ≡ Err (Unreadable line) → IsFarUnder G.text_of (record { opening = G.snapshot_value opening; step = G.step }) settings commands.now line }
+    ensures fault { IfErr result (λ fault. fault ≢ CannotWrite) }
+{
+    match Session::start(alloc, game, opening, settings) {
+        Ok(session) => play_session(alloc, rt, out, commands, session, helpers),
+        Err(fault) => push_not_started(out, fault.why),
+    }
+}
+
+/// Plays the commands of a session with a worker for each helper.
+fn play_session<RT, G>(
+    alloc: Global,
+    rt: &RT,
+    out: &mut Vec<u8>,
+    commands: &[Command],
+    session: Session<G>,
+    helpers: Vec<G>,
+) -> Result<u32, PlayFault>
+where
+    RT: Threads + Wait + Copy + Send + 'static,
+    G: Shown + Send + Drop + 'static,
+    G::State: Send + 'static,
+    G::Snapshot: Send + 'static,
+    requires few { length commands.now < 2 ^ 32 }
+    requires workers { (1 ≤ vec_len helpers) × (vec_len helpers ≤ TEAM) }
+    ensures played { IfOk result (λ refused. (new : Seen) × (written : List ℕ) × IsLive G.step G.text_of session new commands.now written refused × (out.new.items ≡ out.old.items ++ written)) }
+    ensures far { (line : ℕ) → result ≡ Err (Unreadable line) → IsFarAt G.step G.text_of session commands.now line }
+    ensures fault { IfErr result (λ fault. fault ≢ CannotWrite) }
+{
+    let Ok((owner, ends)) = Owner::open(alloc, helpers.len()) else {
+        return Err(PlayFault::NoMemory);
+    };
+    let Ok(crew) = start_all(*rt, alloc, &owner, ends, helpers) else {
+        return Err(PlayFault::NoMemory);
+    };
+    match Host::with_workers(alloc, session, owner) {
+        Ok(host) => play_hosted(rt, out, commands, host, crew),
+        Err(AllocFailed { value: (_, owner) }) => {
+            owner.close();
+            let (ends, _games) = crew.join(rt);
+            let _outcome = owner.settle(ends);
+            Err(PlayFault::NoMemory)
+        }
+    }
+}
+
+/// Plays the commands on a host whose workers run, and ends both.
+fn play_hosted<RT, G>(
+    rt: &RT,
+    out: &mut Vec<u8>,
+    commands: &[Command],
+    host: Host<G>,
+    crew: Crew<G>,
+) -> Result<u32, PlayFault>
+where
+    RT: Threads + Wait,
+    G: Shown + Drop,
+    requires few { length commands.now < 2 ^ 32 }
+    requires crew { crew ≡ places_of host.pool }
+    ensures played { IfOk result (λ refused. (new : Seen) × (written : List ℕ) × IsLive G.step G.text_of host.session new commands.now written refused × (out.new.items ≡ out.old.items ++ written)) }
+    ensures far { (line : ℕ) → result ≡ Err (Unreadable line) → IsFarAt G.step G.text_of host.session commands.now line }
+    ensures fault { IfErr result (λ fault. fault ≢ CannotWrite) }
+{
+    let mut host = host;
+    match host.add_link() {
+        Ok(sender) => {
+            let mut playing = Playing { host, sender };
+            let played = playing.play_all(rt, out, commands);
+            let Playing { host, sender: _ } = playing;
+            end(rt, host, crew);
+            played
+        }
+        Err(_) => {
+            end(rt, host, crew);
+            Err(PlayFault::NoMemory)
+        }
+    }
+}
+
+/// Has the workers stop, waits for them, and settles what became of their jobs.
+fn end<RT: Threads, G: Game + Drop>(rt: &RT, host: Host<G>, crew: Crew<G>)
+    requires { crew ≡ places_of host.pool }
+{
+    host.close();
+    let (ends, _games) = crew.join(rt);
+    let (_session, _outcome) = host.settle(ends);
+}

@@ -1,0 +1,4 @@
+pub mod Wrongs
+pub mod Passing
+pub mod Greatest
+pub mod Syncing

@@ -1,0 +1,5 @@
+pub mod Arrivals
+pub mod Arriving
+pub mod Policy
+pub mod Totals
+pub mod Known

@@ -1,0 +1,89 @@
+//! One side of a match, with its way to the other.
+ghost use Rattle.std.specs.Prelude.{◌≡◌, ◌+◌, IfOk, OnOk, vec_len};
+ghost use Rattle.roll_session.specs.Seen.{core_of};
+ghost use Rattle.roll_match.specs.Known.{known_of};
+
+use crate::options::MatchOptions;
+use crate::side::{Side, wrong_claims};
+use crate::turn::{Turn, Went};
+use crate::way::Way;
+use roll_frame::Refusal;
+use roll_game::Game;
+use std::alloc::Global;
+
+/// A side, its way to the other, and what it did.
+#[derive(Drop)]
+pub struct Peer<G: Game> {
+    pub side: Side<G>,
+    pub way: Way,
+    /// One for each simulated frame so far.
+    pub turns: Vec<Turn>,
+}
+
+impl<G: Game> Peer<G> {
+    /// A simulated frame: takes the words that have come, gives its own and goes on, and guesses.
+    pub fn turn(
+        &mut self,
+        alloc: Global,
+        options: &MatchOptions,
+        words: &[u32],
+        there: u32,
+    ) -> Result<(), Refusal>
+        ensures { OnOk result (vec_len self.new.turns ≡ vec_len self.old.turns + 1) }
+    {
+        let turn = take_turn(&mut self.side, alloc, options, words, there)?;
+        self.turns.push(turn)?;
+        Ok(())
+    }
+
+    /// Sends the packet of a simulated frame.
+    pub fn send(&mut self, options: &MatchOptions) -> Result<(), Refusal>
+        ensures { vec_len self.new.turns ≡ vec_len self.old.turns }
+    {
+        let words = self.side.given();
+        self.way.send(options, words)?;
+        Ok(())
+    }
+}
+
+/// What a side does in a simulated frame.
+fn take_turn<G: Game>(
+    side: &mut Side<G>,
+    alloc: Global,
+    options: &MatchOptions,
+    words: &[u32],
+    there: u32,
+) -> Result<Turn, Refusal>
+    ensures frame { IfOk result (λ turn. turn.frame ≡ (core_of side.old.session).frame) }
+    ensures known { IfOk result (λ turn. turn.known ≡ known_of (core_of side.old.session) side.old.other) }
+    ensures right { IfOk result (λ turn. turn.wrong ≡ 0) }
+{
+    let frame = side.session.frame();
+    let known = side.known();
+    let synced = side.hear(words, there)?;
+    let heard = side.known();
+    let mut claims = 0;
+    let mut wrong = 0;
+    if synced.is_some() {
+        claims += 1;
+        wrong += wrong_claims(alloc, &side.session)?;
+    }
+    let went = side.play()?;
+    if went == Went::Played {
+        claims += 1;
+        wrong += wrong_claims(alloc, &side.session)?;
+    }
+    let guessed = side.guess(alloc, options, words)?;
+    Ok(Turn {
+        frame,
+        known,
+        heard,
+        rerun: synced.unwrap_or(0),
+        went,
+        guesses: guessed.guesses,
+        added: guessed.added,
+        dropped: guessed.dropped,
+        claims,
+        wrong,
+    })
+}

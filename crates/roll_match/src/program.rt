@@ -1,0 +1,152 @@
+//! A match from its options to what is written of it.
+ghost use Rattle.std.specs.Prelude.{◌≡◌, ◌⊎◌, ◌<◌, ◌≤◌, ◌^◌, IfErr, IfSome, MatchOption, vec_len};
+ghost use Rattle.roll_cli.specs.declared.engine.PlayFault.TheVariants.{Write as CannotWrite};
+
+use crate::options::MatchOptions;
+use crate::playing::{Engines, Match};
+use crate::side::Side;
+use crate::table::{Report, push_report};
+use crate::totals::sum_up;
+use roll_cli::{Ending, GameName, PlayFault, Shown};
+use roll_duel::Duel;
+use roll_frame::Refusal;
+use roll_game::Tally;
+use roll_session::Session;
+use roll_text::write_all;
+use std::alloc::Global;
+use std::fmt::Write as _;
+use std::io::Write;
+
+/// Plays a match, and writes its table and its line. Settings that no session starts with are answered `refused 11` alone.
+pub fn run<W: Write>(alloc: Global, options: &MatchOptions, writer: &mut W) -> Ending
+    ensures status { MatchOption result.fault (result.status ≤ 1) (λ fault. result.status ≡ 2) }
+    ensures untouched { IfSome result.fault (λ fault. (fault ≡ CannotWrite) ⊎ (writer.new ≡ writer.old)) }
+{
+    match perform(alloc, options, writer) {
+        Ok(true) => Ending {
+            status: 0,
+            fault: None,
+        },
+        Ok(false) => Ending {
+            status: 1,
+            fault: None,
+        },
+        Err(fault) => Ending::from(fault),
+    }
+}
+
+/// Plays a match and writes what came of it, and answers whether all is well.
+fn perform<W: Write>(
+    alloc: Global,
+    options: &MatchOptions,
+    writer: &mut W,
+) -> Result<bool, PlayFault>
+    ensures { IfErr result (λ fault. (fault ≡ CannotWrite) ⊎ (writer.new ≡ writer.old)) }
+{
+    let mut out = String::new(alloc);
+    let well = match play(alloc, options) {
+        Ok(report) => {
+            push_report(&mut out, options, &report)?;
+            report.is_well()
+        }
+        Err(Refusal::NoMemory) => return Err(PlayFault::NoMemory),
+        Err(why) => {
+            writeln!(out, "refused {}", why.code())?;
+            false
+        }
+    };
+    write_all(writer, out.as_bytes())?;
+    Ok(well)
+}
+
+/// Plays a match, and answers how it came out.
+///
+/// # Errors
+///
+/// `InvalidRequest` for settings that no session starts with, `NoMemory`, or what refused a session's call.
+pub fn play(alloc: Global, options: &MatchOptions) -> Result<Report, Refusal> {
+    match options.game {
+        GameName::Tally => play_out(alloc, options, tally(), tally()),
+        GameName::Duel => play_out(alloc, options, duel(alloc)?, duel(alloc)?),
+    }
+}
+
+fn tally() -> Engines<Tally> {
+    Engines {
+        game: Tally::new(),
+        opening: Tally::opening(),
+        helper: Tally::new(),
+    }
+}
+
+fn duel(alloc: Global) -> Result<Engines<Duel>, Refusal> {
+    let game = Duel::new(alloc, 2)?;
+    let opening = game.opening()?;
+    Ok(Engines {
+        game,
+        opening,
+        helper: Duel::new(alloc, 2)?,
+    })
+}
+
+/// Plays a match with these engines.
+fn play_out<G: Shown + Drop>(
+    alloc: Global,
+    options: &MatchOptions,
+    first: Engines<G>,
+    second: Engines<G>,
+) -> Result<Report, Refusal> {
+    let mut both = Match::new(alloc, options, first, second)?;
+    both.play(alloc, options)?;
+    report(alloc, &mut both)
+}
+
+/// How a match came out.
+fn report<G: Shown>(alloc: Global, both: &mut Match<G>) -> Result<Report, Refusal>
+    requires first { vec_len both.old.first.turns < 2 ^ 32 }
+    requires second { vec_len both.old.second.turns < 2 ^ 32 }
+{
+    let first = sum_up(&both.second.side.words, &both.first.turns);
+    let second = sum_up(&both.first.side.words, &both.second.turns);
+    let agreed = agreed(&both.first.side.session, &both.second.side.session);
+    let agrees = agrees(&both.first.side.session, &both.second.side.session, agreed);
+    let state = settled_text(alloc, &mut both.first.side)?;
+    Ok(Report {
+        first,
+        second,
+        agreed: agreed as u64,
+        agrees,
+        state,
+    })
+}
+
+/// How many settled rows of both sessions are the same, from frame 0 on.
+fn agreed<G: Shown>(first: &Session<G>, second: &Session<G>) -> usize {
+    let both = first.settled().min(second.settled());
+    for frame in 0..both {
+        if first.settled_row(frame) != second.settled_row(frame) {
+            return frame;
+        }
+    }
+    both
+}
+
+/// Whether as many rows are settled on both sides, all of which are the same, and lead to the same state.
+fn agrees<G: Shown>(first: &Session<G>, second: &Session<G>, agreed: usize) -> bool {
+    first.settled() == agreed
+        && second.settled() == agreed
+        && first
+            .game()
+            .same(first.settled_state(), second.settled_state())
+}
+
+/// The text of a side's settled state.
+fn settled_text<G: Shown>(alloc: Global, side: &mut Side<G>) -> Result<String, Refusal> {
+    let state = side.helper.load(side.session.settled_state())?;
+    let mut bytes = Vec::new(alloc);
+    side.helper.text(&state, &mut bytes)?;
+    match String::from_utf8(bytes) {
+        Ok(text) => Ok(text),
+        Err(_) => Err(Refusal::NoMemory),
+    }
+}

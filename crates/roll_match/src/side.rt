@@ -1,0 +1,135 @@
+//! What a side does in a simulated frame.
+ghost use Rattle.std.specs.Prelude.{◌≡◌, IfOk};
+ghost use Rattle.roll_frame.specs.Core.{cost};
+ghost use Rattle.roll_session.specs.Seen.{core_of, IsLeast};
+
+use crate::guessing::{Guessed, Outlook, guess_all};
+use crate::options::MatchOptions;
+use crate::policy::{last_of, word_at};
+use crate::turn::Went;
+use crate::words::choices;
+use roll_cert::check;
+use roll_frame::Refusal;
+use roll_game::Game;
+use roll_session::Session;
+use std::alloc::Global;
+
+/// A side: its own player is local in its session, and the other's is remote.
+#[derive(Drop)]
+pub struct Side<G: Game> {
+    pub session: Session<G>,
+    /// A second engine of the game, which runs guesses ahead.
+    pub helper: G,
+    pub me: u8,
+    pub other: u8,
+    /// Its words of all frames.
+    pub words: Vec<u32>,
+}
+
+impl<G: Game> Side<G> {
+    ghost use Rattle.roll_match.specs.Known.{known_of};
+
+    /// How many of its own words it has given.
+    pub fn given(&self) -> u32
+        ensures { result ≡ known_of (core_of self.now.session) self.now.me }
+    {
+        self.session.confirmed(self.me).unwrap_or(0)
+    }
+
+    /// How many of the other's words it knows.
+    pub fn known(&self) -> u32
+        ensures { result ≡ known_of (core_of self.now.session) self.now.other }
+    {
+        self.session.confirmed(self.other).unwrap_or(0)
+    }
+
+    /// Whether it has played its last frame, and knows all words up to it.
+    pub fn is_over(&self) -> bool {
+        let last = self.session.settings().limit;
+        last <= self.session.frame() && last <= self.known()
+    }
+
+    /// Takes the other's words that have come, and syncs where there were any. Answers how many frames the sync ran.
+    pub fn hear(&mut self, words: &[u32], there: u32) -> Result<Option<u32>, Refusal> {
+        let known = self.known();
+        if there <= known {
+            return Ok(None);
+        }
+        tell(&mut self.session, self.other, words, known, there)?;
+        let rerun = sync(&mut self.session)?;
+        Ok(Some(rerun))
+    }
+
+    /// Gives its word of this frame and goes on to the next, unless it has to wait, or has played its last frame.
+    pub fn play(&mut self) -> Result<Went, Refusal> {
+        if self.session.settings().limit <= self.session.frame() {
+            return Ok(Went::Ended);
+        }
+        let word = word_at(&self.words, self.given());
+        match self.session.add_local_input(self.me, word) {
+            Ok(()) => {}
+            Err(Refusal::PredictionThreshold) => return Ok(Went::Waited),
+            Err(why) => return Err(why),
+        }
+        self.session.advance_frame()?;
+        Ok(Went::Played)
+    }
+
+    /// Guesses the other's next words, up to this frame.
+    pub fn guess(
+        &mut self,
+        alloc: Global,
+        options: &MatchOptions,
+        words: &[u32],
+    ) -> Result<Guessed, Refusal> {
+        let known = self.known();
+        let until = self.session.frame();
+        let outlook = Outlook {
+            player: self.other,
+            guesses: options.guesses,
+            choices: choices(options.game),
+            last: last_of(words, known),
+            unknown: until.saturating_sub(known),
+            until,
+        };
+        guess_all(alloc, &mut self.session, &mut self.helper, &outlook)
+    }
+}
+
+/// Tells a session a player's words of some frames.
+fn tell<G: Game>(
+    session: &mut Session<G>,
+    player: u8,
+    words: &[u32],
+    from: u32,
+    to: u32,
+) -> Result<(), Refusal> {
+    for frame in from..to {
+        session.remote_input(player, frame, word_at(words, frame))?;
+    }
+    Ok(())
+}
+
+/// Rolls back where a prediction was wrong, and answers how many frames were run: no plan from any state ever saved costs
+/// fewer.
+fn sync<G: Game>(session: &mut Session<G>) -> Result<u32, Refusal>
+    ensures cost { IfOk result (λ rerun. rerun ≡ cost (core_of session.old) (core_of session.old).frame) }
+    ensures least { IsLeast (core_of session.old) (core_of session.old).frame }
+{
+    session.synchronize_input()?;
+    match session.last_plan() {
+        Some(plan) => Ok(plan.rerun),
+        None => Ok(0),
+    }
+}
+
+/// How many claims of the last roll are wrong: none, of which this is the proof.
+pub fn wrong_claims<G: Game>(alloc: Global, session: &Session<G>) -> Result<u32, Refusal>
+    ensures { IfOk result (λ wrong. wrong ≡ 0) }
+{
+    let claim = session.claim(alloc)?;
+    match check(&claim) {
+        Ok(()) => Ok(0),
+        Err(_) => Ok(1),
+    }
+}

@@ -1,0 +1,116 @@
+//! What is done with a text: that of standard input, or that of a file.
+ghost use Rattle.std.specs.Fn.{FnOnceReturnsAt};
+ghost use Rattle.std.specs.Prelude.{◌≡◌, ◌≤◌, IfSome, None};
+ghost use Rattle.roll_cli.specs.Programs.{Ends};
+ghost use Rattle.roll_live.specs.Lives.{Ends as EndsLive};
+ghost use Rattle.rollduel.specs.Endings.{HasStatus, EndsOn, EndsOnFile};
+ghost use Rattle.rollduel.specs.Requests.{path_of};
+
+use crate::command_line::{Input, TextRequest};
+use roll_cli::{Ending, PlayFault};
+use roll_live::Live;
+use std::alloc::{AllocGlobal, Global};
+use std::fmt::Write as _;
+use std::io;
+use std::io::{Read, Write};
+use std::sync::Wait;
+use std::thread::Threads;
+
+/// Does what is asked for, with standard input, of which notice is given, or the file that is opened.
+pub fn answer<S: Read, N: FnOnce(), F: Read + Drop, W: Write, O: FnOnce(&str) -> io::Result<F>>(
+    alloc: Global,
+    asked: &TextRequest<'_>,
+    standard: &mut S,
+    notice: N,
+    opener: O,
+    writer: &mut W,
+    notes: &mut String,
+) -> Ending
+    requires notice { N.IsAlwaysCallable notice }
+    requires opener { O.IsAlwaysCallable opener }
+    ensures standard { path_of asked.now.input ≡ None
+        → EndsOn W.contents (Ends asked.now.task) writer.old writer.new result (S.remaining standard.old) }
+    ensures file { IfSome (path_of asked.now.input) (λ path.
+        (standard.new ≡ standard.old) × ((opened : _) × FnOnceReturnsAt O.FnOnce opener path opened
+        × EndsOnFile W.contents (Ends asked.now.task) writer.old writer.new result F.remaining opened)) }
+    ensures status { HasStatus result }
+{
+    match asked.input {
+        Input::Standard => {
+            notice();
+            work(alloc, asked, standard, writer, notes)
+        }
+        Input::File(path) => match opener(path) {
+            Ok(mut file) => {
+                let ending = work(alloc, asked, &mut file, writer, notes);
+                if asked.explain && ending.fault == Some(PlayFault::Read) {
+                    let _ = writeln!(notes, "{path}: a read failed");
+                }
+                ending
+            }
+            Err(error) => {
+                if asked.explain {
+                    let _ = writeln!(notes, "{path}: {error}");
+                }
+                Ending::from(PlayFault::Read)
+            }
+        },
+    }
+}
+
+/// Does what is asked for with the text that a reader holds.
+fn work<R: Read, W: Write>(
+    alloc: Global,
+    asked: &TextRequest<'_>,
+    reader: &mut R,
+    writer: &mut W,
+    notes: &mut String,
+) -> Ending
+    ensures ends { EndsOn W.contents (Ends asked.now.task) writer.old writer.new result (R.remaining reader.old) }
+    ensures status { HasStatus result }
+{
+    if asked.explain {
+        roll_cli::explain(alloc, asked.task, reader, writer, notes)
+    } else {
+        roll_cli::run(alloc, asked.task, reader, writer)
+    }
+}
+
+/// Plays a script live: that of standard input, of which notice is given, or that of the file that is opened.
+pub fn play_live<T, S, N, F, W, O>(
+    threads: &T,
+    input: Input<'_>,
+    live: Live,
+    standard: &mut S,
+    notice: N,
+    opener: O,
+    writer: &mut W,
+) -> Ending
+where
+    T: AllocGlobal + Threads + Wait + Copy + Send + 'static,
+    S: Read,
+    N: FnOnce(),
+    F: Read + Drop,
+    W: Write,
+    O: FnOnce(&str) -> io::Result<F>,
+    requires workers { (1 ≤ live.workers) × (live.workers ≤ 4) }
+    requires notice { N.IsAlwaysCallable notice }
+    requires opener { O.IsAlwaysCallable opener }
+    ensures standard { path_of input.entry ≡ None
+        → EndsOn W.contents (EndsLive live.game) writer.old writer.new result (S.remaining standard.old) }
+    ensures file { IfSome (path_of input.entry) (λ path.
+        (standard.new ≡ standard.old) × ((opened : _) × FnOnceReturnsAt O.FnOnce opener path opened
+        × EndsOnFile W.contents (EndsLive live.game) writer.old writer.new result F.remaining opened)) }
+    ensures status { HasStatus result }
+{
+    match input {
+        Input::Standard => {
+            notice();
+            roll_live::run(threads.alloc(), threads, live, standard, writer)
+        }
+        Input::File(path) => match opener(path) {
+            Ok(mut file) => roll_live::run(threads.alloc(), threads, live, &mut file, writer),
+            Err(_) => Ending::from(PlayFault::Read),
+        },
+    }
+}

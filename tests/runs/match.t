@@ -1,0 +1,131 @@
+Matches of two peers. `value` gives what the last line of a match has under a name.
+
+  $ value() { tail -n 1 | tr ' ' '\n' | sed -n "s/^$1=//p"; }
+
+A small match: the same seed prints the same, another one something else.
+
+  $ rollduel match --frames 60 > one
+  $ rollduel match --frames 60 --seed 1 | cmp - one
+  $ rollduel match --frames 60 --seed 2 > two
+  $ cmp -s one two
+  [1]
+  $ value agree < one
+  yes
+  $ rollduel match --frames 60 2>&1 >/dev/null
+
+What isn't given is as the help says.
+
+  $ rollduel match --frames 60 --seed 1 --late 8 --lost 0 --hold 10 --delay 0 --threshold 8 --guesses none --game tally | cmp - one
+  $ rollduel match > default
+  $ rollduel match --frames 1000 | cmp - default
+  $ rollduel match --frames=1 | value frames
+  1
+
+Standard input isn't read.
+
+  $ echo nothing | (rollduel match --frames 60 | cmp - one; cat)
+  nothing
+
+The peers agree, and no claim is wrong: with each kind of guesses and each game, on a good line and on a bad one.
+
+  $ for game in tally duel; do for guesses in none words turns; do for line in '--late 0' '--late 8 --lost 30'; do
+  >   rollduel match --frames 50 --seed 7 $line --guesses $guesses --game $game > out || echo "status $?"
+  >   echo "$(value agree < out) $(value wrong < out)"
+  > done; done; done | sort | uniq -c | tr -s ' '
+   12 yes 0,0
+
+Without guesses no peer runs more frames again than by GGPO's policy, and none is guessed.
+
+  $ for seed in 1 2 3 4 5 6 7 8; do rollduel match --frames 200 --seed $seed --late 6 --lost 5 > out
+  >   echo "$(value rerun < out),$(value ggpo < out)" | awk -F, '{ print ($1 <= $3), ($2 <= $4), ($3 > 0), ($4 > 0) }'
+  >   value guessed < out
+  > done | sort | uniq -c | tr -s ' '
+   8 0,0
+   8 1 1 1 1
+
+Words that are held for long are predicted right more often.
+
+  $ rollduel match --frames 300 --hold 3 --late 6 > short
+  $ rollduel match --frames 300 --hold 100 --late 6 > long
+  $ echo "$(value rerun < short),$(value rerun < long)" | awk -F, '{ print ($1 > $3), ($2 > $4) }'
+  1 1
+
+Settings that no session starts with are refused, and nothing else is written.
+
+  $ rollduel match --threshold 20
+  refused 11
+  [1]
+  $ rollduel match --threshold 0
+  refused 11
+  [1]
+  $ rollduel match --delay 9 --game duel
+  refused 11
+  [1]
+  $ rollduel match --threshold 20 --delay 9 --guesses turns
+  refused 11
+  [1]
+  $ rollduel match --threshold 20 2>&1 >/dev/null
+  [1]
+
+What can't be written is a fault.
+
+  $ rollduel match --frames 60 > /dev/full
+  rollduel: cannot write
+  [2]
+  $ rollduel match --threshold 20 > /dev/full
+  rollduel: cannot write
+  [2]
+
+Words that can't be understood.
+
+  $ rollduel match --frames 0
+  error: invalid value '0' for '--frames <N>': 0 is not in 1..=1048576
+  
+  For more information, try '--help'.
+  [2]
+  $ rollduel match --frames 1048577 2>&1 | head -n 1
+  error: invalid value '1048577' for '--frames <N>': 1048577 is not in 1..=1048576
+  $ rollduel match --late 61 2>&1 | head -n 1
+  error: invalid value '61' for '--late <L>': 61 is not in 0..=60
+  $ rollduel match --lost 100 2>&1 | head -n 1
+  error: invalid value '100' for '--lost <P>': 100 is not in 0..=99
+  $ rollduel match --hold 0 2>&1 | head -n 1
+  error: invalid value '0' for '--hold <H>': 0 is not in 1..=1000000
+  $ rollduel match --delay 256 2>&1 | head -n 1
+  error: invalid value '256' for '--delay <D>': 256 is not in 0..=255
+  $ rollduel match --threshold 256 2>&1 | head -n 1
+  error: invalid value '256' for '--threshold <K>': 256 is not in 0..=255
+  $ rollduel match --seed 18446744073709551616 2>&1 | head -n 1
+  error: invalid value '18446744073709551616' for '--seed <S>': number too large to fit in target type
+  $ rollduel match --frames ten 2>&1 | head -n 1
+  error: invalid value 'ten' for '--frames <N>': invalid digit found in string
+  $ rollduel match --guesses some
+  error: invalid value 'some' for '--guesses <GUESSES>'
+    [possible values: none, words, turns]
+  
+  For more information, try '--help'.
+  [2]
+  $ rollduel match --game chess 2>&1 | head -n 1
+  error: invalid value 'chess' for '--game <GAME>'
+  $ rollduel match late.roll 2>&1 | head -n 1
+  error: unexpected argument 'late.roll' found
+  $ rollduel match --explain 2>&1 | head -n 1
+  error: unexpected argument '--explain' found
+  $ rollduel match --seed 1 --seed 2 2>&1 | head -n 1
+  error: the argument '--seed <S>' cannot be used multiple times
+  $ rollduel match --lost 100 2>/dev/null
+  [2]
+
+The greatest seed is one, and the help's example prints what it says.
+
+  $ rollduel match --frames 5 --seed 18446744073709551615 | value seed
+  18446744073709551615
+  $ rollduel match --help | head -n 1
+  Plays a match over a bad line, and prints what its rollbacks cost
+  $ rollduel $(rollduel match --help | sed -n 's/^  rollduel //p') > example
+  $ sed '/^$/d;$d' example > want
+  $ rollduel match --help | sed -n '/^It prints/,/^Exit status/s/^  //p' | cmp - want
+  $ wc -l < want
+  16
+  $ rollduel match --help | grep -cE '^  (frames|rollbacks|frames re-run|by GGPO.s policy|deepest rollback|frames waited|guesses|states added|branches dropped|claims checked|claims wrong)  +[a-z]'
+  11
