@@ -139,7 +139,8 @@ fn answers(alloc: Global, task: Task, text: &[u8], output: &[u8]) -> Ending {
 }
 
 /// A script with a guess, and what playing it writes with workers.
-const GUESSING_LIVE: &[u8] = b"ok\nframe 1 state 1\nok\nframe 2 state 11\ntaken\nframe 2 state 11\nok\nframe 3 state 111\ntaken\nframe 3 state 177\n";
+const GUESSING_LIVE: &[u8] =
+    b"ok\nframe 1 state 1\nok\nframe 2 state 11\ntaken\nframe 2 state 11\nok\nframe 3 state 111\ntaken\nframe 3 state 177\n";
 
 /// Two workers: the whole output, or nothing. The threads have ended, also where one can't be started.
 fn plays_live<R>(rt: &R, alloc: Global) -> Ending

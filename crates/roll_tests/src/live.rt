@@ -81,7 +81,11 @@ fn tells_why_a_word_is_refused(rt: HostRuntime) -> Result<(), Fail> {
 
 #[test]
 fn reads_no_word_100_frames_ahead(rt: HostRuntime) -> Result<(), Fail> {
-    for line in [b"R 2 102 0\n".as_slice(), b"R 9 102 0\n", b"R 1 4294967295 0\n"] {
+    for line in [
+        b"R 2 102 0\n".as_slice(),
+        b"R 9 102 0\n",
+        b"R 1 4294967295 0\n",
+    ] {
         let mut lines = Vec::from_slice(rt.alloc(), b"L 1 1\nA\nL 1 1\nA\n")?;
         lines.extend_from_slice(line)?;
         let (out, ending) = told(&rt, rt.alloc(), &lines)?;
@@ -297,7 +301,10 @@ fn writes_the_same_whatever_the_schedule(rt: HostRuntime) -> Result<(), Fail> {
             is_same_for_all(&rt, rt.alloc(), GameName::Tally, &writer.text)?,
             "{seed}"
         );
-        let frames = frames_of(rt.alloc(), &alone(rt.alloc(), GameName::Tally, &writer.text))?;
+        let frames = frames_of(
+            rt.alloc(),
+            &alone(rt.alloc(), GameName::Tally, &writer.text),
+        )?;
         rolled = rolled.saturating_add(frames.iter().filter(|b| **b == b'\n').count());
     }
     // Of 200 scripts of 40 steps, about a third advance.
@@ -306,7 +313,8 @@ fn writes_the_same_whatever_the_schedule(rt: HostRuntime) -> Result<(), Fail> {
 }
 
 /// A duel of three ships, in which the words of two come late, and were guessed.
-const THREE_SHIPS: &[u8] = b"roll 1 players 3 local 1 delay 0,0,0 threshold 8\nG 2 3 1,1\nG 3 3 8\nL 1 8\nA\nB 0\nL 1 1\nA\nR 2 0 1\nB 0\nR 3 0 8\nR 2 1 1\nS\nB 1\nL 1 2\nA\nR 3 1 0\nA\nL 1 0\nA\nD 3\nR 2 2 4\nS\n";
+const THREE_SHIPS: &[u8] =
+    b"roll 1 players 3 local 1 delay 0,0,0 threshold 8\nG 2 3 1,1\nG 3 3 8\nL 1 8\nA\nB 0\nL 1 1\nA\nR 2 0 1\nB 0\nR 3 0 8\nR 2 1 1\nS\nB 1\nL 1 2\nA\nR 3 1 0\nA\nL 1 0\nA\nD 3\nR 2 2 4\nS\n";
 
 #[test]
 fn plays_a_duel_of_three_ships(rt: HostRuntime) -> Result<(), Fail> {
