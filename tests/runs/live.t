@@ -164,21 +164,21 @@ Words that can't be understood, and help.
   
   For more information, try '--help'.
   [2]
-  $ rollduel live $late --workers 5 2>&1 | head -n 1
+  $ rollduel live $late --workers 5 2>&1 | sed -n 1p
   error: invalid value '5' for '--workers <N>': 5 is not in 1..=4
-  $ rollduel live $late --workers two 2>&1 | head -n 1
+  $ rollduel live $late --workers two 2>&1 | sed -n 1p
   error: invalid value 'two' for '--workers <N>': invalid digit found in string
-  $ rollduel live $late --workers 1 --workers 2 2>&1 | head -n 1
+  $ rollduel live $late --workers 1 --workers 2 2>&1 | sed -n 1p
   error: the argument '--workers <N>' cannot be used multiple times
-  $ rollduel live $late --game chess 2>&1 | head -n 1
+  $ rollduel live $late --game chess 2>&1 | sed -n 1p
   error: invalid value 'chess' for '--game <GAME>'
-  $ rollduel live $late --explain 2>&1 | head -n 1
+  $ rollduel live $late --explain 2>&1 | sed -n 1p
   error: unexpected argument '--explain' found
-  $ rollduel play $late --workers 2 2>&1 | head -n 1
+  $ rollduel play $late --workers 2 2>&1 | sed -n 1p
   error: unexpected argument '--workers' found
   $ rollduel live $late --explain 2>/dev/null
   [2]
-  $ rollduel live --help | head -n 1
+  $ rollduel live --help | sed -n 1p
   Plays a script on threads: a link, and workers that run guesses ahead
 
 The example of the help is the file that it names, and prints what it says.

@@ -83,21 +83,21 @@ Words that can't be understood.
   
   For more information, try '--help'.
   [2]
-  $ rollduel match --frames 1048577 2>&1 | head -n 1
+  $ rollduel match --frames 1048577 2>&1 | sed -n 1p
   error: invalid value '1048577' for '--frames <N>': 1048577 is not in 1..=1048576
-  $ rollduel match --late 61 2>&1 | head -n 1
+  $ rollduel match --late 61 2>&1 | sed -n 1p
   error: invalid value '61' for '--late <L>': 61 is not in 0..=60
-  $ rollduel match --lost 100 2>&1 | head -n 1
+  $ rollduel match --lost 100 2>&1 | sed -n 1p
   error: invalid value '100' for '--lost <P>': 100 is not in 0..=99
-  $ rollduel match --hold 0 2>&1 | head -n 1
+  $ rollduel match --hold 0 2>&1 | sed -n 1p
   error: invalid value '0' for '--hold <H>': 0 is not in 1..=1000000
-  $ rollduel match --delay 256 2>&1 | head -n 1
+  $ rollduel match --delay 256 2>&1 | sed -n 1p
   error: invalid value '256' for '--delay <D>': 256 is not in 0..=255
-  $ rollduel match --threshold 256 2>&1 | head -n 1
+  $ rollduel match --threshold 256 2>&1 | sed -n 1p
   error: invalid value '256' for '--threshold <K>': 256 is not in 0..=255
-  $ rollduel match --seed 18446744073709551616 2>&1 | head -n 1
+  $ rollduel match --seed 18446744073709551616 2>&1 | sed -n 1p
   error: invalid value '18446744073709551616' for '--seed <S>': number too large to fit in target type
-  $ rollduel match --frames ten 2>&1 | head -n 1
+  $ rollduel match --frames ten 2>&1 | sed -n 1p
   error: invalid value 'ten' for '--frames <N>': invalid digit found in string
   $ rollduel match --guesses some
   error: invalid value 'some' for '--guesses <GUESSES>'
@@ -105,13 +105,13 @@ Words that can't be understood.
   
   For more information, try '--help'.
   [2]
-  $ rollduel match --game chess 2>&1 | head -n 1
+  $ rollduel match --game chess 2>&1 | sed -n 1p
   error: invalid value 'chess' for '--game <GAME>'
-  $ rollduel match late.roll 2>&1 | head -n 1
+  $ rollduel match late.roll 2>&1 | sed -n 1p
   error: unexpected argument 'late.roll' found
-  $ rollduel match --explain 2>&1 | head -n 1
+  $ rollduel match --explain 2>&1 | sed -n 1p
   error: unexpected argument '--explain' found
-  $ rollduel match --seed 1 --seed 2 2>&1 | head -n 1
+  $ rollduel match --seed 1 --seed 2 2>&1 | sed -n 1p
   error: the argument '--seed <S>' cannot be used multiple times
   $ rollduel match --lost 100 2>/dev/null
   [2]
@@ -120,7 +120,7 @@ The greatest seed is one, and the help's example prints what it says.
 
   $ rollduel match --frames 5 --seed 18446744073709551615 | value seed
   18446744073709551615
-  $ rollduel match --help | head -n 1
+  $ rollduel match --help | sed -n 1p
   Plays a match over a bad line, and prints what its rollbacks cost
   $ rollduel $(rollduel match --help | sed -n 's/^  rollduel //p') > example
   $ sed '/^$/d;$d' example > want
