@@ -7,4 +7,5 @@ pub mod Players
 mod Steps
 pub mod Changes
 mod Replies
+mod Recorded
 mod Starts

@@ -15,6 +15,7 @@ use crate::queue::Queue;
 use crate::queues::{
     allows, first_queues, front, is_missing, queue_of, row_at, settle_all, start_frames,
 };
+use crate::record::Record;
 use crate::source::Source;
 use roll_frame::{PATH_LIMIT, Refusal, Row, Settings};
 use std::alloc::Global;
@@ -108,12 +109,12 @@ impl Board {
     /// What a remote word would be answered now. `past` is the settled rows.
     pub fn remote_reply(
         &self,
-        past: &[Row],
+        past: &Record,
         player: u8,
         frame: u32,
         word: u32,
     ) -> Result<Heard, Refusal>
-        requires past { past.now ≡ timeline self.now.players self.now.settled }
+        requires past { past.now.rows ≡ timeline self.now.players self.now.settled }
         ensures heard { IfOk result (λ heard. heard ≡ (if is_repeated self.now.players player frame word then Heard.Repeated else Heard.Taken)) }
         ensures accepted { IfOk result (λ heard. heard ≡ Heard.Taken → remote_refusal self.now player frame ≡ None) }
         ensures refused { IfErr result (λ why. remote_refusal self.now player frame ≡ Some why) }
@@ -128,12 +129,12 @@ impl Board {
     /// Takes the next word of a remote player, or sees that it was taken before. `past` is the settled rows.
     pub fn remote(
         &mut self,
-        past: &[Row],
+        past: &Record,
         player: u8,
         frame: u32,
         word: u32,
     ) -> Result<Heard, Refusal>
-        requires past { past.now ≡ timeline self.old.players self.old.settled }
+        requires past { past.now.rows ≡ timeline self.old.players self.old.settled }
         ensures heard { IfOk result (λ heard. heard ≡ (if is_repeated self.old.players player frame word then Heard.Repeated else Heard.Taken)) }
         ensures accepted { IfOk result (λ heard. heard ≡ Heard.Taken → remote_refusal self.old player frame ≡ None) }
         ensures words { OnOk result (self.new ≡ (if is_repeated self.old.players player frame word then self.old else with_player (with_words (word ∷ [])) self.old player)) }
@@ -295,8 +296,8 @@ impl Board {
     }
 
     /// The confirmed word of a player at a frame. `past` is the settled rows.
-    pub fn confirmed_word(&self, past: &[Row], player: u8, frame: u32) -> Option<u32>
-        requires { past.now ≡ timeline self.now.players self.now.settled }
+    pub fn confirmed_word(&self, past: &Record, player: u8, frame: u32) -> Option<u32>
+        requires { past.now.rows ≡ timeline self.now.players self.now.settled }
         ensures { result ≡ confirmed_word self.now.players player frame }
     {
         let queue = queue_of(&self.queues, player)?;

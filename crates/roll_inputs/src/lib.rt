@@ -6,8 +6,10 @@ mod heard;
 mod history;
 mod queue;
 mod queues;
+mod record;
 mod source;
 
 pub use board::Board;
 pub use heard::Heard;
+pub use record::Record;
 pub use source::Source;

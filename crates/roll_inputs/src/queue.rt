@@ -9,9 +9,10 @@ ghost use Rattle.roll_inputs.specs.Boards.{source_at};
 
 use crate::heard::Heard;
 use crate::history::History;
+use crate::record::Record;
 use crate::source::Source;
 use circular_buffer::HeapCircularBuffer;
-use roll_frame::{Cell, DELAY_LIMIT, PLAYER_LIMIT, QUEUE_LIMIT, Refusal, Row, Settings};
+use roll_frame::{Cell, DELAY_LIMIT, PLAYER_LIMIT, QUEUE_LIMIT, Refusal, Settings};
 use std::alloc::{AllocError, Global};
 use std::marker::Model;
 
@@ -152,14 +153,14 @@ impl Queue {
     }
 
     /// The confirmed word of a frame. `past` has the rows below the ring's first frame, with the player's cells at a place.
-    pub(crate) fn word(&self, past: &[Row], place: usize, frame: u32) -> Option<u32>
-        requires { HasPast self.now past.now place }
+    pub(crate) fn word(&self, past: &Record, place: usize, frame: u32) -> Option<u32>
+        requires { HasPast self.now past.now.rows place }
         ensures { result ≡ slice_get self.now.player.words frame }
     {
         if frame >= self.count {
             None
         } else if frame < self.from {
-            past[frame as usize].get(place).map(|cell| cell.word())
+            past.cell(frame as usize, place).map(|cell| cell.word())
         } else {
             self.ring.get((frame - self.from) as usize).copied()
         }
@@ -168,12 +169,12 @@ impl Queue {
     /// What a remote word is answered, by the tests of this player alone. `past` as in `word`.
     pub(crate) fn reply(
         &self,
-        past: &[Row],
+        past: &Record,
         place: usize,
         frame: u32,
         word: u32,
     ) -> Result<Heard, Refusal>
-        requires past { HasPast self.now past.now place }
+        requires past { HasPast self.now past.now.rows place }
         requires ahead { self.now.player.gone ≡ false → self.now.from ≤ length self.now.player.words }
         ensures heard { IfOk result (λ heard. heard ≡ (if is_repeated (self.now.player ∷ []) 1 frame word then Heard.Repeated else Heard.Taken)) }
         ensures accepted { IfOk result (λ heard. heard ≡ Heard.Taken → first_refusal (remote_tests (self.now.player ∷ []) self.now.from 1 frame) ≡ None) }

@@ -50,9 +50,9 @@ module _ {X : Type 0} (entry : ℕ → X → Option Differ) where
       ∙ ap (λ n. cons_option (entry place y) (entries_by entry (suc place) xs) ++ cons_option (entry n x) []) next
 
   -- what was made of so many, with the entry of one more where there is one
-  pub with_entry : (xs : List X) (k : ℕ) (x : X) (made : List Differ) → k < length xs → x ≡ get_or xs k x → made ≡ entries_by entry 0 (take k xs) → made ++ cons_option (entry k x) [] ≡ entries_by entry 0 (take (k + 1) xs)
-  with_entry xs k x made within at so_far =
-      let place : 0 + length (take k xs) ≡ k = omega (arith, length-take k xs, within) in
-      ap (λ (l : List Differ). l ++ cons_option (entry k x) []) so_far
-      ∙ ap (λ n. entries_by entry 0 (take k xs) ++ cons_option (entry n x) []) (sym place)
-      ∙ sym (ap (entries_by entry 0) (take_more xs k x within ∙ ap (λ y. take k xs ++ y ∷ []) (sym at)) ∙ entries_more 0 (take k xs) x)
+  pub with_entry : (first : ℕ) (xs : List X) (k : ℕ) (x : X) (made : List Differ) → k < length xs → x ≡ get_or xs k x → made ≡ entries_by entry first (take k xs) → made ++ cons_option (entry (first + k) x) [] ≡ entries_by entry first (take (k + 1) xs)
+  with_entry first xs k x made within at so_far =
+      let place : first + length (take k xs) ≡ first + k = omega (arith, length-take k xs, within) in
+      ap (λ (l : List Differ). l ++ cons_option (entry (first + k) x) []) so_far
+      ∙ ap (λ n. entries_by entry first (take k xs) ++ cons_option (entry n x) []) (sym place)
+      ∙ sym (ap (entries_by entry first) (take_more xs k x within ∙ ap (λ y. take k xs ++ y ∷ []) (sym at)) ∙ entries_more first (take k xs) x)

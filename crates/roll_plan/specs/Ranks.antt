@@ -14,6 +14,10 @@ abbrev pub entries_by : {X : Type 0} → (ℕ → X → Option Differ) → ℕ �
 entries_by entry place [] = []
 entries_by entry place (x ∷ xs) = cons_option (entry place x) (entries_by entry (suc place) xs)
 
+-- whether a path ends where a plan starts, or before
+abbrev pub is_before : ℕ → Path → Bool
+is_before from path = nat_le (frames_of path) from
+
 -- whether a plan between these frames passes over a path
 abbrev pub is_passed : ℕ → ℕ → Path → Bool
 is_passed from to path = nat_lt from (frames_of path) && nat_le (frames_of path) to
@@ -27,9 +31,10 @@ module _ {S : Type 0} where
   abbrev pub IsKept : SavedStates S → ℕ → Type 0
   IsKept t name = IsSome (state_named t name)
 
-  -- the entry of a path that a plan between these frames passes over, by its marks
+  -- the entry of a path by its marks
+  abbrev pub entry_by_marks : SavedStates S → ℕ → Path → Option Differ
+  entry_by_marks t state path = option_map (λ place. record { state = state; frame = place.0; player = place.1 }) (least_place t.base path.rows.items t.time)
+
+  -- the same where a plan between these frames passes over the path
   abbrev pub marked_for : SavedStates S → ℕ → ℕ → ℕ → Path → Option Differ
-  marked_for t from to state path =
-      if is_passed from to path
-      then option_map (λ place. record { state = state; frame = place.0; player = place.1 }) (least_place t.base path.rows.items t.time)
-      else None
+  marked_for t from to state path = if is_passed from to path then entry_by_marks t state path else None

@@ -1,10 +1,9 @@
 //! The planner.
-ghost use Rattle.std.specs.Prelude.{◌≡◌, ◌==◌, ◌≤◌, ◌<◌, None, Some, IfOk, IfErr, IfSome, IsSome, OnOk, All, is_none, length, map, option_map, position, vec_capacity, false, if◌then◌else◌};
-ghost use Rattle.std.specs.List.{list_any};
+ghost use Rattle.std.specs.Prelude.{◌≡◌, ◌==◌, ◌≤◌, ◌<◌, ◌+◌, None, Some, IfOk, IfErr, IfSome, IsSome, OnOk, All, is_none, length, map, option_map, position, vec_capacity, false, if◌then◌else◌};
 ghost use Rattle.roll_frame.specs.Claims.{IsRight};
 ghost use Rattle.roll_frame.specs.Order.{in_order};
 ghost use Rattle.roll_tree.specs.SavedStates.{state_named, path_of, paths_of as kept_paths, time_to};
-ghost use Rattle.roll_plan.specs.Ranks.{IsKept, entries_by, is_passed, marked_for, path_named};
+ghost use Rattle.roll_plan.specs.Ranks.{IsKept, entries_by, entry_by_marks, marked_for, path_named};
 ghost use Rattle.roll_plan.specs.Spelled.{path_before, path_in, spelled};
 ghost use Rattle.roll_plan.specs.Plans.{CanPlan, IsClaimOf, IsPlanOf, made_of};
 
@@ -33,7 +32,7 @@ pub struct Planner {
     time: ArrayVec<Row, PATH_LIMIT>,
     // The kept states, each after the one above it.
     taken: Vec<Taken>,
-    // Room for the names of the kept states, in the order of their paths.
+    // Room for the names of the states that a plan passes over, in the order of their paths.
     ranked: Vec<usize>,
     plan: Plan,
     // Whether there is a last plan.
@@ -165,7 +164,7 @@ fn take_down<S>(taken: &mut Vec<Taken>, tree: &Tree<S>)
     }
 }
 
-/// Makes an entry for each path that a plan passes over. Mostly there is none, and then no path is looked at.
+/// Makes an entry for each path that a plan passes over. In the order of paths these are next to each other.
 fn name_passed<S>(
     differs: &mut Vec<Differ>,
     ranked: &mut Vec<usize>,
@@ -179,61 +178,32 @@ fn name_passed<S>(
     ensures differs { TREE_LIMIT ≤ vec_capacity differs.new }
     ensures ranked { TREE_LIMIT ≤ vec_capacity ranked.new }
 {
-    if passes_over(tree, from, to) {
-        rank(ranked, tree);
-        name_differs(differs, tree, ranked, from, to);
-    } else {
-        differs.clear();
-    }
+    let first = rank(ranked, tree, from, to);
+    name_differs(differs, tree, ranked, first);
 }
 
-/// Whether a plan passes over a kept path.
-fn passes_over<S>(tree: &Tree<S>, from: u32, to: u32) -> bool
-    ensures { result ≡ list_any (λ s. is_passed from to (path_of tree.now.base s.path)) tree.now.states }
-{
-    tree.laws();
-    for node in tree.names() {
-        if is_passed_over(tree, *node, from, to) {
-            return true;
-        }
-    }
-    false
-}
-
-/// Whether a plan passes over the path of a kept state.
-fn is_passed_over<S>(tree: &Tree<S>, node: usize, from: u32, to: u32) -> bool
-    requires { IsSome (state_named tree.now node) }
-    ensures { option_map (λ s. is_passed from to (path_of tree.now.base s.path)) (state_named tree.now node) ≡ Some result }
-{
-    let end = tree.end(node);
-    from < end && end <= to
-}
-
-/// Makes an entry for each of these states whose path a plan passes over.
-fn name_differs<S>(differs: &mut Vec<Differ>, tree: &Tree<S>, kept: &[usize], from: u32, to: u32)
-    requires kept { All (IsKept tree.now) kept.now }
-    requires few { length kept.now ≤ TREE_LIMIT }
+/// Makes an entry for each of these states by its marks, the first of which is at this place in the order of paths.
+fn name_differs<S>(differs: &mut Vec<Differ>, tree: &Tree<S>, passed: &[usize], first: usize)
+    requires kept { All (IsKept tree.now) passed.now }
+    requires few { first + length passed.now ≤ TREE_LIMIT }
     requires room { TREE_LIMIT ≤ vec_capacity differs.old }
-    ensures entries { differs.new.items ≡ entries_by (λ state name. marked_for tree.now from to state (path_of tree.now.base (path_named tree.now name))) 0 kept.now }
+    ensures entries { differs.new.items ≡ entries_by (λ state name. entry_by_marks tree.now state (path_of tree.now.base (path_named tree.now name))) first passed.now }
     ensures room { TREE_LIMIT ≤ vec_capacity differs.new }
 {
     differs.clear();
-    for (state, node) in kept.iter().enumerate() {
-        if let Some(entry) = entry(tree, state, *node, from, to) {
+    for (place, node) in passed.iter().enumerate() {
+        if let Some(entry) = entry(tree, first + place, *node) {
             differs.push_reserved(entry);
         }
     }
 }
 
-/// The entry of a state, where a plan passes over its path.
-fn entry<S>(tree: &Tree<S>, state: usize, node: usize, from: u32, to: u32) -> Option<Differ>
+/// The entry of a state by its marks.
+fn entry<S>(tree: &Tree<S>, state: usize, node: usize) -> Option<Differ>
     requires kept { IsKept tree.now node }
     requires few { state < TREE_LIMIT }
-    ensures { result ≡ marked_for tree.now from to state (path_of tree.now.base (path_named tree.now node)) }
+    ensures { result ≡ entry_by_marks tree.now state (path_of tree.now.base (path_named tree.now node)) }
 {
-    if !is_passed_over(tree, node, from, to) {
-        return None;
-    }
     match tree.first_mark(node) {
         Some((frame, player)) => Some(Differ {
             state: state as u32,

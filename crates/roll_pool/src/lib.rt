@@ -8,6 +8,7 @@ mod owner;
 mod results;
 mod rule;
 mod settle;
+mod signals;
 mod worker;
 
 pub use crew::{Crew, start_all};

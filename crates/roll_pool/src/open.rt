@@ -6,13 +6,13 @@ ghost use Rattle.roll_pool.specs.Rule.{counting_out};
 use crate::owner::{JOBS_OUT, Owner, WORKER_LIMIT};
 use crate::results::{RESULT_PLACES, Results};
 use crate::rule::{Deque, Hand};
+use crate::signals::Signals;
 use crate::worker::WorkerEnd;
 use roll_frame::Refusal;
 use roll_game::Game;
 use rtrb::RingBuffer;
 use std::alloc::{AllocError, Global};
 use std::sync::Arc;
-use std::sync::atomic::AtomicBool;
 
 impl<G: Game> Owner<G> {
     ghost use Rattle.std.specs.Prelude.{◌≡◌, ◌≤◌, [], map, length, replicate, nat_eq, nat_lt, IfOk, IfErr, OnOk, ◌||◌, if◌then◌else◌};
@@ -37,13 +37,13 @@ impl<G: Game> Owner<G> {
             return Err(Refusal::InvalidRequest);
         }
         let mut deque = Deque::fifo_as(alloc, JOBS_OUT)?;
-        let closed = Arc::new(alloc, AtomicBool::new(false))?;
+        let signals = Arc::new(alloc, Signals::new())?;
         let late = Vec::with_capacity(alloc, JOBS_OUT)?;
         let left = Vec::with_capacity(alloc, JOBS_OUT)?;
         let mut rings = Vec::with_capacity(alloc, workers)?;
         let mut ends = Vec::with_capacity(alloc, workers)?;
         for _ in 0..workers {
-            let (ring, end) = hire(alloc, &mut deque, &closed)?;
+            let (ring, end) = hire(alloc, &mut deque, &signals)?;
             rings.push_reserved(ring);
             ends.push_reserved(end);
         }
@@ -52,7 +52,7 @@ impl<G: Game> Owner<G> {
             rings,
             issued: 0,
             collected: 0,
-            closed,
+            signals,
             late,
             left,
         };
@@ -64,7 +64,7 @@ impl<G: Game> Owner<G> {
 fn hire<G: Game>(
     alloc: Global,
     deque: &mut Deque<G>,
-    closed: &Arc<AtomicBool, Global>,
+    signals: &Arc<Signals, Global>,
 ) -> Result<(Results<G>, WorkerEnd<G>), AllocError>
     requires { (worker_view deque.old).owns ≡ true }
     ensures same { IfOk result (λ _. (worker_deque deque.new ≡ worker_deque deque.old) × (worker_flavor deque.new ≡ worker_flavor deque.old) × (worker_index deque.new ≡ worker_index deque.old) × (worker_capacity deque.old ≤ worker_capacity deque.new)) }
@@ -73,12 +73,12 @@ fn hire<G: Game>(
 {
     let thief = deque.stealer()?;
     let (results, consumer) = RingBuffer::new(alloc, RESULT_PLACES)?;
-    let closed = Arc::try_clone(closed)?;
+    let signals = Arc::try_clone(signals)?;
     let end = WorkerEnd {
         thief,
         pass: deque.another::<Hand>(),
         results,
-        closed,
+        signals,
     };
     Ok((Results { consumer }, end))
 }

@@ -4,13 +4,13 @@ ghost use Rattle.roll_pool.specs.Owners.{came_by, rings_of};
 
 use crate::results::Results;
 use crate::rule::{Deque, Issues};
+use crate::signals::Signals;
 use roll_branch::{Done, Job};
 use roll_frame::Refusal;
 use roll_game::Game;
 use std::alloc::Global;
 use std::marker::Model;
 use std::sync::Arc;
-use std::sync::atomic::{AtomicBool, Ordering};
 
 /// The most jobs that are out at a time: issued, and not collected.
 pub const JOBS_OUT: usize = 64;
@@ -27,7 +27,7 @@ pub struct Owner<G: Game> {
     pub(crate) rings: Vec<Results<G>>,
     pub(crate) issued: u64,
     pub(crate) collected: u64,
-    pub(crate) closed: Arc<AtomicBool, Global>,
+    pub(crate) signals: Arc<Signals, Global>,
     // Room for what is out at the end.
     pub(crate) late: Vec<Done<G>>,
     pub(crate) left: Vec<Job<G>>,
@@ -94,6 +94,7 @@ impl<G: Game> Owner<G> {
             return Err(IssueFault { why, job });
         }
         self.issued += 1;
+        self.signals.jobs.ring();
         Ok(ticket)
     }
 
@@ -109,6 +110,7 @@ impl<G: Game> Owner<G> {
         for place in 0..self.rings.len() {
             if let Some(done) = pop_at(&mut self.rings, place) {
                 self.collected += 1;
+                self.signals.places.ring();
                 return Some(done);
             }
         }
@@ -132,7 +134,7 @@ impl<G: Game> Owner<G> {
 
     /// Tells the workers to stop. Each still ends the job that it is at.
     pub fn close(&self) {
-        self.closed.store(true, Ordering::SeqCst);
+        self.signals.close();
     }
 }
 

@@ -48,7 +48,7 @@ impl<G: Game> Owner<G> {
             rings,
             issued,
             collected,
-            closed: _,
+            signals: _,
             mut late,
             mut left,
         } = self;
@@ -89,7 +89,7 @@ fn take_in<G: Game>(
         thief: _,
         pass,
         mut results,
-        closed: _,
+        signals: _,
     } = end;
     let Results { mut consumer } = ring;
     deque.absorb::<Hand>(pass);

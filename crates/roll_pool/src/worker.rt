@@ -2,15 +2,18 @@
 ghost use Rattle.std.specs.Prelude.{◌≡◌};
 
 use crate::rule::{Takes, Tally, Thief};
+use crate::signals::Signals;
 use crossbeam_deque::{Pass, Steal};
 use roll_branch::{Done, Job, extend};
 use roll_game::Game;
 use rtrb::Producer;
 use std::alloc::Global;
 use std::marker::Model;
-use std::sync::atomic::{AtomicBool, Ordering};
 use std::sync::{Arc, Wait};
 use std::thread;
+
+/// How often a worker looks for something to do before it sleeps.
+const TRIES: u32 = 64;
 
 /// A worker's end: what it takes jobs by, and the ring for its results.
 #[derive(Drop)]
@@ -18,7 +21,7 @@ pub struct WorkerEnd<G: Game> {
     pub(crate) thief: Thief<G>,
     pub(crate) pass: Pass<Job<G>, Tally<Job<G>>>,
     pub(crate) results: Producer<Done<G>>,
-    pub(crate) closed: Arc<AtomicBool, Global>,
+    pub(crate) signals: Arc<Signals, Global>,
 }
 
 /// A clause sees its place in the pool, the jobs that it took and the results that it pushed.
@@ -77,7 +80,7 @@ impl<G: Game> WorkerEnd<G> {
         ensures place { self.new.place ≡ self.old.place }
         ensures works { Works result self.old self.new (G.call_counts game.old) (G.call_counts game.new) }
     {
-        if self.closed.load(Ordering::SeqCst) {
+        if self.signals.is_closed() {
             return Worked::Closed;
         }
         if self.results.is_full() {
@@ -93,16 +96,33 @@ impl<G: Game> WorkerEnd<G> {
         Worked::Did(ticket)
     }
 
-    /// Works until the pool is closed. Between two turns that found nothing to do it lets other threads run.
+    /// Works until the pool is closed. Where it finds no job for a while, it sleeps until one is issued; where its ring is full
+    /// for a while, until a result is collected. The close wakes it too.
     pub fn serve<R: Wait>(&mut self, rt: &R, game: &mut G, gate: &impl Gate)
         ensures { self.new.place ≡ self.old.place }
     {
         for _ in rt.forever() {
-            match self.work_one(game, gate) {
+            let jobs = self.signals.jobs.heard();
+            let places = self.signals.places.heard();
+            match self.try_to_work(game, gate) {
                 Worked::Closed => return,
                 Worked::Did(_) => {}
-                Worked::Empty | Worked::RingFull => thread::yield_now(),
+                Worked::Empty => self.signals.jobs.sleep(rt, jobs),
+                Worked::RingFull => self.signals.places.sleep(rt, places),
             }
         }
+    }
+
+    /// Tries to work, so many times if there is nothing to do. Between two tries it lets other threads run.
+    fn try_to_work(&mut self, game: &mut G, gate: &impl Gate) -> Worked
+        ensures { self.new.place ≡ self.old.place }
+    {
+        for _ in 0..TRIES {
+            match self.work_one(game, gate) {
+                Worked::Empty | Worked::RingFull => thread::yield_now(),
+                worked => return worked,
+            }
+        }
+        self.work_one(game, gate)
     }
 }

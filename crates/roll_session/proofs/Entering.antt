@@ -1,8 +1,7 @@
 -- What the fields of a session keep where an entry is judged, taken in or rolled for. All but the entry follows from what
 -- the fields kept before, so that a proof names that alone.
 use Rattle.std.proofs.Common.{◌≡◌, ℕ, ◌+◌, ◌-◌, ◌≤◌, List, [], ◌∷◌, ◌++◌, length, refl, ap, sym, ◌∙◌, subst, arith, Option, Some, None, cond, false, true}
-use Rattle.std.specs.Prelude.{All, Bool, nat_le, not, vec_capacity, vec_len}
-use Rattle.std.specs.Global.{Vec}
+use Rattle.std.specs.Prelude.{All, Bool, nat_le, not}
 use Rattle.roll_inputs.specs.Boards.{Inputs}
 use Rattle.roll_frame.specs.Core.{Core, cost, depth}
 use Rattle.roll_frame.specs.Events.{all_given, applied, can_be_partial, is_accepted, is_repeat, refusal, replay, tests_of}
@@ -27,6 +26,7 @@ use Rattle.roll_session.specs.Calls.{entry_of, event_of, IsInput, IsRollTo}
 use Rattle.roll_session.specs.declared.event.Call.{Call}
 use Rattle.roll_session.specs.declared.event.Call.TheVariants.{Local as LocalCall, Remote as RemoteCall, Disconnect as DisconnectCall, Sync as SyncCall, Advance as AdvanceCall}
 use Rattle.roll_session.specs.Held.{HasRoom, IsSession, Shows, planned_of}
+use Rattle.roll_session.specs.Logs.{Filed}
 use Rattle.roll_session.specs.Saves.{HaveValues, Standing, rows_to, settled_by, settling, stepped_inputs, taken_inputs, taken_states, way_to}
 use Rattle.roll_session.specs.Seen.{Step, plain}
 use Rattle.roll_session.specs.Standing.{made_from}
@@ -35,12 +35,12 @@ use Rattle.roll_session.proofs.Holding.{accepted, can_be_partial_advance, can_be
 use Rattle.roll_session.proofs.Rolled.{Added, between_after_advance, between_after_partial, between_after_sync, cost_is, depth_is, frame_is, near, paths_fit, roll_fits, roll_plan, session_event, shown_value, time_fits}
 
 -- an event later there is room for one less
-pub room_next : {N : Type 0} {log more : Vec Entry} {saves after : Standing N} {reserved left n : ℕ} (cut : Standing N) → HasRoom log saves reserved → 1 ≤ reserved
-    → vec_len more ≡ vec_len log + 1 → vec_capacity log ≤ vec_capacity more → left ≡ reserved - 1
+pub room_next : {N : Type 0} {log more : Filed} {saves after : Standing N} {reserved left n : ℕ} (cut : Standing N) → HasRoom log saves reserved → 1 ≤ reserved
+    → log.room ≤ more.room + 1 → left ≡ reserved - 1
     → cut.inputs.frame ≤ saves.inputs.frame + 1 → cut.room ≡ saves.room → after.inputs ≡ record cut.inputs { settled = n } → cut.room ≤ after.room → HasRoom more after left
-room_next cut h some len capacity less frame same inputs room =
+room_next cut h some entered less frame same inputs room =
     let frames = ap (λ (i : Inputs). i.frame) inputs in
-    record { entries = omega (arith, h.entries, some, len, capacity, less); rows = omega (arith, h.rows, some, frames, frame, same, room, less) }
+    record { entries = omega (arith, h.entries, some, entered, less); rows = omega (arith, h.rows, some, frames, frame, same, room, less) }
 
 -- no input changes the frame, and a roll takes it one further at most
 pub taken_frame : (inputs : Inputs) (entry : Entry) → (taken_inputs inputs entry).frame ≤ inputs.frame + 1

@@ -13,6 +13,7 @@ pub mod Filters
 pub mod Foreseen
 pub mod Grows
 pub mod Leaving
+pub mod Logging
 pub mod Runs
 pub mod Planning
 pub mod Playing

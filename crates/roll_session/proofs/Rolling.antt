@@ -1,9 +1,10 @@
 -- A roll, one frame at a time, and what is taken down of it.
-use Rattle.std.proofs.Common.{◌≡◌, ℕ, suc, ◌+◌, ◌-◌, ◌^◌, ◌<◌, ◌≤◌, List, [], ◌∷◌, ◌++◌, length, take, refl, ap, sym, subst, ◌∙◌, arith, Bor, get_or, option_copied, is_some, Bool, true, false, cond, Option, Some, None, add-one, append-nil, append_assoc}
-use Rattle.std.specs.Prelude.{option_map, ◌==◌, All, IfSome, IsSome, IsSomeAnd, nat_lt, if◌then◌else◌}
+use Rattle.std.proofs.Common.{◌≡◌, ℕ, suc, ◌+◌, ◌-◌, ◌^◌, ◌<◌, ◌≤◌, List, [], ◌∷◌, ◌++◌, length, take, refl, ap, sym, subst, ◌∙◌, arith, inl, inr, slice_get, Bool, true, false, cond, Option, Some, None, add-one, append-nil, append_assoc}
+use Rattle.std.specs.Prelude.{◌⊎◌, option_map, ◌==◌, All, IfSome, IsSome, IsSomeAnd, nat_lt, if◌then◌else◌}
 use Rattle.std.specs.List.{find}
-use Rattle.std.specs.Slice.{IsItemAt}
+use Rattle.std.proofs.lemmas.Bool.{cases_lt}
 use Rattle.std.proofs.lemmas.Bool.Decides.{nat_tests}
+use Rattle.std.proofs.lemmas.Option.{slice_get_past, slice_get-get_or}
 use Rattle.std.proofs.lemmas.List.{length-append, length-map, map-append}
 use Rattle.std.proofs.lemmas.List.Elements.{All-push, All-head, All-tail}
 use Rattle.std.proofs.lemmas.List.Sums.{fold_push}
@@ -25,18 +26,16 @@ use Rattle.roll_session.proofs.Steps.{time_is}
 use Rattle.roll_session.proofs.Rows.{length-rows_from, rows_from-more, settled-rows_from, take-rows_from}
 
 -- a settled row, where there is one
-pub settled_read : (players : List Player) (settled frame : ℕ) (past : Rows) (o : Option (Bor (List Cell))) → past ≡ timeline players settled → IsItemAt past frame o → option_copied o ≡ (if nat_lt frame settled then Some (row_at players frame) else None)
-settled_read players settled frame past o is read = go o read.0 read.1
+pub settled_read : (players : List Player) (settled frame : ℕ) → slice_get (timeline players settled) frame ≡ (if nat_lt frame settled then Some (row_at players frame) else None)
+settled_read players settled frame = go (cases_lt frame settled)
   where
-    long : length past ≡ settled
-    long = ap length is ∙ length_timeline players settled
-
-    go : (r : Option (Bor (List Cell))) → is_some r ≡ nat_lt frame (length past) → IfSome r (λ x. x.now ≡ get_or past frame x.now) → option_copied r ≡ (if nat_lt frame settled then Some (row_at players frame) else None)
-    go None e h = let no : nat_lt frame settled ≡ false = ap (nat_lt frame) (sym long) ∙ sym e in rw no refl
-    go (Some x) e h =
-        let yes : nat_lt frame settled ≡ true = ap (nat_lt frame) (sym long) ∙ sym e in
-        let below : frame < settled = grind (arith, nat_tests, yes) in
-        rw yes (ap Some (h ∙ (ap (λ (rows : Rows). get_or rows frame x.now) is ∙ timeline_row players settled frame x.now below)))
+    go : (frame < settled) ⊎ (settled ≤ frame) → slice_get (timeline players settled) frame ≡ (if nat_lt frame settled then Some (row_at players frame) else None)
+    go (inl below) =
+        let yes : nat_lt frame settled ≡ true = grind (arith, nat_tests) in
+        rw yes (slice_get-get_or (timeline players settled) frame [] (omega (arith, length_timeline players settled)) ∙ ap Some (timeline_row players settled frame [] below))
+    go (inr past) =
+        let no : nat_lt frame settled ≡ false = grind (arith, nat_tests) in
+        rw no (slice_get_past (timeline players settled) frame (omega (arith, length_timeline players settled)))
 
 module _ {S : Type 0} where
   -- the plan of a roll to there can be made

@@ -2,11 +2,12 @@
 use Rattle.std.proofs.Common.{◌≡◌, ℕ, suc, ◌+◌, ◌-◌, ◌<◌, ◌≤◌, List, [], ◌∷◌, ◌++◌, length, get_or, refl, ap, sym, ◌∙◌, Bool, true, false, arith, take, drop, inl, inr, max}
 use Rattle.std.specs.Prelude.{◌⊎◌, filter}
 use Rattle.std.proofs.lemmas.Bool.{false≢true, cases_Bool, cases_lt}
-use Rattle.std.proofs.lemmas.List.{get_or-drop, length-drop, drop_all, drop-append-le, drop-take, take-append-drop, drop-drop, length-append}
+use Rattle.std.proofs.lemmas.List.{get_or-drop, length-drop, drop_all, drop-append-le, drop-take, take-append-drop, drop-drop, length-append, length-map}
 use Rattle.roll_frame.specs.declared.row.Cell.{Cell}
 use Rattle.roll_frame.specs.Cells.{Rows}
+use Rattle.roll_frame.specs.Claims.{AreRowsOf}
 use Rattle.roll_frame.specs.Paths.{begins_with, longest}
-use Rattle.roll_frame.specs.Timeline.{Player, row_at, timeline}
+use Rattle.roll_frame.specs.Timeline.{Player, cell_at, row_at, timeline}
 use Rattle.roll_laws.proofs.Saved.{In, longest_at_least, take_timeline}
 use Rattle.roll_frame.proofs.Timelines.{length_timeline, timeline_row}
 use Rattle.roll_frame.proofs.Beginnings.{begins-behind}
@@ -26,6 +27,13 @@ rows_from-more players from count =
 pub length-rows_from : (players : List Player) (from count : ℕ) → length (rows_from players from count) ≡ count
 length-rows_from players from count =
     length-drop from (timeline players (from + count)) ∙ rw (length_timeline players (from + count)) (omega arith)
+
+-- each with a cell for every player
+pub wide-rows_from : (players : List Player) (from count : ℕ) → AreRowsOf (length players) (rows_from players from count)
+wide-rows_from players from count = λ k d within.
+    let time = timeline players (from + count) in
+    let row = get_or-drop from time k d ∙ timeline_row players (from + count) (from + k) d (omega (arith, length-rows_from players from count)) in
+    ap (λ (cells : List Cell). length cells) row ∙ length-map players (cell_at (from + k))
 
 -- the rows up to a frame, then those from it on
 pub settled-rows_from : (players : List Player) (from count : ℕ) → timeline players from ++ rows_from players from count ≡ timeline players (from + count)

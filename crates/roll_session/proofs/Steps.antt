@@ -1,9 +1,12 @@
 -- The timeline and the saved states after each step.
 use Rattle.std.proofs.Common.{◌≡◌, ℕ, ◌+◌, ◌-◌, ◌≤◌, List, [], ◌∷◌, ◌++◌, length, map, take, drop, min, refl, ap, sym, subst, ◌∙◌, arith, cond, Option, Some, None}
-use Rattle.std.specs.Prelude.{IfSome, IsSomeAnd, filter, vec_capacity}
+use Rattle.std.specs.Prelude.{IfSome, IsSomeAnd, filter, slice_set}
+use Rattle.std.specs.Option.{option_map_or}
+use Rattle.std.proofs.lemmas.List.{length-set}
 use Rattle.roll_frame.specs.Cells.{Rows}
 use Rattle.roll_frame.specs.Paths.{begins_with, longest}
 use Rattle.roll_frame.specs.Timeline.{Player, front, timeline}
+use Rattle.roll_frame.specs.Inputs.{changed, player_at}
 use Rattle.roll_inputs.specs.Boards.{Inputs, KeepsCells, count_of}
 use Rattle.roll_tree.specs.SavedStates.{SavedStates, Saved, state_named, later, paths_of, time_to}
 use Rattle.roll_tree.specs.Marks.{AreSameBut}
@@ -18,6 +21,14 @@ some_and : {A : Type 0} (o : Option A) (P Q : A → Type 0) → ((x : A) → P x
 some_and None P Q f h = h
 some_and (Some x) P Q f h = f x h
 
+-- a change of one player leaves as many
+pub length_changed : (change : Player → Player) (players : List Player) (p : ℕ) → length (changed change players p) ≡ length players
+length_changed change players p = go (player_at players p)
+  where
+    go : (o : Option Player) → length (option_map_or (λ player. slice_set players (p - 1) (change player)) o players) ≡ length players
+    go None = refl
+    go (Some x) = length-set players (p - 1) (change x)
+
 module _ {S : Type 0} where
   -- what a tree was told but for one player's later cells
   pub still_told : (s : Inside S) (new : Inputs) (p : ℕ) → IsInStep s → KeepsCells s.board.players new.players p → AreSameBut p (count_of s.board.players p) s.board.settled s.tree.time (rows_from new.players s.board.settled (length s.tree.time))
@@ -26,11 +37,12 @@ module _ {S : Type 0} where
       (same_but s.board.players new.players p s.board.settled (length s.tree.time) keeps)
 
   -- after an input, where the tree was told the timeline again
-  pub retold : (s : Inside S) (new : Inputs) (t : SavedStates S) → IsInStep s → new.settled ≡ s.board.settled → new.frame ≡ s.board.frame → timeline new.players s.board.settled ≡ timeline s.board.players s.board.settled
+  pub retold : (s : Inside S) (new : Inputs) (t : SavedStates S) → IsInStep s → new.settled ≡ s.board.settled → new.frame ≡ s.board.frame → length new.players ≡ length s.board.players → timeline new.players s.board.settled ≡ timeline s.board.players s.board.settled
       → t.base ≡ s.tree.base → t.time ≡ rows_from new.players new.settled (length s.tree.time) → IsInStep (record { board = new; past = s.past; tree = t })
-  retold s new t i settled frame rows base time =
+  retold s new t i settled frame wide rows base time =
       record {
         past = rw settled (i.past ∙ sym rows);
+        wide = i.wide ∙ sym wide;
         base = base ∙ i.base ∙ sym settled;
         told = let long = ap length time ∙ length-rows_from new.players new.settled (length s.tree.time) in rw long time;
         room = rw frame i.room;
@@ -98,16 +110,17 @@ module _ {S : Type 0} where
       go (Some u) h e = e ∙ ap (settled_with t node) h
 
   -- after some rows were settled
-  pub settled_step : (s new : Inside S) (n k : ℕ) → IsInStep s → new.board ≡ record s.board { settled = s.board.settled + n } → new.past.items ≡ s.past.items ++ rows_from s.board.players s.board.settled n → vec_capacity s.past ≤ vec_capacity new.past
+  pub settled_step : (s new : Inside S) (n k : ℕ) → IsInStep s → new.board ≡ record s.board { settled = s.board.settled + n } → new.past ≡ record s.past { rows = s.past.rows ++ rows_from s.board.players s.board.settled n }
       → new.tree.base ≡ s.board.settled + n → new.tree.time ≡ drop n (rows_from s.board.players s.board.settled k) → IsInStep new
-  settled_step s new n k i board items room base time =
+  settled_step s new n k i board past base time =
       let rest = time ∙ drop-rows_from s.board.players s.board.settled k n in
       let long = ap length rest ∙ length-rows_from s.board.players (s.board.settled + n) (k - n) in
       record {
-        past = rw board (items ∙ (ap (λ (q : Rows). q ++ rows_from s.board.players s.board.settled n) i.past ∙ settled-rows_from s.board.players s.board.settled n));
+        past = rw (board, past) (ap (λ (q : Rows). q ++ rows_from s.board.players s.board.settled n) i.past ∙ settled-rows_from s.board.players s.board.settled n);
+        wide = rw (board, past) i.wide;
         base = rw board base;
         told = rw (board, long) rest;
-        room = rw board (omega (arith, room, i.room));
+        room = rw (board, past) i.room;
       }
 
   -- where the timeline is settled as far as it can be, nothing settles

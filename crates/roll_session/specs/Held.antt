@@ -1,6 +1,5 @@
 -- What the fields of a session keep.
-use Rattle.std.specs.Prelude.{◌≡◌, ◌≤◌, ◌+◌, ℕ, List, length, Option, option_map, Some, None, vec_capacity, vec_len}
-use Rattle.std.specs.Global.{Vec}
+use Rattle.std.specs.Prelude.{◌≡◌, ◌≤◌, ◌+◌, ℕ, List, length, Option, option_map, Some, None}
 use Rattle.roll_frame.specs.Cells.{Rows}
 use Rattle.roll_frame.specs.Core.{Core, kept, settled}
 use Rattle.roll_frame.specs.Events.{replay}
@@ -13,6 +12,7 @@ use Rattle.roll_inputs.specs.Boards.{Inputs}
 use Rattle.roll_laws.specs.Sessions.{IsLog}
 use Rattle.roll_plan.specs.Plans.{Planned}
 use Rattle.roll_tree.specs.SavedStates.{paths_of}
+use Rattle.roll_session.specs.Logs.{Filed}
 use Rattle.roll_session.specs.Saves.{Standing, HaveValues}
 use Rattle.roll_session.specs.Seen.{Step}
 use Rattle.roll_session.specs.Standing.{from_start, made_from, settled_rows}
@@ -56,6 +56,6 @@ pub record IsSession {S N : Type 0} (state_value : S → Value) (snapshot_value 
   pub small : IsSmall settings log (replay settings log)
 
 -- so many events more need no memory: the log has room for their entries, and the record for the rows that they can settle
-pub record HasRoom {N : Type 0} (log : Vec Entry) (saves : Standing N) (events : ℕ) : Type 0 where
-  pub entries : vec_len log + events ≤ vec_capacity log
+pub record HasRoom {N : Type 0} (log : Filed) (saves : Standing N) (events : ℕ) : Type 0 where
+  pub entries : events ≤ log.room
   pub rows : saves.inputs.frame + events ≤ saves.room

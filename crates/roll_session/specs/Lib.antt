@@ -6,6 +6,7 @@ pub mod Started
 pub mod Answered
 pub mod Held
 pub mod Calls
+pub mod Logs
 pub mod Requests
 pub mod Grafting
 pub mod Guessing

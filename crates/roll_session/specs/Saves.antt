@@ -1,5 +1,5 @@
 -- The timeline and the saved states as a session sees them, and what their fields keep.
-use Rattle.std.specs.Prelude.{◌≡◌, ℕ, ◌+◌, ◌-◌, ◌≤◌, List, [], ◌∷◌, ◌++◌, length, filter, map, drop, min, not, vec_capacity, All, Bool, true, false, Some, None, slice_get}
+use Rattle.std.specs.Prelude.{◌≡◌, ℕ, ◌+◌, ◌-◌, ◌≤◌, List, [], ◌∷◌, ◌++◌, length, filter, map, drop, min, not, All, Bool, true, false, Some, None, slice_get}
 use Rattle.std.specs.Option.{option_eq, option_map_or}
 use Rattle.std.specs.List.{list_all}
 use Rattle.roll_frame.specs.declared.row.Cell.{Cell}
@@ -25,10 +25,11 @@ pub record Standing (S : Type 0) : Type 0 where
 
 -- the fields tell of one timeline
 pub record IsInStep {S : Type 0} (s : Inside S) : Type 0 where
-  pub past : s.past.items ≡ timeline s.board.players s.board.settled
+  pub past : s.past.rows ≡ timeline s.board.players s.board.settled
+  pub wide : s.past.players ≡ length s.board.players
   pub base : s.tree.base ≡ s.board.settled
   pub told : s.tree.time ≡ rows_from s.board.players s.board.settled (length s.tree.time)
-  pub room : s.board.frame ≤ vec_capacity s.past
+  pub room : s.board.frame ≤ s.past.room
 
 -- whether rows have the word at this place in the cells of this player, from 0, or end before it
 abbrev pub is_told : Rows → ℕ → ℕ → ℕ → Bool

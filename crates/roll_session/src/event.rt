@@ -1,9 +1,6 @@
 //! What a session is asked, and what it answers.
-ghost use Rattle.std.specs.Prelude.{◌≡◌, IfSome, is_some};
-ghost use Rattle.roll_session.specs.Calls.{entry_of, is_call};
-
 use roll_branch::Branch;
-use roll_frame::{Entry, Refusal};
+use roll_frame::Refusal;
 use roll_game::Game;
 use thiserror::Error;
 
@@ -20,55 +17,6 @@ pub enum Call {
     Sync,
     /// `advance_frame`
     Advance,
-}
-
-impl Call {
-    /// The call that an entry of a log was made by. None for a graft, and for a roll that the game cut short.
-    pub fn of_entry(entry: &Entry) -> Option<Call>
-        ensures call { IfSome result (λ call. entry_of call ≡ entry.now) }
-        ensures some { is_some result ≡ is_call entry.now }
-    {
-        match entry {
-            Entry::Local { player, word } => Some(Call::Local {
-                player: *player,
-                word: *word,
-            }),
-            Entry::Remote {
-                player,
-                frame,
-                word,
-            } => Some(Call::Remote {
-                player: *player,
-                frame: *frame,
-                word: *word,
-            }),
-            Entry::Disconnect { player } => Some(Call::Disconnect { player: *player }),
-            Entry::Sync => Some(Call::Sync),
-            Entry::Advance => Some(Call::Advance),
-            Entry::Graft { .. } | Entry::Partial { .. } => None,
-        }
-    }
-
-    /// What the log keeps of the call where it is accepted.
-    pub fn entry(self) -> Entry
-        ensures { result ≡ entry_of self }
-    {
-        match self {
-            Call::Local { player, word } => Entry::Local { player, word },
-            Call::Remote {
-                player,
-                frame,
-                word,
-            } => Entry::Remote {
-                player,
-                frame,
-                word,
-            },
-            Call::Disconnect { player } => Entry::Disconnect { player },
-            Call::Sync => Entry::Sync,
-            Call::Advance => Entry::Advance,
-        }
-    }
 }
 
 /// What a session can be asked for: each event that its log can come to have, but for those that the game cuts short.

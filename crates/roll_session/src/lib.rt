@@ -3,6 +3,7 @@
 
 mod event;
 mod guess;
+mod log;
 mod place;
 mod roll;
 mod run;
@@ -10,6 +11,7 @@ mod saves;
 mod session;
 
 pub use event::{Call, Grafted, Reached, ReplayFault, Request};
+pub use log::{Log, Logged};
 pub use roll_game::StartFault;
 pub use roll_inputs::{Heard, Source};
 pub use roll_plan::Plan;

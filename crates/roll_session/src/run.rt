@@ -2,12 +2,14 @@
 ghost use Rattle.std.specs.Prelude.{◌≡◌, ◌≢◌, ◌≤◌, ◌+◌, ◌++◌, ◌∷◌, [], length, vec_capacity, vec_len, IfErr, IfOk, OnErr, OnOk};
 ghost use Rattle.roll_session.specs.Answered.{replied, replies_to, IsAnswered, IsPlayed, IsReplied, IsShort};
 ghost use Rattle.roll_session.specs.Calls.{asked, event_of};
+ghost use Rattle.roll_session.specs.Logs.{told};
 ghost use Rattle.roll_session.specs.Replaying.{AreLogged, IsReplayed, IsStopped, IsWantOfMemory, Stops};
 ghost use Rattle.roll_session.specs.Requests.{all_asked, IsEndedEarly};
 
 use crate::event::{Call, Grafted, Reached, ReplayFault, Request};
+use crate::log::{Log, Logged};
 use crate::session::Session;
-use roll_frame::{Entry, Refusal, Reply};
+use roll_frame::{Refusal, Reply};
 use roll_game::{Game, NoMemory};
 use roll_inputs::Heard;
 use std::collections::VecDeque;
@@ -98,23 +100,23 @@ impl<G: Game> Session<G> {
     /// # Errors
     ///
     /// What comes before the entry of the fault is done. That entry changes nothing, but for a roll that the game refuses.
-    pub fn replay(&mut self, log: &[Entry]) -> Result<(), ReplayFault>
-        ensures replayed { OnOk result (IsReplayed G.step self.old self.new log.now) }
-        ensures stopped { IfErr result (λ fault. IsStopped G.step self.old self.new log.now fault) }
-        ensures own { self.old.log ≡ [] → AreLogged self.old.settings log.now → IfErr result IsWantOfMemory }
+    pub fn replay(&mut self, log: &Log) -> Result<(), ReplayFault>
+        ensures replayed { OnOk result (IsReplayed G.step self.old self.new log.now.entries) }
+        ensures stopped { IfErr result (λ fault. IsStopped G.step self.old self.new log.now.entries fault) }
+        ensures own { self.old.log ≡ [] → AreLogged self.old.settings log.now.entries → IfErr result IsWantOfMemory }
     {
-        for (place, entry) in log.iter().enumerate() {
-            self.redo(entry, place)?;
+        for place in 0..log.len() {
+            self.redo(log.at(place), place)?;
         }
         Ok(())
     }
 
     /// Makes the call of the entry at a place of a log.
-    fn redo(&mut self, entry: &Entry, place: usize) -> Result<(), ReplayFault>
-        ensures redone { OnOk result (IsReplayed G.step self.old self.new (entry.now ∷ [])) }
-        ensures stops { IfErr result (λ fault. Stops G.step self.old self.new entry.now place fault) }
+    fn redo(&mut self, entry: Logged<'_>, place: usize) -> Result<(), ReplayFault>
+        ensures redone { OnOk result (IsReplayed G.step self.old self.new (told entry.entry ∷ [])) }
+        ensures stops { IfErr result (λ fault. Stops G.step self.old self.new (told entry.entry) place fault) }
     {
-        let Some(call) = Call::of_entry(entry) else {
+        let Logged::Call(call) = entry else {
             return Err(ReplayFault::NotACall { place });
         };
         match self.perform(Request::Call(call)) {

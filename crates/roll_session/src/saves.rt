@@ -1,5 +1,5 @@
 //! The timeline, and the saved states beside it.
-ghost use Rattle.std.specs.Prelude.{◌≡◌, ◌+◌, ◌-◌, ◌≤◌, ◌<◌, ◌∷◌, ◌++◌, [], length, map, filter, drop, None, Some, IfOk, IfErr, OnOk, OnErr, IfSome, IsSomeAnd, All, true, false, nat_lt, IsTrue, vec_capacity, if◌then◌else◌};
+ghost use Rattle.std.specs.Prelude.{◌≡◌, ◌+◌, ◌-◌, ◌≤◌, ◌<◌, ◌∷◌, ◌++◌, [], length, map, filter, drop, None, Some, IfOk, IfErr, OnOk, OnErr, IfSome, IsSomeAnd, All, true, false, nat_lt, IsTrue, if◌then◌else◌};
 ghost use Rattle.std.specs.List.{list_all};
 ghost use Rattle.roll_frame.specs.Claims.{AreRowsOf};
 ghost use Rattle.roll_frame.specs.Core.{row_possible};
@@ -14,12 +14,14 @@ ghost use Rattle.roll_laws.specs.Laws.{has_no_other};
 ghost use Rattle.roll_plan.specs.Plans.{made_of};
 ghost use Rattle.roll_tree.specs.SavedStates.{CanGrow, state_named, paths_of, with_state};
 ghost use Rattle.roll_tree.specs.Marks.{AreSameBut};
+ghost use Rattle.roll_session.specs.Calls.{entry_of};
 ghost use Rattle.roll_session.specs.Standing.{rows_from};
 ghost use Rattle.roll_session.specs.Saves.{is_told, rows_to, settled_by, settling, stepped_inputs, taken_inputs, taken_states, with_gone_only, without_other, IsFree};
 
+use crate::event::Call;
 use arrayvec::ArrayVec;
-use roll_frame::{Cell, Entry, FRAME_LIMIT, PATH_LIMIT, Path, Refusal, Row, TREE_LIMIT};
-use roll_inputs::{Board, Heard};
+use roll_frame::{Cell, FRAME_LIMIT, PATH_LIMIT, Path, Refusal, Row, TREE_LIMIT};
+use roll_inputs::{Board, Heard, Record};
 use roll_plan::Planner;
 use roll_tree::Tree;
 use std::alloc::{AllocError, AllocFailed, Global};
@@ -29,17 +31,16 @@ use std::marker::Model;
 #[derive(Drop)]
 pub struct Saves<S> {
     board: Board,
-    past: Vec<Row>,
+    past: Record,
     tree: Tree<S>,
 }
 
 impl<S> Model for Saves<S> {
-    ghost use Rattle.std.specs.Prelude.{vec_capacity};
     ghost use Rattle.roll_session.specs.Saves.{Standing, IsInStep};
 
     ghost Value = { Standing S };
 
-    ghost view = { λ s. record { inputs = s.board; tree = s.tree; room = vec_capacity s.past } };
+    ghost view = { λ s. record { inputs = s.board; tree = s.tree; room = s.past.room } };
 
     ghost invariant = { IsInStep };
 }
@@ -55,12 +56,10 @@ impl<S> Saves<S> {
         ensures alone { IfOk result (λ s. s.tree.states ≡ record { name = s.tree.root; path = []; snapshot = opening } ∷ []) }
         ensures returned { IfErr result (λ failed. failed.value ≡ opening) }
     {
+        board.laws();
+        let past = Record::new(alloc, board.players() as u8);
         match Tree::new(alloc, 0, opening) {
-            Ok(tree) => Ok(Saves {
-                board,
-                past: Vec::new(alloc),
-                tree,
-            }),
+            Ok(tree) => Ok(Saves { board, past, tree }),
             Err(failed) => Err(failed),
         }
     }
@@ -128,37 +127,37 @@ impl<S> Saves<S> {
     }
 
     /// Takes a player's input.
-    pub fn take(&mut self, entry: &Entry)
+    pub fn take(&mut self, call: Call)
     where
         S: Drop,
-        requires { IsFree self.old.inputs entry.now }
-        ensures inputs { self.new.inputs ≡ taken_inputs self.old.inputs entry.now }
-        ensures states { self.new.tree.states ≡ taken_states self.old.inputs entry.now self.old.tree.states }
+        requires { IsFree self.old.inputs (entry_of call) }
+        ensures inputs { self.new.inputs ≡ taken_inputs self.old.inputs (entry_of call) }
+        ensures states { self.new.tree.states ≡ taken_states self.old.inputs (entry_of call) self.old.tree.states }
         ensures rows { timeline self.new.inputs.players self.old.inputs.settled ≡ timeline self.old.inputs.players self.old.inputs.settled }
         ensures room { self.new.room ≡ self.old.room }
     {
-        match entry {
-            Entry::Local { player, word } => self.give(*player, *word),
-            Entry::Remote {
+        match call {
+            Call::Local { player, word } => self.give(player, word),
+            Call::Remote {
                 player,
                 frame,
                 word,
-            } => self.hear(*player, *frame, *word),
-            Entry::Disconnect { player } => self.leave(*player),
-            _ => {}
+            } => self.hear(player, frame, word),
+            Call::Disconnect { player } => self.leave(player),
+            Call::Sync | Call::Advance => {}
         }
     }
 
-    /// Goes on after a roll for this entry.
-    pub fn step_on(&mut self, entry: &Entry)
-        requires given { entry.now ≡ Advances → IsTrue (all_given self.old.inputs.players) }
+    /// Goes on after a roll for this call.
+    pub fn step_on(&mut self, call: Call)
+        requires given { entry_of call ≡ Advances → IsTrue (all_given self.old.inputs.players) }
         requires near { self.old.inputs.frame ≤ self.old.inputs.settled + self.old.inputs.threshold }
         requires room { self.old.inputs.frame < self.old.room }
-        ensures inputs { self.new.inputs ≡ stepped_inputs self.old.inputs entry.now }
+        ensures inputs { self.new.inputs ≡ stepped_inputs self.old.inputs (entry_of call) }
         ensures tree { self.new.tree ≡ self.old.tree }
         ensures room { self.new.room ≡ self.old.room }
     {
-        if let Entry::Advance = entry {
+        if let Call::Advance = call {
             self.next();
         }
     }
@@ -192,7 +191,7 @@ impl<S> Saves<S> {
         }
         reach(&mut self.tree, &self.board, to);
         let (node, end) = self.tree.deepest(to);
-        append(&mut self.past, &self.tree.time()[..(end - base) as usize]);
+        self.past.append(&self.tree.time()[..(end - base) as usize]);
         self.tree.settle_at(node);
         self.board.settle(end);
     }
@@ -247,7 +246,7 @@ impl<S> Saves<S> {
     {
         self.board.laws();
         if frame < self.board.settled() {
-            *row == self.past[frame as usize]
+            Some(*row) == self.settled_row(frame as usize)
         } else {
             self.board.allows(frame, row)
         }
@@ -291,7 +290,7 @@ impl<S> Saves<S> {
     pub fn settled_row(&self, frame: usize) -> Option<Row>
         ensures { result ≡ (if nat_lt frame self.now.inputs.settled then Some (row_at self.now.inputs.players frame) else None) }
     {
-        self.past.get(frame).copied()
+        self.past.get(frame)
     }
 
     /// What holds of the timeline and the saved states. It does nothing.
@@ -313,11 +312,7 @@ impl<S> Saves<S> {
         ensures more { self.old.room ≤ self.new.room }
         ensures room { OnOk result (rows ≤ self.new.room) }
     {
-        let count = self.past.len();
-        if count < rows {
-            self.past.reserve(rows - count)?;
-        }
-        Ok(())
+        self.past.reserve(rows)
     }
 }
 
@@ -396,16 +391,5 @@ fn reach<S>(tree: &mut Tree<S>, board: &Board, to: u32)
     let known = board.settled() + tree.time().len() as u32;
     for frame in known..to {
         tree.tell(board.row(frame));
-    }
-}
-
-/// Adds rows where there is room for them.
-fn append(past: &mut Vec<Row>, rows: &[Row])
-    requires { length past.old.items + length rows.now ≤ vec_capacity past.old }
-    ensures items { past.new.items ≡ past.old.items ++ rows.now }
-    ensures capacity { vec_capacity past.old ≤ vec_capacity past.new }
-{
-    for row in rows {
-        past.push_reserved(*row);
     }
 }

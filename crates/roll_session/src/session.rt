@@ -26,11 +26,12 @@ ghost use Rattle.roll_session.specs.Started.{IsGivenBack};
 
 use crate::event::{Call, Grafted, Reached};
 use crate::guess::{guessed_rows, job_along};
+use crate::log::Log;
 use crate::place::{branch_refusal, hang_new};
 use crate::roll::{Rolled, roll};
 use crate::saves::Saves;
 use roll_branch::{Branch, Job, Parts as BranchParts};
-use roll_frame::{Claim, Entry, Event, Path, Refusal, Reply, Row, Settings};
+use roll_frame::{Claim, Event, Path, Refusal, Reply, Row, Settings};
 use roll_game::{Game, StartFault};
 use roll_inputs::{Board, Heard, Source};
 use roll_plan::{Plan, Planner};
@@ -46,7 +47,7 @@ pub struct Session<G: Game> {
     saves: Saves<G::Snapshot>,
     planner: Planner,
     current: Option<G::State>,
-    log: Vec<Entry>,
+    log: Log,
     /// How many events more need no memory: those that `reserve_log` made room for and that haven't come yet.
     reserved: u32,
 }
@@ -57,9 +58,9 @@ impl<G: Game> Model for Session<G> {
 
     ghost Value = { Seen };
 
-    ghost view = { λ s. record { settings = s.settings; opening = G.snapshot_value s.opening; log = s.log.items; counts = G.call_counts s.game; reserved = s.reserved } };
+    ghost view = { λ s. record { settings = s.settings; opening = G.snapshot_value s.opening; log = s.log.entries; counts = G.call_counts s.game; reserved = s.reserved } };
 
-    ghost invariant = { λ s. IsSession G.state_value G.snapshot_value G.step (G.snapshot_value s.opening) s.settings s.log.items s.saves s.planner s.current × HasRoom s.log s.saves s.reserved };
+    ghost invariant = { λ s. IsSession G.state_value G.snapshot_value G.step (G.snapshot_value s.opening) s.settings s.log.entries s.saves s.planner s.current × HasRoom s.log s.saves s.reserved };
 }
 
 impl<G: Game> Session<G> {
@@ -101,7 +102,7 @@ impl<G: Game> Session<G> {
             saves,
             planner,
             current: Some(state),
-            log: Vec::new(alloc),
+            log: Log::new(alloc),
             reserved: 0,
         })
     }
@@ -290,10 +291,10 @@ impl<G: Game> Session<G> {
         ensures { self.new ≡ with_entries self.old (entry_of call ∷ []) self.old.counts }
     {
         self.saves.laws();
-        let entry = call.entry();
-        self.saves.take(&entry);
+        self.saves.take(call);
         self.saves.settle();
-        enter(&mut self.log, &mut self.reserved, entry);
+        self.log.add_call(call);
+        self.reserved = self.reserved.saturating_sub(1);
     }
 
     /// Takes in a branch that the rules accept.
@@ -311,8 +312,8 @@ impl<G: Game> Session<G> {
         } = branch.into_parts();
         let added = hang_new(&mut self.saves, route.get(), states);
         self.saves.settle();
-        let entry = Entry::Graft { ticket, route };
-        enter(&mut self.log, &mut self.reserved, entry);
+        self.log.add_graft(ticket, route);
+        self.reserved = self.reserved.saturating_sub(1);
         Grafted { added }
     }
 
@@ -330,18 +331,18 @@ impl<G: Game> Session<G> {
         self.saves.laws();
         match roll(&mut self.game, &mut self.saves, &mut self.planner, to) {
             Ok(Rolled { state, from }) => {
-                let entry = call.entry();
-                self.saves.step_on(&entry);
+                self.saves.step_on(call);
                 self.saves.settle();
                 self.current = Some(state);
-                enter(&mut self.log, &mut self.reserved, entry);
+                self.log.add_call(call);
+                self.reserved = self.reserved.saturating_sub(1);
                 Ok(from)
             }
             Err(made) => {
                 self.saves.settle();
                 self.current = None;
-                let cut = Entry::Partial { to, made };
-                enter(&mut self.log, &mut self.reserved, cut);
+                self.log.add_partial(to, made);
+                self.reserved = self.reserved.saturating_sub(1);
                 Err(Refusal::NoMemory)
             }
         }
@@ -378,8 +379,8 @@ impl<G: Game> Session<G> {
     }
 
     /// The accepted events.
-    pub fn log(&self) -> &[Entry]
-        ensures { result.now ≡ self.now.log }
+    pub fn log(&self) -> &Log
+        ensures { result.now.entries ≡ self.now.log }
     {
         &self.log
     }
@@ -535,13 +536,13 @@ impl<G: Game> Session<G> {
 
 /// Makes room for so many events more, unless it is there.
 fn make_room<S>(
-    log: &mut Vec<Entry>,
+    log: &mut Log,
     saves: &mut Saves<S>,
     reserved: u32,
     events: u32,
 ) -> Result<(), AllocError>
     requires { HasRoom log.old saves.old reserved }
-    ensures log { log.new.items ≡ log.old.items }
+    ensures log { log.new.entries ≡ log.old.entries }
     ensures inputs { saves.new.inputs ≡ saves.old.inputs }
     ensures tree { saves.new.tree ≡ saves.old.tree }
     ensures kept { HasRoom log.new saves.new reserved }
@@ -554,18 +555,6 @@ fn make_room<S>(
     log.reserve(events as usize)?;
     let rows = saves.board().frame() as usize + events as usize;
     saves.reserve(rows)
-}
-
-/// Adds an entry where there is room for it, and takes it off what is reserved.
-fn enter(log: &mut Vec<Entry>, reserved: &mut u32, entry: Entry)
-    requires { vec_len log.old < vec_capacity log.old }
-    ensures items { log.new.items ≡ log.old.items ++ entry ∷ [] }
-    ensures len { vec_len log.new ≡ vec_len log.old + 1 }
-    ensures capacity { vec_capacity log.old ≤ vec_capacity log.new }
-    ensures reserved { reserved.new ≡ reserved.old - 1 }
-{
-    log.push_reserved(entry);
-    *reserved = reserved.saturating_sub(1);
 }
 
 /// What a session is taken apart into.

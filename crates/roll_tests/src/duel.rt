@@ -1,6 +1,6 @@
 //! Duels by values from outside: whole frames, as ships and as bytes, and a long play of another program.
-use crate::examples::{counts, row};
 use roll_duel::{Duel, Ship, Snapshot};
+use roll_examples::{counts, row};
 use roll_frame::{Cell, Row};
 use roll_game::{Game, NoMemory, RawGame};
 use std::alloc::Global;

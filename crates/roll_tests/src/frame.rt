@@ -1,5 +1,5 @@
 //! Settings out of range, and advice.
-use crate::examples::TWO;
+use roll_examples::TWO;
 use roll_frame::{Advice, Event, FRAME_LIMIT, LOG_LIMIT, Profile, Refusal, Settings};
 use std::alloc::Global;
 use std::process::Abort;

@@ -1,10 +1,10 @@
 //! Examples in which any one allocation may be refused: each ends whole, or tells that memory was refused.
-use crate::examples::{
+use roll_cli::{GameName, PlayFault, Task};
+use roll_duel::Duel;
+use roll_examples::{
     AHEAD, AHEAD_ANSWER, ALONE, LATE, LATE_CALLS, LATE_OUTPUT, ROWS, ROWS_OUTPUT, TWO, add, counts,
     open, row,
 };
-use roll_cli::{GameName, PlayFault, Task};
-use roll_duel::Duel;
 use roll_frame::{Advice, Cell, Event, Refusal, Settings};
 use roll_game::{RawGame, Tally};
 use roll_host::Host;

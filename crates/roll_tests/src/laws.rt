@@ -1,4 +1,4 @@
-//! What whoever holds a session, a host or a sync test knows of it by the laws, without its fields.
+//! What whoever holds a session or a sync test knows of it by the laws, without its fields.
 ghost use Rattle.std.specs.Prelude.{◌≡◌, ◌≢◌, ◌≤◌, ◌+◌, ℕ, Some, OnOk, length, option_copied, vec_capacity, vec_len};
 ghost use Rattle.roll_frame.specs.Core.{kept, settled};
 ghost use Rattle.roll_frame.specs.declared.row.Cell.{Cell};
@@ -9,7 +9,6 @@ ghost use Rattle.roll_session.specs.Seen.{core_of, game_of, IsLeast};
 
 use roll_frame::{Refusal, Reply, Row};
 use roll_game::{Game, NoMemory, never_diverges};
-use roll_host::{Host, HostReply, HostRequest};
 use roll_session::{Request, Session};
 use roll_synctest::{SyncTest, Verdict};
 use std::collections::VecDeque;
@@ -34,39 +33,6 @@ pub fn goes_on<G: Game>(
     session.laws();
     session.run(requests, replies)?;
     Ok(())
-}
-
-/// The log of a host's session is one that events leave, and no plan of a roll runs fewer frames than the roll does.
-pub fn host_laws<G: Game>(host: &Host<G>)
-    ensures log { IsLog host.now.session.settings (game_of G.step host.now.session) host.now.session.log }
-    ensures least { (m : ℕ) → IsLeast (core_of host.now.session) m }
-{
-    host.session().laws();
-}
-
-/// Does what a queue asks of a host, whatever its links and its workers bring meanwhile. The settled frame doesn't fall, each
-/// cell that is known stays as it is, and then no plan of a roll runs fewer frames than the roll does.
-pub fn host_goes_on<G: Game>(
-    host: &mut Host<G>,
-    requests: &mut VecDeque<HostRequest<G>>,
-    replies: &mut Vec<HostReply>,
-) -> Result<(), NoMemory>
-    requires { vec_len replies.old + length requests.old.items ≤ vec_capacity replies.old }
-    ensures settled { OnOk result (settled (core_of host.old.session) ≤ settled (core_of host.new.session)) }
-    ensures known { OnOk result ((place t : ℕ) (cell : Cell) → known_cell (core_of host.old.session).players place t ≡ Some cell → known_cell (core_of host.new.session).players place t ≡ Some cell) }
-    ensures least { OnOk result ((m : ℕ) → IsLeast (core_of host.new.session) m) }
-{
-    host_laws(host);
-    host.run(requests, replies)?;
-    host_laws(host);
-    Ok(())
-}
-
-/// The state that a host shows is the run over the rows of its log's replay: those of the last roll.
-pub fn host_shows<G: Game>(host: &Host<G>) -> Option<&G::State>
-    ensures { Shows G.state_value G.step host.now.session.opening (core_of host.now.session).shown (option_copied result) }
-{
-    host.session().current()
 }
 
 /// Steps a sync test. A game never comes out different.

@@ -6,49 +6,20 @@
 #![tactic(auto)]
 
 #[cfg(test)]
-mod branch;
-#[cfg(test)]
-mod claims;
-#[cfg(test)]
 mod duel;
-mod examples;
 #[cfg(test)]
 mod frame;
 #[cfg(test)]
 mod game;
 mod growths;
 #[cfg(test)]
-mod host_branches;
-#[cfg(test)]
-mod host_guesses;
-#[cfg(test)]
-mod host_links;
-#[cfg(test)]
-mod host_workers;
-#[cfg(test)]
 mod laws;
-#[cfg(test)]
-mod live;
-#[cfg(test)]
-mod main_loop;
-#[cfg(test)]
-mod matches;
 #[cfg(test)]
 mod messages;
 #[cfg(test)]
-mod pool;
-#[cfg(test)]
-mod program;
-#[cfg(test)]
 mod refused;
 #[cfg(test)]
-mod serial;
-#[cfg(test)]
 mod session;
-#[cfg(test)]
-mod shared;
-#[cfg(test)]
-mod spectator;
 #[cfg(test)]
 mod sync_test;
 #[cfg(test)]

@@ -1,6 +1,6 @@
 //! Calls of a game that are refused, and made again.
-use crate::examples::{LATE_CALLS, TWO, open};
 use roll_branch::{Branch, Done, Job, extend};
+use roll_examples::{LATE_CALLS, TWO, open};
 use roll_frame::Refusal;
 use roll_game::{Call, NoMemory, Refusing, Tally};
 use roll_session::{Call as Asked, Grafted, Request, Session};

@@ -1,7 +1,6 @@
 //! What a session shows that no script does: its limits, refused calls of its game, and long runs.
-use crate::examples::{ALONE, LATE_CALLS, TWO, counts, open, played, queue, row};
 use crate::laws::{goes_on, keeps_few};
-use crate::shared::path;
+use roll_examples::{ALONE, LATE_CALLS, TWO, counts, open, path, played, queue, row};
 use roll_frame::{Refusal, Reply, Settings};
 use roll_game::{Call, Refusing, Tally};
 use roll_session::{Reached, Request, Session};

@@ -1,9 +1,9 @@
 //! Sync tests, of games that come out the same twice and of games that don't.
-use crate::examples::{counts, row};
 use crate::laws::steps_without_mismatch;
 use Verdict::{Mismatch, Run, Verified};
 use roll_cli::synctest;
 use roll_duel::Duel;
+use roll_examples::{counts, row};
 use roll_frame::{FRAME_LIMIT, Refusal, Row};
 use roll_game::{Call, Counts, NoMemory, RawGame, Refusing, Tally};
 use roll_synctest::{SyncTest, Verdict};

@@ -1,5 +1,5 @@
 //! Texts as long as can be.
-use crate::shared::FakeWriter;
+use roll_examples::FakeWriter;
 use roll_text::{ReadFault, numbers, push_list, read_all, write_all};
 use std::test::Fail;
 

@@ -1,5 +1,5 @@
 //! A tree that is full.
-use crate::examples::{add, row};
+use roll_examples::{add, row};
 use roll_frame::{Refusal, Row, TREE_LIMIT};
 use roll_tree::Tree;
 use std::process::Abort;

@@ -308,9 +308,13 @@ impl<'a> Match<'a> {
         Ok(())
     }
 
-    /// Hands out the jobs of all guesses up to this frame, as far as there is place.
+    /// Hands out the jobs of all guesses up to this frame, as far as there is place. Where all rows before it are settled,
+    /// nothing is left to guess.
     fn guess(&mut self) -> Result<(), Refusal> {
         let now = self.host.session().frame();
+        if self.host.session().settled() >= now as usize {
+            return Ok(());
+        }
         let unknown = now.saturating_sub(self.heard);
         for words in guesses(self.last_word(), unknown).iter() {
             self.speculate(words.as_slice(), now)?;

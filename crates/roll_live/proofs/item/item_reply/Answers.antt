@@ -6,6 +6,6 @@ use Rattle.roll_live.proofs.item.item_reply.Goals as goal
 pub returns-else-refused-eq0-clause-same : goal.returns-else-refused-eq0-clause-same
 returns-else-refused-eq0-clause-same g c = λ old e h.
     let same = ap (λ (log : List Entry). length log) c.log.ensures in
-    let grown : length c.args.session.now.log ≤ length old.log = omega (arith, e, same, c.if-log-logged.false) in
+    let grown : length c.args.session.now.log ≤ length old.log = omega (arith, e, same, c.if-len-logged.false) in
     told_refused (length old.log) (length c.args.session.now.log) c.args.refused c.item_refusal.result grown c.if-refused-eq0.false
     ∙ replied_so g.G.Game.step old c.args.session.now c.args.item c.args.refused c.item_refusal.result h c.item_refusal.ensures.same

@@ -1,15 +1,12 @@
-use Rattle.std.proofs.Common.{sym, ap, ◌∙◌}
+use Rattle.std.proofs.Common.{ap, ◌∙◌}
 use Rattle.roll_tree.specs.SavedStates.{path_of}
-use Rattle.roll_plan.specs.Ranks.{entries_by, marked_for, path_named}
-use Rattle.roll_plan.proofs.Passing.{entries_ranked, none_passed}
+use Rattle.roll_plan.specs.Ranks.{entries_by, entry_by_marks, path_named}
+use Rattle.roll_plan.proofs.Passing.{entries_passed}
 use Rattle.roll_plan.proofs.planner.name_passed.Goals as goal
 
-pub returns-then-passes_over-clause-entries : goal.returns-then-passes_over-clause-entries
-returns-then-passes_over-clause-entries g c =
+pub returns-clause-entries : goal.returns-clause-entries
+returns-clause-entries g c =
+    let t = c.args.tree.now in
     c.name_differs.ensures.entries
-    ∙ ap (entries_by (λ state name. marked_for c.args.tree.now c.args.from c.args.to state (path_of c.args.tree.now.base (path_named c.args.tree.now name))) 0) c.deref.ensures.value
-    ∙ entries_ranked c.args.tree.now c.args.from c.args.to c.rank.new.ranked.items c.rank.ensures.paths
-
-pub returns-else-passes_over-clause-entries : goal.returns-else-passes_over-clause-entries
-returns-else-passes_over-clause-entries g c =
-    c.clear.ensures.items ∙ sym (none_passed c.args.tree.now c.args.from c.args.to (sym c.passes_over.ensures ∙ c.if-passes_over.false))
+    ∙ ap (entries_by (λ state name. entry_by_marks t state (path_of t.base (path_named t name))) c.rank-first.result) c.deref.ensures.value
+    ∙ entries_passed t c.args.from c.args.to c.rank-first.new.ranked.items c.rank-first.result c.rank-first.ensures.paths c.rank-first.ensures.first

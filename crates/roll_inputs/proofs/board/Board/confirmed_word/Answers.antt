@@ -13,7 +13,7 @@ word-requires c =
     let found : IsFound i.queues.items c.args.player q = queue_found i.queues.items c.args.player q (rw c.deref.ensures.value at c.in_ok-queue.ensures) in
     let at = ap (λ (b : Inputs). player_at b.players c.args.player) (sym c.self.view_is) ∙ found.player in
     let from = (found_step i.queues.items c.args.player i.frame i.settled i.threshold i.limit q c.self.invariant found).from ∙ ap (λ (b : Inputs). b.settled) c.self.view_is in
-    rw c.from.ensures (has_past c.args.self.now.players c.args.past.now c.args.player c.args.self.now.settled q c.requires at from)
+    rw c.from.ensures (has_past c.args.self.now.players c.args.past.now.rows c.args.player c.args.self.now.settled q c.requires at from)
 
 pub returns : goal.returns
 returns c =

@@ -18,7 +18,7 @@ step c = let i = c.self.inside in found_step i.queues.items c.args.player i.fram
 pub reply-requires-clause-past : goal.reply-requires-clause-past
 reply-requires-clause-past c =
     let at = ap (λ (b : Inputs). player_at b.players c.args.player) (sym c.self.view_is) ∙ (found c).player in
-    let past = has_past c.args.self.now.players c.args.past.now c.args.player c.args.self.now.settled c.in-Some.queue.now c.requires.past at ((step c).from ∙ ap (λ (b : Inputs). b.settled) c.self.view_is) in
+    let past = has_past c.args.self.now.players c.args.past.now.rows c.args.player c.args.self.now.settled c.in-Some.queue.now c.requires.past at ((step c).from ∙ ap (λ (b : Inputs). b.settled) c.self.view_is) in
     rw c.from.ensures past
 
 pub reply-requires-clause-ahead : goal.reply-requires-clause-ahead

@@ -5,7 +5,7 @@ use Rattle.roll_inputs.specs.Boards.{Inputs, count_of}
 use Rattle.roll_session.specs.Saves.{is_told}
 use Rattle.roll_session.proofs.Foreseen.{HasGiven, told_stays}
 use Rattle.roll_session.proofs.Playing.{count_is, count_reached, local_plays}
-use Rattle.roll_session.proofs.Steps.{retold, still_told}
+use Rattle.roll_session.proofs.Steps.{length_changed, retold, still_told}
 use Rattle.roll_session.proofs.saves.Saves.give.Goals as goal
 
 pub retell-requires-clause-same : goal.retell-requires-clause-same
@@ -26,7 +26,7 @@ pub invariant_of-self : goal.invariant_of-self
 invariant_of-self g c =
     let i = c.self.inside in
     let given = rw c.unwrap.ensures at c.local.ensures.given in
-    retold i c.local.new.self c.cut.new.self c.self.invariant (ap (λ (b : Inputs). b.settled) given) (ap (λ (b : Inputs). b.frame) given) c.local.ensures.rows
+    retold i c.local.new.self c.cut.new.self c.self.invariant (ap (λ (b : Inputs). b.settled) given) (ap (λ (b : Inputs). b.frame) given) (ap (λ (b : Inputs). length b.players) given ∙ length_changed (with_given c.args.word) i.board.players c.args.player) c.local.ensures.rows
     (rw (c.cut.ensures, c.retell.ensures) refl) (rw (c.cut.ensures, c.retell.ensures) refl)
 
 pub retell-requires-clause-early : goal.retell-requires-clause-early

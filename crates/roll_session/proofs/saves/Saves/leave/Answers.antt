@@ -1,7 +1,8 @@
-use Rattle.std.proofs.Common.{◌≡◌, ap, refl}
+use Rattle.std.proofs.Common.{◌≡◌, ◌∙◌, ap, length, refl}
+use Rattle.roll_frame.specs.Inputs.{with_gone}
 use Rattle.roll_inputs.specs.Boards.{Inputs}
 use Rattle.roll_session.proofs.Playing.{count_reached, leaving_plays}
-use Rattle.roll_session.proofs.Steps.{retold, still_told}
+use Rattle.roll_session.proofs.Steps.{length_changed, retold, still_told}
 use Rattle.roll_session.proofs.saves.Saves.leave.Goals as goal
 
 pub tell_again-requires-clause-same : goal.tell_again-requires-clause-same
@@ -22,5 +23,5 @@ pub invariant_of-self : goal.invariant_of-self
 invariant_of-self g c =
     let i = c.self.inside in
     let given = rw c.unwrap.ensures at c.disconnect.ensures.gone in
-    retold i c.disconnect.new.self c.cut_words.new.tree c.self.invariant (ap (λ (b : Inputs). b.settled) given) (ap (λ (b : Inputs). b.frame) given) c.disconnect.ensures.rows
+    retold i c.disconnect.new.self c.cut_words.new.tree c.self.invariant (ap (λ (b : Inputs). b.settled) given) (ap (λ (b : Inputs). b.frame) given) (ap (λ (b : Inputs). length b.players) given ∙ length_changed with_gone i.board.players c.args.player) c.disconnect.ensures.rows
     (rw (c.cut_words.ensures, c.tell_again.ensures) refl) (rw (c.cut_words.ensures, c.tell_again.ensures) refl)

@@ -1,4 +1,4 @@
-use Rattle.std.proofs.Common.{◌≡◌, ◌+◌, ◌-◌, ◌∙◌, ◌++◌, ◌≤◌, ap, sym, refl, arith, List, length, map, filter, drop, min, take, vec_capacity}
+use Rattle.std.proofs.Common.{◌≡◌, ◌+◌, ◌-◌, ◌∙◌, ◌++◌, ◌≤◌, ap, sym, refl, arith, List, length, map, filter, drop, min, take}
 use Rattle.roll_frame.specs.Cells.{Rows}
 use Rattle.roll_frame.specs.Paths.{begins_with, longest}
 use Rattle.roll_frame.specs.Timeline.{front}
@@ -6,7 +6,7 @@ use Rattle.roll_tree.specs.SavedStates.{SavedStates, Saved, later, paths_of}
 use Rattle.roll_frame.proofs.Timelines.{length_timeline}
 use Rattle.roll_session.specs.Saves.{Standing, rows_to, settled_by, settling}
 use Rattle.roll_session.specs.Standing.{rows_from}
-use Rattle.roll_session.proofs.Rows.{length-rows_from}
+use Rattle.roll_session.proofs.Rows.{length-rows_from, wide-rows_from}
 use Rattle.roll_session.proofs.Steps.{deepest_told, none_settled, nothing_settles, settled_at, settled_step}
 use Rattle.roll_session.proofs.saves.Saves.settle.Goals as goal
 
@@ -22,8 +22,8 @@ slice_bounds-append-end g c =
     let long = ap length rows ∙ length-rows_from i.board.players i.board.settled n in
     count ∙ sym long
 
-pub append-requires : goal.append-requires
-append-requires g c =
+pub append-requires-clause-room : goal.append-requires-clause-room
+append-requires-clause-room g c =
     let i = c.self.inside in
     let low = rw (← c.self.view_is) at c.requires in
     let from : i.board.settled ≤ c.min-to.result = omega (arith, low, c.min-to.ensures, c.front.ensures, c.frame.ensures, c.laws.ensures.reached) in
@@ -34,6 +34,17 @@ append-requires g c =
     let long = ap length rows ∙ length-rows_from i.board.players i.board.settled n in
     let past = ap length c.self.invariant.past ∙ length_timeline i.board.players i.board.settled in
     omega (arith, past, long, deep.within, c.self.invariant.room, c.min-to.ensures, c.front.ensures, c.frame.ensures)
+
+pub append-requires-clause-wide : goal.append-requires-clause-wide
+append-requires-clause-wide g c =
+    let i = c.self.inside in
+    let low = rw (← c.self.view_is) at c.requires in
+    let from : i.board.settled ≤ c.min-to.result = omega (arith, low, c.min-to.ensures, c.front.ensures, c.frame.ensures, c.laws.ensures.reached) in
+    let n = longest (paths_of i.tree) (rows_to i.board c.min-to.result) in
+    let deep = deepest_told i.board.players i.board.settled c.min-to.result i.tree c.reach.new.tree c.deepest-node.result.0 c.deepest-node.result.1 c.self.invariant.base c.reach.ensures.same c.reach.ensures.told from c.reach.ensures.far c.deepest-node.ensures.node c.deepest-node.ensures.length in
+    let count : c.deepest-node.result.1 - c.settled-base.result ≡ n = omega (arith, deep.end_is, c.settled-base.ensures) in
+    let rows : take (c.deepest-node.result.1 - c.settled-base.result) c.time.result.now ≡ rows_from i.board.players i.board.settled n = ap (λ m. take m c.time.result.now) count ∙ (ap (take n) c.time.ensures.value ∙ deep.rows) in
+    rw (rows, c.self.invariant.wide) (wide-rows_from i.board.players i.board.settled n)
 
 pub settle-requires-clause-confirmed : goal.settle-requires-clause-confirmed
 settle-requires-clause-confirmed g c =
@@ -59,10 +70,9 @@ invariant_of-self g c =
     let long' = length-rows_from i.board.players i.board.settled n in
     let base : c.reach.new.tree.base ≡ i.board.settled = ap (λ (t : SavedStates g.row.S.Denot). t.base) c.reach.ensures.same ∙ c.self.invariant.base in
     let tree = settled_at c.reach.new.tree c.settle_at.new.self c.deepest-node.result.0 (rows_from i.board.players i.board.settled n) deep.path c.settle_at.ensures in
-    settled_step i (record { board = c.settle.new.self; past = c.append.new.past; tree = c.settle_at.new.self }) n k c.self.invariant
+    settled_step i (record { board = c.settle.new.self; past = c.append.new.self; tree = c.settle_at.new.self }) n k c.self.invariant
     (c.settle.ensures ∙ ap (λ m. record i.board { settled = m }) deep.end_is)
-    (c.append.ensures.items ∙ ap (λ (q : Rows). i.past.items ++ q) rows)
-    c.append.ensures.capacity
+    (c.append.ensures ∙ ap (λ (q : Rows). record i.past { rows = i.past.rows ++ q }) rows)
     (ap (λ (t : SavedStates g.row.S.Denot). t.base) tree ∙ omega (arith, base, long'))
     (ap (λ (t : SavedStates g.row.S.Denot). t.time) tree ∙ (ap (λ m. drop m c.reach.new.tree.time) long' ∙ ap (drop n) c.reach.ensures.told))
 
@@ -97,7 +107,7 @@ returns-clause-states g c =
 pub returns-then-to-base-clause-inputs : goal.returns-then-to-base-clause-inputs
 returns-then-to-base-clause-inputs g c =
     let i = c.self.inside in
-    let st : Standing g.row.S.Denot = record { inputs = i.board; tree = i.tree; room = vec_capacity i.past } in
+    let st : Standing g.row.S.Denot = record { inputs = i.board; tree = i.tree; room = i.past.room } in
     let end : min (front i.board.players) i.board.frame ≡ i.board.settled = sym (c.min-to.ensures ∙ rw (c.front.ensures, c.frame.ensures) refl) ∙ (c.if-to-base.true ∙ c.settled-base.ensures) in
     let more : i.board.settled ≡ i.board.settled + settling st = omega (arith, nothing_settles st end) in
     rw (← c.self.view_is) (ap (λ n. record i.board { settled = n }) more)
@@ -105,6 +115,6 @@ returns-then-to-base-clause-inputs g c =
 pub returns-then-to-base-clause-states : goal.returns-then-to-base-clause-states
 returns-then-to-base-clause-states g c =
     let i = c.self.inside in
-    let st : Standing g.row.S.Denot = record { inputs = i.board; tree = i.tree; room = vec_capacity i.past } in
+    let st : Standing g.row.S.Denot = record { inputs = i.board; tree = i.tree; room = i.past.room } in
     let end : min (front i.board.players) i.board.frame ≡ i.board.settled = sym (c.min-to.ensures ∙ rw (c.front.ensures, c.frame.ensures) refl) ∙ (c.if-to-base.true ∙ c.settled-base.ensures) in
     rw (← c.self.view_is) (sym (ap (settled_by st) (nothing_settles st end) ∙ none_settled st))

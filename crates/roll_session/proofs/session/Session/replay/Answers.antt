@@ -1,32 +1,34 @@
 use Rattle.std.proofs.Common.{◌≡◌, ◌+◌, ◌++◌, ◌∷◌, [], ◌∙◌, List, Err, Some, ap, rules, subst, sym, take}
 use Rattle.std.specs.Prelude.{slice_get}
-use Rattle.std.proofs.lemmas.Option.{slice_get-get_or}
+use Rattle.std.proofs.lemmas.Option.{get_or_from_slice_get, slice_get_within}
 use Rattle.std.proofs.lemmas.List.{take_more}
 use Rattle.roll_frame.specs.declared.entry.Entry.{Entry}
 use Rattle.roll_session.specs.declared.event.ReplayFault.{ReplayFault}
+use Rattle.roll_session.specs.Logs.{told}
 use Rattle.roll_session.specs.Replaying.{IsReplayed, IsStopped}
 use Rattle.roll_session.proofs.Replaying.{own_log, replayed_more}
 use Rattle.roll_session.proofs.session.Session.replay.Goals as goal
 
 pub loop-place-preserved : goal.loop-place-preserved
 loop-place-preserved g c =
-    let log : List Entry = c.args.log.now in
+    let log : List Entry = c.args.log.now.entries in
+    let entry : Entry = told c.at.result in
+    let there : slice_get log c.loop-place.place ≡ Some entry = c.at.ensures in
     let first : List Entry = take c.loop-place.place log in
-    let more : take (c.loop-place.place + 1) log ≡ first ++ c.index-log-place.result ∷ [] = take_more log c.loop-place.place c.index-log-place.result c.loop-place-test.true ∙ ap (λ (x : Entry). first ++ x ∷ []) (sym c.index-log-place.is) in
+    let more : take (c.loop-place.place + 1) log ≡ first ++ entry ∷ [] = take_more log c.loop-place.place entry (slice_get_within log c.loop-place.place entry there) ∙ ap (λ (x : Entry). first ++ x ∷ []) (get_or_from_slice_get log c.loop-place.place entry entry there) in
     subst (IsReplayed g.G.Game.step c.args.self.now c.redo.new.self) (sym more)
-    (replayed_more g.G.Game.step c.args.self.now c.loop-place.self c.redo.new.self first (c.index-log-place.result ∷ []) c.loop-place.invariant c.in_ok-redo.ensures.redone)
+    (replayed_more g.G.Game.step c.args.self.now c.loop-place.self c.redo.new.self first (entry ∷ []) c.loop-place.invariant c.in_ok-redo.ensures.redone)
 
 pub returns-in_err-redo-clause-own : goal.returns-in_err-redo-clause-own
 returns-in_err-redo-clause-own g c =
-    let log : List Entry = c.args.log.now in
+    let log : List Entry = c.args.log.now.entries in
     let fault : ReplayFault = c.in_err-redo.field-0.0 in
     let is : c.from_residual.result ≡ Err fault = search (rules, c.from_residual.ensures) in
-    let there : slice_get log c.loop-place.place ≡ Some c.index-log-place.result = slice_get-get_or log c.loop-place.place c.index-log-place.result c.loop-place-test.true ∙ ap Some (sym c.index-log-place.is) in
     let stopped : IsStopped g.G.Game.step c.args.self.now c.redo.new.self log fault = record {
       before = c.loop-place.self;
       place = c.loop-place.place;
-      entry = c.index-log-place.result;
-      there = there;
+      entry = told c.at.result;
+      there = c.at.ensures;
       done = c.loop-place.invariant;
       stops = c.in_err-redo.ensures.stops;
     } in

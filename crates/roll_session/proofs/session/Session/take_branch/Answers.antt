@@ -39,10 +39,10 @@ pub invariant_of-self : goal.invariant_of-self
 invariant_of-self g c =
     let fine = rw (← c.self.view_is) at c.requires.accepted in
     let e = rw (c.get.ensures, c.into_parts-ticket.ensures.route) at c.hang_new-added.ensures in (
-      rw (c.enter.ensures.items, c.into_parts-ticket.ensures.ticket, c.into_parts-ticket.ensures.route)
+      rw (c.add_graft.ensures.entries, c.into_parts-ticket.ensures.ticket, c.into_parts-ticket.ensures.route)
           (grafted_session c.self.invariant.0 c.args.branch fine c.into_parts-ticket.result.states.items c.hang_new-added.new.saves c.settle.new.self
           (record { are = c.into_parts-ticket.ensures.states; inputs = e.inputs; paths = e.paths; values = e.values }) c.settle.ensures.inputs c.settle.ensures.states),
-      room_next c.hang_new-added.new.saves c.self.invariant.1 (rw (← c.self.view_is) at c.requires.room) c.enter.ensures.len c.enter.ensures.capacity c.enter.ensures.reserved (omega (arith, ap (λ (i : Inputs). i.frame) e.inputs)) e.room c.settle.ensures.inputs c.settle.ensures.room,
+      room_next c.hang_new-added.new.saves c.self.invariant.1 (rw (← c.self.view_is) at c.requires.room) c.add_graft.ensures.room c.saturating_sub-self-inside.ensures (omega (arith, ap (λ (i : Inputs). i.frame) e.inputs)) e.room c.settle.ensures.inputs c.settle.ensures.room,
     )
 
 pub returns-clause-added : goal.returns-clause-added

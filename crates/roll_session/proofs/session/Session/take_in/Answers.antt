@@ -5,14 +5,14 @@ use Rattle.roll_session.proofs.session.Session.take_in.Goals as goal
 pub settle-requires : goal.settle-requires
 settle-requires g c =
     let q = rw (← c.self.view_is) at c.requires in
-    let e = rw c.entry-entry.ensures at c.take.ensures in
+    let e = c.take.ensures in
     settles c.self.invariant.0 (entry_of c.args.call) q.allowed.new q.allowed.accepted c.take.new.self (taken c.self.invariant.0 c.args.call q.input q.allowed.accepted c.take.new.self c.laws.ensures.stays c.laws.ensures.ahead e.inputs e.states e.rows)
 
 pub invariant_of-self : goal.invariant_of-self
 invariant_of-self g c =
     let q = rw (← c.self.view_is) at c.requires in
-    let e = rw c.entry-entry.ensures at c.take.ensures in
+    let e = c.take.ensures in
     let between = taken c.self.invariant.0 c.args.call q.input q.allowed.accepted c.take.new.self c.laws.ensures.stays c.laws.ensures.ahead e.inputs e.states e.rows in (
-      rw (c.enter.ensures.items, c.entry-entry.ensures) (taken_session c.self.invariant.0 c.args.call q.input q.allowed.new q.allowed.accepted c.take.new.self c.settle.new.self between (record { inputs = c.settle.ensures.inputs; states = c.settle.ensures.states })),
-      room_next c.take.new.self c.self.invariant.1 q.room c.enter.ensures.len c.enter.ensures.capacity c.enter.ensures.reserved (rw e.inputs (taken_frame c.self.inside.saves.inputs (entry_of c.args.call))) e.room c.settle.ensures.inputs c.settle.ensures.room,
+      rw c.add_call.ensures.entries (taken_session c.self.invariant.0 c.args.call q.input q.allowed.new q.allowed.accepted c.take.new.self c.settle.new.self between (record { inputs = c.settle.ensures.inputs; states = c.settle.ensures.states })),
+      room_next c.take.new.self c.self.invariant.1 q.room c.add_call.ensures.room c.saturating_sub-self-inside.ensures (rw e.inputs (taken_frame c.self.inside.saves.inputs (entry_of c.args.call))) e.room c.settle.ensures.inputs c.settle.ensures.room,
     )

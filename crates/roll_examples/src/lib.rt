@@ -1,0 +1,10 @@
+//! What the examples and tests of several crates take.
+#![tactic(auto)]
+
+mod scripts;
+mod sessions;
+mod streams;
+
+pub use scripts::{AHEAD, AHEAD_ANSWER, FIVE, LATE, LATE_LIVE, LATE_OUTPUT, ROWS, ROWS_OUTPUT};
+pub use sessions::{ALONE, LATE_CALLS, TWO, add, counts, open, path, played, queue, row};
+pub use streams::{FakeReader, FakeWriter};

@@ -1,0 +1,160 @@
+//! The record of settled rows: four bytes for each cell, and a byte for each row.
+ghost use Rattle.std.specs.Prelude.{◌≡◌, ◌+◌, ◌*◌, ◌^◌, ◌<◌, ◌≤◌, ◌++◌, ◌∷◌, [], OnOk, Some, length, map, slice_get, slice_index_or, vec_capacity};
+ghost use Rattle.roll_frame.specs.Claims.{AreRowsOf};
+ghost use Rattle.roll_frame.specs.Packed.{bits_of};
+ghost use Rattle.roll_frame.specs.Words.{bit_of, word_of};
+ghost use Rattle.roll_frame.specs.declared.limits.TheConstants.{PLAYER_LIMIT};
+
+use roll_frame::{Cell, Row};
+use std::alloc::{AllocError, Global};
+use std::marker::Model;
+
+/// The settled rows, each with a cell for every player.
+///
+/// A row's words stand behind those of the row before it, 0 for a player who is gone; its bits of gone players lie apart.
+#[derive(Drop)]
+pub struct Record {
+    players: u8,
+    words: Vec<u32>,
+    gone: Vec<u8>,
+}
+
+impl Model for Record {
+    ghost use Rattle.roll_inputs.specs.Recorded.{Recorded, recorded, IsRecord};
+
+    ghost Value = { Recorded };
+
+    ghost view = { recorded };
+
+    ghost invariant = { IsRecord };
+}
+
+impl Record {
+    /// No rows, for so many players.
+    pub fn new(alloc: Global, players: u8) -> Record
+        requires some { 1 ≤ players }
+        requires few { players ≤ PLAYER_LIMIT }
+        ensures players { result.players ≡ players }
+        ensures rows { result.rows ≡ [] }
+    {
+        Record {
+            players,
+            words: Vec::new(alloc),
+            gone: Vec::new(alloc),
+        }
+    }
+
+    /// How many rows there are.
+    pub fn len(&self) -> usize
+        ensures { result ≡ length self.now.rows }
+    {
+        self.gone.len()
+    }
+
+    /// The row of a frame.
+    pub fn get(&self, frame: usize) -> Option<Row>
+        ensures { result ≡ slice_get self.now.rows frame }
+    {
+        let players = usize::from(self.players);
+        if frame >= self.len() {
+            return None;
+        }
+        let mut row = Row::new(self.at(frame, 0));
+        for place in 1..players {
+            row.push(self.at(frame, place));
+        }
+        Some(row)
+    }
+
+    /// The cell at a place of a frame's row.
+    pub fn cell(&self, frame: usize, place: usize) -> Option<Cell>
+        ensures { result ≡ slice_get (slice_index_or self.now.rows frame []) place }
+    {
+        if frame >= self.len() {
+            None
+        } else if place < usize::from(self.players) {
+            Some(self.at(frame, place))
+        } else {
+            None
+        }
+    }
+
+    fn at(&self, frame: usize, place: usize) -> Cell
+        requires frame { frame < length self.now.rows }
+        requires place { place < self.now.players }
+        ensures { slice_get (slice_index_or self.now.rows frame []) place ≡ Some result }
+    {
+        if self.gone[frame] >> place & 1 == 1 {
+            Cell::Gone
+        } else {
+            Cell::Word(self.words[frame * usize::from(self.players) + place])
+        }
+    }
+
+    /// Adds rows where there is room for them.
+    pub fn append(&mut self, rows: &[Row])
+        requires wide { AreRowsOf self.old.players rows.now }
+        requires room { length self.old.rows + length rows.now ≤ self.old.room }
+        ensures { self.new ≡ record self.old { rows = self.old.rows ++ rows.now } }
+    {
+        for row in rows {
+            self.push(row);
+        }
+    }
+
+    fn push(&mut self, row: &Row)
+        requires wide { length row.now ≡ self.old.players }
+        requires room { length self.old.rows < self.old.room }
+        ensures { self.new ≡ record self.old { rows = self.old.rows ++ row.now ∷ [] } }
+    {
+        let gone = append_words(&mut self.words, row);
+        self.gone.push_reserved(gone);
+    }
+
+    /// Makes room for so many rows in all.
+    pub fn reserve(&mut self, rows: usize) -> Result<(), AllocError>
+        ensures kept { self.new ≡ record self.old { room = self.new.room } }
+        ensures more { self.old.room ≤ self.new.room }
+        ensures room { OnOk result (rows ≤ self.new.room) }
+    {
+        let count = self.len();
+        if count < rows {
+            let more = rows - count;
+            let Some(words) = more.checked_mul(usize::from(self.players)) else {
+                return Err(AllocError);
+            };
+            self.gone.reserve(more)?;
+            self.words.reserve(words)?;
+        }
+        Ok(())
+    }
+}
+
+/// Adds the words of a row where there is room for them, and tells which of its players are gone.
+fn append_words(words: &mut Vec<u32>, row: &Row) -> u8
+    requires { length words.old.items + length row.now ≤ vec_capacity words.old }
+    ensures words { words.new.items ≡ words.old.items ++ map word_of row.now }
+    ensures capacity { vec_capacity words.new ≡ vec_capacity words.old }
+    ensures gone { result ≡ bits_of row.now }
+{
+    let mut gone = 0;
+    for place in 0..row.count() {
+        let Some(cell) = row.get(usize::from(place)) else {
+            unreachable!()
+        };
+        words.push_reserved(cell.word());
+        gone += bit(cell, place);
+    }
+    gone
+}
+
+/// The bit of a gone player at a place.
+fn bit(cell: Cell, place: u8) -> u8
+    requires { place < PLAYER_LIMIT }
+    ensures { result ≡ bit_of cell * 2 ^ place }
+{
+    match cell {
+        Cell::Word(_) => 0,
+        Cell::Gone => 1 << place,
+    }
+}
