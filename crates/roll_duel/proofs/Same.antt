@@ -1,5 +1,5 @@
 -- Two ships are the same if the numbers of both are.
-use Rattle.std.proofs.Common.{◌≡◌, Bool, true, false, eqb, int_eq, refl, subst}
+use Rattle.std.proofs.Common.{◌≡◌, Bool, true, eqb, int_eq, refl, subst}
 use Rattle.std.specs.Prelude.{◌&&◌, Decides}
 use Rattle.std.proofs.lemmas.Bool.{and_parts}
 use Rattle.std.proofs.lemmas.Bool.Decides.{Decides-eqb, Decides-int_eq}

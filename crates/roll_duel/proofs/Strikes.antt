@@ -1,6 +1,6 @@
 -- What a bullet does to the ships, one after another.
 use Rattle.std.proofs.Common.{◌≡◌, ℕ, zero, suc, ◌+◌, ◌<◌, ◌≤◌, Bool, true, false, cond, List, [], ◌∷◌, length, get_or, take, drop, set, refl, sym, ap, ◌∙◌, arith, add-one, add-zero, get_or-drop, subst}
-use Rattle.std.specs.Prelude.{◌||◌, not, ◌&&◌, nat_lt, fold, All}
+use Rattle.std.specs.Prelude.{not, ◌&&◌, nat_lt, fold, All}
 use Rattle.std.proofs.lemmas.Bool.{lt-ltb, le-ltb, or_parts}
 use Rattle.std.proofs.lemmas.List.Elements.{All-set}
 use Rattle.std.proofs.lemmas.List.{take_more}

@@ -1,6 +1,6 @@
 -- A byte has a bit from a place on where it is no less than that bit's power of two.
-use Rattle.std.proofs.Common.{◌≡◌, ℕ, zero, suc, ◌+◌, ◌-◌, ◌<◌, ◌≤◌, ◌^◌, List, [], ◌∷◌, Bool, true, false, Option, refl, arith, sym, ◌∙◌, ap}
-use Rattle.std.specs.Prelude.{◌==◌, ◌&&◌, nat_le, is_some, if◌then◌else◌, not}
+use Rattle.std.proofs.Common.{◌≡◌, ℕ, zero, suc, ◌+◌, ◌-◌, ◌<◌, ◌≤◌, ◌^◌, Bool, true, false, Option, refl, arith, sym, ◌∙◌, ap}
+use Rattle.std.specs.Prelude.{◌==◌, nat_le, is_some, if◌then◌else◌, not}
 use Rattle.std.specs.Int.{bit_at}
 use Rattle.std.specs.List.{find, list_all, range_with_len}
 use Rattle.std.proofs.lemmas.Bool.{and_parts, false≢true}

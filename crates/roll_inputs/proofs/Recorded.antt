@@ -1,8 +1,8 @@
 -- Rows that are packed, row by row and cell by cell.
-use Rattle.std.proofs.Common.{◌≡◌, ◌∙◌, ℕ, zero, suc, ◌+◌, ◌*◌, ◌/◌, ◌%◌, ◌^◌, ◌<◌, ◌≤◌, List, [], ◌∷◌, ◌++◌, length, get_or, take, drop, map, Some, refl, ap, sym, append_assoc, length-append, min, arith}
+use Rattle.std.proofs.Common.{◌≡◌, ◌∙◌, ℕ, zero, suc, ◌+◌, ◌*◌, ◌/◌, ◌%◌, ◌^◌, ◌<◌, ◌≤◌, List, [], ◌∷◌, ◌++◌, length, get_or, take, drop, map, Some, refl, ap, sym, length-append, min, arith}
 use Rattle.std.specs.Prelude.{slice_get, slice_index_or, vec_capacity}
-use Rattle.std.proofs.Math.Nat.{div-div-eq-div-mul, pow-succ', add-mul, div-mul-le_self, mul-le-mul_right, pow-le-pow_right, zero-mul}
-use Rattle.std.proofs.lemmas.List.{drop-append-le, drop-drop, get_or-drop, length-drop, length-map, length-take, length-take-le, map-append, take_more}
+use Rattle.std.proofs.Math.Nat.{div-div-eq-div-mul, pow-succ', add-mul, div-mul-le_self, mul-le-mul_right, zero-mul}
+use Rattle.std.proofs.lemmas.List.{drop-append-le, drop-drop, get_or-drop, length-drop, length-map, take_more}
 use Rattle.std.proofs.lemmas.Option.{get_or_from_slice_get, slice_get_within}
 use Rattle.roll_frame.specs.declared.row.Cell.{Cell}
 use Rattle.roll_frame.specs.declared.row.Cell.TheVariants.{Word, Gone}
@@ -90,21 +90,6 @@ cells_back (cell ∷ cells) = λ i. first cell (bits_of cells) i ∷ (ap (λ g. 
     half (Word w) g = omega arith
     half Gone g = omega arith
 
-bits_more : (cells : List Cell) (cell : Cell) → bits_of (cells ++ cell ∷ []) ≡ bits_of cells + bit_of cell * 2 ^ length cells
-bits_more [] cell = omega arith
-bits_more (c ∷ cells) cell = rw (bits_more cells cell, pow-succ' 2 (length cells)) (spread (bit_of c) (bits_of cells) (bit_of cell) (2 ^ length cells))
-  where
-    spread : (b g k p : ℕ) → b + 2 * (g + k * p) ≡ b + 2 * g + k * (2 * p)
-    spread b g k p = omega arith
-
-bit_few : (cell : Cell) → bit_of cell ≤ 1
-bit_few (Word w) = omega arith
-bit_few Gone = omega arith
-
-bits_few : (cells : List Cell) → bits_of cells < 2 ^ length cells
-bits_few [] = omega arith
-bits_few (c ∷ cells) = omega (arith, bit_few c, bits_few cells, pow-succ' 2 (length cells))
-
 -- what is seen of a record, in its fields
 pub players_seen : (r : Inside) (seen : Recorded) → recorded r ≡ seen → r.players ≡ seen.players
 players_seen r seen e = ap (λ (k : Recorded). k.players) e
@@ -148,22 +133,6 @@ pub take_next : (cells : List Cell) (i : ℕ) (cell : Cell) → slice_get cells 
 take_next cells i cell e =
     take_more cells i cell (slice_get_within cells i cell e)
     ∙ ap (λ c. take i cells ++ c ∷ []) (get_or_from_slice_get cells i cell cell e)
-
-pub bits_next : (cells : List Cell) (i : ℕ) (cell : Cell) → slice_get cells i ≡ Some cell → bits_of (take i cells) + bit_of cell * 2 ^ i ≡ bits_of (take (i + 1) cells)
-bits_next cells i cell e =
-    let long : length (take i cells) ≡ i = length-take-le i cells (omega (arith, slice_get_within cells i cell e)) in
-    ap (λ k. bits_of (take i cells) + bit_of cell * 2 ^ k) (sym long) ∙ (sym (bits_more (take i cells) cell) ∙ ap bits_of (sym (take_next cells i cell e)))
-
-pub bits_fit : (cells : List Cell) (i : ℕ) → length cells ≤ 8 → bits_of (take i cells) < 256
-bits_fit cells i few =
-    let short : length (take i cells) ≤ 8 = omega (arith, length-take i cells) in
-    let most : 2 ^ length (take i cells) ≤ 2 ^ 8 = pow-le-pow_right (omega arith) short in
-    omega (arith, bits_few (take i cells))
-
-pub words_next : (words : List ℕ) (cells : List Cell) (i : ℕ) (cell : Cell) → slice_get cells i ≡ Some cell → (words ++ map word_of (take i cells)) ++ word_of cell ∷ [] ≡ words ++ map word_of (take (i + 1) cells)
-words_next words cells i cell e =
-    append_assoc words (map word_of (take i cells)) (word_of cell ∷ [])
-    ∙ ap (λ ws. words ++ ws) (sym (map-append word_of (take i cells) (cell ∷ [])) ∙ ap (map word_of) (sym (take_next cells i cell e)))
 
 -- room for rows is room for their words
 pub words_room : (r : Inside) (seen : Recorded) (k : ℕ) → IsRecord r → recorded r ≡ seen → length seen.rows + k ≤ seen.room → length r.words.items + k * r.players ≤ vec_capacity r.words

@@ -1,8 +1,6 @@
 //! The record of settled rows: four bytes for each cell, and a byte for each row.
 ghost use Rattle.std.specs.Prelude.{◌≡◌, ◌+◌, ◌*◌, ◌^◌, ◌<◌, ◌≤◌, ◌++◌, ◌∷◌, [], OnOk, Some, length, map, slice_get, slice_index_or, vec_capacity};
 ghost use Rattle.roll_frame.specs.Claims.{AreRowsOf};
-ghost use Rattle.roll_frame.specs.Packed.{bits_of};
-ghost use Rattle.roll_frame.specs.Words.{bit_of, word_of};
 ghost use Rattle.roll_frame.specs.declared.limits.TheConstants.{PLAYER_LIMIT};
 
 use roll_frame::{Cell, Row};
@@ -107,8 +105,8 @@ impl Record {
         requires room { length self.old.rows < self.old.room }
         ensures { self.new ≡ record self.old { rows = self.old.rows ++ row.now ∷ [] } }
     {
-        let gone = append_words(&mut self.words, row);
-        self.gone.push_reserved(gone);
+        append_words(&mut self.words, row.words());
+        self.gone.push_reserved(row.gone_bits());
     }
 
     /// Makes room for so many rows in all.
@@ -130,31 +128,13 @@ impl Record {
     }
 }
 
-/// Adds the words of a row where there is room for them, and tells which of its players are gone.
-fn append_words(words: &mut Vec<u32>, row: &Row) -> u8
-    requires { length words.old.items + length row.now ≤ vec_capacity words.old }
-    ensures words { words.new.items ≡ words.old.items ++ map word_of row.now }
+/// Adds words where there is room for them.
+fn append_words(words: &mut Vec<u32>, more: &[u32])
+    requires { length words.old.items + length more.now ≤ vec_capacity words.old }
+    ensures items { words.new.items ≡ words.old.items ++ more.now }
     ensures capacity { vec_capacity words.new ≡ vec_capacity words.old }
-    ensures gone { result ≡ bits_of row.now }
 {
-    let mut gone = 0;
-    for place in 0..row.count() {
-        let Some(cell) = row.get(usize::from(place)) else {
-            unreachable!()
-        };
-        words.push_reserved(cell.word());
-        gone += bit(cell, place);
-    }
-    gone
-}
-
-/// The bit of a gone player at a place.
-fn bit(cell: Cell, place: u8) -> u8
-    requires { place < PLAYER_LIMIT }
-    ensures { result ≡ bit_of cell * 2 ^ place }
-{
-    match cell {
-        Cell::Word(_) => 0,
-        Cell::Gone => 1 << place,
+    for word in more {
+        words.push_reserved(*word);
     }
 }

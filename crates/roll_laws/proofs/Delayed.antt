@@ -1,5 +1,5 @@
 -- A local player's confirmed words: one for each frame of its delay, for each frame before this one, and for this one if it was given.
-use Rattle.std.proofs.Common.{◌≡◌, ℕ, zero, suc, ◌+◌, ◌-◌, List, [], ◌∷◌, ◌++◌, length, refl, ap, sym, ◌∙◌, Bool, true, false, arith, subst, inl, inr, map, set, length-append, Option, Some, None}
+use Rattle.std.proofs.Common.{◌≡◌, ℕ, zero, suc, ◌+◌, ◌-◌, List, [], ◌∷◌, length, refl, ap, sym, ◌∙◌, Bool, true, false, arith, subst, inl, inr, map, set, length-append, Option, Some, None}
 use Rattle.std.specs.Prelude.{◌⊎◌, not, ◌&&◌, slice_get, slice_set, if◌then◌else◌}
 use Rattle.std.specs.List.{list_any, range_with_len}
 use Rattle.std.specs.Option.{option_map_or}

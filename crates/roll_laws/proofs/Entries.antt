@@ -1,5 +1,5 @@
 -- The entries of a log, each where it was accepted.
-use Rattle.std.proofs.Common.{◌≡◌, ◌⊎◌, ℕ, zero, suc, List, [], ◌∷◌, take, Bool, true, false, Option, Some, None, refl, ap, sym, ◌∙◌, subst, inl, inr}
+use Rattle.std.proofs.Common.{◌≡◌, ◌⊎◌, ℕ, zero, suc, List, [], ◌∷◌, take, Bool, true, false, Some, None, ap, sym, subst, inl, inr}
 use Rattle.std.specs.Prelude.{fold, slice_get, if◌then◌else◌}
 use Rattle.std.proofs.lemmas.Bool.{cases_Bool}
 use Rattle.roll_frame.specs.Core.{Core, first_core}

@@ -24,6 +24,7 @@ use Rattle.roll_game.specs.declared.counts.Counts.{Counts}
 use Rattle.roll_session.specs.Answered.{counts_by}
 use Rattle.roll_session.specs.Calls.{entry_of, event_of, IsInput, IsRollTo}
 use Rattle.roll_session.specs.declared.event.Call.{Call}
+use Rattle.roll_session.specs.declared.room.Room.{Room}
 use Rattle.roll_session.specs.declared.event.Call.TheVariants.{Local as LocalCall, Remote as RemoteCall, Disconnect as DisconnectCall, Sync as SyncCall, Advance as AdvanceCall}
 use Rattle.roll_session.specs.Held.{HasRoom, IsSession, Shows, planned_of}
 use Rattle.roll_session.specs.Logs.{Filed}
@@ -35,12 +36,16 @@ use Rattle.roll_session.proofs.Holding.{accepted, can_be_partial_advance, can_be
 use Rattle.roll_session.proofs.Rolled.{Added, between_after_advance, between_after_partial, between_after_sync, cost_is, depth_is, frame_is, near, paths_fit, roll_fits, roll_plan, session_event, shown_value, time_fits}
 
 -- an event later there is room for one less
-pub room_next : {N : Type 0} {log more : Filed} {saves after : Standing N} {reserved left n : ℕ} (cut : Standing N) → HasRoom log saves reserved → 1 ≤ reserved
-    → log.room ≤ more.room + 1 → left ≡ reserved - 1
+pub room_next : {N : Type 0} {log more : Filed} {saves after : Standing N} {room left : Room} {n : ℕ} (cut : Standing N) → HasRoom log saves room → 1 ≤ room.promised
+    → log.room ≤ more.room + 1 → left.promised ≡ room.promised - 1 → left.there ≡ room.there - 1
     → cut.inputs.frame ≤ saves.inputs.frame + 1 → cut.room ≡ saves.room → after.inputs ≡ record cut.inputs { settled = n } → cut.room ≤ after.room → HasRoom more after left
-room_next cut h some entered less frame same inputs room =
+room_next cut h some entered promised there frame same inputs more =
     let frames = ap (λ (i : Inputs). i.frame) inputs in
-    record { entries = omega (arith, h.entries, some, entered, less); rows = omega (arith, h.rows, some, frames, frame, same, room, less) }
+    record {
+      promised = omega (arith, h.promised, promised, there);
+      entries = omega (arith, h.promised, h.entries, some, entered, there);
+      rows = omega (arith, h.promised, h.rows, some, frames, frame, same, more, there);
+    }
 
 -- no input changes the frame, and a roll takes it one further at most
 pub taken_frame : (inputs : Inputs) (entry : Entry) → (taken_inputs inputs entry).frame ≤ inputs.frame + 1

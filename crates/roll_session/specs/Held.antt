@@ -1,5 +1,5 @@
 -- What the fields of a session keep.
-use Rattle.std.specs.Prelude.{◌≡◌, ◌≤◌, ◌+◌, ℕ, List, length, Option, option_map, Some, None}
+use Rattle.std.specs.Prelude.{◌≡◌, ◌≤◌, ◌+◌, List, length, Option, option_map, Some, None}
 use Rattle.roll_frame.specs.Cells.{Rows}
 use Rattle.roll_frame.specs.Core.{Core, kept, settled}
 use Rattle.roll_frame.specs.Events.{replay}
@@ -15,6 +15,7 @@ use Rattle.roll_tree.specs.SavedStates.{paths_of}
 use Rattle.roll_session.specs.Logs.{Filed}
 use Rattle.roll_session.specs.Saves.{Standing, HaveValues}
 use Rattle.roll_session.specs.Seen.{Step}
+use Rattle.roll_session.specs.declared.room.Room.{Room}
 use Rattle.roll_session.specs.Standing.{from_start, made_from, settled_rows}
 
 -- a state is shown where rows are, and has the value that they lead to
@@ -55,7 +56,8 @@ pub record IsSession {S N : Type 0} (state_value : S → Value) (snapshot_value 
   pub plan : planner ≡ planned_of settings (replay settings log)
   pub small : IsSmall settings log (replay settings log)
 
--- so many events more need no memory: the log has room for their entries, and the record for the rows that they can settle
-pub record HasRoom {N : Type 0} (log : Filed) (saves : Standing N) (events : ℕ) : Type 0 where
-  pub entries : events ≤ log.room
-  pub rows : saves.inputs.frame + events ≤ saves.room
+-- events more need no memory, those that were promised and maybe others: the log has room for their entries, and the record for the rows that they can settle
+pub record HasRoom {N : Type 0} (log : Filed) (saves : Standing N) (room : Room) : Type 0 where
+  pub promised : room.promised ≤ room.there
+  pub entries : room.there ≤ log.room
+  pub rows : saves.inputs.frame + room.there ≤ saves.room

@@ -6,6 +6,7 @@ mod guess;
 mod log;
 mod place;
 mod roll;
+mod room;
 mod run;
 mod saves;
 mod session;

@@ -17,7 +17,7 @@ ghost use Rattle.roll_game.specs.declared.counts.Call.TheVariants.{Load as Loads
 ghost use Rattle.roll_inputs.specs.Boards.{confirmed_word, source_at};
 ghost use Rattle.roll_laws.specs.Sessions.{IsLog};
 ghost use Rattle.roll_session.specs.Guessing.{guess_job_of, guess_refusal_of, IsCopied};
-ghost use Rattle.roll_session.specs.Held.{HasRoom, Shows};
+ghost use Rattle.roll_session.specs.Held.{Shows};
 ghost use Rattle.roll_session.specs.Planned.{IsPlanOfRoll};
 ghost use Rattle.roll_session.specs.Answered.{counts_by, replied, with_entries, IsAnswered, IsPartial};
 ghost use Rattle.roll_session.specs.Calls.{entry_of, event_of, grafting, heard_reply, input_reply, judged, IsAdmitted, IsAllowed, IsInput, IsRollTo};
@@ -29,13 +29,14 @@ use crate::guess::{guessed_rows, job_along};
 use crate::log::Log;
 use crate::place::{branch_refusal, hang_new};
 use crate::roll::{Rolled, roll};
+use crate::room::Room;
 use crate::saves::Saves;
 use roll_branch::{Branch, Job, Parts as BranchParts};
 use roll_frame::{Claim, Event, Path, Refusal, Reply, Row, Settings};
 use roll_game::{Game, StartFault};
 use roll_inputs::{Board, Heard, Source};
 use roll_plan::{Plan, Planner};
-use std::alloc::{AllocError, Global};
+use std::alloc::Global;
 use std::marker::Model;
 
 /// A game that is run ahead on predicted inputs, and again where they were wrong.
@@ -48,8 +49,7 @@ pub struct Session<G: Game> {
     planner: Planner,
     current: Option<G::State>,
     log: Log,
-    /// How many events more need no memory: those that `reserve_log` made room for and that haven't come yet.
-    reserved: u32,
+    room: Room,
 }
 
 impl<G: Game> Model for Session<G> {
@@ -58,9 +58,9 @@ impl<G: Game> Model for Session<G> {
 
     ghost Value = { Seen };
 
-    ghost view = { λ s. record { settings = s.settings; opening = G.snapshot_value s.opening; log = s.log.entries; counts = G.call_counts s.game; reserved = s.reserved } };
+    ghost view = { λ s. record { settings = s.settings; opening = G.snapshot_value s.opening; log = s.log.entries; counts = G.call_counts s.game; reserved = s.room.promised } };
 
-    ghost invariant = { λ s. IsSession G.state_value G.snapshot_value G.step (G.snapshot_value s.opening) s.settings s.log.entries s.saves s.planner s.current × HasRoom s.log s.saves s.reserved };
+    ghost invariant = { λ s. IsSession G.state_value G.snapshot_value G.step (G.snapshot_value s.opening) s.settings s.log.entries s.saves s.planner s.current × HasRoom s.log s.saves s.room };
 }
 
 impl<G: Game> Session<G> {
@@ -103,7 +103,10 @@ impl<G: Game> Session<G> {
             planner,
             current: Some(state),
             log: Log::new(alloc),
-            reserved: 0,
+            room: Room {
+                promised: 0,
+                there: 0,
+            },
         })
     }
 
@@ -294,7 +297,7 @@ impl<G: Game> Session<G> {
         self.saves.take(call);
         self.saves.settle();
         self.log.add_call(call);
-        self.reserved = self.reserved.saturating_sub(1);
+        self.room.spend();
     }
 
     /// Takes in a branch that the rules accept.
@@ -313,7 +316,7 @@ impl<G: Game> Session<G> {
         let added = hang_new(&mut self.saves, route.get(), states);
         self.saves.settle();
         self.log.add_graft(ticket, route);
-        self.reserved = self.reserved.saturating_sub(1);
+        self.room.spend();
         Grafted { added }
     }
 
@@ -335,14 +338,14 @@ impl<G: Game> Session<G> {
                 self.saves.settle();
                 self.current = Some(state);
                 self.log.add_call(call);
-                self.reserved = self.reserved.saturating_sub(1);
+                self.room.spend();
                 Ok(from)
             }
             Err(made) => {
                 self.saves.settle();
                 self.current = None;
                 self.log.add_partial(to, made);
-                self.reserved = self.reserved.saturating_sub(1);
+                self.room.spend();
                 Err(Refusal::NoMemory)
             }
         }
@@ -365,8 +368,7 @@ impl<G: Game> Session<G> {
         if events as usize > self.settings.log as usize - self.log.len() {
             return Err(Refusal::LogFull);
         }
-        make_room(&mut self.log, &mut self.saves, self.reserved, events)?;
-        self.reserved = self.reserved.max(events);
+        self.room.promise(&mut self.log, &mut self.saves, events)?;
         Ok(())
     }
 
@@ -532,29 +534,6 @@ impl<G: Game> Session<G> {
     {
         &self.game
     }
-}
-
-/// Makes room for so many events more, unless it is there.
-fn make_room<S>(
-    log: &mut Log,
-    saves: &mut Saves<S>,
-    reserved: u32,
-    events: u32,
-) -> Result<(), AllocError>
-    requires { HasRoom log.old saves.old reserved }
-    ensures log { log.new.entries ≡ log.old.entries }
-    ensures inputs { saves.new.inputs ≡ saves.old.inputs }
-    ensures tree { saves.new.tree ≡ saves.old.tree }
-    ensures kept { HasRoom log.new saves.new reserved }
-    ensures made { OnOk result (HasRoom log.new saves.new (max reserved events)) }
-    ensures short { OnErr result (reserved < events) }
-{
-    if events <= reserved {
-        return Ok(());
-    }
-    log.reserve(events as usize)?;
-    let rows = saves.board().frame() as usize + events as usize;
-    saves.reserve(rows)
 }
 
 /// What a session is taken apart into.

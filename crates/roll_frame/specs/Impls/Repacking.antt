@@ -28,7 +28,7 @@ word_from : (b : Bool) (word : ℕ) → (b ≡ true → word ≡ 0) → word_of 
 word_from true word h = sym (h refl)
 word_from false word h = refl
 
-word_back : (gone word : ℕ) → ((gone % 2 == 1) ≡ true → word ≡ 0) → word_of (cell_of gone word) ≡ word
+pub word_back : (gone word : ℕ) → ((gone % 2 == 1) ≡ true → word ≡ 0) → word_of (cell_of gone word) ≡ word
 word_back gone word h = word_from (eqb (gone % 2) 1) word h
 
 pub words_back : (n gone : ℕ) (words : List ℕ) → IsTidy n gone words → words_of (length words) (cells_of n gone words) ≡ words

@@ -1,7 +1,7 @@
 use Rattle.std.proofs.Common.{◌≡◌, ◌∙◌, None, Some, refl, sym, true}
 use Rattle.std.specs.Int.{is_in_range}
 use Rattle.roll_frame.specs.Settings.{most_players}
-use Rattle.roll_frame.proofs.Faults.{faults_found, long_of, remote_of}
+use Rattle.roll_frame.proofs.Faults.{faults_found, remote_of}
 use Rattle.roll_frame.proofs.settings.Settings.fault.Goals as goal
 
 pub returns-in-Some-long_delay : goal.returns-in-Some-long_delay

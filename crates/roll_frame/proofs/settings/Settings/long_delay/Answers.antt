@@ -1,4 +1,4 @@
-use Rattle.std.proofs.Common.{◌∙◌, arith, nat_lt}
+use Rattle.std.proofs.Common.{◌∙◌, nat_lt}
 use Rattle.std.proofs.lemmas.Bool.{le-ltb}
 use Rattle.roll_frame.specs.Settings.{delay_at}
 use Rattle.roll_frame.specs.declared.limits.TheConstants.{DELAY_LIMIT}

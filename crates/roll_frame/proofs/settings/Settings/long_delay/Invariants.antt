@@ -1,5 +1,5 @@
-use Rattle.std.proofs.Common.{◌≡◌, ◌+◌, not, ◌&&◌, nat_lt}
-use Rattle.roll_frame.specs.Settings.{delay_at, is_local}
+use Rattle.std.proofs.Common.{◌≡◌, nat_lt}
+use Rattle.roll_frame.specs.Settings.{delay_at}
 use Rattle.roll_frame.specs.declared.limits.TheConstants.{DELAY_LIMIT}
 use Rattle.roll_frame.proofs.Searches.{rest}
 use Rattle.roll_frame.proofs.settings.Settings.long_delay.Given as goal

@@ -1,7 +1,6 @@
-use Rattle.std.proofs.Common.{◌≡◌, ◌∙◌, ◌<◌, ap, arith, sym}
-use Rattle.std.specs.Prelude.{is_some}
+use Rattle.std.proofs.Common.{◌∙◌, ◌<◌, arith, sym}
 use Rattle.roll_frame.specs.Settings.{is_local}
-use Rattle.roll_frame.proofs.Outsiders.{past_is, past_some}
+use Rattle.roll_frame.proofs.Outsiders.{past_some}
 use Rattle.roll_frame.proofs.Searches.{search_ends, search_finds, search_goes_on}
 use Rattle.roll_frame.proofs.settings.Settings.outsider.Goals as goal
 

@@ -1,4 +1,4 @@
-use Rattle.std.proofs.Common.{◌≡◌, ◌+◌}
+use Rattle.std.proofs.Common.{◌≡◌}
 use Rattle.roll_frame.specs.Settings.{is_local}
 use Rattle.roll_frame.proofs.Searches.{rest}
 use Rattle.roll_frame.proofs.settings.Settings.outsider.Given as goal

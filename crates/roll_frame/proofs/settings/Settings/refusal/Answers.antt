@@ -1,4 +1,4 @@
-use Rattle.std.proofs.Common.{◌≡◌, ◌∙◌, Some, ap, refl}
+use Rattle.std.proofs.Common.{◌∙◌, Some, ap, refl}
 use Rattle.std.specs.Option.{option_map}
 use Rattle.roll_frame.specs.Faults.{faults, refusal_of}
 use Rattle.roll_frame.specs.Settings.{start_tests}

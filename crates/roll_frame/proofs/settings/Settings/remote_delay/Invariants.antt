@@ -1,6 +1,5 @@
-use Rattle.std.proofs.Common.{◌≡◌, ◌+◌, not, ◌&&◌, nat_lt}
+use Rattle.std.proofs.Common.{◌≡◌, not, ◌&&◌, nat_lt}
 use Rattle.roll_frame.specs.Settings.{delay_at, is_local}
-use Rattle.roll_frame.specs.declared.limits.TheConstants.{DELAY_LIMIT}
 use Rattle.roll_frame.proofs.Searches.{rest}
 use Rattle.roll_frame.proofs.settings.Settings.remote_delay.Given as goal
 

@@ -9,4 +9,4 @@ returns-clause-job g c =
     let i = c.self.inside in
     let fine : guess_refusal i.saves.inputs c.args.player c.args.words.now c.args.until ≡ None = ap (λ (b : Inputs). guess_refusal b c.args.player c.args.words.now c.args.until) (sym c.board-board.ensures) ∙ sym c.in_default.ensures in
     let rows = c.as_slice.ensures.value ∙ c.guessed_rows-rows.ensures ∙ ap (λ (b : Inputs). guessed_rows b c.args.player c.args.words.now c.args.until) c.board-board.ensures in
-    rw (← c.self.view_is) (session_guessed c.self.invariant.0 c.args.player c.args.until c.args.words.now c.as_slice.result.now (g.G.RawGame.call_counts i.game) i.reserved c.job_along.result fine rows c.job_along.ensures.job)
+    rw (← c.self.view_is) (session_guessed c.self.invariant.0 c.args.player c.args.until c.args.words.now c.as_slice.result.now (g.G.RawGame.call_counts i.game) i.room.promised c.job_along.result fine rows c.job_along.ensures.job)

@@ -32,7 +32,7 @@ invariant_of-self g c =
       rw c.add_call.ensures.entries
           (rolled_next c.self.invariant.0 c.args.call c.args.to q.to q.allowed.accepted c.roll.new.saves c.step_on.new.self c.settle.new.self c.roll.new.planner c.in-Ok.field-0.state
           (record { inputs = e.inputs; paths = e.paths; values = e.values }) c.step_on.ensures.inputs c.step_on.ensures.tree (record { inputs = c.settle.ensures.inputs; states = c.settle.ensures.states }) e.state c.laws.ensures.base e.plan),
-      room_next c.step_on.new.self c.self.invariant.1 q.room c.add_call.ensures.room c.saturating_sub-self-inside.ensures (rw (c.step_on.ensures.inputs, e.inputs) (stepped_frame c.self.inside.saves.inputs (entry_of c.args.call))) (c.step_on.ensures.room ∙ e.room) c.settle.ensures.inputs c.settle.ensures.room,
+      room_next c.step_on.new.self c.self.invariant.1 q.room c.add_call.ensures.room c.spend.ensures.promised c.spend.ensures.there (rw (c.step_on.ensures.inputs, e.inputs) (stepped_frame c.self.inside.saves.inputs (entry_of c.args.call))) (c.step_on.ensures.room ∙ e.room) c.settle.ensures.inputs c.settle.ensures.room,
     )
 
 pub settle-requires-in-Err : goal.settle-requires-in-Err
@@ -48,14 +48,14 @@ invariant_of-self-in-Err g c =
       rw c.add_partial.ensures.entries
           (partial_next c.self.invariant.0 c.args.call c.args.to q.to q.allowed.accepted c.in-Err.made e.made c.roll.new.saves c.settle-in-Err.new.self c.roll.new.planner
           (record { inputs = e.inputs; paths = e.partial; values = e.values }) (record { inputs = c.settle-in-Err.ensures.inputs; states = c.settle-in-Err.ensures.states }) e.no_plan),
-      room_next c.roll.new.saves c.self.invariant.1 q.room c.add_partial.ensures.room c.saturating_sub-self-inside-in-Err.ensures (omega (arith, ap (λ (i : Inputs). i.frame) e.inputs)) e.room c.settle-in-Err.ensures.inputs c.settle-in-Err.ensures.room,
+      room_next c.roll.new.saves c.self.invariant.1 q.room c.add_partial.ensures.room c.spend-in-Err.ensures.promised c.spend-in-Err.ensures.there (omega (arith, ap (λ (i : Inputs). i.frame) e.inputs)) e.room c.settle-in-Err.ensures.inputs c.settle-in-Err.ensures.room,
     )
 
 pub returns-in-Ok-clause-entered : goal.returns-in-Ok-clause-entered
 returns-in-Ok-clause-entered g c =
     let q = rw (← c.self.view_is) at c.requires in
     let counts = c.in-Ok.ensures.counts ∙ counts_are c.self.invariant.0 c.args.call c.args.to q.to _ in
-    rw (← c.self.view_is) (rw (c.add_call.ensures.entries, c.saturating_sub-self-inside.ensures, counts) refl)
+    rw (← c.self.view_is) (rw (c.add_call.ensures.entries, c.spend.ensures.promised, counts) refl)
 
 pub returns-in-Err-clause-cut : goal.returns-in-Err-clause-cut
 returns-in-Err-clause-cut g c =
@@ -63,6 +63,6 @@ returns-in-Err-clause-cut g c =
     rw (← c.self.view_is) (record {
       made = c.in-Err.made;
       few = few_made c.self.invariant.0 c.args.call c.args.to q.to q.allowed.accepted c.in-Err.made c.in-Err.ensures.made;
-      seen = rw (c.add_partial.ensures.entries, c.saturating_sub-self-inside-in-Err.ensures) refl;
+      seen = rw (c.add_partial.ensures.entries, c.spend-in-Err.ensures.promised) refl;
       counts = c.in-Err.ensures.refused;
     })

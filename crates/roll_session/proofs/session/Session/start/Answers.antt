@@ -9,5 +9,5 @@ invariant_of-result g c =
       rw (c.new-4.ensures, c.in-Ok-new.ensures)
           (session_first g.G.RawGame.state_value g.G.RawGame.snapshot_value g.G.Game.step (g.G.RawGame.snapshot_value c.args.opening) c.args.settings c.in-Ok-new-2.saves c.in-Ok-load.state c.in-Ok-new-2.saves.tree.root c.in-Ok-copy.first
           c.in-Ok.ensures.accepted started c.in-Ok-new-2.ensures.alone c.in-Ok-copy.ensures.value c.in-Ok-load.ensures.value),
-      record { entries = omega arith; rows = omega (arith, ap (λ (i : Inputs). i.frame) started) },
+      record { promised = omega arith; entries = omega arith; rows = omega (arith, ap (λ (i : Inputs). i.frame) started) },
     )

@@ -42,7 +42,7 @@ invariant_of-self g c =
       rw (c.add_graft.ensures.entries, c.into_parts-ticket.ensures.ticket, c.into_parts-ticket.ensures.route)
           (grafted_session c.self.invariant.0 c.args.branch fine c.into_parts-ticket.result.states.items c.hang_new-added.new.saves c.settle.new.self
           (record { are = c.into_parts-ticket.ensures.states; inputs = e.inputs; paths = e.paths; values = e.values }) c.settle.ensures.inputs c.settle.ensures.states),
-      room_next c.hang_new-added.new.saves c.self.invariant.1 (rw (← c.self.view_is) at c.requires.room) c.add_graft.ensures.room c.saturating_sub-self-inside.ensures (omega (arith, ap (λ (i : Inputs). i.frame) e.inputs)) e.room c.settle.ensures.inputs c.settle.ensures.room,
+      room_next c.hang_new-added.new.saves c.self.invariant.1 (rw (← c.self.view_is) at c.requires.room) c.add_graft.ensures.room c.spend.ensures.promised c.spend.ensures.there (omega (arith, ap (λ (i : Inputs). i.frame) e.inputs)) e.room c.settle.ensures.inputs c.settle.ensures.room,
     )
 
 pub returns-clause-added : goal.returns-clause-added

@@ -14,5 +14,5 @@ invariant_of-self g c =
     let e = c.take.ensures in
     let between = taken c.self.invariant.0 c.args.call q.input q.allowed.accepted c.take.new.self c.laws.ensures.stays c.laws.ensures.ahead e.inputs e.states e.rows in (
       rw c.add_call.ensures.entries (taken_session c.self.invariant.0 c.args.call q.input q.allowed.new q.allowed.accepted c.take.new.self c.settle.new.self between (record { inputs = c.settle.ensures.inputs; states = c.settle.ensures.states })),
-      room_next c.take.new.self c.self.invariant.1 q.room c.add_call.ensures.room c.saturating_sub-self-inside.ensures (rw e.inputs (taken_frame c.self.inside.saves.inputs (entry_of c.args.call))) e.room c.settle.ensures.inputs c.settle.ensures.room,
+      room_next c.take.new.self c.self.invariant.1 q.room c.add_call.ensures.room c.spend.ensures.promised c.spend.ensures.there (rw e.inputs (taken_frame c.self.inside.saves.inputs (entry_of c.args.call))) e.room c.settle.ensures.inputs c.settle.ensures.room,
     )
