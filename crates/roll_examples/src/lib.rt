@@ -6,5 +6,7 @@ mod sessions;
 mod streams;
 
 pub use scripts::{AHEAD, AHEAD_ANSWER, FIVE, LATE, LATE_LIVE, LATE_OUTPUT, ROWS, ROWS_OUTPUT};
-pub use sessions::{ALONE, LATE_CALLS, TWO, add, counts, open, path, played, queue, row};
+pub use sessions::{
+    ALONE, LATE_CALLS, TURNS, TWO, add, counts, open, path, played, queue, row, tallies,
+};
 pub use streams::{FakeReader, FakeWriter};

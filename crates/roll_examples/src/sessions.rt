@@ -119,3 +119,15 @@ pub fn add(
     }
     Some(tree.insert(parent, row, snapshot))
 }
+
+/// How often a test looks for what another thread does.
+pub const TURNS: u32 = 10_000_000;
+
+/// So many games.
+pub fn tallies(alloc: Global, count: usize) -> Result<Vec<Tally>, AllocError> {
+    let mut games = Vec::with_capacity(alloc, count)?;
+    for _ in 0..count {
+        games.push(Tally::new())?;
+    }
+    Ok(games)
+}

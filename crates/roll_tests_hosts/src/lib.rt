@@ -1,14 +1,10 @@
-//! Tests of hosts, links, workers and spectators: of what runs on several threads, and of branches.
+//! Tests of branches, workers and hosts.
 #![tactic(auto)]
 
 #[cfg(test)]
 mod branch;
 #[cfg(test)]
 mod host_branches;
-#[cfg(test)]
-mod host_guesses;
-#[cfg(test)]
-mod host_links;
 #[cfg(test)]
 mod host_workers;
 #[cfg(test)]
@@ -17,7 +13,3 @@ mod laws;
 mod main_loop;
 #[cfg(test)]
 mod pool;
-#[cfg(test)]
-mod serial;
-#[cfg(test)]
-mod spectator;

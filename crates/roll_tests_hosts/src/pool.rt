@@ -3,7 +3,7 @@ ghost use Rattle.std.specs.Prelude.{◌≡◌};
 
 use arrayvec::ArrayVec;
 use roll_branch::{Done, Job};
-use roll_examples::path;
+use roll_examples::{TURNS, path, tallies};
 use roll_frame::{Boxed, Cell, Refusal, Route, Row};
 use roll_game::{Call, Game, Refusing, Tally};
 use roll_pool::{Gate, OpenGate, Owner, Worked, WorkerEnd, start_all};
@@ -16,9 +16,6 @@ use std::time::{Clock, Duration};
 
 /// How long a test leaves workers without news, so that they sleep: in milliseconds.
 const REST: u64 = 20;
-
-/// How often a test looks for what another thread does.
-pub const TURNS: u32 = 10_000_000;
 
 /// The job of a row, from a state at frame 0.
 fn job<G: Game>(alloc: Global, from: G::Snapshot) -> Result<Job<G>, AllocError> {
@@ -55,15 +52,6 @@ fn two_workers(
         panic!(rt; "not two ends");
     };
     Ok((owner, first, second))
-}
-
-/// So many games.
-pub fn tallies(alloc: Global, count: usize) -> Result<Vec<Tally>, AllocError> {
-    let mut games = Vec::with_capacity(alloc, count)?;
-    for _ in 0..count {
-        games.push(Tally::new())?;
-    }
-    Ok(games)
 }
 
 /// Issues so many jobs.

@@ -2,11 +2,10 @@
 ghost use Rattle.std.specs.Prelude.{◌≡◌, IfOk, IfSome, Some, slice_get};
 ghost use Rattle.roll_host.specs.Hosted.{rings_of};
 
-use crate::pool::TURNS;
 use crate::serial::{Serial, word};
 use rand_core::utils::NextWord;
 use rand_pcg::Pcg32;
-use roll_examples::{TWO, open, row};
+use roll_examples::{TURNS, TWO, open, row};
 use roll_frame::{Profile, Refusal, Settings};
 use roll_game::Tally;
 use roll_host::{Host, Pumped};

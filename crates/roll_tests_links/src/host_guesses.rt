@@ -2,11 +2,10 @@
 ghost use Rattle.std.specs.Prelude.{◌≡◌, IfOk};
 ghost use Rattle.roll_host.specs.Hosted.{places_of};
 
-use crate::pool::{TURNS, tallies};
 use crate::serial::{Serial, WORDS, word};
 use rand_core::utils::NextWord;
 use rand_pcg::Pcg32;
-use roll_examples::{TWO, open};
+use roll_examples::{TURNS, TWO, open, tallies};
 use roll_frame::Refusal;
 use roll_game::Tally;
 use roll_host::Host;

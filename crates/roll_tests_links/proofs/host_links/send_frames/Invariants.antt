@@ -1,5 +1,5 @@
 use Rattle.std.proofs.Common.{◌≡◌}
-use Rattle.roll_tests_hosts.proofs.host_links.send_frames.Given as goal
+use Rattle.roll_tests_links.proofs.host_links.send_frames.Given as goal
 
 abbrev pub invariant-loop-frame : goal.invariant-loop-frame
 invariant-loop-frame l = l.sender.ring ≡ l.initial.sender.ring

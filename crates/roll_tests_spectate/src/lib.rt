@@ -1,0 +1,5 @@
+//! Tests of spectators.
+#![tactic(auto)]
+
+#[cfg(test)]
+mod spectator;
