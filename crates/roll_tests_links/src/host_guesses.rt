@@ -10,10 +10,13 @@ use roll_frame::Refusal;
 use roll_game::Tally;
 use roll_host::Host;
 use roll_link::{LinkSender, Remote};
-use roll_pool::{Owner, start_all};
+use roll_pool::{Crew, Owner, start_all};
+use std::alloc::AllocGlobal;
 use std::process::Abort;
+use std::sync::Wait;
 use std::test::Fail;
 use std::thread;
+use std::thread::Threads;
 
 const FRAMES: u32 = 10_000;
 
@@ -174,17 +177,27 @@ fn play_linked(rt: &impl Abort, host: &mut Host<Tally>) -> Result<Guesses, Refus
     play_all(rt, host, &mut network)
 }
 
-#[test]
-fn shows_the_serial_run_whatever_was_guessed(rt: HostRuntime) -> Result<(), Fail> {
+/// A host of two players, and its four workers, who run.
+fn with_crew<R>(rt: R) -> Result<(Host<Tally>, Crew<Tally>), Refusal>
+where
+    R: Abort + AllocGlobal + Threads + Wait + Copy + Send + 'static,
+    ensures { IfOk result (λ both. both.1 ≡ places_of both.0.pool) }
+{
     let alloc = rt.alloc();
     let session = open(alloc, Tally::new(), Tally::opening(), TWO)?;
     let (owner, ends) = Owner::open(alloc, 4)?;
     let games = tallies(alloc, ends.len())?;
-    assert!(rt; games.len() == ends.len());
+    assert!(&rt; games.len() == ends.len());
     let crew = start_all(rt, alloc, &owner, ends, games)?;
-    let Ok(mut host) = Host::with_workers(alloc, session, owner) else {
+    let Ok(host) = Host::with_workers(alloc, session, owner) else {
         panic!(&rt; "no memory");
     };
+    Ok((host, crew))
+}
+
+#[test]
+fn shows_the_serial_run_whatever_was_guessed(rt: HostRuntime) -> Result<(), Fail> {
+    let (mut host, crew) = with_crew(rt)?;
     let played = play_linked(&rt, &mut host);
     host.close();
     let (ends, _games) = crew.join(&rt);

@@ -4,10 +4,11 @@ use roll_frame::{Refusal, Settings};
 use roll_game::{Call, Refusing, Tally};
 use roll_session::{Reached, Request, Session};
 use roll_spectate::{Feed, RING_ROWS, RowReceiver, SPECTATOR_LIMIT, Spectator};
-use std::alloc::Global;
+use std::alloc::{AllocGlobal, Global};
 use std::ops::Range;
 use std::process::Abort;
 use std::test::Fail;
+use std::thread::{JoinHandle, Threads};
 use std::time::{Clock, Duration, Instant};
 use std::{io, thread};
 
@@ -255,8 +256,11 @@ fn starts_again_where_the_load_was_refused(rt: HostRuntime) -> Result<(), Refusa
     Ok(())
 }
 
+/// The frame and the state that a spectator reached.
+type Seen = (u32, Option<u32>);
+
 /// Steps a spectator of such frames until it is at this one, and answers the frame and the state that it reached.
-fn follow(receiver: RowReceiver, to: u32) -> (u32, Option<u32>) {
+fn follow(receiver: RowReceiver, to: u32) -> Seen {
     let Ok(mut spectator) = watch(receiver) else {
         return (0, None);
     };
@@ -298,17 +302,36 @@ fn send_all(
     Ok(sent)
 }
 
+/// Follows such frames on a thread of its own.
+fn follow_apart(
+    rt: &impl Threads,
+    receiver: RowReceiver,
+    to: u32,
+) -> Result<JoinHandle<Seen>, Fail> {
+    Ok(thread::spawn(rt, move || follow(receiver, to))?)
+}
+
+/// Sends frames to two spectators on threads of their own. Answers how many rows were sent, and where both are at the end.
+fn send_to_threads(
+    rt: &(impl Threads + AllocGlobal),
+    session: &mut Session<Tally>,
+    frames: u32,
+) -> Result<(u32, Seen, Seen), Fail> {
+    let mut feed = Feed::new(rt.alloc())?;
+    let first = follow_apart(rt, feed.add()?, frames)?;
+    let second = follow_apart(rt, feed.add()?, frames)?;
+    let sent = send_all(&mut feed, session, frames, frames.saturating_mul(2))?;
+    Ok((sent, first.join(rt), second.join(rt)))
+}
+
 #[test]
 fn follows_on_threads(rt: HostRuntime) -> Result<(), Fail> {
     let mut session = open(rt.alloc(), Tally::new(), Tally::opening(), ALONE)?;
-    let mut feed = Feed::new(rt.alloc())?;
-    let (near, far) = (feed.add()?, feed.add()?);
-    let first = thread::spawn(&rt, move || follow(near, 1_000))?;
-    let second = thread::spawn(&rt, move || follow(far, 1_000))?;
-    assert_eq!(rt; send_all(&mut feed, &mut session, 1_000, 2_000)?, 2_000);
+    let (sent, first, second) = send_to_threads(&rt, &mut session, 1_000)?;
     let expected = (1_000, Some(before(1_000)));
-    assert_eq!(rt; first.join(&rt), expected);
-    assert_eq!(rt; second.join(&rt), expected);
+    assert_eq!(rt; sent, 2_000);
+    assert_eq!(rt; first, expected);
+    assert_eq!(rt; second, expected);
     assert_eq!(rt; *session.settled_state(), before(1_000));
     Ok(())
 }
