@@ -229,25 +229,37 @@ fn takes_in_nothing_of_a_wrong_guess(rt: HostRuntime) -> Result<(), Fail> {
     Ok(())
 }
 
-#[test]
-fn takes_in_no_more_than_240_states(rt: HostRuntime) -> Result<(), Fail> {
-    let mut both = Both::new(&rt, &[])?;
+/// Fills the tree with branches, until one finds no place.
+fn fill(rt: &(impl Abort + AllocGlobal), both: &mut Both) -> Result<(), Fail> {
     for word in 1..30 {
-        both.make(&rt, Step::Guess { word, until: 8 })?;
-        both.make(&rt, Step::Take(Ok(8)))?;
+        both.make(rt, Step::Guess { word, until: 8 })?;
+        both.make(rt, Step::Take(Ok(8)))?;
     }
-    both.make(&rt, Step::Guess { word: 30, until: 7 })?;
-    both.make(&rt, Step::Take(Ok(7)))?;
-    both.make(&rt, Step::Guess { word: 31, until: 1 })?;
-    both.make(&rt, Step::Take(Err(Refusal::TreeFull)))?;
+    both.make(rt, Step::Guess { word: 30, until: 7 })?;
+    both.make(rt, Step::Take(Ok(7)))?;
+    both.make(rt, Step::Guess { word: 31, until: 1 })?;
+    both.make(rt, Step::Take(Err(Refusal::TreeFull)))?;
     assert_eq!(rt; both.host.session().kept(rt.alloc())?.len(), 240);
-    both.host.add_local_input(1, 0)?;
+    Ok(())
+}
+
+/// Plays the first frame of a host.
+fn advance(rt: &impl Abort, host: &mut Host<Tally>) -> Result<(), Refusal> {
+    host.add_local_input(1, 0)?;
     let reached = Reached {
         frame: 1,
         from: 0,
         rerun: 1,
     };
-    assert_eq!(rt; both.host.advance_frame(), Ok(reached));
-    assert_eq!(rt; both.host.session().current().copied(), Some(0));
+    assert_eq!(rt; host.advance_frame(), Ok(reached));
+    assert_eq!(rt; host.session().current().copied(), Some(0));
+    Ok(())
+}
+
+#[test]
+fn takes_in_no_more_than_240_states(rt: HostRuntime) -> Result<(), Fail> {
+    let mut both = Both::new(&rt, &[])?;
+    fill(&rt, &mut both)?;
+    advance(&rt, &mut both.host)?;
     Ok(())
 }

@@ -11,11 +11,12 @@ use roll_game::Tally;
 use roll_host::{Host, Pumped};
 use roll_link::{Finished, LinkSender, Remote, SendFault};
 use roll_session::{Call, Logged};
+use std::alloc::AllocGlobal;
 use std::process::Abort;
 use std::snapshot::Snapshot;
 use std::test::Fail;
 use std::thread;
-use std::thread::Promise;
+use std::thread::{JoinHandle, Promise, PromisedHandle, Threads};
 
 /// A host of a new match.
 fn hosted(rt: &(impl Abort + AllocGlobal), settings: Settings) -> Result<Host<Tally>, Fail> {
@@ -130,16 +131,27 @@ fn pump_until(host: &mut Host<Tally>, count: u32) -> u32
     seen
 }
 
-#[test]
-fn applies_what_another_thread_sends(rt: HostRuntime) -> Result<(), Fail> {
-    let (mut host, sender) = linked(&rt)?;
+/// Sends three words on a thread of its own, and finishes.
+fn send_three(
+    rt: &impl Threads,
+    sender: LinkSender,
+) -> Result<PromisedHandle<Option<Finished>, OfLink>, Fail>
+    ensures { IfOk result (λ handle. handle.promise.0.value ≡ sender) }
+{
     let handle = thread::spawn_with(
-        &rt,
+        rt,
         OfLink(Snapshot::of(&sender)),
         move || -> Option<Finished>
             ensures { IfSome result (λ finished. finished.ring ≡ sender.ring) }
         { send_all(sender, &THREE) },
     )?;
+    Ok(handle)
+}
+
+#[test]
+fn applies_what_another_thread_sends(rt: HostRuntime) -> Result<(), Fail> {
+    let (mut host, sender) = linked(&rt)?;
+    let handle = send_three(&rt, sender)?;
     assert!(rt; pump_until(&mut host, 1) >= 1);
     let Some(finished) = handle.join(&rt) else {
         panic!(&rt; "not all were sent");
@@ -399,19 +411,38 @@ fn play_all(
     Ok((came, refused))
 }
 
-#[test]
-fn plays_what_four_threads_send(rt: HostRuntime) -> Result<(), Fail> {
-    let mut host = hosted(&rt, FIVE)?;
+/// Sends a player's words on a thread of its own.
+fn send_apart(rt: &impl Threads, sender: LinkSender, player: u8) -> Result<JoinHandle<u32>, Fail> {
+    Ok(thread::spawn(rt, move || send_at_random(sender, player))?)
+}
+
+/// Starts a thread for each of the players 2 to 5, each with a link of its own.
+fn start_senders(
+    rt: &(impl Threads + AllocGlobal),
+    host: &mut Host<Tally>,
+) -> Result<Vec<JoinHandle<u32>>, Fail> {
     let mut handles = Vec::with_capacity(rt.alloc(), 4)?;
     for player in 2..6 {
         let sender = host.add_link()?;
-        handles.push(thread::spawn(&rt, move || send_at_random(sender, player))?)?;
+        handles.push(send_apart(rt, sender, player)?)?;
     }
+    Ok(handles)
+}
+
+/// Looks that each thread has sent all its words.
+fn join_all(rt: &(impl Threads + Abort), handles: Vec<JoinHandle<u32>>) {
+    for handle in handles {
+        assert_eq!(rt; handle.join(rt), EACH);
+    }
+}
+
+#[test]
+fn plays_what_four_threads_send(rt: HostRuntime) -> Result<(), Fail> {
+    let mut host = hosted(&rt, FIVE)?;
+    let handles = start_senders(&rt, &mut host)?;
     let mut serial = Serial::new(5);
     let (came, refused) = play_all(&rt, &mut host, &mut serial)?;
-    for handle in handles {
-        assert_eq!(rt; handle.join(&rt), EACH);
-    }
+    join_all(&rt, handles);
     assert!(rt; came == 4 * EACH && refused == 0);
     for player in 1..6 {
         assert_eq!(rt; serial.count(player), EACH);

@@ -136,19 +136,30 @@ fn is_full(rt: &impl Abort, feed: &mut Feed) {
     }
 }
 
+/// Looks that each spectator gets the rows of two frames, and no other.
+fn get_two(rt: &impl Abort, spectators: &mut [Spectator<Tally>]) {
+    for spectator in spectators.iter_mut() {
+        steps(rt, spectator, 0, 2);
+        assert_eq!(rt; spectator.step(), NO_ROW);
+    }
+}
+
+/// Plays two frames and sends them to all spectators of a full feed.
+fn send_two(rt: &impl Abort, session: &mut Session<Tally>, feed: &mut Feed) -> Result<(), Refusal> {
+    is_full(rt, feed);
+    play(session, 2)?;
+    assert_eq!(rt; feed.push(session), 64);
+    is_full(rt, feed);
+    assert_eq!(rt; feed.push(session), 0);
+    Ok(())
+}
+
 #[test]
 fn has_thirty_two_spectators(rt: HostRuntime) -> Result<(), Refusal> {
     let mut session = open(rt.alloc(), Tally::new(), Tally::opening(), ALONE)?;
     let (mut feed, mut spectators) = full(rt.alloc())?;
-    is_full(&rt, &mut feed);
-    play(&mut session, 2)?;
-    assert_eq!(rt; feed.push(&session), 64);
-    is_full(&rt, &mut feed);
-    assert_eq!(rt; feed.push(&session), 0);
-    for spectator in spectators.iter_mut() {
-        steps(&rt, spectator, 0, 2);
-        assert_eq!(rt; spectator.step(), NO_ROW);
-    }
+    send_two(&rt, &mut session, &mut feed)?;
+    get_two(&rt, &mut spectators);
     spectators.clear();
     is_full(&rt, &mut feed);
     Ok(())
@@ -215,21 +226,26 @@ fn refusing(alloc: Global, k: u64) -> Result<Spectator<Refusing<Tally>>, Refusal
     }
 }
 
+/// Steps a spectator whose game refuses the advance from this frame.
+fn stops(rt: &impl Abort, spectator: &mut Spectator<Refusing<Tally>>, refused: u32) {
+    for frame in 0..refused {
+        assert_eq!(rt; spectator.step(), Ok(frame.saturating_add(1)));
+    }
+    assert_eq!(rt; spectator.state().copied(), Some(before(refused)));
+    assert_eq!(rt; spectator.step(), Err(Refusal::NoMemory));
+    for _ in 0..3 {
+        assert_eq!(rt; spectator.step(), Err(Refusal::Stopped));
+        assert!(rt; spectator.state().is_none());
+    }
+    let asked = u64::from(refused).saturating_add(1);
+    assert_eq!(rt; counts(spectator.game()), (asked, 1));
+}
+
 #[test]
 fn stops_at_a_refused_advance(rt: HostRuntime) -> Result<(), Refusal> {
     for refused in 0..3 {
         let mut spectator = refusing(rt.alloc(), u64::from(refused) + 1)?;
-        for frame in 0..refused {
-            assert_eq!(rt; spectator.step(), Ok(frame + 1));
-        }
-        assert_eq!(rt; spectator.state().copied(), Some(before(refused)));
-        assert_eq!(rt; spectator.step(), Err(Refusal::NoMemory));
-        for _ in 0..3 {
-            assert_eq!(rt; spectator.step(), Err(Refusal::Stopped));
-            assert!(rt; spectator.state().is_none());
-        }
-        let asked = u64::from(refused) + 1;
-        assert_eq!(rt; counts(spectator.game()), (asked, 1));
+        stops(&rt, &mut spectator, refused);
     }
     Ok(())
 }
