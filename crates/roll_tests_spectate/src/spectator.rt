@@ -78,12 +78,8 @@ fn sees_the_row_that_came_late(rt: HostRuntime) -> Result<(), Refusal> {
     Ok(())
 }
 
-#[test]
-fn sees_the_same_at_the_other_peer(rt: HostRuntime) -> Result<(), Refusal> {
-    let second = Settings { local: 2, ..TWO };
-    let mut session = open(rt.alloc(), Tally::new(), Tally::opening(), second)?;
-    let mut feed = Feed::new(rt.alloc())?;
-    let mut spectator = watch(feed.add()?)?;
+/// Plays the first frame of the peer whose own player is the second, and sends its row.
+fn play_one(rt: &impl Abort, session: &mut Session<Tally>, feed: &mut Feed) -> Result<(), Refusal> {
     session.remote_input(1, 0, 1)?;
     session.add_local_input(2, 3)?;
     let reached = Reached {
@@ -92,12 +88,27 @@ fn sees_the_same_at_the_other_peer(rt: HostRuntime) -> Result<(), Refusal> {
         rerun: 1,
     };
     assert_eq!(rt; session.advance_frame(), Ok(reached));
-    assert_eq!(rt; feed.push(&session), 1);
+    assert_eq!(rt; feed.push(session), 1);
+    Ok(())
+}
+
+/// Looks that a session and its spectator show the state 7 after the first frame.
+fn show_seven(rt: &impl Abort, session: &Session<Tally>, spectator: &mut Spectator<Tally>) {
     assert_eq!(rt; spectator.step(), Ok(1));
     assert_eq!(rt; spectator.state().copied(), Some(7));
     assert_eq!(rt; session.current().copied(), Some(7));
     assert_eq!(rt; session.settled(), 1);
     assert_eq!(rt; *session.settled_state(), 7);
+}
+
+#[test]
+fn sees_the_same_at_the_other_peer(rt: HostRuntime) -> Result<(), Refusal> {
+    let second = Settings { local: 2, ..TWO };
+    let mut session = open(rt.alloc(), Tally::new(), Tally::opening(), second)?;
+    let mut feed = Feed::new(rt.alloc())?;
+    let mut spectator = watch(feed.add()?)?;
+    play_one(&rt, &mut session, &mut feed)?;
+    show_seven(&rt, &session, &mut spectator);
     Ok(())
 }
 
@@ -188,27 +199,48 @@ fn sends(
     Ok(sent)
 }
 
+/// Sends 100 frames to a quick spectator and to a slow one, and the first of them to one who goes after 20.
+fn send_a_hundred(
+    rt: &impl Abort,
+    session: &mut Session<Tally>,
+    feed: &mut Feed,
+    quick: &mut Spectator<Tally>,
+    slow: &mut Spectator<Tally>,
+    mut gone: Spectator<Tally>,
+) -> Result<(), Refusal> {
+    let first = sends(rt, session, feed, quick, slow, 0..30)?;
+    assert_eq!(rt; first, 90);
+    steps(rt, &mut gone, 0, 20);
+    drop(gone);
+    // The one who is gone had taken 20 of its 30 rows: its ring has places up to the 84th. The slow one had taken 33 rows at
+    // the last push, so that it was sent 97.
+    let second = sends(rt, session, feed, quick, slow, 30..100)?;
+    assert_eq!(rt; second, 54 + 70 + 67);
+    Ok(())
+}
+
+/// The slow spectator takes what is left of a hundred frames.
+fn catch_up(
+    rt: &impl Abort,
+    session: &Session<Tally>,
+    feed: &mut Feed,
+    slow: &mut Spectator<Tally>,
+) {
+    steps(rt, slow, 34, 97);
+    assert_eq!(rt; slow.step(), NO_ROW);
+    assert_eq!(rt; feed.push(session), 3);
+    steps(rt, slow, 97, 100);
+}
+
 #[test]
 fn sends_to_each_at_its_pace(rt: HostRuntime) -> Result<(), Refusal> {
     let mut session = open(rt.alloc(), Tally::new(), Tally::opening(), ALONE)?;
     let mut feed = Feed::new(rt.alloc())?;
-    let mut gone = Some(watch(feed.add()?)?);
+    let gone = watch(feed.add()?)?;
     let mut quick = watch(feed.add()?)?;
     let mut slow = watch(feed.add()?)?;
-    let first = sends(&rt, &mut session, &mut feed, &mut quick, &mut slow, 0..30)?;
-    assert_eq!(rt; first, 90);
-    if let Some(spectator) = &mut gone {
-        steps(&rt, spectator, 0, 20);
-    }
-    gone = None;
-    // The one who is gone had taken 20 of its 30 rows: its ring has places up to the 84th. The slow one had taken 33 rows at
-    // the last push, so that it was sent 97.
-    let second = sends(&rt, &mut session, &mut feed, &mut quick, &mut slow, 30..100)?;
-    assert_eq!(rt; second, 54 + 70 + 67);
-    steps(&rt, &mut slow, 34, 97);
-    assert_eq!(rt; slow.step(), NO_ROW);
-    assert_eq!(rt; feed.push(&session), 3);
-    steps(&rt, &mut slow, 97, 100);
+    send_a_hundred(&rt, &mut session, &mut feed, &mut quick, &mut slow, gone)?;
+    catch_up(&rt, &session, &mut feed, &mut slow);
     Ok(())
 }
 
