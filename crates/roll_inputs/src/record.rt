@@ -1,5 +1,5 @@
 //! The record of settled rows: four bytes for each cell, and a byte for each row.
-ghost use Rattle.std.specs.Prelude.{◌≡◌, ◌+◌, ◌*◌, ◌^◌, ◌<◌, ◌≤◌, ◌++◌, ◌∷◌, [], OnOk, Some, length, map, slice_get, slice_index_or, vec_capacity};
+ghost use Rattle.std.specs.Prelude.{◌≡◌, ◌+◌, ◌<◌, ◌≤◌, ◌++◌, ◌∷◌, [], OnOk, Some, length, slice_get, slice_index_or, vec_capacity};
 ghost use Rattle.roll_frame.specs.Claims.{AreRowsOf};
 ghost use Rattle.roll_frame.specs.declared.limits.TheConstants.{PLAYER_LIMIT};
 

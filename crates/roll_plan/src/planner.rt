@@ -1,8 +1,8 @@
 //! The planner.
-ghost use Rattle.std.specs.Prelude.{◌≡◌, ◌==◌, ◌≤◌, ◌<◌, ◌+◌, None, Some, IfOk, IfErr, IfSome, IsSome, OnOk, All, is_none, length, map, option_map, position, vec_capacity, false, if◌then◌else◌};
+ghost use Rattle.std.specs.Prelude.{◌≡◌, ◌==◌, ◌≤◌, ◌<◌, ◌+◌, None, Some, IfOk, IfErr, IfSome, OnOk, All, is_none, length, map, position, vec_capacity, false, if◌then◌else◌};
 ghost use Rattle.roll_frame.specs.Claims.{IsRight};
 ghost use Rattle.roll_frame.specs.Order.{in_order};
-ghost use Rattle.roll_tree.specs.SavedStates.{state_named, path_of, paths_of as kept_paths, time_to};
+ghost use Rattle.roll_tree.specs.SavedStates.{path_of, paths_of as kept_paths, time_to};
 ghost use Rattle.roll_plan.specs.Ranks.{IsKept, entries_by, entry_by_marks, marked_for, path_named};
 ghost use Rattle.roll_plan.specs.Spelled.{path_before, path_in, spelled};
 ghost use Rattle.roll_plan.specs.Plans.{CanPlan, IsClaimOf, IsPlanOf, made_of};

@@ -1,5 +1,5 @@
 //! The session.
-ghost use Rattle.std.specs.Prelude.{◌≡◌, ℕ, ◌≤◌, ◌<◌, ◌+◌, ◌-◌, ◌∷◌, [], ◌++◌, length, true, false, map, max, vec_capacity, vec_len, nat_lt, IfOk, OnOk, IfErr, OnErr, IfSome, IsSome, is_none, unwrap_or, option_and_then, option_copied, None, Some, if◌then◌else◌};
+ghost use Rattle.std.specs.Prelude.{◌≡◌, ℕ, ◌≤◌, ◌<◌, ◌+◌, ◌-◌, ◌∷◌, [], length, true, false, map, max, nat_lt, IfOk, OnOk, IfErr, OnErr, IfSome, IsSome, is_none, unwrap_or, option_and_then, option_copied, None, Some, if◌then◌else◌};
 ghost use Rattle.std.specs.Option.{option_map};
 ghost use Rattle.roll_frame.specs.Claims.{claim_of, path_from, IsRight};
 ghost use Rattle.roll_frame.specs.Core.{depth, kept as kept_of, settled as settled_frame};

@@ -1,5 +1,5 @@
 //! Spectators: each is sent every settled row once and in order, at whatever pace it takes them, on any thread.
-use roll_examples::{ALONE, LATE_CALLS, TWO, counts, open};
+use roll_examples::{ALONE, LATE_CALLS, TURNS, TWO, counts, open};
 use roll_frame::{Refusal, Settings};
 use roll_game::{Call, Refusing, Tally};
 use roll_session::{Reached, Request, Session};
@@ -313,7 +313,7 @@ fn follow(receiver: RowReceiver, to: u32) -> Seen {
         return (0, None);
     };
     let mut reached = 0;
-    for _ in 0..MOST_TURNS {
+    for _ in 0..TURNS {
         if reached == to {
             break;
         }
@@ -324,9 +324,6 @@ fn follow(receiver: RowReceiver, to: u32) -> Seen {
     }
     (reached, spectator.state().copied())
 }
-
-/// So often a thread looks for a row, or for a place, before a test gives up.
-const MOST_TURNS: u32 = 10_000_000;
 
 /// Plays so many frames and sends each at once, and then what found no place. Answers how many rows were sent.
 fn send_all(
@@ -340,7 +337,7 @@ fn send_all(
         play(session, 1)?;
         sent = sent.saturating_add(feed.push(session));
     }
-    for _ in 0..MOST_TURNS {
+    for _ in 0..TURNS {
         if sent == all {
             break;
         }
