@@ -26,6 +26,10 @@ use std::error::Error;
 use std::fmt::{self, Display, Formatter};
 use std::io::{Read, Write};
 
+/// Room is taken at first for replies so many times as long as the commands: where frames are played without guesses, they
+/// are four times as long.
+const REPLIES: usize = 5;
+
 /// Why a text was not played or certified to its end.
 #[derive(Clone, Copy, Debug, PartialEq, Eq)]
 pub enum PlayFault {
@@ -200,7 +204,7 @@ fn write_played<G: Shown + Drop, W: Write>(
         × AppendsPart (W.contents writer.old) (W.contents writer.new) whole }
     ensures fault { IfErr result (λ fault. (fault ≡ CannotWrite) ⊎ ((fault ≡ NoMemory) × (writer.new ≡ writer.old))) }
 {
-    let mut out = Vec::new(alloc);
+    let mut out = Vec::with_capacity(alloc, commands.len().saturating_mul(REPLIES))?;
     let settings = header.settings();
     let refused = push_output(alloc, &mut out, settings, commands, game, opening, helper)?;
     write_all(writer, &out)?;

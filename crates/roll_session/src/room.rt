@@ -20,6 +20,7 @@ pub struct Room {
 
 impl Room {
     /// Makes room for so many events more, unless it is there.
+    #[inline(always)]
     pub fn promise<S>(
         &mut self,
         log: &mut Log,

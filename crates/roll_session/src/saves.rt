@@ -175,6 +175,7 @@ impl<S> Saves<S> {
     }
 
     /// Settles what can be: the rows to the deepest saved state on the confirmed timeline, up to the frame.
+    #[inline(always)]
     pub fn settle(&mut self)
     where
         S: Drop,

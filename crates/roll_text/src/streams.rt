@@ -42,14 +42,15 @@ impl From<AllocError> for ReadFault {
 #[error("cannot write")]
 pub struct WriteFault;
 
-/// All that a reader has, but at most one byte over the limit.
+/// All that a reader has, but at most one byte over the limit. Room for that is taken at once, and not touched before it is
+/// needed.
 fn read_front<R: Read>(alloc: Global, reader: &mut R) -> Result<Vec<u8>, ReadFault>
     ensures taken { IfOk result (λ text. Consumes (R.remaining reader.old) (R.remaining reader.new) text.items) }
     ensures bounded { IfOk result (λ text. length text.items ≤ TEXT_LIMIT + 1) }
     ensures end { IfOk result (λ text. length text.items ≤ TEXT_LIMIT → IsAtEnd (R.remaining reader.new)) }
     ensures err { IfErr result (λ fault. LosesAt fault (R.remaining reader.old) (R.remaining reader.new)) }
 {
-    let mut text = Vec::new(alloc);
+    let mut text = Vec::with_capacity(alloc, TEXT_LIMIT + 1)?;
     let mut buffer = [0; PIECE];
     while text.len() <= TEXT_LIMIT {
         let room = PIECE.min(TEXT_LIMIT + 1 - text.len());

@@ -13,7 +13,7 @@ returns-in_err-write_all-clause-cut g c = λ failed.
       record {
         commands = h.0;
         are = h.1;
-        output_is = c.deref.ensures.value ∙ h.2 ∙ (λ i. c.new-out.ensures.items i ++ output_under g.G.Shown.text_of (c.settings-settings.ensures i) game h.0);
+        output_is = c.deref.ensures.value ∙ h.2 ∙ (λ i. c.in_ok-out.ensures.items i ++ output_under g.G.Shown.text_of (c.settings-settings.ensures i) game h.0);
         refused_is = h.3 ∙ ap (λ (s : Settings). refusals_under s game h.0) c.settings-settings.ensures;
       },
       c.in_err-write_all.ensures.err,
