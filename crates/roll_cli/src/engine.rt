@@ -269,7 +269,11 @@ fn push_output<G: Shown + Drop>(
     ensures fault { IfErr result (λ fault. fault ≡ NoMemory) }
 {
     match Session::start(alloc, game, opening, settings) {
-        Ok(session) => Playing::new(alloc, session, helper).play_all(alloc, out, commands),
+        Ok(session) => {
+            let mut playing = Playing::new(alloc, session, helper);
+            playing.expect(commands);
+            playing.play_all(alloc, out, commands)
+        }
         Err(fault) => push_not_started(out, fault.why),
     }
 }

@@ -22,6 +22,9 @@ use roll_session::{Call, Request, Session};
 use std::alloc::Global;
 use std::marker::Model;
 
+/// So many bytes a command's line has, about.
+const COMMAND_SIZE: usize = 6;
+
 /// A script that is being played.
 #[derive(Drop)]
 pub struct Playing<G: Game> {
@@ -50,6 +53,16 @@ impl<G: Shown> Playing<G> {
             session,
             helper,
             jobs: Vec::new(alloc),
+        }
+    }
+
+    /// Makes room at once for the events that so long a text of commands asks for, about. Where it is refused, room is made
+    /// as they come.
+    pub fn expect(&mut self, commands: &[u8])
+        ensures { self.new ≡ self.old }
+    {
+        if let Ok(events) = u32::try_from(commands.len() / COMMAND_SIZE) {
+            let _ = self.session.reserve_log(events);
         }
     }
 

@@ -10,7 +10,7 @@ use Rattle.roll_cli.proofs.engine.push_output.Goals as goal
 pub returns-in-Ok-clause-written : goal.returns-in-Ok-clause-written
 returns-in-Ok-clause-written g c =
     let opening = g.G.RawGame.snapshot_value c.args.opening in let game : Game = record { opening = opening; step = g.G.Game.step } in
-    let first = c.new.ensures ∙ first_played c.in-Ok.session c.args.settings opening _ c.in-Ok.ensures.session in
+    let first = c.expect.ensures ∙ (c.new-playing.ensures ∙ first_played c.in-Ok.session c.args.settings opening _ c.in-Ok.ensures.session) in
     let whole = λ (list : List Command). ap (λ (v : Played). written_from g.G.Shown.text_of v.settings (game_of g.G.Game.step v) v.now list) first ∙ written_started g.G.Shown.text_of game list c.args.settings c.in-Ok.ensures.accepted in
     let refusals = λ (list : List Command). ap (λ (v : Played). refusals_from v.settings (game_of g.G.Game.step v) v.now list) first ∙ refusals_started game list c.args.settings c.in-Ok.ensures.accepted in
     IfOk-weaker c.play_all.result _ _ (λ refused h. (h.0, h.1, h.2 ∙ ap (λ t. c.args.out.now.items ++ t) (whole h.0), h.3 ∙ refusals h.0)) c.play_all.ensures.played
