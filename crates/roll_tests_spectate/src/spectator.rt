@@ -7,6 +7,7 @@ use roll_spectate::{Feed, RING_ROWS, RowReceiver, SPECTATOR_LIMIT, Spectator};
 use std::alloc::{AllocGlobal, Global};
 use std::ops::Range;
 use std::process::Abort;
+use std::rt::Runtime;
 use std::test::Fail;
 use std::thread::{JoinHandle, Threads};
 use std::time::{Clock, Duration, Instant};
@@ -20,6 +21,23 @@ fn watch(receiver: RowReceiver) -> Result<Spectator<Tally>, Refusal> {
         Ok(spectator) => Ok(spectator),
         Err(fault) => Err(fault.why),
     }
+}
+
+/// A session, its feed, and a spectator who was sent nothing.
+fn watched(
+    alloc: Global,
+    settings: Settings,
+) -> Result<(Session<Tally>, Feed, Spectator<Tally>), Refusal> {
+    let session = open(alloc, Tally::new(), Tally::opening(), settings)?;
+    let (feed, spectator) = fed(alloc)?;
+    Ok((session, feed, spectator))
+}
+
+/// A feed, and its spectator.
+fn fed(alloc: Global) -> Result<(Feed, Spectator<Tally>), Refusal> {
+    let mut feed = Feed::new(alloc)?;
+    let spectator = watch(feed.add()?)?;
+    Ok((feed, spectator))
 }
 
 /// Plays frames of one player, whose word in each is its number.
@@ -56,25 +74,44 @@ fn steps(rt: &impl Abort, spectator: &mut Spectator<Tally>, from: u32, to: u32) 
     }
 }
 
-#[test]
-fn sees_the_row_that_came_late(rt: HostRuntime) -> Result<(), Refusal> {
-    let mut session = open(rt.alloc(), Tally::new(), Tally::opening(), TWO)?;
-    let mut feed = Feed::new(rt.alloc())?;
-    let mut spectator = watch(feed.add()?)?;
-    assert_eq!(rt; spectator.state().copied(), Some(0));
-    // The predicted rows are sent to nobody, nor the row that is known while the frame still stands as it was predicted.
+/// Plays the calls before a late word's roll. The predicted rows are sent to nobody, nor the row that is known while the
+/// frame still stands as it was predicted.
+fn show_none(
+    rt: &impl Abort,
+    session: &mut Session<Tally>,
+    feed: &mut Feed,
+    spectator: &mut Spectator<Tally>,
+) -> Result<(), Refusal> {
     for call in &LATE_CALLS[..5] {
         session.perform(Request::Call(*call))?;
-        assert_eq!(rt; feed.push(&session), 0);
+        assert_eq!(rt; feed.push(session), 0);
         assert_eq!(rt; spectator.step(), NO_ROW);
     }
     session.synchronize_input()?;
-    assert_eq!(rt; feed.push(&session), 1);
+    Ok(())
+}
+
+/// Looks that a spectator gets the row that came late, and no other.
+fn show_late(
+    rt: &impl Abort,
+    session: &Session<Tally>,
+    feed: &mut Feed,
+    spectator: &mut Spectator<Tally>,
+) {
+    assert_eq!(rt; feed.push(session), 1);
     assert_eq!(rt; spectator.step(), Ok(1));
     assert_eq!(rt; spectator.state().copied(), Some(7));
     assert_eq!(rt; *session.settled_state(), 7);
     assert_eq!(rt; spectator.step(), NO_ROW);
     assert_eq!(rt; counts(spectator.game()), (1, 0));
+}
+
+#[test]
+fn sees_the_row_that_came_late(rt: HostRuntime) -> Result<(), Refusal> {
+    let (mut session, mut feed, mut spectator) = watched(rt.alloc(), TWO)?;
+    assert_eq!(rt; spectator.state().copied(), Some(0));
+    show_none(&rt, &mut session, &mut feed, &mut spectator)?;
+    show_late(&rt, &session, &mut feed, &mut spectator);
     Ok(())
 }
 
@@ -104,28 +141,34 @@ fn show_seven(rt: &impl Abort, session: &Session<Tally>, spectator: &mut Spectat
 #[test]
 fn sees_the_same_at_the_other_peer(rt: HostRuntime) -> Result<(), Refusal> {
     let second = Settings { local: 2, ..TWO };
-    let mut session = open(rt.alloc(), Tally::new(), Tally::opening(), second)?;
-    let mut feed = Feed::new(rt.alloc())?;
-    let mut spectator = watch(feed.add()?)?;
+    let (mut session, mut feed, mut spectator) = watched(rt.alloc(), second)?;
     play_one(&rt, &mut session, &mut feed)?;
     show_seven(&rt, &session, &mut spectator);
     Ok(())
 }
 
+/// Sends the rows of 70 frames to a spectator whose ring has 64 places.
+fn send_seventy(
+    rt: &impl Abort,
+    session: &Session<Tally>,
+    feed: &mut Feed,
+    spectator: &mut Spectator<Tally>,
+) {
+    assert_eq!(rt; feed.push(session), 64);
+    assert_eq!(rt; feed.push(session), 0);
+    steps(rt, spectator, 0, 64);
+    assert_eq!(rt; spectator.step(), NO_ROW);
+    assert_eq!(rt; feed.push(session), 6);
+    steps(rt, spectator, 64, 70);
+    assert_eq!(rt; spectator.step(), NO_ROW);
+    assert_eq!(rt; feed.push(session), 0);
+}
+
 #[test]
 fn gets_what_a_full_ring_left(rt: HostRuntime) -> Result<(), Refusal> {
-    let mut session = open(rt.alloc(), Tally::new(), Tally::opening(), ALONE)?;
+    let (mut session, mut feed, mut spectator) = watched(rt.alloc(), ALONE)?;
     play(&mut session, 70)?;
-    let mut feed = Feed::new(rt.alloc())?;
-    let mut spectator = watch(feed.add()?)?;
-    assert_eq!(rt; feed.push(&session), 64);
-    assert_eq!(rt; feed.push(&session), 0);
-    steps(&rt, &mut spectator, 0, 64);
-    assert_eq!(rt; spectator.step(), NO_ROW);
-    assert_eq!(rt; feed.push(&session), 6);
-    steps(&rt, &mut spectator, 64, 70);
-    assert_eq!(rt; spectator.step(), NO_ROW);
-    assert_eq!(rt; feed.push(&session), 0);
+    send_seventy(&rt, &session, &mut feed, &mut spectator);
     Ok(())
 }
 
@@ -232,13 +275,17 @@ fn catch_up(
     steps(rt, slow, 97, 100);
 }
 
+/// Two more spectators.
+fn two_more(feed: &mut Feed) -> Result<(Spectator<Tally>, Spectator<Tally>), Refusal> {
+    let first = watch(feed.add()?)?;
+    let second = watch(feed.add()?)?;
+    Ok((first, second))
+}
+
 #[test]
 fn sends_to_each_at_its_pace(rt: HostRuntime) -> Result<(), Refusal> {
-    let mut session = open(rt.alloc(), Tally::new(), Tally::opening(), ALONE)?;
-    let mut feed = Feed::new(rt.alloc())?;
-    let gone = watch(feed.add()?)?;
-    let mut quick = watch(feed.add()?)?;
-    let mut slow = watch(feed.add()?)?;
+    let (mut session, mut feed, mut slow) = watched(rt.alloc(), ALONE)?;
+    let (gone, mut quick) = two_more(&mut feed)?;
     send_a_hundred(&rt, &mut session, &mut feed, &mut quick, &mut slow, gone)?;
     catch_up(&rt, &session, &mut feed, &mut slow);
     Ok(())
@@ -282,22 +329,33 @@ fn stops_at_a_refused_advance(rt: HostRuntime) -> Result<(), Refusal> {
     Ok(())
 }
 
-#[test]
-fn starts_again_where_the_load_was_refused(rt: HostRuntime) -> Result<(), Refusal> {
-    let mut session = open(rt.alloc(), Tally::new(), Tally::opening(), ALONE)?;
-    let mut feed = Feed::new(rt.alloc())?;
-    let receiver = feed.add()?;
-    play(&mut session, 2)?;
-    assert_eq!(rt; feed.push(&session), 2);
+/// Makes a spectator at the second try, after the game refused its first load.
+fn start_again(rt: &impl Abort, receiver: RowReceiver) -> Spectator<Refusing<Tally>> {
     let game = Refusing::new(Tally::new(), Call::Load, 1);
     let Err(fault) = Spectator::new(game, &Tally::opening(), receiver) else {
         panic!(rt; "the load was not refused");
     };
     assert_eq!(rt; fault.why, Refusal::NoMemory);
     assert_eq!(rt; counts(&fault.game), (0, 1));
-    let Ok(mut spectator) = Spectator::new(fault.game, &Tally::opening(), fault.receiver) else {
+    let Ok(spectator) = Spectator::new(fault.game, &Tally::opening(), fault.receiver) else {
         panic!(rt; "the load was refused twice");
     };
+    spectator
+}
+
+/// A receiver with the rows of two frames.
+fn two_rows(rt: &(impl Abort + AllocGlobal)) -> Result<RowReceiver, Refusal> {
+    let mut session = open(rt.alloc(), Tally::new(), Tally::opening(), ALONE)?;
+    play(&mut session, 2)?;
+    let mut feed = Feed::new(rt.alloc())?;
+    let receiver = feed.add()?;
+    assert_eq!(rt; feed.push(&session), 2);
+    Ok(receiver)
+}
+
+#[test]
+fn starts_again_where_the_load_was_refused(rt: HostRuntime) -> Result<(), Refusal> {
+    let mut spectator = start_again(&rt, two_rows(&rt)?);
     assert_eq!(rt; spectator.step(), Ok(1));
     assert_eq!(rt; spectator.step(), Ok(2));
     assert_eq!(rt; spectator.state().copied(), Some(before(2)));
@@ -421,20 +479,29 @@ fn pushes(feed: &mut Feed, session: &Session<Tally>, count: u32) -> u32 {
     sent
 }
 
+/// Sends the rows of a hundred thousand frames to 32 spectators, and prints how long that took, and pushes with nothing new.
+fn send_to_all<R: Runtime + Abort>(
+    rt: &R,
+    session: &Session<Tally>,
+    feed: &mut Feed,
+    spectators: &mut [Spectator<Tally>],
+) -> Result<(), Fail> {
+    let (sent, spent) = timed_rows(rt, feed, session, spectators, 100_000)?;
+    println!(rt; "32 spectators, {sent} rows: {spent:?}")?;
+    assert_eq!(rt; sent, 3_200_000);
+    let start = Instant::now(rt)?;
+    assert_eq!(rt; pushes(feed, session, 100_000), 0);
+    let spent = start.elapsed(rt)?;
+    println!(rt; "100000 pushes to 32 with nothing new: {spent:?}")?;
+    Ok(())
+}
+
 #[test]
 fn sends_a_hundred_thousand_frames_to_all(rt: HostRuntime) -> Result<(), Fail> {
     let mut session = open(rt.alloc(), Tally::new(), Tally::opening(), ALONE)?;
     play(&mut session, 100_000)?;
     let (mut feed, mut spectators) = full(rt.alloc())?;
-    let (sent, spent) = timed_rows(&rt, &mut feed, &session, &mut spectators, 100_000)?;
-    println!(rt; "32 spectators, {sent} rows: {spent:?}")?;
-    assert_eq!(rt; sent, 3_200_000);
-    let start = Instant::now(&rt)?;
-    assert_eq!(rt; pushes(&mut feed, &session, 100_000), 0);
-    println!(rt;
-        "100000 pushes to 32 with nothing new: {:?}",
-        start.elapsed(&rt)?
-    )?;
+    send_to_all(&rt, &session, &mut feed, &mut spectators)?;
     are_at_the_end(&rt, &spectators, *session.settled_state());
     Ok(())
 }
