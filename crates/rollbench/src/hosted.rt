@@ -12,7 +12,7 @@ use roll_frame::{Refusal, Settings};
 use roll_game::Tally;
 use roll_host::Host;
 use roll_link::{LinkSender, Remote};
-use roll_pool::{Owner, start_all};
+use roll_pool::{Crew, Owner, start_all};
 use roll_session::Session;
 use std::alloc::{AllocError, AllocGlobal, Global};
 use std::rt::Runtime;
@@ -101,23 +101,57 @@ fn measure_one<R>(rt: &R, pace: Pace, workers: usize, frames: u32, rounds: u32) 
 where
     R: Runtime + AllocGlobal + Threads + Wait + Copy + Send + 'static,
 {
-    let alloc = rt.alloc();
-    let words = held_words(alloc, frames, MOST_LATE, 1)?;
-    let session = open(alloc, rounds)?;
-    if workers == 0 {
-        let Ok(mut host) = Host::new(alloc, session) else {
-            bail!(Refusal::NoMemory);
-        };
-        let played = play(rt, &mut host, pace, &words)?;
-        return print(rt, pace, workers, &played);
-    }
-    let (owner, ends) = Owner::open(alloc, workers)?;
-    let games = slow_games(alloc, rounds, ends.len())?;
-    let crew = start_all(*rt, alloc, &owner, ends, games)?;
-    let played = play_with(rt, session, owner, pace, &words);
+    let words = held_words(rt.alloc(), frames, MOST_LATE, 1)?;
+    let played = if workers == 0 {
+        play_alone(rt, pace, rounds, &words)?
+    } else {
+        play_staffed(rt, pace, workers, rounds, &words)?
+    };
+    print(rt, pace, workers, &played)
+}
+
+/// Plays a match without workers.
+fn play_alone<R: Runtime + AllocGlobal>(
+    rt: &R,
+    pace: Pace,
+    rounds: u32,
+    words: &[Word],
+) -> Result<Played> {
+    let session = open(rt.alloc(), rounds)?;
+    let Ok(mut host) = Host::new(rt.alloc(), session) else {
+        bail!(Refusal::NoMemory);
+    };
+    play(rt, &mut host, pace, words)
+}
+
+/// Plays a match with so many workers on threads of their own.
+fn play_staffed<R>(
+    rt: &R,
+    pace: Pace,
+    workers: usize,
+    rounds: u32,
+    words: &[Word],
+) -> Result<Played>
+where
+    R: Runtime + AllocGlobal + Threads + Wait + Copy + Send + 'static,
+{
+    let session = open(rt.alloc(), rounds)?;
+    let (owner, crew) = staff(rt, workers, rounds)?;
+    let played = play_with(rt, session, owner, pace, words);
     let (_ends, games) = crew.join(rt);
-    print(rt, pace, workers, &played?)?;
-    tell_words(rt, &games)
+    tell_words(rt, &games)?;
+    played
+}
+
+/// A pool, and its workers at work.
+fn staff<R>(rt: &R, workers: usize, rounds: u32) -> Result<(Owner<Slow>, Crew<Slow>)>
+where
+    R: AllocGlobal + Threads + Wait + Copy + Send + 'static,
+{
+    let (owner, ends) = Owner::open(rt.alloc(), workers)?;
+    let games = slow_games(rt.alloc(), rounds, ends.len())?;
+    let crew = start_all(*rt, rt.alloc(), &owner, ends, games)?;
+    Ok((owner, crew))
 }
 
 /// A session of the game.
