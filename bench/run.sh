@@ -3,12 +3,12 @@
 # Both play the same scripts, and must write the same bytes. A time is that of a whole run, the least of 25. It takes some
 # two minutes.
 #
-# Measures the library by rollbench, all tables or one of them:
-#     bench/run.sh --all ROLLBENCH
-#     bench/run.sh --alone|--calls|--links|--match|--sessions ROLLBENCH [COUNT]
-# The match takes 12 minutes, the calls some six, the others a few together.
+# Measures what of the library needs threads by bench_threads, both tables or one of them:
+#     bench/run.sh --all BENCH_THREADS
+#     bench/run.sh --links|--match BENCH_THREADS [COUNT]
+# The match takes 12 minutes, the links a few.
 set -euo pipefail
-usage="usage: bench/run.sh ROLLDUEL, or bench/run.sh --all|--alone|--calls|--links|--match|--sessions ROLLBENCH [COUNT]"
+usage="usage: bench/run.sh ROLLDUEL, or bench/run.sh --all|--links|--match BENCH_THREADS [COUNT]"
 here=$(dirname -- "$(realpath -- "$0")")
 work=$(mktemp -d)
 trap 'rm -rf -- "$work"' EXIT
@@ -20,7 +20,7 @@ links() {
 import subprocess
 import sys
 
-plain, rollbench, *count = sys.argv[1:]
+plain, bench_threads, *count = sys.argv[1:]
 
 
 def rows(*command):
@@ -32,7 +32,7 @@ def nanoseconds(row):
     return float(row.split("|")[2].split()[0])
 
 
-theirs, ours = rows(plain, *count), rows(rollbench, "links", *count)
+theirs, ours = rows(plain, *count), rows(bench_threads, "links", *count)
 least = min(map(nanoseconds, theirs))
 print("| Way | A word | Words a second | Of the fastest channel |")
 print("|---|---|---|---|")
@@ -41,13 +41,17 @@ for row in theirs + ours:
 END
 }
 
-# One table of rollbench.
+# One table of bench_threads.
 table() {
     local what=$1
     shift
     case $what in
         links) links "$@" ;;
-        alone | calls | match | sessions) "$1" "$what" "${@:2}" ;;
+        match) "$1" match "${@:2}" ;;
+        alone | calls | sessions)
+            echo "bench/run.sh: --$what went with the older program that measured it: see docs/PERFORMANCE.md" >&2
+            exit 2
+            ;;
         *) echo "$usage" >&2; exit 2 ;;
     esac
 }
@@ -55,7 +59,7 @@ table() {
 [ $# != 0 ] || { echo "$usage" >&2; exit 2; }
 if [ "$1" = --all ]; then
     [ $# = 2 ] || { echo "$usage" >&2; exit 2; }
-    for what in alone links calls sessions match; do
+    for what in links match; do
         printf '%s\n\n' "$what"
         table "$what" "$(realpath -- "$2")"
         echo

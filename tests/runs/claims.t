@@ -130,3 +130,36 @@ A text that is as long as can be, and one that is too long.
   $ rollduel certify long
   rollduel: unreadable: line 0
   [2]
+
+Claims that are made by hand, with more paths than a text has: 300 of them, of which all but the first differ, with the last path's
+entry first. An entry twice, and one that is missing.
+
+  $ echo claim widest 300 | test_stage
+  right
+  $ echo claim widest 300 twice 299 | test_stage
+  twice 299
+  $ echo claim widest 300 missing | test_stage
+  missing 299
+
+The widest claim of 256 paths, checked a thousand times.
+
+  $ echo claim widest 256 times 1000 | test_stage
+  right
+
+A kept path of another base than the claim's.
+
+  $ echo claim base 2 | test_stage
+  right
+  $ echo claim base 1 | test_stage
+  shape
+
+Texts of claims that are written again as they were read.
+
+  $ again() { printf "$1" > claim; { echo claim write; cat claim; } | test_stage | cmp - claim; }
+  $ again "${ahead}differs 1\n1 2 2\n"
+  $ again 'rollcert 2\nplayers 5\nbase 0\nfrom 0\ntime 1\n1,0,0,0,2\nkept 1\n-\ndiffers 0\n'
+  $ again 'rollcert 1\nplayers 2\nbase 0\nfrom 0\ntime 2\n1,3\n1,3\nkept 1\n-\ndiffers 0\n'
+  $ again 'rollcert 1\nplayers 2\nbase 1\nfrom 2\ntime 1\n1,3\nkept 2\n-\n1,3\ndiffers 0\n'
+  $ again 'rollcert 1\nplayers 1\nbase 1048576\nfrom 4294967295\ntime 1\nx\nkept 1\n0 x 4294967295\ndiffers 1\n4294967295 2 2\n'
+  $ again 'rollcert 1\nplayers 4\nbase 0\nfrom 0\ntime 0\nkept 0\ndiffers 1\n0 0 255\n'
+  $ again 'rollcert 2\nplayers 8\nbase 0\nfrom 0\ntime 1\n0,x,1,2,3,4,5,x\nkept 0\ndiffers 0\n'

@@ -34,6 +34,34 @@ The peers agree, and no claim is wrong: with each kind of guesses and each game,
   > done; done; done | sort | uniq -c | tr -s ' '
    12 yes 0,0
 
+Tables of four frames. In each of them the last word is predicted, and the word that comes differs: one frame is run again
+each time. `counts` gives what the last line of a match has from its rollbacks to its claims.
+
+  $ counts() { tail -n 1 | sed 's/.* \(rollbacks=\)/\1/; s/ settled=.*//'; }
+  $ for late in 0 1; do
+  >   rollduel match --frames 4 --hold 1 --late $late > out || echo "status $?"
+  >   counts < out; grep "by GGPO's policy" out; tail -n 1 out | grep -o ' settled=4 agree=yes state='
+  > done
+  rollbacks=4,4 rerun=4,4 ggpo=4,4 deepest=1,1 waited=0,0 guessed=0,0 added=0,0 dropped=0,0 claims=8,8 wrong=0,0
+  by GGPO's policy                   4           4
+   settled=4 agree=yes state=
+  rollbacks=4,4 rerun=4,4 ggpo=4,4 deepest=1,1 waited=0,0 guessed=0,0 added=0,0 dropped=0,0 claims=8,8 wrong=0,0
+  by GGPO's policy                   4           4
+   settled=4 agree=yes state=
+
+Three guesses are run in each frame, since the fourth word is the predicted one. So each word that comes was guessed.
+
+  $ rollduel match --frames 4 --hold 1 --late 0 --guesses words > out
+  $ counts < out
+  rollbacks=0,0 rerun=0,0 ggpo=4,4 deepest=0,0 waited=0,0 guessed=12,12 added=12,12 dropped=0,0 claims=8,8 wrong=0,0
+
+With a delay of two frames each word is there before its frame. A word that is held on is predicted right, however late.
+
+  $ rollduel match --frames 4 --hold 1 --late 0 --delay 2 | counts | cut -d ' ' -f 1-5
+  rollbacks=0,0 rerun=0,0 ggpo=0,0 deepest=0,0 waited=0,0
+  $ rollduel match --frames 4 --hold 1000000 --late 8 | counts | cut -d ' ' -f 1-4
+  rollbacks=0,0 rerun=0,0 ggpo=0,0 deepest=0,0
+
 Without guesses no peer runs more frames again than by GGPO's policy, and none is guessed.
 
   $ for seed in 1 2 3 4 5 6 7 8; do rollduel match --frames 200 --seed $seed --late 6 --lost 5 > out

@@ -56,3 +56,16 @@ Eight players, of whom each gives a word, and a duel of four.
   frame 1 from 0 rerun 1 settled 1 state 28
   $ printf 'roll 1 players 4 local 1 delay 0,0,0,0 threshold 8\nS\n' | rollduel play - --game duel
   frame 0 from 0 rerun 0 settled 0 state 20480,15360,0,0,0,0,0 61440,46080,0,0,4,0,0 61440,15360,0,0,4,0,0 20480,46080,0,0,0,0,0 b0
+
+The claim with 256 paths is written again as it was read.
+
+  $ widest 255 > claim
+  $ { echo claim write; cat claim; } | test_stage | cmp - claim
+  $ [ $(wc -c < claim) -gt $((255 * 24 * 4)) ]
+
+Seventy thousand refusals are counted.
+
+  $ { echo 'roll 1 players 2 local 1 delay 0,0 threshold 8'; yes A | head -n 70000; } | rollduel play - > out
+  [1]
+  $ uniq -c out | tr -s ' '
+   70000 refused 101

@@ -13,8 +13,3 @@ pub mod Claimed
 pub mod Played
 pub mod Starts
 pub mod Ended
-pub mod Unread
-pub mod Diagnosed
-pub mod Rising
-pub mod Said
-pub mod LinesOf

@@ -10,6 +10,3 @@ pub mod SyncTests
 pub mod Faults
 pub mod Certified
 pub mod Programs
-pub mod Diagnoses
-pub mod Refused
-pub mod DiagnosisTexts

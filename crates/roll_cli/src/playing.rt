@@ -13,7 +13,6 @@ ghost use Rattle.roll_cli.specs.declared.command.Command.{Command};
 use crate::command::{Command, first_command};
 use crate::engine::PlayFault;
 use crate::output::{push_claim, push_job, push_reply};
-use crate::refusals::{push_refused, refusal_in};
 use crate::shown::Shown;
 use roll_branch::{Done, Job, extend};
 use roll_frame::{Refusal, Reply};
@@ -94,32 +93,9 @@ impl<G: Shown> Playing<G> {
         Ok(refused)
     }
 
-    /// Plays the commands, of which the first stands in line 2, and notes each refusal with its line.
-    pub fn note_refusals(
-        &mut self,
-        alloc: Global,
-        notes: &mut String,
-        commands: &[Command],
-    ) -> Result<(), PlayFault>
-        requires { length self.old.now.jobs + length commands.now < 2 ^ 32 }
-        ensures fault { IfErr result (λ fault. fault ≡ PlayFault.NoMemory) }
-    {
-        let mut reply = Vec::new(alloc);
-        let mut line = 1;
-        for command in commands {
-            line += 1;
-            reply.clear();
-            self.play(alloc, &mut reply, command)?;
-            if let Some(why) = refusal_in(&reply) {
-                push_refused(notes, line, why)?;
-            }
-        }
-        Ok(())
-    }
-
     /// Plays a command, writes its reply, and answers whether it was refused.
     #[inline(always)]
-    fn play(
+    pub fn play(
         &mut self,
         alloc: Global,
         out: &mut Vec<u8>,

@@ -5,8 +5,6 @@ mod scripts;
 mod sessions;
 mod streams;
 
-pub use scripts::{AHEAD, AHEAD_ANSWER, FIVE, LATE, LATE_LIVE, LATE_OUTPUT, ROWS, ROWS_OUTPUT};
-pub use sessions::{
-    ALONE, LATE_CALLS, TURNS, TWO, add, counts, open, path, played, queue, row, tallies,
-};
+pub use scripts::{AHEAD, AHEAD_ANSWER, LATE, LATE_OUTPUT, ROWS, ROWS_OUTPUT};
+pub use sessions::{ALONE, LATE_CALLS, TURNS, TWO, add, counts, open, path, row};
 pub use streams::{FakeReader, FakeWriter};

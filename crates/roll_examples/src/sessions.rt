@@ -1,14 +1,13 @@
 //! Sessions, and what they are asked.
-ghost use Rattle.std.specs.Prelude.{◌≡◌, length, IfOk};
+ghost use Rattle.std.specs.Prelude.{◌≡◌, length};
 
 use roll_frame::{
     Cell, FRAME_LIMIT, LOG_LIMIT, PLAYER_LIMIT, Path, Profile, Refusal, Row, Settings,
 };
-use roll_game::{Game, RawGame, Tally};
-use roll_session::{Call, Request, Session};
+use roll_game::{Game, RawGame};
+use roll_session::{Call, Session};
 use roll_tree::{Tree, TreeFull};
-use std::alloc::{AllocError, Global};
-use std::collections::VecDeque;
+use std::alloc::Global;
 
 /// The calls of the script in which a remote word comes late.
 pub const LATE_CALLS: [Call; 6] = [
@@ -23,20 +22,6 @@ pub const LATE_CALLS: [Call; 6] = [
     },
     Call::Sync,
 ];
-
-/// A queue of requests for calls.
-pub fn queue<G: Game + Drop>(
-    alloc: Global,
-    calls: &[Call],
-) -> Result<VecDeque<Request<G>>, AllocError>
-    ensures { IfOk result (λ queue. length queue.items ≡ length calls.now) }
-{
-    let mut requests = VecDeque::new(alloc);
-    for call in calls {
-        requests.push_back(Request::Call(*call))?;
-    }
-    Ok(requests)
-}
 
 /// Two players, of whom the first is local, with no delay and nothing masked.
 pub const TWO: Settings = Settings {
@@ -84,15 +69,6 @@ pub fn open<G: Game + Drop>(
     }
 }
 
-/// A session of two players in which these calls were made.
-pub fn played(alloc: Global, calls: &[Call]) -> Result<Session<Tally>, Refusal> {
-    let mut session = open(alloc, Tally::new(), Tally::opening(), TWO)?;
-    for call in calls {
-        session.perform(Request::Call(*call))?;
-    }
-    Ok(session)
-}
-
 /// How often a game was advanced, and how often it refused a call.
 pub fn counts<G: RawGame>(game: &G) -> (u64, u64) {
     let counts = game.counts();
@@ -122,12 +98,3 @@ pub fn add(
 
 /// How often a test looks for what another thread does.
 pub const TURNS: u32 = 10_000_000;
-
-/// So many games.
-pub fn tallies(alloc: Global, count: usize) -> Result<Vec<Tally>, AllocError> {
-    let mut games = Vec::with_capacity(alloc, count)?;
-    for _ in 0..count {
-        games.push(Tally::new())?;
-    }
-    Ok(games)
-}

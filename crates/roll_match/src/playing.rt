@@ -8,7 +8,7 @@ use crate::peer::Peer;
 use crate::side::Side;
 use crate::way::Way;
 use crate::words::drawn;
-use roll_frame::{Refusal, Settings};
+use roll_frame::{Refusal, Settings, SettingsFault};
 use roll_game::Game;
 use roll_session::Session;
 use std::alloc::Global;
@@ -83,11 +83,15 @@ fn settings(options: &MatchOptions, me: u8) -> Result<Settings, Refusal>
     if options.lost > 99 || options.hold == 0 {
         return Err(Refusal::InvalidRequest);
     }
-    let settings = Settings::new(2, &[me])?
+    Ok(side_settings(options, me)?)
+}
+
+/// The same, where the line and the words are those of a match.
+fn side_settings(options: &MatchOptions, me: u8) -> Result<Settings, SettingsFault> {
+    Settings::new(2, &[me])?
         .with_delay(me, options.delay)?
         .with_threshold(options.threshold)?
-        .with_frame_limit(options.frames)?;
-    Ok(settings)
+        .with_frame_limit(options.frames)
 }
 
 /// A side before the first frame.

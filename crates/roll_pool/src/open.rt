@@ -1,13 +1,16 @@
 //! A new pool.
-ghost use Rattle.std.specs.Prelude.{◌≡◌, ◌≤◌, [], true, IfOk};
+ghost use Rattle.std.specs.Prelude.{◌≡◌, ◌≤◌, [], true, map, replicate, vec_len, vec_capacity, IfOk};
 ghost use Rattle.crossbeam_deque.specs.Handles.{worker_view, worker_deque, worker_flavor, worker_index, worker_capacity};
-ghost use Rattle.roll_pool.specs.Rule.{counting_out};
+ghost use Rattle.roll_pool.specs.Owners.{came_by, rings_of, places_at};
+ghost use Rattle.roll_pool.specs.Rule.{counting_out, tally};
+ghost use Rattle.roll_pool.specs.Workers.{fresh};
 
 use crate::owner::{JOBS_OUT, Owner, WORKER_LIMIT};
 use crate::results::{RESULT_PLACES, Results};
 use crate::rule::{Deque, Hand};
 use crate::signals::Signals;
 use crate::worker::WorkerEnd;
+use roll_branch::{Done, Job};
 use roll_frame::Refusal;
 use roll_game::Game;
 use rtrb::RingBuffer;
@@ -36,17 +39,10 @@ impl<G: Game> Owner<G> {
         if workers == 0 || workers > WORKER_LIMIT {
             return Err(Refusal::InvalidRequest);
         }
-        let mut deque = Deque::fifo_as(alloc, JOBS_OUT)?;
+        let (late, left) = rooms(alloc)?;
         let signals = Arc::new(alloc, Signals::new())?;
-        let late = Vec::with_capacity(alloc, JOBS_OUT)?;
-        let left = Vec::with_capacity(alloc, JOBS_OUT)?;
-        let mut rings = Vec::with_capacity(alloc, workers)?;
-        let mut ends = Vec::with_capacity(alloc, workers)?;
-        for _ in 0..workers {
-            let (ring, end) = hire(alloc, &mut deque, &signals)?;
-            rings.push_reserved(ring);
-            ends.push_reserved(end);
-        }
+        let mut deque = Deque::fifo_as(alloc, JOBS_OUT)?;
+        let (rings, ends) = hire_all(alloc, &mut deque, &signals, workers)?;
         let owner = Owner {
             deque,
             rings,
@@ -58,6 +54,39 @@ impl<G: Game> Owner<G> {
         };
         Ok((owner, ends))
     }
+}
+
+/// Room for the results and for the jobs that are out at the end.
+fn rooms<G: Game>(alloc: Global) -> Result<(Vec<Done<G>>, Vec<Job<G>>), AllocError>
+    ensures late { IfOk result (λ rooms. (rooms.0.items ≡ []) × (JOBS_OUT ≤ vec_capacity rooms.0)) }
+    ensures left { IfOk result (λ rooms. (rooms.1.items ≡ []) × (JOBS_OUT ≤ vec_capacity rooms.1)) }
+{
+    let late = Vec::with_capacity(alloc, JOBS_OUT)?;
+    let left = Vec::with_capacity(alloc, JOBS_OUT)?;
+    Ok((late, left))
+}
+
+/// So many workers: the owner's ends of their rings, and their own ends.
+fn hire_all<G: Game>(
+    alloc: Global,
+    deque: &mut Deque<G>,
+    signals: &Arc<Signals, Global>,
+    workers: usize,
+) -> Result<(Vec<Results<G>>, Vec<WorkerEnd<G>>), AllocError>
+    requires new { worker_view deque.old ≡ tally true [] 0 0 [] }
+    ensures same { IfOk result (λ _. (worker_deque deque.new ≡ worker_deque deque.old) × (worker_flavor deque.new ≡ worker_flavor deque.old) × (worker_index deque.new ≡ worker_index deque.old) × (worker_capacity deque.old ≤ worker_capacity deque.new)) }
+    ensures view { IfOk result (λ _. worker_view deque.new ≡ tally true [] workers 0 []) }
+    ensures ends { IfOk result (λ hired. hired.1.items ≡ map fresh (places_at (worker_deque deque.new) (rings_of hired.0.items))) }
+    ensures came { IfOk result (λ hired. (came_by hired.0.items ≡ replicate workers []) × (vec_len hired.0 ≡ workers) × (vec_len hired.1 ≡ workers)) }
+{
+    let mut rings = Vec::with_capacity(alloc, workers)?;
+    let mut ends = Vec::with_capacity(alloc, workers)?;
+    for _ in 0..workers {
+        let (ring, end) = hire(alloc, deque, signals)?;
+        rings.push_reserved(ring);
+        ends.push_reserved(end);
+    }
+    Ok((rings, ends))
 }
 
 /// One more worker: the owner's end of its ring, and its own end.

@@ -74,7 +74,7 @@ pub fn script(alloc: Global) -> Result<String, AllocError> {
     let mut text = String::new(alloc);
     text.push_str(SCRIPT)?;
     text.push_str("\n\nWhat `refused N` means:\n")?;
-    roll_cli::push_refusals(&mut text)?;
+    prog_explain::push_refusals(&mut text)?;
     Ok(text)
 }
 

@@ -70,7 +70,7 @@ fn work<R: Read, W: Write>(
     ensures status { HasStatus result }
 {
     if asked.explain {
-        roll_cli::explain(alloc, asked.task, reader, writer, notes)
+        prog_explain::explain(alloc, asked.task, reader, writer, notes)
     } else {
         roll_cli::run(alloc, asked.task, reader, writer)
     }

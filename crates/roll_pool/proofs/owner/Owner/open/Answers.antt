@@ -1,5 +1,5 @@
-use Rattle.std.proofs.Common.{◌≡◌, ◌≤◌, true, [], length, map, vec_len, ap, sym, ◌∙◌, rules, arith}
-use Rattle.crossbeam_deque.specs.Handles.{worker_view, worker_capacity}
+use Rattle.std.proofs.Common.{◌≡◌, ◌≤◌, [], true, length, map, vec_len, ap, sym, ◌∙◌, rules, arith}
+use Rattle.crossbeam_deque.specs.Handles.{worker_view, worker_flavor, worker_index, worker_capacity}
 use Rattle.roll_pool.specs.Rule.{tally}
 use Rattle.roll_pool.specs.Owners.{collected}
 use Rattle.roll_pool.specs.declared.owner.TheConstants.{JOBS_OUT, WORKER_LIMIT}
@@ -12,14 +12,16 @@ fifo_as-requires g c = begins
 
 pub invariant_of-owner : goal.invariant_of-owner
 invariant_of-owner g c =
-    let was = c.loop.invariant in
-    let issued : (worker_view c.loop.deque).issued ≡ [] = ap (λ v. v.issued) was.0 in
-    let places : JOBS_OUT ≤ worker_capacity c.loop.deque = search rules in
-    let team : vec_len c.loop.rings ≤ WORKER_LIMIT = search rules in (
+    let hired = c.in_ok-rings.ensures in
+    let issued : (worker_view c.hire_all.new.deque).issued ≡ [] = ap (λ v. v.issued) hired.view in
+    let fifo : worker_flavor c.hire_all.new.deque ≡ 0 = search rules in
+    let next : worker_index c.hire_all.new.deque ≡ 0 = search rules in
+    let places : JOBS_OUT ≤ worker_capacity c.hire_all.new.deque = search rules in
+    let team : vec_len c.in_ok-rings.rings ≤ WORKER_LIMIT = search rules in (
       record {
-        knows = was.0 ∙ (λ i. tally true (sym issued i) (sym was.6 i) 0 []);
-        fifo = was.1;
-        next = was.2;
+        knows = hired.view ∙ (λ i. tally true (sym issued i) (sym hired.came.1 i) 0 []);
+        fifo = fifo;
+        next = next;
         places = places;
         many = ap length issued;
         numbered = ap (map (λ j. j.ticket)) issued;
@@ -28,10 +30,10 @@ invariant_of-owner g c =
         most = omega arith;
         team = team;
       },
-      sym (ap (λ l. length (collected l)) was.5 ∙ none_came _ c.loop.counter),
+      sym (ap (λ l. length (collected l)) hired.came.0 ∙ none_came _ c.args.workers),
       search rules,
       search rules,
     )
 
 pub returns-clause-places : goal.returns-clause-places
-returns-clause-places g c = ap (map (λ e. e.place)) c.loop.invariant.4 ∙ fresh_places _ _
+returns-clause-places g c = ap (map (λ e. e.place)) c.in_ok-rings.ensures.ends ∙ fresh_places _ _

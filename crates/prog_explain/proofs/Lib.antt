@@ -1,0 +1,5 @@
+mod Diagnosed
+mod LinesOf
+mod Rising
+mod Said
+mod Unread

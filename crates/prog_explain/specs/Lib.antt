@@ -1,0 +1,3 @@
+pub mod Diagnoses
+pub mod DiagnosisTexts
+pub mod Refused

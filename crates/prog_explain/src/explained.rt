@@ -1,0 +1,194 @@
+//! What the program does with a text where more is asked for than its answers.
+ghost use Rattle.std.specs.Prelude.{◌≡◌, ◌≤◌, ◌<◌, ◌⊎◌, ◌+◌, ◌^◌, IfErr, IfSome, MatchOption, length};
+ghost use Rattle.roll_text.specs.declared.streams.TheConstants.{TEXT_LIMIT};
+ghost use Rattle.roll_cli.specs.Faults.{TakesAtMost};
+ghost use Rattle.roll_cli.specs.Plays.{IsPlay, play_of};
+ghost use Rattle.roll_cli.specs.Programs.{Ends};
+ghost use Rattle.roll_cli.specs.declared.engine.PlayFault.TheVariants.{Write as CannotWrite};
+
+use crate::forms::diagnose;
+use crate::refusals::{push_refused, refusal_in};
+use roll_cli::{Command, Ending, GameName, PlayFault, Playing, Script, Shown, Task, run};
+use roll_duel::Duel;
+use roll_frame::Refusal;
+use roll_game::Tally;
+use roll_session::Session;
+use roll_text::{ReadFault, read_all};
+use std::alloc::Global;
+use std::fmt::Write as _;
+use std::io::{Read, Write};
+
+/// Does what `run` does, and notes at the end of `notes` what is wrong with a line that can't be read, and what each
+/// refusal means, a line each. Where there is no memory for notes, they break off.
+pub fn explain<R: Read, W: Write>(
+    alloc: Global,
+    task: Task,
+    reader: &mut R,
+    writer: &mut W,
+    notes: &mut String,
+) -> Ending
+    ensures ends { IfSome (R.remaining reader.old) (λ text. Ends task text (W.contents writer.old) (W.contents writer.new) result) }
+    ensures status { MatchOption result.fault (result.status ≤ 1) (λ fault. result.status ≡ 2) }
+    ensures untouched { IfSome result.fault (λ fault. (fault ≡ CannotWrite) ⊎ (writer.new ≡ writer.old)) }
+    ensures taken { TakesAtMost (TEXT_LIMIT + 1) (R.remaining reader.old) (R.remaining reader.new) }
+{
+    match read_all(alloc, reader) {
+        Ok(text) => explain_text(alloc, task, &text, writer, notes),
+        Err(fault) => {
+            note_unread(notes, fault);
+            Ending::from(PlayFault::from(fault))
+        }
+    }
+}
+
+/// Notes that a text is too long.
+fn note_unread(notes: &mut String, fault: ReadFault) {
+    if fault == ReadFault::TooLong {
+        let _ = notes.push_str("more than 1,048,576 bytes\n");
+    }
+}
+
+/// Does what `explain` does, with a text that was read.
+fn explain_text<W: Write>(
+    alloc: Global,
+    task: Task,
+    text: &[u8],
+    writer: &mut W,
+    notes: &mut String,
+) -> Ending
+    requires { length text.now ≤ TEXT_LIMIT }
+    ensures ends { Ends task text.now (W.contents writer.old) (W.contents writer.new) result }
+    ensures status { MatchOption result.fault (result.status ≤ 1) (λ fault. result.status ≡ 2) }
+    ensures untouched { IfSome result.fault (λ fault. (fault ≡ CannotWrite) ⊎ (writer.new ≡ writer.old)) }
+{
+    let mut reader = text;
+    let ending = run(alloc, task, &mut reader, writer);
+    let _ = note(alloc, notes, task, text, &ending);
+    ending
+}
+
+/// Notes why the task that was done with a text ended so.
+fn note(
+    alloc: Global,
+    notes: &mut String,
+    task: Task,
+    text: &[u8],
+    ending: &Ending,
+) -> Result<(), PlayFault>
+    requires { length text.now ≤ TEXT_LIMIT }
+{
+    match ending.fault {
+        Some(PlayFault::Unreadable(line)) => {
+            writeln!(notes, "line {line}: {}", diagnose(task, text, line))?;
+            Ok(())
+        }
+        None if ending.status == 1 => note_refusals(alloc, notes, task, text),
+        _ => Ok(()),
+    }
+}
+
+/// Notes each refusal of a text's replies.
+fn note_refusals(
+    alloc: Global,
+    notes: &mut String,
+    task: Task,
+    text: &[u8],
+) -> Result<(), PlayFault>
+    requires { length text.now ≤ TEXT_LIMIT }
+{
+    match task {
+        Task::Play(game) => {
+            let script = Script::read(alloc, text)?;
+            note_played(alloc, notes, game, &script)
+        }
+        Task::SyncTest { .. } => note_tested(alloc, notes, task, text),
+        Task::Certify => Ok(()),
+    }
+}
+
+/// Notes why a sync test didn't start.
+fn note_tested(
+    alloc: Global,
+    notes: &mut String,
+    task: Task,
+    text: &[u8],
+) -> Result<(), PlayFault> {
+    let mut written = Vec::new(alloc);
+    run(alloc, task, &mut &text[..], &mut written);
+    if let Some(why) = refusal_in(&written) {
+        push_refused(notes, 1, why)?;
+    }
+    Ok(())
+}
+
+/// Plays a script once more, and notes each refusal.
+fn note_played(
+    alloc: Global,
+    notes: &mut String,
+    game: GameName,
+    script: &Script,
+) -> Result<(), PlayFault>
+    requires fits { IsPlay (play_of script.now) }
+    requires few { length script.now.commands.items < 2 ^ 32 }
+{
+    match game {
+        GameName::Tally => {
+            let (game, helper) = (Tally::new(), Tally::new());
+            note_session(alloc, notes, script, game, Tally::opening(), helper)
+        }
+        GameName::Duel => {
+            let ships = script.header.players as u8;
+            let (Ok(duel), Ok(helper)) = (Duel::new(alloc, ships), Duel::new(alloc, ships)) else {
+                push_refused(notes, 1, Refusal::PlayerOutOfRange)?;
+                return Ok(());
+            };
+            let opening = duel.opening()?;
+            note_session(alloc, notes, script, duel, opening, helper)
+        }
+    }
+}
+
+/// Notes why a session didn't start, or each refusal of its replies.
+fn note_session<G: Shown + Drop>(
+    alloc: Global,
+    notes: &mut String,
+    script: &Script,
+    game: G,
+    opening: G::Snapshot,
+    helper: G,
+) -> Result<(), PlayFault>
+    requires fits { IsPlay (play_of script.now) }
+    requires few { length script.now.commands.items < 2 ^ 32 }
+{
+    let settings = script.header.settings();
+    match Session::start(alloc, game, opening, settings) {
+        Ok(session) => {
+            let mut playing = Playing::new(alloc, session, helper);
+            note_all(alloc, notes, &mut playing, &script.commands)
+        }
+        Err(fault) => Ok(push_refused(notes, 1, fault.why)?),
+    }
+}
+
+/// Plays the commands, of which the first stands in line 2, and notes each refusal with its line.
+fn note_all<G: Shown>(
+    alloc: Global,
+    notes: &mut String,
+    playing: &mut Playing<G>,
+    commands: &[Command],
+) -> Result<(), PlayFault>
+    requires { length playing.old.now.jobs + length commands.now < 2 ^ 32 }
+    ensures fault { IfErr result (λ fault. fault ≡ PlayFault.NoMemory) }
+{
+    let mut reply = Vec::new(alloc);
+    let mut line = 1;
+    for command in commands {
+        line += 1;
+        reply.clear();
+        playing.play(alloc, &mut reply, command)?;
+        if let Some(why) = refusal_in(&reply) {
+            push_refused(notes, line, why)?;
+        }
+    }
+    Ok(())
+}

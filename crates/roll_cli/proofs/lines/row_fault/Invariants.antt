@@ -1,7 +1,0 @@
-use Rattle.std.proofs.Common.{map}
-use Rattle.std.specs.List.{All}
-use Rattle.roll_cli.specs.Diagnoses.{IsCell}
-use Rattle.roll_cli.proofs.lines.row_fault.Given as goal
-
-abbrev pub invariant-loop-part : goal.invariant-loop-part
-invariant-loop-part l = All IsCell (map (λ part. part.now) l.yielded)

@@ -1,5 +1,0 @@
-//! Tests of spectators.
-#![tactic(auto)]
-
-#[cfg(test)]
-mod spectator;

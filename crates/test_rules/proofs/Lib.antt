@@ -1,0 +1,11 @@
+mod BranchExamples
+mod ClaimExamples
+mod Examples
+mod FullTrees
+mod GuessExamples
+mod PartialExamples
+mod RandomBranches
+mod RandomClaims
+mod RandomScripts
+mod ReplyExamples
+mod Scripts

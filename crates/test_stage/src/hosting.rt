@@ -1,0 +1,179 @@
+//! A host with the senders of its links and the ends of its workers.
+ghost use Rattle.std.specs.Prelude.{◌≡◌, map, Some, slice_get};
+ghost use Rattle.std.specs.Option.{ForSome};
+ghost use Rattle.roll_host.specs.Hosted.{places_of};
+
+use crate::crew::{Crew, work_at};
+use roll_frame::{Event, Refusal, Reply};
+use roll_game::Game;
+use roll_host::{Absorbed, Host, Pumped};
+use roll_link::{LinkSender, Remote};
+use roll_pool::{Outcome, Worked, WorkerEnd};
+use roll_session::{Call, Reached, Session};
+use std::alloc::Global;
+
+/// A host, the sender of its first link while it is there, those of the others, and all its workers.
+#[derive(Drop)]
+pub struct Hosting<G: Game> {
+    host: Host<G>,
+    first: Option<LinkSender>,
+    others: Vec<Option<LinkSender>>,
+    ends: Vec<WorkerEnd<G>>,
+    ghost ring: { ForSome first (λ sender. slice_get (map (λ link. link.ring) host.links) 0 ≡ Some sender.ring) },
+    ghost places: { map (λ end. end.place) ends.items ≡ places_of host.pool },
+}
+
+impl<G: Game + Drop> Hosting<G> {
+    /// A host of a session with one link, and without workers.
+    ///
+    /// # Errors
+    ///
+    /// `NoMemory` where the allocator has no room.
+    pub fn new(alloc: Global, session: Session<G>) -> Result<Hosting<G>, Refusal> {
+        let Ok(mut host) = Host::new(alloc, session) else {
+            return Err(Refusal::NoMemory);
+        };
+        let first = host.add_link()?;
+        Ok(Hosting {
+            host,
+            first: Some(first),
+            others: Vec::new(alloc),
+            ends: Vec::new(alloc),
+        })
+    }
+
+    /// The same with the workers of a crew.
+    pub fn with_crew(
+        alloc: Global,
+        session: Session<G>,
+        crew: Crew<G>,
+    ) -> Result<Hosting<G>, Refusal> {
+        let Crew { owner, ends } = crew;
+        let Ok(mut host) = Host::with_workers(alloc, session, owner) else {
+            return Err(Refusal::NoMemory);
+        };
+        let first = host.add_link()?;
+        Ok(Hosting {
+            host,
+            first: Some(first),
+            others: Vec::new(alloc),
+            ends,
+        })
+    }
+
+    pub fn session(&self) -> &Session<G> {
+        self.host.session()
+    }
+
+    /// One link more. Its number.
+    pub fn add_link(&mut self) -> Result<usize, Refusal> {
+        let sender = self.host.add_link()?;
+        self.others.push(Some(sender))?;
+        Ok(self.others.len())
+    }
+
+    /// Sends an item by a link. None where there is no such sender.
+    pub fn send(&mut self, link: usize, item: Remote) -> Option<bool> {
+        if link == 0 {
+            return self.send_first(item);
+        }
+        match self.others.get_mut(link - 1) {
+            Some(Some(sender)) => Some(sender.send(item).is_ok()),
+            _ => None,
+        }
+    }
+
+    fn send_first(&mut self, item: Remote) -> Option<bool> {
+        match &mut self.first {
+            Some(sender) => Some(sender.send(item).is_ok()),
+            None => None,
+        }
+    }
+
+    /// Ends the first link: how many items are left. None where its sender is gone.
+    pub fn finish(&mut self) -> Option<u32> {
+        let sender = self.first.take()?;
+        let finished = sender.finish()?;
+        Some(self.host.end_link(0, finished))
+    }
+
+    /// Lets go of a link's sender. Whether there was one.
+    pub fn drop_sender(&mut self, link: usize) -> bool {
+        if link == 0 {
+            return self.first.take().is_some();
+        }
+        match self.others.get_mut(link - 1) {
+            Some(sender) => sender.take().is_some(),
+            None => false,
+        }
+    }
+
+    pub fn pump(&mut self) -> Pumped {
+        self.host.pump()
+    }
+
+    pub fn absorb(&mut self) -> Absorbed {
+        self.host.absorb()
+    }
+
+    pub fn speculate(
+        &mut self,
+        player: u8,
+        words: &[u32],
+        until: u32,
+    ) -> Result<Option<u64>, Refusal> {
+        self.host.speculate(player, words, until)
+    }
+
+    /// Lets a worker do one turn. None where there is no such worker.
+    pub fn work(&mut self, place: usize, game: &mut G) -> Option<Worked> {
+        work_at(&mut self.ends, place, game)
+    }
+
+    pub fn close(&self) {
+        self.host.close();
+    }
+
+    pub fn reserve(&mut self, events: u32) -> Result<(), Refusal> {
+        self.host.reserve_log(events)
+    }
+
+    pub fn disconnect(&mut self, player: u8) -> Result<Event, Refusal> {
+        self.host.disconnect_player(player)
+    }
+
+    /// Makes a call. A remote word comes by a link alone, so that one is an invalid request here.
+    pub fn make(&mut self, call: Call) -> Result<Reply, Refusal> {
+        match call {
+            Call::Local { player, word } => {
+                self.host.add_local_input(player, word)?;
+                Ok(Reply::Done)
+            }
+            Call::Remote { .. } => Err(Refusal::InvalidRequest),
+            Call::Disconnect { player } => {
+                self.disconnect(player)?;
+                Ok(Reply::Disconnected { player })
+            }
+            Call::Sync => Ok(Reply::Synchronized(self.host.synchronize_input()?)),
+            Call::Advance => {
+                let Reached { frame, from, rerun } = self.host.advance_frame()?;
+                Ok(Reply::Reached { frame, from, rerun })
+            }
+        }
+    }
+
+    /// The session, and what became of the jobs.
+    pub fn settle(self) -> (Session<G>, Outcome<G>) {
+        let Hosting {
+            host,
+            first: _,
+            others: _,
+            ends,
+        } = self;
+        host.settle(ends)
+    }
+
+    pub fn into_session(self) -> Session<G> {
+        self.host.into_session()
+    }
+}

@@ -1,0 +1,96 @@
+//! Jobs that are made by hand, and what became of jobs.
+
+use crate::answers::{put, put_long};
+use crate::fault::Fault;
+use crate::rows::Hand;
+use crate::staged::Staged;
+use arrayvec::ArrayVec;
+use roll_branch::{Done, Job};
+use roll_frame::{Boxed, Path, Route, Row};
+use roll_game::Game;
+use roll_pool::{Outcome, Worked};
+use std::alloc::{AllocError, Global};
+
+/// The number of a job that was made by hand, until it is issued.
+const BY_HAND: u64 = 9;
+
+/// The job of a branch made by hand. There is none without rows, and in a game whose states are no numbers.
+pub fn job_of<G: Staged>(alloc: Global, hand: &Hand) -> Result<Option<Job<G>>, AllocError> {
+    let mut rows = ArrayVec::new();
+    for row in &hand.rows {
+        if !rows.is_full() {
+            rows.push(*row);
+        }
+    }
+    let Some(from) = G::worth(hand.from) else {
+        return Ok(None);
+    };
+    let path = path_of(hand.base, &hand.own);
+    let room = Vec::with_capacity(alloc, rows.len())?;
+    let route = Boxed::new(alloc, Route { path, rows })?;
+    let Some(mut job) = Job::new(route, from, room) else {
+        return Ok(None);
+    };
+    job.set_ticket(BY_HAND);
+    Ok(Some(job))
+}
+
+/// The path of these rows; those past the 24th are left out.
+fn path_of(base: u32, rows: &[Row]) -> Path {
+    let mut path = Path::new(base);
+    for row in rows {
+        if !path.is_full() {
+            path.push(*row);
+        }
+    }
+    path
+}
+
+/// Writes a result: its job's number, and the state after each row.
+pub fn put_done<G: Staged>(out: &mut Vec<u8>, done: Done<G>) -> Result<(), Fault> {
+    match done {
+        Done::Refused(ticket) => put_long(out, b"refused ", ticket)?,
+        Done::Grown(branch) => {
+            put_long(out, b"ticket ", branch.ticket())?;
+            put(out, " states")?;
+            for state in &branch.into_parts().states {
+                put(out, " ")?;
+                G::put_snapshot(state, out)?;
+            }
+        }
+    }
+    Ok(())
+}
+
+/// The number of a result's job.
+fn ticket_of<G: Game>(done: &Done<G>) -> u64 {
+    match done {
+        Done::Grown(branch) => branch.ticket(),
+        Done::Refused(ticket) => *ticket,
+    }
+}
+
+/// Writes what became of the jobs of a pool: how many were issued and collected, and the numbers of the others.
+pub fn put_outcome<G: Game>(out: &mut Vec<u8>, outcome: &Outcome<G>) -> Result<(), Fault> {
+    put_long(out, b"issued ", outcome.issued)?;
+    put_long(out, b" collected ", outcome.collected)?;
+    put(out, " late")?;
+    for done in &outcome.late {
+        put_long(out, b" ", ticket_of(done))?;
+    }
+    put(out, " left")?;
+    for job in &outcome.left {
+        put_long(out, b" ", job.ticket())?;
+    }
+    Ok(())
+}
+
+/// Writes what a turn of a worker did.
+pub fn put_worked(out: &mut Vec<u8>, worked: Worked) -> Result<(), AllocError> {
+    match worked {
+        Worked::Did(ticket) => put_long(out, b"did ", ticket),
+        Worked::Empty => put(out, "empty"),
+        Worked::RingFull => put(out, "ring full"),
+        Worked::Closed => put(out, "closed"),
+    }
+}

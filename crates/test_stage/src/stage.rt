@@ -1,0 +1,686 @@
+//! A session, its host and its workers, and what is asked of them.
+
+use crate::answers::{put, put_count, put_long, put_named, put_refused, put_settings, put_turns};
+use crate::ask::{Ask, Guess, One, Two, Word};
+use crate::crew::Crew;
+use crate::fault::Fault;
+use crate::hosting::Hosting;
+use crate::jobs::{job_of, put_done, put_outcome, put_worked};
+use crate::replays::{copied, put_replays};
+use crate::rows::Hand;
+use crate::staged::Staged;
+use crate::viewers::Viewers;
+use crate::views;
+use roll_branch::{Branch, Done, Job, extend};
+use roll_cli::{Command, call, player_number};
+use roll_frame::{Refusal, Reply};
+use roll_game::Call as GameCall;
+use roll_host::{Absorbed, Pumped};
+use roll_link::Remote;
+use roll_pool::Worked;
+use roll_session::{Call, Request, Session};
+use std::alloc::Global;
+
+/// What stands on the stage.
+#[derive(Drop)]
+pub struct Stage<G: Staged> {
+    alloc: Global,
+    /// Whether what the game refuses is asked for again.
+    retry: bool,
+    /// The session, while no host has it.
+    session: Option<Session<G>>,
+    hosting: Option<Hosting<G>>,
+    /// The pool, while no host has it.
+    crew: Option<Crew<G>>,
+    viewers: Option<Viewers<G>>,
+    /// It runs the jobs.
+    helper: G,
+    /// The jobs of the script's guesses.
+    jobs: Vec<Option<Job<G>>>,
+}
+
+impl<G: Staged> Stage<G> {
+    pub fn new(alloc: Global, session: Session<G>, helper: G, retry: bool) -> Stage<G> {
+        Stage {
+            alloc,
+            retry,
+            session: Some(session),
+            hosting: None,
+            crew: None,
+            viewers: None,
+            helper,
+            jobs: Vec::new(alloc),
+        }
+    }
+
+    /// Does what a line asks for, and writes the answer without its end.
+    pub fn answer(&mut self, out: &mut Vec<u8>, ask: &Ask) -> Result<(), Fault> {
+        match ask {
+            Ask::Script(command) => self.play(out, command),
+            Ask::Word(word) => self.word(out, *word),
+            Ask::One(one, n) => self.one(out, *one, *n),
+            Ask::Two(two, a, b) => self.two(out, *two, *a, *b),
+            Ask::Send { link, item } => self.send(out, *link, *item),
+            Ask::SendAll { count, item } => self.send_all(out, *count, *item),
+            Ask::Remotes { count, item } => self.hear_all(out, *count, *item),
+            Ask::Speculate(guess) => self.speculate(out, guess),
+            Ask::Guess(guess) => self.guess(out, guess.player, &guess.words, guess.until),
+            Ask::Issue(hand) => self.issue(out, hand),
+            Ask::Graft(hand) => self.graft_hand(out, hand),
+            Ask::AddRefusing(call, k) => self.add(out, *call, u64::from(*k)),
+        }
+    }
+
+    fn word(&mut self, out: &mut Vec<u8>, word: Word) -> Result<(), Fault> {
+        match word {
+            Word::Host => self.host(out),
+            Word::Session => self.unhost(out),
+            Word::Link => self.link(out),
+            Word::Pump => self.pump(out),
+            Word::Collect => self.collect(out),
+            Word::Absorb => self.absorb(out),
+            Word::Out => self.count_out(out),
+            Word::Close => self.close(out),
+            Word::Settle => self.settle(out),
+            Word::Feed => self.feed(out),
+            Word::Add => self.add(out, GameCall::Load, 0),
+            Word::Push => self.push(out),
+            Word::Parts => self.parts(out),
+            _ => self.show(out, word),
+        }
+    }
+
+    /// Writes what is seen of the session.
+    fn show(&self, out: &mut Vec<u8>, word: Word) -> Result<(), Fault> {
+        let Some(session) = self.session() else {
+            return Err(Fault::Unreadable);
+        };
+        match word {
+            Word::Seen => views::put_seen(out, session),
+            Word::Kept => views::put_kept(self.alloc, out, session),
+            Word::Counts => views::put_session_counts(out, session),
+            Word::Log => views::put_log(out, session),
+            Word::Settings => Ok(put_settings(out, session.settings())?),
+            Word::Replay => put_replays(self.alloc, out, session, session.log()),
+            Word::Copied => self.replay_copy(out, session),
+            _ => Err(Fault::Unreadable),
+        }
+    }
+
+    fn replay_copy(&self, out: &mut Vec<u8>, session: &Session<G>) -> Result<(), Fault> {
+        let log = copied(self.alloc, session.log())?;
+        put_replays(self.alloc, out, session, &log)
+    }
+
+    fn one(&mut self, out: &mut Vec<u8>, one: One, n: u32) -> Result<(), Fault> {
+        match one {
+            One::Finish => self.finish(out, n),
+            One::Drop => self.drop_sender(out, n),
+            One::Workers => self.open_crew(out, n),
+            One::Work => self.work(out, n),
+            One::Reserve => self.reserve(out, n),
+            One::Frames => self.frames(out, n, None),
+            One::Step => self.step(out, n, 1),
+            One::Watch => self.watch(out, n),
+            One::Leave => self.leave(out, n),
+            One::Relay => self.relay(out, n),
+            One::Gone => self.gone(out, player_number(n)),
+            One::Row | One::Player => self.show_one(out, one, n),
+        }
+    }
+
+    fn show_one(&self, out: &mut Vec<u8>, one: One, n: u32) -> Result<(), Fault> {
+        match (one, self.session()) {
+            (One::Row, Some(session)) => views::put_settled_row(out, session, n),
+            (One::Player, Some(session)) => views::put_player(out, session, player_number(n)),
+            _ => Err(Fault::Unreadable),
+        }
+    }
+
+    fn two(&mut self, out: &mut Vec<u8>, two: Two, a: u32, b: u32) -> Result<(), Fault> {
+        match two {
+            Two::Frames => self.frames(out, a, Some(b)),
+            Two::Steps => self.step(out, a, b),
+            Two::Cell => self.cell(out, player_number(a), b),
+        }
+    }
+
+    fn cell(&self, out: &mut Vec<u8>, player: u8, frame: u32) -> Result<(), Fault> {
+        match self.session() {
+            Some(session) => views::put_source(out, session, player, frame),
+            None => Err(Fault::Unreadable),
+        }
+    }
+
+    /// The session, whoever has it.
+    fn session(&self) -> Option<&Session<G>> {
+        match &self.hosting {
+            Some(hosting) => Some(hosting.session()),
+            None => self.session.as_ref(),
+        }
+    }
+
+    // Scripts.
+
+    fn play(&mut self, out: &mut Vec<u8>, command: &Command) -> Result<(), Fault> {
+        if let Some(call) = call(command) {
+            return self.call(out, call);
+        }
+        match command {
+            Command::Guess {
+                player,
+                until,
+                words,
+            } => self.guess(out, player_number(*player), words, *until),
+            Command::Extend { job } => self.run(out, *job),
+            _ => self.claim(out),
+        }
+    }
+
+    fn claim(&self, out: &mut Vec<u8>) -> Result<(), Fault> {
+        match self.session() {
+            Some(session) => views::put_claim(self.alloc, out, session),
+            None => Err(Fault::Unreadable),
+        }
+    }
+
+    /// Makes a call, and once more where the game refuses it and that is wanted.
+    fn call(&mut self, out: &mut Vec<u8>, call: Call) -> Result<(), Fault> {
+        let mut said = self.make(call);
+        if self.retry && matches!(said, Err(Refusal::NoMemory)) {
+            put(out, "refused 107\n")?;
+            said = self.make(call);
+        }
+        self.put_said(out, said)
+    }
+
+    fn put_said(&self, out: &mut Vec<u8>, said: Result<Reply, Refusal>) -> Result<(), Fault> {
+        match (said, self.session()) {
+            (Ok(reply), Some(session)) => views::put_reply(out, session, &reply),
+            (Err(why), _) => Ok(put_refused(out, why)?),
+            (Ok(_), None) => Err(Fault::Unreadable),
+        }
+    }
+
+    fn make(&mut self, call: Call) -> Result<Reply, Refusal> {
+        if let Some(hosting) = &mut self.hosting {
+            return hosting.make(call);
+        }
+        match &mut self.session {
+            Some(session) => make_in(session, call),
+            None => Err(Refusal::Stopped),
+        }
+    }
+
+    /// Lets a player leave, and writes the number of the event that tells it.
+    fn gone(&mut self, out: &mut Vec<u8>, player: u8) -> Result<(), Fault> {
+        let said = match (&mut self.hosting, &mut self.session) {
+            (Some(hosting), _) => hosting.disconnect(player),
+            (None, Some(session)) => session.disconnect_player(player),
+            (None, None) => return Err(Fault::Unreadable),
+        };
+        match said {
+            Ok(event) => put_named(out, b"event ", event.code().unsigned_abs())?,
+            Err(why) => put_refused(out, why)?,
+        }
+        Ok(())
+    }
+
+    fn job(&mut self, player: u8, words: &[u32], until: u32) -> Result<Option<Job<G>>, Refusal> {
+        match &mut self.session {
+            Some(session) => session.guess(self.alloc, player, words, until),
+            None => Err(Refusal::Stopped),
+        }
+    }
+
+    fn guess(
+        &mut self,
+        out: &mut Vec<u8>,
+        player: u8,
+        words: &[u32],
+        until: u32,
+    ) -> Result<(), Fault> {
+        match self.job(player, words, until) {
+            Err(Refusal::NoMemory) if self.retry => {
+                put(out, "refused 107\n")?;
+                let said = self.job(player, words, until);
+                self.keep_job(out, said)
+            }
+            said => self.keep_job(out, said),
+        }
+    }
+
+    /// Keeps a job, and writes its number, how many rows it has, and how many its path has.
+    fn keep_job(
+        &mut self,
+        out: &mut Vec<u8>,
+        said: Result<Option<Job<G>>, Refusal>,
+    ) -> Result<(), Fault> {
+        match said {
+            Ok(Some(job)) => {
+                put_count(out, b"job ", self.jobs.len())?;
+                put_count(out, b" rows ", job.route().rows.len())?;
+                put_count(out, b" path ", job.route().path.rows.len())?;
+                self.jobs.push(Some(job))?;
+            }
+            Ok(None) => put(out, "kept")?,
+            Err(why) => put_refused(out, why)?,
+        }
+        Ok(())
+    }
+
+    /// Runs a job of a guess, and grafts its branch.
+    fn run(&mut self, out: &mut Vec<u8>, number: u32) -> Result<(), Fault> {
+        match take_job(&mut self.jobs, number as usize) {
+            Some(job) => self.graft(out, job),
+            None => Ok(put_refused(out, Refusal::NoJob)?),
+        }
+    }
+
+    fn graft(&mut self, out: &mut Vec<u8>, job: Job<G>) -> Result<(), Fault> {
+        match extend(&mut self.helper, job) {
+            Done::Grown(branch) => self.graft_branch(out, branch),
+            Done::Refused(_) => Ok(put_refused(out, Refusal::NoMemory)?),
+        }
+    }
+
+    fn graft_branch(&mut self, out: &mut Vec<u8>, branch: Branch<G>) -> Result<(), Fault> {
+        let Some(session) = &mut self.session else {
+            return Err(Fault::Unreadable);
+        };
+        match session.graft(branch) {
+            Ok(grafted) => put_named(out, b"added ", grafted.added)?,
+            Err(why) => put_refused(out, why)?,
+        }
+        Ok(())
+    }
+
+    /// Grafts a branch that is made by hand, and writes first what is told of it without a graft.
+    fn graft_hand(&mut self, out: &mut Vec<u8>, hand: &Hand) -> Result<(), Fault> {
+        let Some(job) = job_of(self.alloc, hand)? else {
+            return Err(Fault::Unreadable);
+        };
+        match extend(&mut self.helper, job) {
+            Done::Grown(branch) => {
+                self.tell(out, &branch)?;
+                self.graft_branch(out, branch)
+            }
+            Done::Refused(_) => Ok(put_refused(out, Refusal::NoMemory)?),
+        }
+    }
+
+    fn tell(&self, out: &mut Vec<u8>, branch: &Branch<G>) -> Result<(), Fault> {
+        let Some(session) = &self.session else {
+            return Err(Fault::Unreadable);
+        };
+        match session.graft_refusal(branch) {
+            Some(why) => put_refused(out, why)?,
+            None => put(out, "fine")?,
+        }
+        put(out, ", ")?;
+        Ok(())
+    }
+
+    // Many frames and words.
+
+    /// Plays frames, with this word for every local player, or else with the number of each frame. Writes the last answer.
+    fn frames(&mut self, out: &mut Vec<u8>, count: u32, word: Option<u32>) -> Result<(), Fault> {
+        let mut said = Err(Refusal::InvalidRequest);
+        for _ in 0..count {
+            said = self.frame(word);
+            if said.is_err() {
+                break;
+            }
+        }
+        self.put_said(out, said)
+    }
+
+    fn frame(&mut self, word: Option<u32>) -> Result<Reply, Refusal> {
+        let Some(session) = self.session() else {
+            return Err(Refusal::Stopped);
+        };
+        let word = word.unwrap_or(session.frame());
+        let local = session.settings().local;
+        for player in 1..9 {
+            if local >> (player - 1) & 1 == 1 {
+                self.make(Call::Local { player, word })?;
+            }
+        }
+        self.make(Call::Advance)
+    }
+
+    /// Hears remote words with the same word, from a frame on. Writes the last answer.
+    fn hear_all(&mut self, out: &mut Vec<u8>, count: u32, item: Remote) -> Result<(), Fault> {
+        let mut said = Err(Refusal::InvalidRequest);
+        for past in 0..count {
+            said = self.make(Call::Remote {
+                player: item.player,
+                frame: item.frame.saturating_add(past),
+                word: item.word,
+            });
+        }
+        self.put_said(out, said)
+    }
+
+    fn reserve(&mut self, out: &mut Vec<u8>, events: u32) -> Result<(), Fault> {
+        let said = match (&mut self.hosting, &mut self.session) {
+            (Some(hosting), _) => hosting.reserve(events),
+            (None, Some(session)) => session.reserve_log(events),
+            (None, None) => return Err(Fault::Unreadable),
+        };
+        put_done_or(out, said)
+    }
+
+    // Hosts and links.
+
+    /// Makes a host of the session and the pool, if there is one. It has one link.
+    fn host(&mut self, out: &mut Vec<u8>) -> Result<(), Fault> {
+        let Some(session) = self.session.take() else {
+            return Err(Fault::Unreadable);
+        };
+        let made = match self.crew.take() {
+            Some(crew) => Hosting::with_crew(self.alloc, session, crew),
+            None => Hosting::new(self.alloc, session),
+        };
+        match made {
+            Ok(hosting) => self.hosting = Some(hosting),
+            Err(_) => return Err(Fault::NoMemory),
+        }
+        Ok(put(out, "hosted")?)
+    }
+
+    /// Takes the session out of its host, which is let go of.
+    fn unhost(&mut self, out: &mut Vec<u8>) -> Result<(), Fault> {
+        let Some(hosting) = self.hosting.take() else {
+            return Err(Fault::Unreadable);
+        };
+        self.session = Some(hosting.into_session());
+        Ok(put(out, "alone")?)
+    }
+
+    fn hosting(&mut self) -> Result<&mut Hosting<G>, Fault> {
+        match &mut self.hosting {
+            Some(hosting) => Ok(hosting),
+            None => Err(Fault::Unreadable),
+        }
+    }
+
+    fn link(&mut self, out: &mut Vec<u8>) -> Result<(), Fault> {
+        match self.hosting()?.add_link() {
+            Ok(number) => put_count(out, b"link ", number)?,
+            Err(why) => put_refused(out, why)?,
+        }
+        Ok(())
+    }
+
+    fn send(&mut self, out: &mut Vec<u8>, link: u32, item: Remote) -> Result<(), Fault> {
+        match self.hosting()?.send(link as usize, item) {
+            Some(true) => put(out, "sent")?,
+            Some(false) => put_refused(out, Refusal::Full)?,
+            None => return Err(Fault::Unreadable),
+        }
+        Ok(())
+    }
+
+    /// Sends items by the first link, with the same word from a frame on, and writes how many found a place.
+    fn send_all(&mut self, out: &mut Vec<u8>, count: u32, item: Remote) -> Result<(), Fault> {
+        let hosting = self.hosting()?;
+        let mut sent = 0u32;
+        for past in 0..count {
+            let next = Remote {
+                frame: item.frame.saturating_add(past),
+                ..item
+            };
+            if hosting.send(0, next) == Some(true) {
+                sent = sent.saturating_add(1);
+            }
+        }
+        Ok(put_named(out, b"sent ", sent)?)
+    }
+
+    fn finish(&mut self, out: &mut Vec<u8>, link: u32) -> Result<(), Fault> {
+        if link != 0 {
+            return Err(Fault::Unreadable);
+        }
+        match self.hosting()?.finish() {
+            Some(left) => Ok(put_named(out, b"left ", left)?),
+            None => Err(Fault::Unreadable),
+        }
+    }
+
+    fn drop_sender(&mut self, out: &mut Vec<u8>, link: u32) -> Result<(), Fault> {
+        if !self.hosting()?.drop_sender(link as usize) {
+            return Err(Fault::Unreadable);
+        }
+        Ok(put(out, "dropped")?)
+    }
+
+    fn pump(&mut self, out: &mut Vec<u8>) -> Result<(), Fault> {
+        let Pumped {
+            applied,
+            refused,
+            held,
+        } = self.hosting()?.pump();
+        put_named(out, b"applied ", applied)?;
+        put_named(out, b" refused ", refused)?;
+        match held {
+            Some(why) => {
+                put(out, " held ")?;
+                put_refused(out, why)?;
+            }
+            None => {}
+        }
+        Ok(())
+    }
+
+    // Workers.
+
+    fn open_crew(&mut self, out: &mut Vec<u8>, workers: u32) -> Result<(), Fault> {
+        match Crew::open(self.alloc, workers as usize) {
+            Ok(crew) => {
+                put_count(out, b"workers ", crew.ends.len())?;
+                self.crew = Some(crew);
+            }
+            Err(why) => put_refused(out, why)?,
+        }
+        Ok(())
+    }
+
+    fn crew(&mut self) -> Result<&mut Crew<G>, Fault> {
+        match &mut self.crew {
+            Some(crew) => Ok(crew),
+            None => Err(Fault::Unreadable),
+        }
+    }
+
+    fn work(&mut self, out: &mut Vec<u8>, place: u32) -> Result<(), Fault> {
+        match self.turn(place as usize) {
+            Some(worked) => Ok(put_worked(out, worked)?),
+            None => Err(Fault::Unreadable),
+        }
+    }
+
+    fn turn(&mut self, place: usize) -> Option<Worked> {
+        if let Some(crew) = &mut self.crew {
+            return crew.work(place, &mut self.helper);
+        }
+        match &mut self.hosting {
+            Some(hosting) => hosting.work(place, &mut self.helper),
+            None => None,
+        }
+    }
+
+    fn issue(&mut self, out: &mut Vec<u8>, hand: &Hand) -> Result<(), Fault> {
+        let Some(job) = job_of(self.alloc, hand)? else {
+            return Err(Fault::Unreadable);
+        };
+        match self.crew()?.issue(job) {
+            Ok(ticket) => put_long(out, b"ticket ", ticket)?,
+            Err(fault) => {
+                put_refused(out, fault.why)?;
+                put_long(out, b" back ", fault.job.ticket())?;
+            }
+        }
+        Ok(())
+    }
+
+    fn collect(&mut self, out: &mut Vec<u8>) -> Result<(), Fault> {
+        match self.crew()?.collect() {
+            Some(done) => put_done(out, done),
+            None => Ok(put(out, "none")?),
+        }
+    }
+
+    fn count_out(&mut self, out: &mut Vec<u8>) -> Result<(), Fault> {
+        let crew = self.crew()?;
+        put_count(out, b"out ", crew.owner.out())?;
+        put_long(out, b" issued ", crew.owner.issued())?;
+        Ok(())
+    }
+
+    fn speculate(&mut self, out: &mut Vec<u8>, guess: &Guess) -> Result<(), Fault> {
+        let said = self
+            .hosting()?
+            .speculate(guess.player, &guess.words, guess.until);
+        match said {
+            Ok(Some(ticket)) => put_long(out, b"ticket ", ticket)?,
+            Ok(None) => put(out, "kept")?,
+            Err(why) => put_refused(out, why)?,
+        }
+        Ok(())
+    }
+
+    fn absorb(&mut self, out: &mut Vec<u8>) -> Result<(), Fault> {
+        let Absorbed {
+            taken,
+            added,
+            dropped,
+            unmade,
+        } = self.hosting()?.absorb();
+        put_named(out, b"taken ", taken)?;
+        put_named(out, b" added ", added)?;
+        put_named(out, b" dropped ", dropped)?;
+        put_named(out, b" unmade ", unmade)?;
+        Ok(())
+    }
+
+    fn close(&mut self, out: &mut Vec<u8>) -> Result<(), Fault> {
+        match (&self.crew, &self.hosting) {
+            (Some(crew), _) => crew.owner.close(),
+            (None, Some(hosting)) => hosting.close(),
+            (None, None) => return Err(Fault::Unreadable),
+        }
+        Ok(put(out, "closed")?)
+    }
+
+    /// Ends the pool, or else the host, and writes what became of the jobs.
+    fn settle(&mut self, out: &mut Vec<u8>) -> Result<(), Fault> {
+        if let Some(crew) = self.crew.take() {
+            return put_outcome(out, &crew.settle());
+        }
+        let Some(hosting) = self.hosting.take() else {
+            return Err(Fault::Unreadable);
+        };
+        let (session, outcome) = hosting.settle();
+        self.session = Some(session);
+        put_outcome(out, &outcome)
+    }
+
+    // Spectators.
+
+    fn feed(&mut self, out: &mut Vec<u8>) -> Result<(), Fault> {
+        match Viewers::new(self.alloc) {
+            Ok(viewers) => self.viewers = Some(viewers),
+            Err(_) => return Err(Fault::NoMemory),
+        }
+        Ok(put(out, "fed")?)
+    }
+
+    fn add(&mut self, out: &mut Vec<u8>, call: GameCall, k: u64) -> Result<(), Fault> {
+        match &mut self.viewers {
+            Some(viewers) => viewers.add(out, call, k),
+            None => Err(Fault::Unreadable),
+        }
+    }
+
+    fn push(&mut self, out: &mut Vec<u8>) -> Result<(), Fault> {
+        match (&mut self.viewers, &self.session) {
+            (Some(viewers), Some(session)) => {
+                Ok(put_named(out, b"sent ", viewers.push(session))?)
+            }
+            _ => Err(Fault::Unreadable),
+        }
+    }
+
+    fn relay(&mut self, out: &mut Vec<u8>, times: u32) -> Result<(), Fault> {
+        match (&mut self.viewers, &self.session) {
+            (Some(viewers), Some(session)) => {
+                Ok(put_named(out, b"sent ", viewers.relay(session, times))?)
+            }
+            _ => Err(Fault::Unreadable),
+        }
+    }
+
+    fn step(&mut self, out: &mut Vec<u8>, place: u32, times: u32) -> Result<(), Fault> {
+        match &mut self.viewers {
+            Some(viewers) => viewers.step(out, place, times),
+            None => Err(Fault::Unreadable),
+        }
+    }
+
+    fn watch(&self, out: &mut Vec<u8>, place: u32) -> Result<(), Fault> {
+        match &self.viewers {
+            Some(viewers) => viewers.watch(out, place),
+            None => Err(Fault::Unreadable),
+        }
+    }
+
+    fn leave(&mut self, out: &mut Vec<u8>, place: u32) -> Result<(), Fault> {
+        let Some(viewers) = &mut self.viewers else {
+            return Err(Fault::Unreadable);
+        };
+        if !viewers.leave(place) {
+            return Err(Fault::Unreadable);
+        }
+        Ok(put(out, "left")?)
+    }
+
+    // The end.
+
+    /// Takes the session apart, and writes the state that was shown, the snapshot that it was opened with, and how often
+    /// its game was asked.
+    fn parts(&mut self, out: &mut Vec<u8>) -> Result<(), Fault> {
+        let Some(session) = self.session.take() else {
+            return Err(Fault::Unreadable);
+        };
+        let parts = session.into_parts();
+        put(out, "shown")?;
+        views::put_state(out, &parts.game, parts.shown.as_ref())?;
+        put(out, " opening ")?;
+        G::put_snapshot(&parts.opening, out)?;
+        put_turns(out, parts.game.counts())?;
+        Ok(())
+    }
+}
+
+/// Makes a call of a session.
+fn make_in<G: Staged>(session: &mut Session<G>, call: Call) -> Result<Reply, Refusal> {
+    match session.perform(Request::Call(call)) {
+        Ok(Reply::Refused(why)) => Err(why),
+        Ok(reply) => Ok(reply),
+        Err(_) => Err(Refusal::NoMemory),
+    }
+}
+
+/// Takes a job away, if there is one of this number.
+fn take_job<G: Staged>(jobs: &mut Vec<Option<Job<G>>>, number: usize) -> Option<Job<G>> {
+    jobs.get_mut(number)?.take()
+}
+
+fn put_done_or(out: &mut Vec<u8>, said: Result<(), Refusal>) -> Result<(), Fault> {
+    match said {
+        Ok(()) => put(out, "ok")?,
+        Err(why) => put_refused(out, why)?,
+    }
+    Ok(())
+}

@@ -1,0 +1,5 @@
+use Rattle.std.proofs.Common.{◌≡◌}
+use Rattle.test_threads.proofs.workers.issue_all.Given as goal
+
+abbrev pub invariant-loop : goal.invariant-loop
+invariant-loop l = l.owner.places ≡ l.initial.owner.places
