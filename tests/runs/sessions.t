@@ -219,9 +219,10 @@ Refused words, once two frames were played and nothing came of the second player
   refused 9
   frame 2 settled 0 log 7 state 11 settled state 0 plan to 2 from 1 rerun 1
 
-A local word at the prediction threshold, and a remote one past 128.
+A local word at the prediction threshold, and a remote one past the 128 that have room behind the eighth frame, up to which all
+is settled.
 
-  $ { for i in 1 2 3 4 5 6 7 8; do printf 'L 1 0\nA\n'; done; printf 'L 1 0\nA\nremotes 128 2 0 0\nR 2 128 0\nL 1 0\n'; } | two \
+  $ { for i in 1 2 3 4 5 6 7 8; do printf 'L 1 0\nA\n'; done; printf 'L 1 0\nA\nremotes 136 2 0 0\nR 2 136 0\nL 1 0\n'; } | two \
   > | tail -n 5
   refused 4
   refused 101

@@ -1,5 +1,5 @@
 //! A host with the senders of its links and the ends of its workers.
-ghost use Rattle.std.specs.Prelude.{◌≡◌, map, Some, slice_get};
+ghost use Rattle.std.specs.Prelude.{◌≡◌, [], map, Some, slice_get};
 ghost use Rattle.std.specs.Option.{ForSome};
 ghost use Rattle.roll_host.specs.Hosted.{places_of};
 
@@ -11,6 +11,15 @@ use roll_link::{LinkSender, Remote};
 use roll_pool::{Outcome, Worked, WorkerEnd};
 use roll_session::{Call, Reached, Session};
 use std::alloc::Global;
+
+/// Why there is no host.
+#[derive(Drop)]
+pub enum Unhosted<G: Game> {
+    /// There is no memory for it: what it was to be made of is handed back.
+    Back(Session<G>, Option<Crew<G>>),
+    /// There is none for its link.
+    NoLink,
+}
 
 /// A host, the sender of its first link while it is there, those of the others, and all its workers.
 #[derive(Drop)]
@@ -24,41 +33,58 @@ pub struct Hosting<G: Game> {
 }
 
 impl<G: Game + Drop> Hosting<G> {
-    /// A host of a session with one link, and without workers.
-    ///
-    /// # Errors
-    ///
-    /// `NoMemory` where the allocator has no room.
-    pub fn new(alloc: Global, session: Session<G>) -> Result<Hosting<G>, Refusal> {
-        let Ok(mut host) = Host::new(alloc, session) else {
-            return Err(Refusal::NoMemory);
-        };
-        let first = host.add_link()?;
-        Ok(Hosting {
-            host,
-            first: Some(first),
-            others: Vec::new(alloc),
-            ends: Vec::new(alloc),
-        })
+    /// A host of a session with one link, and with the workers of a crew where there is one.
+    pub fn new(
+        alloc: Global,
+        session: Session<G>,
+        crew: Option<Crew<G>>,
+    ) -> Result<Hosting<G>, Unhosted<G>> {
+        match crew {
+            Some(crew) => Hosting::with_crew(alloc, session, crew),
+            None => Hosting::alone(alloc, session),
+        }
     }
 
-    /// The same with the workers of a crew.
-    pub fn with_crew(
+    fn alone(alloc: Global, session: Session<G>) -> Result<Hosting<G>, Unhosted<G>> {
+        match Host::new(alloc, session) {
+            Ok(host) => Hosting::linked(alloc, host, Vec::new(alloc)),
+            Err(failed) => Err(Unhosted::Back(failed.value, None)),
+        }
+    }
+
+    fn with_crew(
         alloc: Global,
         session: Session<G>,
         crew: Crew<G>,
-    ) -> Result<Hosting<G>, Refusal> {
+    ) -> Result<Hosting<G>, Unhosted<G>> {
         let Crew { owner, ends } = crew;
-        let Ok(mut host) = Host::with_workers(alloc, session, owner) else {
-            return Err(Refusal::NoMemory);
-        };
-        let first = host.add_link()?;
-        Ok(Hosting {
-            host,
-            first: Some(first),
-            others: Vec::new(alloc),
-            ends,
-        })
+        match Host::with_workers(alloc, session, owner) {
+            Ok(host) => Hosting::linked(alloc, host, ends),
+            Err(failed) => {
+                let (session, owner) = failed.value;
+                Err(Unhosted::Back(session, Some(Crew { owner, ends })))
+            }
+        }
+    }
+
+    fn linked(
+        alloc: Global,
+        host: Host<G>,
+        ends: Vec<WorkerEnd<G>>,
+    ) -> Result<Hosting<G>, Unhosted<G>>
+        requires links { host.links ≡ [] }
+        requires places { map (λ end. end.place) ends.items ≡ places_of host.pool }
+    {
+        let mut host = host;
+        match host.add_link() {
+            Ok(first) => Ok(Hosting {
+                host,
+                first: Some(first),
+                others: Vec::new(alloc),
+                ends,
+            }),
+            Err(_) => Err(Unhosted::NoLink),
+        }
     }
 
     pub fn session(&self) -> &Session<G> {

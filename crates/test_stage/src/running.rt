@@ -141,14 +141,15 @@ fn play<G: Staged>(
     text: &[u8],
     line: &mut u32,
 ) -> Result<(), Fault> {
-    let mut stage = Stage::new(alloc, session, helper, setup.retry);
-    play_lines(alloc, out, &mut stage, text, line)
+    let mut stage = Stage::new(alloc, session, helper);
+    play_lines(alloc, out, &mut stage, setup.retry, text, line)
 }
 
 fn play_lines<G: Staged>(
     alloc: Global,
     out: &mut Vec<u8>,
     stage: &mut Stage<G>,
+    retry: bool,
     text: &[u8],
     line: &mut u32,
 ) -> Result<(), Fault> {
@@ -161,9 +162,23 @@ fn play_lines<G: Staged>(
         let Some(ask) = Ask::read(alloc, next)? else {
             return Err(Fault::Unreadable);
         };
-        stage.answer(out, &ask)?;
-        put(out, "\n")?;
+        answer_line(out, stage, retry, &ask)?;
         rest = after;
     }
     Ok(())
+}
+
+/// Writes what a line is answered. Where that is a refusal for want of memory, and it is wanted, it is asked once more.
+fn answer_line<G: Staged>(
+    out: &mut Vec<u8>,
+    stage: &mut Stage<G>,
+    retry: bool,
+    ask: &Ask,
+) -> Result<(), Fault> {
+    stage.answer(out, ask)?;
+    if retry && out.ends_with(b"refused 107") {
+        put(out, "\n")?;
+        stage.answer(out, ask)?;
+    }
+    Ok(put(out, "\n")?)
 }

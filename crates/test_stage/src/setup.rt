@@ -22,7 +22,7 @@ pub struct Setup {
     pub limit: Option<u32>,
     pub log: Option<u32>,
     pub local: Option<u8>,
-    /// Whether what the game refuses is asked for again.
+    /// Whether what is refused for want of memory is asked for once more.
     pub retry: bool,
 }
 

@@ -4,7 +4,7 @@ use crate::answers::{put, put_count, put_long, put_named, put_refused, put_setti
 use crate::ask::{Ask, Guess, One, Two, Word};
 use crate::crew::Crew;
 use crate::fault::Fault;
-use crate::hosting::Hosting;
+use crate::hosting::{Hosting, Unhosted};
 use crate::jobs::{job_of, put_done, put_outcome, put_worked};
 use crate::replays::{copied, put_replays};
 use crate::rows::Hand;
@@ -25,8 +25,6 @@ use std::alloc::Global;
 #[derive(Drop)]
 pub struct Stage<G: Staged> {
     alloc: Global,
-    /// Whether what the game refuses is asked for again.
-    retry: bool,
     /// The session, while no host has it.
     session: Option<Session<G>>,
     hosting: Option<Hosting<G>>,
@@ -40,10 +38,9 @@ pub struct Stage<G: Staged> {
 }
 
 impl<G: Staged> Stage<G> {
-    pub fn new(alloc: Global, session: Session<G>, helper: G, retry: bool) -> Stage<G> {
+    pub fn new(alloc: Global, session: Session<G>, helper: G) -> Stage<G> {
         Stage {
             alloc,
-            retry,
             session: Some(session),
             hosting: None,
             crew: None,
@@ -184,13 +181,8 @@ impl<G: Staged> Stage<G> {
         }
     }
 
-    /// Makes a call, and once more where the game refuses it and that is wanted.
     fn call(&mut self, out: &mut Vec<u8>, call: Call) -> Result<(), Fault> {
-        let mut said = self.make(call);
-        if self.retry && matches!(said, Err(Refusal::NoMemory)) {
-            put(out, "refused 107\n")?;
-            said = self.make(call);
-        }
+        let said = self.make(call);
         self.put_said(out, said)
     }
 
@@ -240,14 +232,8 @@ impl<G: Staged> Stage<G> {
         words: &[u32],
         until: u32,
     ) -> Result<(), Fault> {
-        match self.job(player, words, until) {
-            Err(Refusal::NoMemory) if self.retry => {
-                put(out, "refused 107\n")?;
-                let said = self.job(player, words, until);
-                self.keep_job(out, said)
-            }
-            said => self.keep_job(out, said),
-        }
+        let said = self.job(player, words, until);
+        self.keep_job(out, said)
     }
 
     /// Keeps a job, and writes its number, how many rows it has, and how many its path has.
@@ -378,15 +364,18 @@ impl<G: Staged> Stage<G> {
         let Some(session) = self.session.take() else {
             return Err(Fault::Unreadable);
         };
-        let made = match self.crew.take() {
-            Some(crew) => Hosting::with_crew(self.alloc, session, crew),
-            None => Hosting::new(self.alloc, session),
-        };
-        match made {
-            Ok(hosting) => self.hosting = Some(hosting),
-            Err(_) => return Err(Fault::NoMemory),
+        match Hosting::new(self.alloc, session, self.crew.take()) {
+            Ok(hosting) => {
+                self.hosting = Some(hosting);
+                Ok(put(out, "hosted")?)
+            }
+            Err(Unhosted::Back(session, crew)) => {
+                self.session = Some(session);
+                self.crew = crew;
+                Ok(put_refused(out, Refusal::NoMemory)?)
+            }
+            Err(Unhosted::NoLink) => Err(Fault::NoMemory),
         }
-        Ok(put(out, "hosted")?)
     }
 
     /// Takes the session out of its host, which is let go of.
@@ -590,10 +579,13 @@ impl<G: Staged> Stage<G> {
 
     fn feed(&mut self, out: &mut Vec<u8>) -> Result<(), Fault> {
         match Viewers::new(self.alloc) {
-            Ok(viewers) => self.viewers = Some(viewers),
-            Err(_) => return Err(Fault::NoMemory),
+            Ok(viewers) => {
+                self.viewers = Some(viewers);
+                put(out, "fed")?;
+            }
+            Err(why) => put_refused(out, why)?,
         }
-        Ok(put(out, "fed")?)
+        Ok(())
     }
 
     fn add(&mut self, out: &mut Vec<u8>, call: GameCall, k: u64) -> Result<(), Fault> {
