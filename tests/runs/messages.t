@@ -1,6 +1,6 @@
 How refusals are told, with their codes; then flaws of claims, and faults.
 
-  $ echo messages | test_stage
+  $ echo messages | test_alone
   2 InvalidPlayer: no such player, or not this kind of player
   3 PlayerOutOfRange: the number of players is out of range
   4 PredictionThreshold: the prediction threshold is reached

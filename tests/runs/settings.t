@@ -1,6 +1,6 @@
 Settings with which a session starts: two players, the first local; eight in the wide profile.
 
-  $ test_stage <<END
+  $ test_alone <<END
   > settings
   > try
   > try players 1
@@ -12,7 +12,7 @@ Settings with which a session starts: two players, the first local; eight in the
 
 What a start refuses: its number, that of what is wrong, and how it is told. First numbers of players.
 
-  $ test_stage <<END
+  $ test_alone <<END
   > settings
   > try players 5
   > try players 200 local 0
@@ -26,7 +26,7 @@ What a start refuses: its number, that of what is wrong, and how it is told. Fir
 
 No local player, and one outside the players.
 
-  $ test_stage <<END
+  $ test_alone <<END
   > settings
   > try local 0
   > try local 5
@@ -36,7 +36,7 @@ No local player, and one outside the players.
 
 Delays of a remote player, and of over 8 frames.
 
-  $ test_stage <<END
+  $ test_alone <<END
   > settings
   > try delays 0,1
   > try delays 9,0
@@ -48,7 +48,7 @@ Delays of a remote player, and of over 8 frames.
 
 The threshold and the limits.
 
-  $ test_stage <<END
+  $ test_alone <<END
   > settings
   > try threshold 9
   > try threshold 0
@@ -70,7 +70,7 @@ The threshold and the limits.
 
 Settings that are made step by step. A step that is refused changes nothing.
 
-  $ test_stage <<END
+  $ test_alone <<END
   > settings
   > new 2 1
   > new 9 1

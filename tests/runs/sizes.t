@@ -60,7 +60,7 @@ Eight players, of whom each gives a word, and a duel of four.
 The claim with 256 paths is written again as it was read.
 
   $ widest 255 > claim
-  $ { echo claim write; cat claim; } | test_stage | cmp - claim
+  $ { echo claim write; cat claim; } | test_alone | cmp - claim
   $ [ $(wc -c < claim) -gt $((255 * 24 * 4)) ]
 
 Seventy thousand refusals are counted.

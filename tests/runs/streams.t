@@ -3,7 +3,7 @@ Reads that fail in mid-stream. A text of two pieces is read: the third read find
   $ late='roll 1 players 2 local 1 delay 0,0 threshold 8\nL 1 1\nA\nL 1 1\nA\nR 2 0 3\nS\nC\n'
   $ rows='rolltest 1 players 2\n4294967295,0\nx,3\n4294967295,4294967295\n'
   $ ahead='rollcert 1\nplayers 2\nbase 2\nfrom 2\ntime 1\n1,3\nkept 2\n-\n1,0\ndiffers 1\n1 2 2\n'
-  $ read() { printf "streams $1 read $3\n$2" | test_stage; }
+  $ read() { printf "streams $1 read $3\n$2" | test_alone; }
   $ for fails in 0 1 2; do read play "$late" $fails; done
   status 2
   cannot read
@@ -54,7 +54,7 @@ Reads that fail in mid-stream. A text of two pieces is read: the third read find
 
 Writes that fail, or take nothing. All is written in three pieces: what was written before stands.
 
-  $ write() { printf "streams $1 write $3 $4\n$2" | test_stage; }
+  $ write() { printf "streams $1 write $3 $4\n$2" | test_alone; }
   $ write play "$late" stops 0
   
   writes 0

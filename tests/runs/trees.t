@@ -1,6 +1,6 @@
 A tree alone. The empty path is the first that it keeps.
 
-  $ test_stage <<END
+  $ test_alone <<END
   > tree 0
   > insert 0 1,3 7
   > len
@@ -25,7 +25,7 @@ A tree alone. The empty path is the first that it keeps.
 
 A planner over it: it starts from the path that is the timeline's, and has no claim before its plan, nor when that is forgotten.
 
-  $ echo 'plan 1,3 1,3' | test_stage
+  $ echo 'plan 1,3 1,3' | test_alone
   refused 117
   to 1
   from 1
@@ -44,7 +44,7 @@ A planner over it: it starts from the path that is the timeline's, and has no cl
 
 It passes over a path that differs, and names the place.
 
-  $ echo 'plan 1,0 1,3' | test_stage
+  $ echo 'plan 1,0 1,3' | test_alone
   refused 117
   to 1
   from 0
@@ -65,7 +65,7 @@ It passes over a path that differs, and names the place.
 
 Where paths differ from the timeline: the marks follow the changes of one player's cells.
 
-  $ test_stage <<END
+  $ test_alone <<END
   > tree 0
   > insert 0 1,0 1
   > insert 1 1,0 2
@@ -102,7 +102,7 @@ Where paths differ from the timeline: the marks follow the changes of one player
 Rows that can't be the timeline's: another player's cells change, or an earlier frame's, or rows are missing, or there are 25.
 
   $ many=$(yes 1,0 | head -n 24 | tr '\n' '/')
-  $ test_stage <<END
+  $ test_alone <<END
   > tree 0
   > mark 2 0 1,0/1,0
   > mark 2 0 2,0/1,0
@@ -126,7 +126,7 @@ Rows that can't be the timeline's: another player's cells change, or an earlier 
 
 States are cut off by a confirmed word and when a player leaves, and a settled state is the new root.
 
-  $ test_stage <<END
+  $ test_alone <<END
   > tree 5
   > insert 0 1,0 1
   > insert 1 1,3 2
@@ -172,7 +172,7 @@ States are cut off by a confirmed word and when a player leaves, and a settled s
 
 A tree keeps 256 states, the root among them. It hands back the one that is too many.
 
-  $ test_stage <<END
+  $ test_alone <<END
   > tree 0
   > fill 255
   > len

@@ -2,7 +2,7 @@
 //! each on standard output.
 //!
 //! The first line is `game tally` with options (`setup`), and the second is a script's header; or it is
-//! `duel N`, which makes a duel of N ships and no more; or it names a subject of `test_alone`. Of a session that doesn't start `refused N` is all that is written.
+//! `duel N`, which makes a duel of N ships and no more. Of a session that doesn't start `refused N` is all that is written.
 //!
 //! The commands are those of a script, and
 //!

@@ -16,7 +16,6 @@ use std::alloc::Global;
 use std::io;
 use std::io::Read;
 use std::rt::Runtime;
-use test_alone::answer;
 
 /// Reads all commands, and carries them out. `line` is the one that it is at.
 pub fn run<R: Runtime>(rt: &R, alloc: Global, line: &mut u32) -> Result<(), Fault> {
@@ -34,9 +33,6 @@ pub fn run<R: Runtime>(rt: &R, alloc: Global, line: &mut u32) -> Result<(), Faul
 
 /// Carries out the commands of a text.
 fn carry_out(alloc: Global, out: &mut Vec<u8>, text: &[u8], line: &mut u32) -> Result<(), Fault> {
-    if answer(alloc, text, out)? {
-        return Ok(());
-    }
     let (first, rest) = next_line(text, line)?;
     let words = fields(alloc, first, b' ')?;
     if let [name, ships] = words.as_slice() {

@@ -1,8 +1,11 @@
-//! What stands below a session, told as text: each call's whole answer, so that examples are files and not code.
+//! The program `test_alone`: what stands below a session, told as text. It reads commands from standard input, a line each, and
+//! writes each call's whole answer on standard output.
 //!
-//! The first line of a text names a subject, and what it is made from; each line below is a command. `board`, `tree` and
+//! The first line names a subject, and what it is made from; each line below is a command. `board`, `tree` and
 //! `plan` are the parts of a session; `settings`, `advice`, `sync`, `turns`, `refusing`, `claim`, `texts`, `messages` and
 //! `streams` have a module each that says what its lines are.
+//!
+//! The exit status is 0, and 3 where memory runs out or a stream fails.
 #![tactic(auto)]
 
 mod advice;
@@ -26,25 +29,54 @@ mod words;
 
 use crate::subject::unreadable;
 use crate::words::{Answer, FIELDS, Fault};
-use roll_text::{few_fields, split_line};
-use std::alloc::{AllocError, Global};
+use roll_text::{few_fields, split_line, write_all};
+use std::alloc::Global;
+use std::io;
+use std::io::Read;
+use std::process::ExitCode;
+use std::rt::Runtime;
 
-/// Writes what a text's commands are answered. False, and nothing is written, where its first line names no subject.
-pub fn answer(alloc: Global, text: &[u8], out: &mut Vec<u8>) -> Result<bool, AllocError> {
-    let (first, lines) = split_line(text).unwrap_or((text, b""));
-    let Some(fields) = few_fields::<FIELDS>(first, b' ') else {
-        return Ok(false);
-    };
-    let Some(told) = named(alloc, fields.as_slice(), lines, out) else {
-        return Ok(false);
-    };
-    match told {
-        Ok(()) => Ok(true),
-        Err(Fault::NoMemory) => Err(AllocError),
-        Err(Fault::Unreadable) => {
-            unreadable(out, 1)?;
-            Ok(true)
+fn main(rt: HostRuntime) -> ExitCode {
+    match run(&rt, rt.alloc()) {
+        Ok(()) => ExitCode::SUCCESS,
+        Err(_) => {
+            let _ = eprintln!(rt; "test_alone: out of memory, or a stream failed");
+            ExitCode::from(3)
         }
+    }
+}
+
+/// Reads a text, and writes what its commands are answered.
+fn run<R: Runtime>(rt: &R, alloc: Global) -> Answer {
+    let mut text = Vec::new(alloc);
+    if rt.reader().read_to_end(&mut text).is_err() {
+        return Err(Fault::NoMemory);
+    }
+    let mut out = Vec::new(alloc);
+    let ended = answer(alloc, &text, &mut out);
+    match write_all(&mut io::writer(rt), &out) {
+        Ok(()) => ended,
+        Err(_) => Err(Fault::NoMemory),
+    }
+}
+
+/// Writes what a text's commands are answered, or that its first line can't be read.
+fn answer(alloc: Global, text: &[u8], out: &mut Vec<u8>) -> Answer {
+    let (first, lines) = split_line(text).unwrap_or((text, b""));
+    match told(alloc, first, lines, out) {
+        Err(Fault::Unreadable) => Ok(unreadable(out, 1)?),
+        ended => ended,
+    }
+}
+
+/// Tells the subject of the first line.
+fn told(alloc: Global, first: &[u8], lines: &[u8], out: &mut Vec<u8>) -> Answer {
+    let Some(fields) = few_fields::<FIELDS>(first, b' ') else {
+        return Err(Fault::Unreadable);
+    };
+    match named(alloc, fields.as_slice(), lines, out) {
+        Some(told) => told,
+        None => Err(Fault::Unreadable),
     }
 }
 
