@@ -1,6 +1,6 @@
 What pairs of advantages advise: how many frames the local side is ahead, and the event that says so.
 
-  $ test_alone <<END
+  $ test_stage <<END
   > advice
   > tell
   > note 40 -6 6
@@ -27,7 +27,7 @@ What pairs of advantages advise: how many frames the local side is ahead, and th
 
 A pair counts for as long as it is one of the last 40, and by at most 120 frames.
 
-  $ test_alone <<END
+  $ test_stage <<END
   > advice
   > note 1 -120 120
   > note 40 -2 2
@@ -44,7 +44,7 @@ A pair counts for as long as it is one of the last 40, and by at most 120 frames
 
 A line that can't be read ends the answers.
 
-  $ test_alone <<END
+  $ test_stage <<END
   > advice
   > tell
   > note 1 2147483648 0

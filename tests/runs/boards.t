@@ -1,8 +1,8 @@
 The inputs of two players alone, of whom the first is local.
 
-  $ echo 'board 2 1' | test_alone
+  $ echo 'board 2 1' | test_stage
   ok
-  $ test_alone <<END
+  $ test_stage <<END
   > board 2 1
   > seen
   > local 1 1
@@ -21,7 +21,7 @@ The inputs of two players alone, of whom the first is local.
 
 Words that are refused, or known already.
 
-  $ test_alone <<END
+  $ test_stage <<END
   > board 2 1
   > local 2 1
   > local 3 1
@@ -50,7 +50,7 @@ Words that are refused, or known already.
 
 A player who leaves is gone from the first frame without a word on. Rows are settled up to the front and the frame.
 
-  $ test_alone <<END
+  $ test_stage <<END
   > board 2 1
   > next
   > local 1 1
@@ -99,14 +99,14 @@ A player who leaves is gone from the first frame without a word on. Rows are set
 
 A queue takes 128 words past the settled frame.
 
-  $ { echo 'board 2 1'; seq -f 'remote 2 %g 0' 0 128; } | test_alone | uniq -c | tr -s ' '
+  $ { echo 'board 2 1'; seq -f 'remote 2 %g 0' 0 128; } | test_stage | uniq -c | tr -s ' '
    1 ok
    128 taken
    1 refused 105
 
 Numbers of players, and local players, for which there is no board.
 
-  $ for start in '9 1' '0 1' '2 3' '2 0'; do echo "board $start" | test_alone; done
+  $ for start in '9 1' '0 1' '2 3' '2 0'; do echo "board $start" | test_stage; done
   refused 3
   refused 3
   refused 11

@@ -134,28 +134,44 @@ A text that is as long as can be, and one that is too long.
 Claims that are made by hand, with more paths than a text has: 300 of them, of which all but the first differ, with the last path's
 entry first. An entry twice, and one that is missing.
 
-  $ echo claim widest 300 | test_alone
+  $ echo claim widest 300 | test_stage
   right
-  $ echo claim widest 300 twice 299 | test_alone
+  $ echo claim widest 300 twice 299 | test_stage
   twice 299
-  $ echo claim widest 300 missing | test_alone
+  $ echo claim widest 300 missing | test_stage
   missing 299
 
 The widest claim of 256 paths, checked a thousand times.
 
-  $ echo claim widest 256 times 1000 | test_alone
+  $ echo claim widest 256 times 1000 | test_stage
   right
+
+Each flaw, as the checker tells it.
+
+  $ check() { printf "claim check\n$1" | test_stage; }
+  $ check "${ahead}differs 1\n1 2 2\n"
+  right
+  $ check "${ahead}differs 0\n"
+  missing 1
+  $ check "${ahead}differs 1\n1 2 1\n"
+  equal 0
+  $ check "${ahead}differs 1\n1 1 2\n"
+  range 0
+  $ check "${ahead}differs 2\n1 2 2\n1 2 2\n"
+  twice 1
+  $ check 'rollcert 1\nplayers 2\nbase 2\nfrom 3\ntime 1\n1,3\nkept 2\n-\n1,0\ndiffers 1\n1 2 2\n'
+  from not kept
 
 A kept path of another base than the claim's.
 
-  $ echo claim base 2 | test_alone
+  $ echo claim base 2 | test_stage
   right
-  $ echo claim base 1 | test_alone
+  $ echo claim base 1 | test_stage
   shape
 
 Texts of claims that are written again as they were read.
 
-  $ again() { printf "$1" > claim; { echo claim write; cat claim; } | test_alone | cmp - claim; }
+  $ again() { printf "$1" > claim; { echo claim write; cat claim; } | test_stage | cmp - claim; }
   $ again "${ahead}differs 1\n1 2 2\n"
   $ again 'rollcert 2\nplayers 5\nbase 0\nfrom 0\ntime 1\n1,0,0,0,2\nkept 1\n-\ndiffers 0\n'
   $ again 'rollcert 1\nplayers 2\nbase 0\nfrom 0\ntime 2\n1,3\n1,3\nkept 1\n-\ndiffers 0\n'

@@ -120,7 +120,7 @@ number of the last branch is wrong at the end of its path, and right where the s
 A branch runs ahead of a player who leaves: that player counts for 5.
 
   $ two <<END
-  > graft 0 . 0 0,-
+  > graft 0 . 0 0,x
   > L 1 0
   > D 2
   > A

@@ -1,6 +1,6 @@
-How refusals are told, with their codes; then flaws of claims, and faults.
+How refusals are told, with their codes; then faults.
 
-  $ echo messages | test_alone
+  $ echo messages | test_stage
   2 InvalidPlayer: no such player, or not this kind of player
   3 PlayerOutOfRange: the number of players is out of range
   4 PredictionThreshold: the prediction threshold is reached
@@ -27,12 +27,6 @@ How refusals are told, with their codes; then flaws of claims, and faults.
   118 Unreadable(4294967295): unreadable: line 4294967295
   119 Full: no place is free
   120 NoJob: no such job
-  Flaw Shape: shape
-  Flaw FromNotKept: from not kept
-  Flaw Range(0): range 0
-  Flaw Equal(1): equal 1
-  Flaw Twice(20): twice 20
-  Flaw Missing(255): missing 255
   SettingsFault Players: the number of players is out of range
   SettingsFault NoLocalPlayer: no player is local
   SettingsFault LocalPlayerOutside { player: 3 }: local player 3 is not one of the players
@@ -42,18 +36,8 @@ How refusals are told, with their codes; then flaws of claims, and faults.
   SettingsFault FrameLimit: the frame limit is out of range
   SettingsFault LogLimit: the log limit is out of range
   SettingsFault NoPlayer { player: 9 }: there is no player 9
-  ReplayFault NotACall { place: 4 }: entry 4 is no call
-  ReplayFault Repeated { place: 0 }: entry 0 repeats a word
-  ReplayFault Refused { place: 2, why: Gap }: entry 2 is refused: an earlier input is missing
-  ReplayFault NoMemory { place: 1 }: out of memory at entry 1
   NoMemory: out of memory
   ReadFault TooLong: the text is too long
   ReadFault NoMemory: out of memory
   ReadFault Read: cannot read
   WriteFault: cannot write
-  ScriptFault Unreadable(7): unreadable: line 7
-  ScriptFault NoMemory: out of memory
-  PlayFault Unreadable(18446744073709551615): unreadable: line 18446744073709551615
-  PlayFault NoMemory: out of memory
-  PlayFault Read: cannot read
-  PlayFault Write: cannot write

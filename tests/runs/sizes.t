@@ -60,7 +60,7 @@ Eight players, of whom each gives a word, and a duel of four.
 The claim with 256 paths is written again as it was read.
 
   $ widest 255 > claim
-  $ { echo claim write; cat claim; } | test_alone | cmp - claim
+  $ { echo claim write; cat claim; } | test_stage | cmp - claim
   $ [ $(wc -c < claim) -gt $((255 * 24 * 4)) ]
 
 Seventy thousand refusals are counted.
@@ -69,3 +69,15 @@ Seventy thousand refusals are counted.
   [1]
   $ uniq -c out | tr -s ' '
    70000 refused 101
+
+A list of a thousand numbers.
+
+  $ echo list 1000 | test_stage
+  same
+
+Of a text that is too long, one byte more than the greatest is taken from standard input.
+
+  $ { yes | head -c 1048579; } > beyond
+  $ { rollduel play -; wc -c; } < beyond
+  rollduel: unreadable: line 0
+  2

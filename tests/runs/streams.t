@@ -1,17 +1,20 @@
-Reads that fail in mid-stream. A text of two pieces is read: the third read finds its end. Where an earlier one fails nothing is written.
+Reads and writes that fail in mid-stream, for each task of the program: scripts, also played live with two workers, files of rows, and claims;
+and writes of a match.
 
-  $ late='roll 1 players 2 local 1 delay 0,0 threshold 8\nL 1 1\nA\nL 1 1\nA\nR 2 0 3\nS\nC\n'
-  $ rows='rolltest 1 players 2\n4294967295,0\nx,3\n4294967295,4294967295\n'
-  $ ahead='rollcert 1\nplayers 2\nbase 2\nfrom 2\ntime 1\n1,3\nkept 2\n-\n1,0\ndiffers 1\n1 2 2\n'
-  $ read() { printf "streams $1 read $3\n$2" | test_alone; }
-  $ for fails in 0 1 2; do read play "$late" $fails; done
-  status 2
-  cannot read
-  status 2
-  cannot read
-  status 2
-  cannot read
-  $ read play "$late" 3
+  $ printf 'roll 1 players 2 local 1 delay 0,0 threshold 8\nL 1 1\nA\nL 1 1\nA\nR 2 0 3\nS\nC\n' > play
+  $ printf 'rolltest 1 players 2\n4294967295,0\nx,3\n4294967295,4294967295\n' > synctest
+  $ printf 'rollcert 1\nplayers 2\nbase 2\nfrom 2\ntime 1\n1,3\nkept 2\n-\n1,0\ndiffers 1\n1 2 2\n' > certify
+  $ cp play live
+  $ task() {
+  >     case $1 in
+  >         synctest) echo "rollduel synctest synctest --frames 2";;
+  >         live) echo "rollduel live live --workers 2";;
+  >         match) echo "rollduel match --frames 4";;
+  >         *) echo "rollduel $1 $1";;
+  >     esac
+  > }
+  $ run() { LD_PRELOAD=$REFUSE $(task $1); }
+  $ run play | tee play.whole
   ok
   frame 1 from 0 rerun 1 settled 0 state 1
   ok
@@ -28,133 +31,54 @@ Reads that fail in mid-stream. A text of two pieces is read: the third read find
   kept 1
   -
   differs 0
-  status 0
-  $ for fails in 0 1 2; do read synctest "$rows" $fails; done
-  status 2
-  cannot read
-  status 2
-  cannot read
-  status 2
-  cannot read
-  $ read synctest "$rows" 3
-  run
-  verified 2
-  run
-  status 0
-  $ for fails in 0 1 2; do read certify "$ahead" $fails; done
-  status 2
-  cannot read
-  status 2
-  cannot read
-  status 2
-  cannot read
-  $ read certify "$ahead" 3
-  yes: from 2 to 3 rerun 1
-  status 0
-
-Writes that fail, or take nothing. All is written in three pieces: what was written before stands.
-
-  $ write() { printf "streams $1 write $3 $4\n$2" | test_alone; }
-  $ write play "$late" stops 0
-  
-  writes 0
-  status 2
-  cannot write
-  $ write play "$late" stops 2
+  $ run live | tee live.whole
   ok
-  frame 1 from 0 rerun 1 settled 0 state 1
+  frame 1 state 1
   ok
-  frame 2 from 1 rerun 1 settled 0 state 11
+  frame 2 state 11
   taken
-  frame 2 from 0 rerun 2 settled 1 state 77
-  r
-  writes 2
-  status 2
-  cannot write
-  $ write play "$late" fails 0
-  
-  writes 0
-  status 2
-  cannot write
-  $ write play "$late" fails 1
-  ok
-  frame 1 from 0 rerun 1 settled 0 state 1
-  ok
-  frame 2 from 1 rerun 1
-  writes 1
-  status 2
-  cannot write
-  $ write play "$late" fails 3
-  ok
-  frame 1 from 0 rerun 1 settled 0 state 1
-  ok
-  frame 2 from 1 rerun 1 settled 0 state 11
-  taken
-  frame 2 from 0 rerun 2 settled 1 state 77
-  rollcert 1
-  players 2
-  base 0
-  from 0
-  time 2
-  1,3
-  1,3
-  kept 1
-  -
-  differs 0
-  
-  writes 3
-  status 0
-  $ write synctest "$rows" stops 0
-  
-  writes 0
-  status 2
-  cannot write
-  $ write synctest "$rows" stops 2
-  run
-  verified 2
-  writes 2
-  status 2
-  cannot write
-  $ write synctest "$rows" fails 0
-  
-  writes 0
-  status 2
-  cannot write
-  $ write synctest "$rows" fails 1
-  run
-  ver
-  writes 1
-  status 2
-  cannot write
-  $ write synctest "$rows" fails 3
+  frame 2 state 77
+  $ run synctest | tee synctest.whole
   run
   verified 2
   run
-  
-  writes 3
-  status 0
-  $ write certify "$ahead" stops 0
-  
-  writes 0
-  status 2
-  cannot write
-  $ write certify "$ahead" stops 2
-  yes: from 2 to 3 r
-  writes 2
-  status 2
-  cannot write
-  $ write certify "$ahead" fails 0
-  
-  writes 0
-  status 2
-  cannot write
-  $ write certify "$ahead" fails 1
-  yes: from
-  writes 1
-  status 2
-  cannot write
-  $ write certify "$ahead" fails 3
+  $ run certify | tee certify.whole
   yes: from 2 to 3 rerun 1
-  
-  writes 3
-  status 0
+  $ run match > match.whole
+
+A text of two pieces is read: the third read finds its end. Where a read fails nothing is written. A fourth read isn't made.
+
+  $ reads() { for n in 1 2 3 4; do MOST_READ=50 REFUSE_READ=$n run $1 > told 2> why; echo "$? $(wc -c < told) $(cat why)"; done; }
+  $ reads play
+  2 0 rollduel: cannot read
+  2 0 rollduel: cannot read
+  2 0 rollduel: cannot read
+  0 206 
+  $ reads live
+  2 0 rollduel: cannot read
+  2 0 rollduel: cannot read
+  2 0 rollduel: cannot read
+  0 76 
+  $ reads synctest
+  2 0 rollduel: cannot read
+  2 0 rollduel: cannot read
+  2 0 rollduel: cannot read
+  0 19 
+  $ reads certify
+  2 0 rollduel: cannot read
+  2 0 rollduel: cannot read
+  2 0 rollduel: cannot read
+  0 25 
+
+Three writes are made. Where one of them fails, or takes nothing, what was written before stands.
+
+  $ writes() {
+  >     third=$((($(wc -c < $1.whole) + 2) / 3))
+  >     for n in 1 2 3 4; do
+  >         env LD_PRELOAD=$REFUSE MOST_WRITTEN=$third $2=$n $(task $1) > told 2> why
+  >         echo "$? $(head -c $(($third * ($n - 1))) $1.whole | cmp - told && echo front) $(cat why)"
+  >     done
+  > }
+  $ for task in play live synctest certify match; do writes $task REFUSE_WRITE; writes $task REFUSE_TAKING; done | sort | uniq -c | tr -s ' '
+   10 0 front 
+   30 2 front rollduel: cannot write

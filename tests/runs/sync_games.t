@@ -1,6 +1,6 @@
 A game that adds the number of its earlier advances comes out different at once, and the test is stopped.
 
-  $ test_alone <<END
+  $ test_stage <<END
   > sync drifting 0 1
   > step 1,3 3
   > counts
@@ -13,7 +13,7 @@ A game that adds the number of its earlier advances comes out different at once,
 The first frame that differs is named. Here the advances of the first three rows are 0 to 2, and then again 3 to 5; those of the
 next 6 to 8, and then again 9 and 10, of which 10 is the first that counts.
 
-  $ test_alone <<END
+  $ test_stage <<END
   > sync drifting 10 3
   > step 1,3 7
   > counts
@@ -29,7 +29,7 @@ next 6 to 8, and then again 9 and 10, of which 10 is the first that counts.
 
 What is not saved shows where a state is loaded: at the fifth advance since the load.
 
-  $ test_alone <<END
+  $ test_stage <<END
   > sync forgetful 2
   > step 1,3 7
   > END
@@ -43,14 +43,14 @@ What is not saved shows where a state is loaded: at the fifth advance since the 
 
 A file of rows is tested up to the first frame that differs.
 
-  $ { echo streams drifting 0 1; echo rolltest 1 players 2; yes 1,3 | head -n 2; } | test_alone
+  $ { echo drifting 0 1; echo rolltest 1 players 2; yes 1,3 | head -n 2; } | test_stage
   mismatch 0
   different
-  $ { echo streams drifting 0 2; echo rolltest 1 players 2; yes 1,3 | head -n 2; } | test_alone
+  $ { echo drifting 0 2; echo rolltest 1 players 2; yes 1,3 | head -n 2; } | test_stage
   run
   mismatch 0
   different
-  $ { echo streams drifting 10 3; echo rolltest 1 players 2; yes 1,3 | head -n 7; } | test_alone
+  $ { echo drifting 10 3; echo rolltest 1 players 2; yes 1,3 | head -n 7; } | test_stage
   run
   run
   verified 3
@@ -63,7 +63,7 @@ A tally comes out the same. Each row is run once, and each verified row again: e
 start.
 
   $ for frames in 1 2 3 4 5 6 7 8; do
-  >     printf "sync tally $frames\nstep 1,3 16\ncounts\n" | test_alone | tr '\n' ' ' | sed 's/verified/v/g;s/ $//'
+  >     printf "sync tally $frames\nstep 1,3 16\ncounts\n" | test_stage | tr '\n' ' ' | sed 's/verified/v/g;s/ $//'
   >     echo
   > done
   v 1 v 2 v 3 v 4 v 5 v 6 v 7 v 8 v 9 v 10 v 11 v 12 v 13 v 14 v 15 v 16 loads 17 saves 32 copies 0 turns 32 refusals 0
@@ -77,7 +77,7 @@ start.
 
 So does a duel.
 
-  $ printf 'sync duel 2\nstep 1,3 4\n' | test_alone
+  $ printf 'sync duel 2\nstep 1,3 4\n' | test_stage
   run
   verified 2
   run
@@ -85,7 +85,7 @@ So does a duel.
 
 A test starts with 1 to 8 frames. Else it hands back the game, which was asked for nothing, and the opening.
 
-  $ for frames in 0 9 4294967295; do echo "sync from 70 $frames" | test_alone; done
+  $ for frames in 0 9 4294967295; do echo "sync from 70 $frames" | test_stage; done
   refused 11
   loads 0 saves 0 copies 0 turns 0 refusals 0
   opening 70
@@ -95,20 +95,21 @@ A test starts with 1 to 8 frames. Else it hands back the game, which was asked f
   refused 11
   loads 0 saves 0 copies 0 turns 0 refusals 0
   opening 70
-  $ printf 'sync from 70 1\nstep 1,3\n' | test_alone
+  $ printf 'sync from 70 1\nstep 1,3\n' | test_stage
   verified 1
 
-A test of two frames in which the kth load, save, advance or copy is refused: it is stopped from that step on. The second step and
+A test of two frames in which the kth load, save, advance or copy is refused: it is stopped from that step on, or is started
+once more if the load at its start was refused. The second step and
 the fourth run two rows again: each loads once.
 
   $ each() {
   >     for k in $2; do
-  >         printf "sync tally 2 $1 $k\nstep 1,3 5\n" | test_alone | tr '\n' ' ' | sed 's/verified /v/g;s/refused //g;s/ $//'
+  >         printf "sync tally 2 $1 $k\nstep 1,3 5\n" | test_stage | tr '\n' ' ' | sed 's/verified /v/g;s/refused //g;s/ $//'
   >         echo
   >     done
   > }
   $ each load '1 2 3 4'
-  107 loads 1 saves 0 copies 0 turns 0 refusals 1
+  107 loads 1 saves 0 copies 0 turns 0 refusals 1 opening 0 run v2 run v4 run
   run 107 116 116 116
   run v2 run 107 116
   run v2 run v4 run
@@ -137,7 +138,7 @@ the fourth run two rows again: each loads once.
 
 A test takes 1,048,576 rows.
 
-  $ printf 'sync tally 1\nlast 1,3 1048576\nstep 1,3 2\n' | test_alone
+  $ printf 'sync tally 1\nlast 1,3 1048576\nstep 1,3 2\n' | test_stage
   verified 1048576
   refused 106
   refused 106

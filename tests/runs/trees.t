@@ -1,6 +1,6 @@
 A tree alone. The empty path is the first that it keeps.
 
-  $ test_alone <<END
+  $ test_stage <<END
   > tree 0
   > insert 0 1,3 7
   > len
@@ -14,7 +14,7 @@ A tree alone. The empty path is the first that it keeps.
   > END
   node 1
   len 2
-  -
+  .
   1,3
   state 0
   state 7
@@ -25,7 +25,7 @@ A tree alone. The empty path is the first that it keeps.
 
 A planner over it: it starts from the path that is the timeline's, and has no claim before its plan, nor when that is forgotten.
 
-  $ echo 'plan 1,3 1,3' | test_alone
+  $ echo 'plan 1,3 1,3' | test_stage
   refused 117
   to 1
   from 1
@@ -44,7 +44,7 @@ A planner over it: it starts from the path that is the timeline's, and has no cl
 
 It passes over a path that differs, and names the place.
 
-  $ echo 'plan 1,0 1,3' | test_alone
+  $ echo 'plan 1,0 1,3' | test_stage
   refused 117
   to 1
   from 0
@@ -65,7 +65,7 @@ It passes over a path that differs, and names the place.
 
 Where paths differ from the timeline: the marks follow the changes of one player's cells.
 
-  $ test_alone <<END
+  $ test_stage <<END
   > tree 0
   > insert 0 1,0 1
   > insert 1 1,0 2
@@ -86,7 +86,7 @@ Where paths differ from the timeline: the marks follow the changes of one player
   node 1
   node 2
   node 3
-  -
+  .
   ok
   1,0/1,0
   node 2 2
@@ -102,7 +102,7 @@ Where paths differ from the timeline: the marks follow the changes of one player
 Rows that can't be the timeline's: another player's cells change, or an earlier frame's, or rows are missing, or there are 25.
 
   $ many=$(yes 1,0 | head -n 24 | tr '\n' '/')
-  $ test_alone <<END
+  $ test_stage <<END
   > tree 0
   > mark 2 0 1,0/1,0
   > mark 2 0 2,0/1,0
@@ -126,7 +126,7 @@ Rows that can't be the timeline's: another player's cells change, or an earlier 
 
 States are cut off by a confirmed word and when a player leaves, and a settled state is the new root.
 
-  $ test_alone <<END
+  $ test_stage <<END
   > tree 5
   > insert 0 1,0 1
   > insert 1 1,3 2
@@ -152,12 +152,12 @@ States are cut off by a confirmed word and when a player leaves, and a settled s
   node 4
   no
   len 4
-  -
+  .
   1,0
   1,3
   1,3/1,x
   len 3
-  -
+  .
   1,3
   1,3/1,x
   ok
@@ -167,12 +167,12 @@ States are cut off by a confirmed word and when a player leaves, and a settled s
   len 2
   base 6
   1,x
-  -
+  .
   1,x
 
 A tree keeps 256 states, the root among them. It hands back the one that is too many.
 
-  $ test_alone <<END
+  $ test_stage <<END
   > tree 0
   > fill 255
   > len

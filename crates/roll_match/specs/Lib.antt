@@ -3,3 +3,4 @@ pub mod Arriving
 pub mod Policy
 pub mod Totals
 pub mod Known
+pub mod Options

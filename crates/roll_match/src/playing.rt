@@ -1,5 +1,6 @@
 //! A match, from its first simulated frame to its last.
 ghost use Rattle.std.specs.Prelude.{◌≡◌, ◌<◌, ◌≤◌, ◌+◌, ◌^◌, IfOk, OnOk, vec_len};
+ghost use Rattle.roll_match.specs.Options.{IsPlayable};
 
 use crate::draws::{Draws, Stream};
 use crate::line::Line;
@@ -38,6 +39,7 @@ impl<G: Game + Drop> Match<G> {
     ) -> Result<Match<G>, Refusal>
         ensures first { IfOk result (λ both. vec_len both.first.turns ≡ 0) }
         ensures second { IfOk result (λ both. vec_len both.second.turns ≡ 0) }
+        ensures playable { OnOk result (IsPlayable options.now) }
     {
         Ok(Match {
             first: peer(alloc, options, 1, first)?,
@@ -78,9 +80,9 @@ impl<G: Game + Drop> Match<G> {
 
 /// What a side's session is opened with.
 fn settings(options: &MatchOptions, me: u8) -> Result<Settings, Refusal>
-    ensures { OnOk result (0 < options.now.hold) }
+    ensures { OnOk result (IsPlayable options.now) }
 {
-    if options.lost > 99 || options.hold == 0 {
+    if options.lost > 99 || options.hold == 0 || options.frames == 0 {
         return Err(Refusal::InvalidRequest);
     }
     Ok(side_settings(options, me)?)
@@ -102,7 +104,8 @@ fn peer<G: Game + Drop>(
     engines: Engines<G>,
 ) -> Result<Peer<G>, Refusal>
     requires { me ≤ 2 }
-    ensures { IfOk result (λ peer. vec_len peer.turns ≡ 0) }
+    ensures playable { OnOk result (IsPlayable options.now) }
+    ensures first { IfOk result (λ peer. vec_len peer.turns ≡ 0) }
 {
     let settings = settings(options, me)?;
     let Engines {

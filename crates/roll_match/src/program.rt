@@ -1,5 +1,6 @@
 //! A match from its options to what is written of it.
-ghost use Rattle.std.specs.Prelude.{◌≡◌, ◌⊎◌, ◌<◌, ◌≤◌, ◌^◌, IfErr, IfSome, MatchOption, vec_len};
+ghost use Rattle.std.specs.Prelude.{◌≡◌, ◌⊎◌, ◌<◌, ◌≤◌, ◌^◌, IfErr, IfSome, MatchOption, OnOk, vec_len};
+ghost use Rattle.roll_match.specs.Options.{IsPlayable};
 ghost use Rattle.roll_cli.specs.declared.engine.PlayFault.TheVariants.{Write as CannotWrite};
 
 use crate::options::MatchOptions;
@@ -64,7 +65,9 @@ fn perform<W: Write>(
 /// # Errors
 ///
 /// `InvalidRequest` for settings that no session starts with, `NoMemory`, or what refused a session's call.
-pub fn play(alloc: Global, options: &MatchOptions) -> Result<Report, Refusal> {
+pub fn play(alloc: Global, options: &MatchOptions) -> Result<Report, Refusal>
+    ensures { OnOk result (IsPlayable options.now) }
+{
     match options.game {
         GameName::Tally => play_out(alloc, options, tally(), tally()),
         GameName::Duel => play_out(alloc, options, duel(alloc)?, duel(alloc)?),
@@ -95,7 +98,9 @@ fn play_out<G: Shown + Drop>(
     options: &MatchOptions,
     first: Engines<G>,
     second: Engines<G>,
-) -> Result<Report, Refusal> {
+) -> Result<Report, Refusal>
+    ensures { OnOk result (IsPlayable options.now) }
+{
     let mut both = Match::new(alloc, options, first, second)?;
     both.play(alloc, options)?;
     report(alloc, &mut both)

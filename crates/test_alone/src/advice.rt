@@ -2,8 +2,9 @@
 //!
 //! `note N LOCAL REMOTE` notes a pair so many times, one after another; `tell` tells how many frames ahead the local side
 //! is, and the event with its code, where there is one; `anew` begins with no pairs.
+use crate::answers::{put, put_named};
 use crate::subject::{Subject, perform_all};
-use crate::words::{Answer, FIELDS, Fault, push_count, signed, word};
+use crate::words::{Answer, FIELDS, Fault, is, signed, word};
 use roll_frame::{Advice, Event};
 use roll_text::few_fields;
 use std::alloc::Global;
@@ -32,12 +33,12 @@ impl Subject for Advised {
             return Err(Fault::Unreadable);
         };
         match fields.as_slice() {
-            [b"note", count, local, remote] => {
+            [name, count, local, remote] if is(name, b"note") => {
                 self.note(word(count)?, signed(local)?, signed(remote)?);
                 Ok(())
             }
-            [b"tell"] => push_advice(out, &self.advice),
-            [b"anew"] => {
+            [name] if is(name, b"tell") => push_advice(out, &self.advice),
+            [name] if is(name, b"anew") => {
                 self.advice = fresh(self.alloc)?;
                 Ok(())
             }
@@ -55,27 +56,18 @@ impl Advised {
 }
 
 fn push_advice(out: &mut Vec<u8>, advice: &Advice) -> Answer {
-    out.extend_from_slice(b"ahead ")?;
-    push_count(out, u64::from(advice.frames_ahead()))?;
+    put_named(out, b"ahead ", advice.frames_ahead())?;
     match advice.event() {
         Some(event) => push_event(out, event)?,
-        None => out.extend_from_slice(b" no event")?,
+        None => put(out, b" no event")?,
     }
-    out.extend_from_slice(b"\n")?;
-    Ok(())
+    put(out, b"\n")
 }
 
 fn push_event(out: &mut Vec<u8>, event: Event) -> Answer {
-    out.extend_from_slice(b" event ")?;
-    push_count(out, u64::try_from(event.code()).unwrap_or(0))?;
+    put_named(out, b" event ", event.code().unsigned_abs())?;
     match event {
-        Event::TimeSync { frames_ahead } => {
-            out.extend_from_slice(b" frames ")?;
-            push_count(out, u64::from(frames_ahead))
-        }
-        Event::DisconnectedFromPeer { player } => {
-            out.extend_from_slice(b" player ")?;
-            push_count(out, u64::from(player))
-        }
+        Event::TimeSync { frames_ahead } => put_named(out, b" frames ", frames_ahead),
+        Event::DisconnectedFromPeer { player } => put_named(out, b" player ", u32::from(player)),
     }
 }

@@ -4,9 +4,9 @@
 //! and `settle F` settles the rows below one, where either can be; `row F`, `word P F` and `source P F` tell the
 //! timeline's row, a confirmed word, and where a cell is from; `seen` tells the frame, the settled frame, the front, how
 //! many players there are, and how many words of each are confirmed. Once rows are settled, no remote word is heard.
-use crate::rows::push_rows;
+use crate::answers::{put, put_named, put_row};
 use crate::subject::{Subject, perform_all};
-use crate::words::{Answer, FIELDS, Fault, push_count, refuse, say, small, tell_whether, word};
+use crate::words::{Answer, FIELDS, Fault, is, refuse, say, small, tell_whether, word};
 use roll_frame::{PLAYER_LIMIT, Settings};
 use roll_inputs::{Board, Heard, Record, Source};
 use roll_text::few_fields;
@@ -48,15 +48,17 @@ impl Subject for Inputs {
             return Err(Fault::Unreadable);
         };
         match fields.as_slice() {
-            [b"local", player, value] => self.local(player, value, out),
-            [b"remote", player, frame, value] => self.remote(player, frame, value, out),
-            [b"gone", player] => self.leave(player, out),
-            [b"next"] => self.next(out),
-            [b"settle", frame] => self.settle(frame, out),
-            [b"row", frame] => self.row(frame, out),
-            [b"word", player, frame] => self.word(player, frame, out),
-            [b"source", player, frame] => self.source(player, frame, out),
-            [b"seen"] => self.seen(out),
+            [name] if is(name, b"next") => self.next(out),
+            [name] if is(name, b"seen") => self.seen(out),
+            [name, player] if is(name, b"gone") => self.leave(player, out),
+            [name, frame] if is(name, b"settle") => self.settle(frame, out),
+            [name, frame] if is(name, b"row") => self.row(frame, out),
+            [name, player, value] if is(name, b"local") => self.local(player, value, out),
+            [name, player, frame] if is(name, b"word") => self.word(player, frame, out),
+            [name, player, frame] if is(name, b"source") => self.source(player, frame, out),
+            [name, player, frame, value] if is(name, b"remote") => {
+                self.remote(player, frame, value, out)
+            }
             _ => Err(Fault::Unreadable),
         }
     }
@@ -107,7 +109,8 @@ impl Inputs {
         if frame < self.board.settled() {
             return say(out, b"settled", &[]);
         }
-        push_rows(out, &[self.board.row(frame)])
+        put_row(out, &self.board.row(frame))?;
+        put(out, b"\n")
     }
 
     fn word(&mut self, player: &[u8], frame: &[u8], out: &mut Vec<u8>) -> Answer {
@@ -131,27 +134,17 @@ impl Inputs {
         }
     }
 
-    fn seen(&mut self, out: &mut Vec<u8>) -> Answer {
+    fn seen(&self, out: &mut Vec<u8>) -> Answer {
         let board = &self.board;
-        out.extend_from_slice(b"frame ")?;
-        push_count(out, u64::from(board.frame()))?;
-        out.extend_from_slice(b" settled ")?;
-        push_count(out, u64::from(board.settled()))?;
-        out.extend_from_slice(b" front ")?;
-        push_count(out, u64::from(board.front()))?;
-        out.extend_from_slice(b" confirmed")?;
+        put_named(out, b"frame ", board.frame())?;
+        put_named(out, b" settled ", board.settled())?;
+        put_named(out, b" front ", board.front())?;
+        put(out, b" confirmed")?;
         for player in 1..9 {
-            push_confirmed(out, board.confirmed(player))?;
+            if let Some(count) = board.confirmed(player) {
+                put_named(out, b" ", count)?;
+            }
         }
-        out.extend_from_slice(b"\n")?;
-        Ok(())
+        put(out, b"\n")
     }
-}
-
-fn push_confirmed(out: &mut Vec<u8>, count: Option<u32>) -> Answer {
-    if let Some(count) = count {
-        out.extend_from_slice(b" ")?;
-        push_count(out, u64::from(count))?;
-    }
-    Ok(())
 }

@@ -3,10 +3,20 @@ use roll_frame::Row;
 use roll_game::{Call, Counts, NoMemory, RawGame};
 
 /// A game that adds the number of its earlier advances to its state, once these are so many.
-#[derive(Debug, Drop)]
+#[derive(Drop)]
 pub struct Drifting {
-    pub counts: Counts,
-    pub from: u64,
+    counts: Counts,
+    from: u64,
+}
+
+impl Drifting {
+    /// One that adds them once they are so many.
+    pub fn new(from: u32) -> Drifting {
+        Drifting {
+            counts: Counts::new(),
+            from: u64::from(from),
+        }
+    }
 }
 
 impl RawGame for Drifting {
@@ -58,16 +68,24 @@ impl RawGame for Drifting {
 }
 
 /// How often a state was advanced since it was loaded, which its game doesn't save, and the sum that it saves.
-#[derive(Debug, Drop)]
+#[derive(Drop)]
 pub struct Timed {
     since: u32,
     sum: u32,
 }
 
 /// A game that adds 1 to the sum at the fifth advance since the load.
-#[derive(Debug, Drop)]
+#[derive(Drop)]
 pub struct Forgetful {
-    pub counts: Counts,
+    counts: Counts,
+}
+
+impl Forgetful {
+    pub fn new() -> Forgetful {
+        Forgetful {
+            counts: Counts::new(),
+        }
+    }
 }
 
 impl RawGame for Forgetful {

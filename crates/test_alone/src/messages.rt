@@ -1,10 +1,7 @@
-//! `messages`: each refusal with its code, and each flaw and fault, with the text that it is told by.
-use crate::words::{Answer, code, push_count, show};
-use roll_cert::Flaw;
-use roll_cli::{PlayFault, ScriptFault};
+//! `messages`: each refusal with its code, and each fault, with the text that it is told by.
+use crate::words::{Answer, show};
 use roll_frame::{Refusal, SettingsFault};
 use roll_game::NoMemory;
-use roll_session::ReplayFault;
 use roll_text::{ReadFault, WriteFault};
 use std::alloc::Global;
 use std::fmt::{Debug, Display};
@@ -38,15 +35,6 @@ const REFUSALS: [Refusal; 26] = [
     Refusal::NoJob,
 ];
 
-const FLAWS: [Flaw; 6] = [
-    Flaw::Shape,
-    Flaw::FromNotKept,
-    Flaw::Range(0),
-    Flaw::Equal(1),
-    Flaw::Twice(20),
-    Flaw::Missing(255),
-];
-
 const SETTINGS_FAULTS: [SettingsFault; 9] = [
     SettingsFault::Players,
     SettingsFault::NoLocalPlayer,
@@ -59,45 +47,21 @@ const SETTINGS_FAULTS: [SettingsFault; 9] = [
     SettingsFault::NoPlayer { player: 9 },
 ];
 
-const REPLAY_FAULTS: [ReplayFault; 4] = [
-    ReplayFault::NotACall { place: 4 },
-    ReplayFault::Repeated { place: 0 },
-    ReplayFault::Refused {
-        place: 2,
-        why: Refusal::Gap,
-    },
-    ReplayFault::NoMemory { place: 1 },
-];
-
 const READ_FAULTS: [ReadFault; 3] = [ReadFault::TooLong, ReadFault::NoMemory, ReadFault::Read];
-
-const SCRIPT_FAULTS: [ScriptFault; 2] = [ScriptFault::Unreadable(7), ScriptFault::NoMemory];
-
-const PLAY_FAULTS: [PlayFault; 4] = [
-    PlayFault::Unreadable(u64::MAX),
-    PlayFault::NoMemory,
-    PlayFault::Read,
-    PlayFault::Write,
-];
 
 pub fn tell(alloc: Global, out: &mut Vec<u8>) -> Answer {
     push_refusals(alloc, out)?;
-    push_all(alloc, out, "Flaw", &FLAWS)?;
     push_all(alloc, out, "SettingsFault", &SETTINGS_FAULTS)?;
-    push_all(alloc, out, "ReplayFault", &REPLAY_FAULTS)?;
     out.extend_from_slice(b"NoMemory: ")?;
     show(alloc, out, NoMemory)?;
     push_all(alloc, out, "ReadFault", &READ_FAULTS)?;
     out.extend_from_slice(b"WriteFault: ")?;
-    show(alloc, out, WriteFault)?;
-    push_all(alloc, out, "ScriptFault", &SCRIPT_FAULTS)?;
-    push_all(alloc, out, "PlayFault", &PLAY_FAULTS)
+    show(alloc, out, WriteFault)
 }
 
 fn push_refusals(alloc: Global, out: &mut Vec<u8>) -> Answer {
     for why in REFUSALS {
-        push_count(out, code(why))?;
-        let text = format!(in alloc; " {why:?}: {why}\n")?;
+        let text = format!(in alloc; "{} {why:?}: {why}\n", why.code())?;
         out.extend_from_slice(text.as_bytes())?;
     }
     Ok(())

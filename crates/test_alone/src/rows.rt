@@ -1,10 +1,13 @@
 //! Rows and paths as text: cells with a comma between each two, `x` for a player who has left; rows with a `/` between
-//! each two, `-` where there are none.
+//! each two, `.` where there are none.
 ghost use Rattle.std.specs.Prelude.{◌≡◌, IfOk, length};
 
-use crate::words::{Answer, Fault, push_count, word};
+use crate::words::{Fault, word};
 use arrayvec::ArrayVec;
 use roll_frame::{Cell, PATH_LIMIT, PLAYER_LIMIT, Row};
+
+/// As many rows as a path has at most.
+pub type Rows = ArrayVec<Row, PATH_LIMIT>;
 
 /// The cell that a text spells.
 pub fn cell(text: &[u8]) -> Result<Cell, Fault> {
@@ -48,9 +51,13 @@ pub fn pair(text: &[u8]) -> Result<Row, Fault>
 }
 
 /// The rows that a text spells.
-pub fn rows(text: &[u8]) -> Result<ArrayVec<Row, PATH_LIMIT>, Fault> {
+///
+/// # Errors
+///
+/// `Fault::Unreadable`, also if there are more than 24.
+pub fn read_rows(text: &[u8]) -> Result<Rows, Fault> {
     let mut rows = ArrayVec::new();
-    if text == b"-".as_slice() {
+    if text == b".".as_slice() {
         return Ok(rows);
     }
     for part in text.split(|b| *b == b'/') {
@@ -60,40 +67,4 @@ pub fn rows(text: &[u8]) -> Result<ArrayVec<Row, PATH_LIMIT>, Fault> {
         rows.push(row(part)?);
     }
     Ok(rows)
-}
-
-/// Writes a row.
-pub fn push_row(out: &mut Vec<u8>, row: &Row) -> Answer {
-    for (place, cell) in row.cells().iter().enumerate() {
-        if place > 0 {
-            out.extend_from_slice(b",")?;
-        }
-        push_cell(out, *cell)?;
-    }
-    Ok(())
-}
-
-fn push_cell(out: &mut Vec<u8>, cell: Cell) -> Answer {
-    match cell {
-        Cell::Word(word) => push_count(out, u64::from(word)),
-        Cell::Gone => {
-            out.extend_from_slice(b"x")?;
-            Ok(())
-        }
-    }
-}
-
-/// Writes rows, with a line's end.
-pub fn push_rows(out: &mut Vec<u8>, rows: &[Row]) -> Answer {
-    if rows.is_empty() {
-        out.extend_from_slice(b"-")?;
-    }
-    for (place, row) in rows.iter().enumerate() {
-        if place > 0 {
-            out.extend_from_slice(b"/")?;
-        }
-        push_row(out, row)?;
-    }
-    out.extend_from_slice(b"\n")?;
-    Ok(())
 }

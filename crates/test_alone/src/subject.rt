@@ -1,6 +1,5 @@
 //! Subjects of commands.
 use crate::words::{Answer, Fault, say};
-use std::alloc::AllocError;
 
 /// What commands are given to.
 pub trait Subject {
@@ -19,19 +18,13 @@ pub fn perform_all<S: Subject>(subject: &mut S, lines: &[u8], out: &mut Vec<u8>)
         match subject.perform(line, out) {
             Ok(()) => {}
             Err(Fault::NoMemory) => return Err(Fault::NoMemory),
-            Err(Fault::Unreadable) => {
-                unreadable(out, number)?;
-                break;
-            }
+            Err(Fault::Unreadable) => return unreadable(out, number),
         }
     }
     Ok(())
 }
 
 /// Writes which line can't be read.
-pub fn unreadable(out: &mut Vec<u8>, line: u64) -> Result<(), AllocError> {
-    match say(out, b"unreadable: line", &[line]) {
-        Ok(()) => Ok(()),
-        Err(_) => Err(AllocError),
-    }
+pub fn unreadable(out: &mut Vec<u8>, line: u64) -> Answer {
+    say(out, b"unreadable: line", &[line])
 }

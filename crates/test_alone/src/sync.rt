@@ -1,14 +1,16 @@
-//! `sync GAME FRAMES [KIND K]`: a sync test of a game, so many frames at once: `tally` or `duel`, whose kth call of a kind
-//! is refused (`load`, `save`, `copy` or `advance`), `from N`, the tally from the opening N, `drifting N`, which adds the
+//! `sync GAME FRAMES [KIND K]`: a sync test of a game, so many frames at once: `tally`, whose kth call of a kind is refused
+//! (`load`, `save`, `copy` or `advance`), `duel`, `from N`, the tally from the opening N, `drifting N`, which adds the
 //! number of its earlier advances once these are N, or `forgetful`, which doesn't save how often it was advanced.
 //!
-//! A test that doesn't start tells its refusal, and the game's counts that are handed back. `step ROW [N]` tells what the
-//! test says of a row, so many times (`step`), and `last ROW N` only what it says of the last. `counts` tells the calls.
-use crate::duels::opened;
+//! A test that doesn't start tells its refusal, and the counts of the game and the opening that are handed back; where that
+//! was for want of memory it is started once more. `step ROW [N]` tells what the test says of a row, so many times, and `last
+//! ROW N` only what it says of the last. `counts` tells the calls.
+use crate::answers::{put, put_counts};
 use crate::games::{Drifting, Forgetful};
 use crate::rows::row;
 use crate::subject::{Subject, perform_all};
-use crate::words::{Answer, FIELDS, Fault, push_count, refuse, say, word};
+use crate::words::{Answer, FIELDS, Fault, is, refuse, say, word};
+use roll_duel::Duel;
 use roll_frame::{Refusal, Row};
 use roll_game::{Call, Counts, RawGame, Refusing, StartFault, Tally};
 use roll_synctest::{SyncTest, Verdict};
@@ -22,84 +24,103 @@ struct Synced<R: RawGame> {
 
 pub fn tell(alloc: Global, fields: &[&[u8]], lines: &[u8], out: &mut Vec<u8>) -> Answer {
     match fields {
-        [b"tally", frames] => {
-            let game = Refusing::new(Tally::new(), Call::Load, 0);
-            test(alloc, game, Tally::opening(), word(frames)?, lines, out)
+        [name, frames] if is(name, b"tally") => tally(alloc, frames, Call::Load, 0, lines, out),
+        [name, frames, kind, k] if is(name, b"tally") => {
+            tally(alloc, frames, read_call(kind)?, word(k)?, lines, out)
         }
-        [b"tally", frames, kind, k] => {
-            let game = Refusing::new(Tally::new(), call(kind)?, u64::from(word(k)?));
-            test(alloc, game, Tally::opening(), word(frames)?, lines, out)
+        [name, opening, frames] if is(name, b"from") => {
+            test(alloc, Tally::new(), word(opening)?, frames, lines, out)
         }
-        [b"from", opening, frames] => {
-            test_from(alloc, word(opening)?, word(frames)?, lines, out)
+        [name, from, frames] if is(name, b"drifting") => {
+            let game = Drifting::new(word(from)?);
+            test(alloc, game, 0, frames, lines, out)
         }
-        [b"drifting", from, frames] => {
-            let counts = Counts::new();
-            let from = u64::from(word(from)?);
-            test(
-                alloc,
-                Drifting { counts, from },
-                0,
-                word(frames)?,
-                lines,
-                out,
-            )
-        }
-        [b"forgetful", frames] => {
-            let counts = Counts::new();
-            test(alloc, Forgetful { counts }, 0, word(frames)?, lines, out)
-        }
-        [b"duel", frames] => duel(alloc, word(frames)?, lines, out),
+        [name, frames] if is(name, b"forgetful") => test(
+            alloc,
+            Forgetful::new(),
+            0,
+            frames,
+            lines,
+            out,
+        ),
+        [name, frames] if is(name, b"duel") => duel(alloc, word(frames)?, lines, out),
         _ => Err(Fault::Unreadable),
     }
 }
 
-/// A call by its name.
-pub fn call(name: &[u8]) -> Result<Call, Fault> {
-    match name {
-        b"load" => Ok(Call::Load),
-        b"save" => Ok(Call::Save),
-        b"copy" => Ok(Call::Copy),
-        b"advance" => Ok(Call::Advance),
-        _ => Err(Fault::Unreadable),
+/// The calls of a game by their names.
+pub const CALLS: [(&[u8], Call); 4] = [
+    (b"load", Call::Load),
+    (b"save", Call::Save),
+    (b"copy", Call::Copy),
+    (b"advance", Call::Advance),
+];
+
+/// The call of a game that has this name.
+pub fn read_call(name: &[u8]) -> Result<Call, Fault> {
+    let named = CALLS.iter().find(|it| it.0 == name);
+    match named {
+        Some((_, call)) => Ok(*call),
+        None => Err(Fault::Unreadable),
     }
+}
+
+fn tally(
+    alloc: Global,
+    frames: &[u8],
+    kind: Call,
+    k: u32,
+    lines: &[u8],
+    out: &mut Vec<u8>,
+) -> Answer {
+    let game = Refusing::new(Tally::new(), kind, u64::from(k));
+    test(alloc, game, Tally::opening(), frames, lines, out)
 }
 
 fn duel(alloc: Global, frames: u32, lines: &[u8], out: &mut Vec<u8>) -> Answer {
-    let game = opened(alloc, 2)?;
+    let Ok(game) = Duel::new(alloc, 2) else {
+        return Err(Fault::Unreadable);
+    };
     let opening = game.opening()?;
-    test(alloc, game, opening, frames, lines, out)
+    match SyncTest::new(alloc, game, opening, frames) {
+        Ok(test) => perform_all(&mut Synced { test }, lines, out),
+        Err(fault) => refuse(out, fault.why),
+    }
 }
 
-fn test<R: RawGame + Drop>(
+fn test<R: RawGame<Snapshot = u32> + Drop>(
     alloc: Global,
     game: R,
-    opening: R::Snapshot,
+    opening: u32,
+    frames: &[u8],
+    lines: &[u8],
+    out: &mut Vec<u8>,
+) -> Answer {
+    let frames = word(frames)?;
+    match SyncTest::new(alloc, game, opening, frames) {
+        Ok(test) => perform_all(&mut Synced { test }, lines, out),
+        Err(fault) => go_on(alloc, fault, frames, lines, out),
+    }
+}
+
+/// Tells what is handed back of a test that didn't start, and starts it once more where only memory was refused.
+fn go_on<R: RawGame<Snapshot = u32> + Drop>(
+    alloc: Global,
+    fault: StartFault<R>,
     frames: u32,
     lines: &[u8],
     out: &mut Vec<u8>,
 ) -> Answer {
-    match SyncTest::new(alloc, game, opening, frames) {
-        Ok(test) => perform_all(&mut Synced { test }, lines, out),
-        Err(fault) => hand_back(out, &fault),
-    }
-}
-
-/// Tests the tally from an opening, which is told where it is handed back.
-fn test_from(alloc: Global, opening: u32, frames: u32, lines: &[u8], out: &mut Vec<u8>) -> Answer {
-    match SyncTest::new(alloc, Tally::new(), opening, frames) {
-        Ok(test) => perform_all(&mut Synced { test }, lines, out),
-        Err(fault) => {
-            hand_back(out, &fault)?;
-            say(out, b"opening", &[u64::from(fault.opening)])
-        }
-    }
-}
-
-/// Writes why a test did not start, and what the game that is handed back was asked for.
-fn hand_back<R: RawGame>(out: &mut Vec<u8>, fault: &StartFault<R>) -> Answer {
     refuse(out, fault.why)?;
-    push_counts(out, &fault.game.counts())
+    push_counts(out, fault.game.counts())?;
+    say(out, b"opening", &[u64::from(fault.opening)])?;
+    if fault.why != Refusal::NoMemory {
+        return Ok(());
+    }
+    match SyncTest::new(alloc, fault.game, fault.opening, frames) {
+        Ok(test) => perform_all(&mut Synced { test }, lines, out),
+        Err(_) => Err(Fault::NoMemory),
+    }
 }
 
 impl<R: RawGame> Subject for Synced<R> {
@@ -108,10 +129,10 @@ impl<R: RawGame> Subject for Synced<R> {
             return Err(Fault::Unreadable);
         };
         match fields.as_slice() {
-            [b"step", cells] => self.step(row(cells)?, 1, out),
-            [b"step", cells, count] => self.step(row(cells)?, word(count)?, out),
-            [b"last", cells, count] => self.last(row(cells)?, word(count)?, out),
-            [b"counts"] => push_counts(out, &self.test.game().counts()),
+            [name, cells] if is(name, b"step") => self.step(row(cells)?, 1, out),
+            [name, cells, count] if is(name, b"step") => self.step(row(cells)?, word(count)?, out),
+            [name, cells, count] if is(name, b"last") => self.last(row(cells)?, word(count)?, out),
+            [name] if is(name, b"counts") => push_counts(out, self.test.game().counts()),
             _ => Err(Fault::Unreadable),
         }
     }
@@ -143,19 +164,8 @@ fn push_verdict(out: &mut Vec<u8>, answer: Result<Verdict, Refusal>) -> Answer {
     }
 }
 
-/// Writes how often a game's calls were asked for, and how often one was refused.
-pub fn push_counts(out: &mut Vec<u8>, counts: &Counts) -> Answer {
-    let kinds: [(&[u8], u64); 5] = [
-        (b"loads ", counts.loads),
-        (b" saves ", counts.saves),
-        (b" copies ", counts.copies),
-        (b" turns ", counts.turns),
-        (b" refusals ", counts.refusals),
-    ];
-    for (name, count) in kinds {
-        out.extend_from_slice(name)?;
-        push_count(out, count)?;
-    }
-    out.extend_from_slice(b"\n")?;
-    Ok(())
+/// Writes how often a game's calls were asked for, and how often one was refused, with a line's end.
+pub fn push_counts(out: &mut Vec<u8>, counts: Counts) -> Answer {
+    put_counts(out, counts)?;
+    put(out, b"\n")
 }

@@ -5,11 +5,11 @@
 //! players. `cut P F CELL`, `settle NODE`, `mark P F ROWS` and `tell ROW` change the tree, where they may. `len`, `kept`
 //! (each path), `longest ROWS`, `deepest F` (a node, and the length of its path), `first_mark NODE`, `state NODE`, `base`
 //! and `time` tell what it has.
+use crate::answers::{put, put_rows};
 use crate::marks::may_mark;
-use crate::rows::{cell, push_rows, row, rows};
+use crate::rows::{cell, read_rows, row};
 use crate::subject::{Subject, perform_all};
-use crate::words::{Answer, FIELDS, Fault, code, say, small, word};
-use roll_examples::add;
+use crate::words::{Answer, FIELDS, Fault, code, is, say, small, word};
 use roll_frame::{Cell, PATH_LIMIT, Refusal, Row};
 use roll_text::few_fields;
 use roll_tree::{Tree, TreeFull};
@@ -37,15 +37,44 @@ impl Subject for Saved {
             return Err(Fault::Unreadable);
         };
         match fields.as_slice() {
-            [b"insert", parent, row, state] => self.insert(parent, row, state, out),
-            [b"fill", count] => self.fill(word(count)?, out),
-            [b"cut", player, frame, cell] => self.cut(player, frame, cell, out),
-            [b"settle", node] => self.settle(node, out),
-            [b"mark", player, frame, rows] => self.mark(player, frame, rows, out),
-            [b"tell", row] => self.tell(row, out),
+            [name, parent, row, state] if is(name, b"insert") => self.insert(
+                parent, row, state, out,
+            ),
+            [name, count] if is(name, b"fill") => self.fill(word(count)?, out),
+            [name, player, frame, cell] if is(name, b"cut") => self.cut(player, frame, cell, out),
+            [name, node] if is(name, b"settle") => self.settle(node, out),
+            [name, player, frame, rows] if is(name, b"mark") => self.mark(player, frame, rows, out),
+            [name, row] if is(name, b"tell") => self.tell(row, out),
             fields => self.seen(fields, out),
         }
     }
+}
+
+/// Writes rows, with a line's end.
+fn push_rows(out: &mut Vec<u8>, rows: &[Row]) -> Answer {
+    put_rows(out, rows)?;
+    put(out, b"\n")
+}
+
+/// Adds a state to a tree. None where it doesn't fit, or is there.
+fn add(
+    tree: &mut Tree<u32>,
+    parent: usize,
+    row: Row,
+    state: u32,
+) -> Option<Result<usize, TreeFull<u32>>> {
+    if !tree.contains(parent) {
+        return None;
+    }
+    let mut path = tree.path(parent);
+    if path.is_full() || path.frames() >= u64::from(u32::MAX) {
+        return None;
+    }
+    path.push(row);
+    if tree.find(&path).is_some() {
+        return None;
+    }
+    Some(tree.insert(parent, row, state))
 }
 
 fn push_added(out: &mut Vec<u8>, added: Option<Result<usize, TreeFull<u32>>>) -> Answer {
@@ -97,7 +126,7 @@ impl Saved {
 
     fn mark(&mut self, player: &[u8], frame: &[u8], text: &[u8], out: &mut Vec<u8>) -> Answer {
         let (player, frame) = (small(player)?, word(frame)?);
-        let rows = rows(text)?;
+        let rows = read_rows(text)?;
         if !may_mark(&self.tree, player, frame, rows.as_slice()) {
             return say(out, b"no", &[]);
         }
@@ -116,14 +145,17 @@ impl Saved {
 
     fn seen(&self, fields: &[&[u8]], out: &mut Vec<u8>) -> Answer {
         match fields {
-            [b"len"] => self.push_len(out),
-            [b"kept"] => self.push_kept(out),
-            [b"base"] => say(out, b"base", &[u64::from(self.tree.base())]),
-            [b"time"] => push_rows(out, self.tree.time()),
-            [b"longest", text] => self.push_longest(text, out),
-            [b"deepest", frame] => self.push_deepest(word(frame)?, out),
-            [b"first_mark", node] => self.push_first_mark(word(node)? as usize, out),
-            [b"state", node] => self.push_state(word(node)? as usize, out),
+            [name] if is(name, b"len") => self.push_len(out),
+            [name] if is(name, b"kept") => self.push_kept(out),
+            [name] if is(name, b"base") => say(out, b"base", &[u64::from(self.tree.base())]),
+            [name] if is(name, b"time") => push_rows(out, self.tree.time()),
+            [name, text] if is(name, b"longest") => self.push_longest(text, out),
+            [name, frame] if is(name, b"deepest") => self.push_deepest(word(frame)?, out),
+            [name, node] if is(name, b"first_mark") => self.push_first_mark(
+                word(node)? as usize,
+                out,
+            ),
+            [name, node] if is(name, b"state") => self.push_state(word(node)? as usize, out),
             _ => Err(Fault::Unreadable),
         }
     }
@@ -141,7 +173,7 @@ impl Saved {
     }
 
     fn push_longest(&self, text: &[u8], out: &mut Vec<u8>) -> Answer {
-        let rows = rows(text)?;
+        let rows = read_rows(text)?;
         let (node, length) = self.tree.longest(rows.as_slice());
         say(out, b"node", &[node as u64, u64::from(length)])
     }

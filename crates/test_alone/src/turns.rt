@@ -1,18 +1,18 @@
 //! `turns tally` and `turns duel SHIPS`: a game alone, as it goes from snapshot to snapshot.
 //!
 //! `row ROW [N]` copies the snapshot that is there, loads the copy, advances N times, and saves: the answer is `ok`, and
-//! the new snapshot is there from then on. `state` tells it (a sum; ships as x, y, speeds, heading, cool and hits, and
-//! bullets as x, y, speeds, owner and life), `bytes` tells a duel's as bytes. `same ROW ROW` tells whether two rows make
-//! the same of it, `back` goes back to the opening, `counts` tells the calls. `random N` plays a duel's frames with cells
-//! of a random generator from 1 on, and tells the sum over all bytes of all its states, each time 31 times the sum and the
-//! byte, and how many bullets there are.
-use crate::duels::{Play, push_bytes, push_field};
+//! the new snapshot is there from then on; or `refused 107`, and the old one stays. `state` tells a tally's, `bytes` a
+//! duel's as bytes, and `bullets` how many it has. `same ROW ROW` tells whether two rows make the same of it, `back` goes
+//! back to the opening, `counts` tells the calls. `random N` plays a duel's frames with cells of a random generator from 1
+//! on, and tells the sum over all bytes of all its states, each time 31 times the sum and the byte, and how many bullets
+//! there are.
+use crate::answers::{put, put_named};
 use crate::rows::row;
 use crate::subject::{Subject, perform_all};
 use crate::sync::push_counts;
-use crate::words::{Answer, FIELDS, Fault, refuse, say, small, word};
+use crate::words::{Answer, FIELDS, Fault, is, refuse, say, small, word};
 use roll_duel::{Duel, Snapshot};
-use roll_frame::Row;
+use roll_frame::{Cell, Refusal, Row};
 use roll_game::{Game, NoMemory, RawGame, Tally};
 use roll_text::few_fields;
 use std::alloc::Global;
@@ -38,7 +38,7 @@ impl Told for Tally {
 
     fn tell(&mut self, _alloc: Global, now: &u32, fields: &[&[u8]], out: &mut Vec<u8>) -> Answer {
         match fields {
-            [b"state"] => say(out, b"state", &[u64::from(*now)]),
+            [name] if is(name, b"state") => say(out, b"state", &[u64::from(*now)]),
             _ => Err(Fault::Unreadable),
         }
     }
@@ -57,23 +57,62 @@ impl Told for Duel {
         out: &mut Vec<u8>,
     ) -> Answer {
         match fields {
-            [b"state"] => push_field(out, now),
-            [b"bytes"] => push_bytes(alloc, out, now),
-            [b"bullets"] => say(out, b"bullets", &[now.bullets().len() as u64]),
-            [b"random", frames] => random(alloc, self, word(frames)?, out),
+            [name] if is(name, b"bytes") => push_bytes(alloc, out, now),
+            [name] if is(name, b"bullets") => say(out, b"bullets", &[now.bullets().len() as u64]),
+            [name, frames] if is(name, b"random") => random(alloc, self, word(frames)?, out),
             _ => Err(Fault::Unreadable),
         }
     }
 }
 
-fn random(alloc: Global, game: &mut Duel, frames: u32, out: &mut Vec<u8>) -> Answer {
-    let mut play = Play::from(game.opening()?);
-    for _ in 0..frames {
-        play.frame(alloc, game)?;
+/// Writes a state's bytes, with a space between each two.
+fn push_bytes(alloc: Global, out: &mut Vec<u8>, snapshot: &Snapshot) -> Answer {
+    let bytes = snapshot.bytes(alloc)?;
+    for (place, byte) in bytes.iter().enumerate() {
+        let before: &[u8] = if place > 0 { b" " } else { b"" };
+        put_named(out, before, u32::from(*byte))?;
     }
-    let bullets = play.now.bullets().len() as u64;
-    say(out, b"digest", &[play.digest])?;
-    say(out, b"bullets", &[bullets])
+    put(out, b"\n")
+}
+
+fn random(alloc: Global, game: &mut Duel, frames: u32, out: &mut Vec<u8>) -> Answer {
+    let mut now = game.opening()?;
+    let (mut seed, mut digest) = (1, 0);
+    for _ in 0..frames {
+        let row = random_row(&mut seed);
+        now = after(game, &now, &row, 1)?;
+        digest = digest_on(alloc, digest, &now)?;
+    }
+    say(out, b"digest", &[digest])?;
+    say(out, b"bullets", &[now.bullets().len() as u64])
+}
+
+/// A row of five players.
+fn random_row(seed: &mut u32) -> Row {
+    let mut row = Row::new(random_cell(seed));
+    for _ in 0..4 {
+        if row.count() < 8 {
+            row.push(random_cell(seed));
+        }
+    }
+    row
+}
+
+fn random_cell(seed: &mut u32) -> Cell {
+    *seed = seed.wrapping_mul(1_664_525).wrapping_add(1_013_904_223);
+    if (*seed >> 20) % 16 == 0 {
+        Cell::Gone
+    } else {
+        Cell::Word(*seed >> 28)
+    }
+}
+
+fn digest_on(alloc: Global, before: u64, snapshot: &Snapshot) -> Result<u64, Fault> {
+    let mut digest = before;
+    for byte in &snapshot.bytes(alloc)? {
+        digest = digest.wrapping_mul(31).wrapping_add(u64::from(*byte));
+    }
+    Ok(digest)
 }
 
 #[derive(Drop)]
@@ -85,8 +124,8 @@ struct Turns<G: Told> {
 
 pub fn tell(alloc: Global, fields: &[&[u8]], lines: &[u8], out: &mut Vec<u8>) -> Answer {
     match fields {
-        [b"tally"] => play(alloc, Tally::new(), lines, out),
-        [b"duel", ships] => match Duel::new(alloc, small(ships)?) {
+        [name] if is(name, b"tally") => play(alloc, Tally::new(), lines, out),
+        [name, ships] if is(name, b"duel") => match Duel::new(alloc, small(ships)?) {
             Ok(duel) => play(alloc, duel, lines, out),
             Err(why) => refuse(out, why),
         },
@@ -105,11 +144,11 @@ impl<G: Told> Subject for Turns<G> {
             return Err(Fault::Unreadable);
         };
         match fields.as_slice() {
-            [b"row", cells] => self.run(&row(cells)?, 1, out),
-            [b"row", cells, count] => self.run(&row(cells)?, word(count)?, out),
-            [b"same", one, other] => self.compare(&row(one)?, &row(other)?, out),
-            [b"back"] => self.back(),
-            [b"counts"] => push_counts(out, &self.game.counts()),
+            [name, cells] if is(name, b"row") => self.run(&row(cells)?, 1, out),
+            [name, cells, count] if is(name, b"row") => self.run(&row(cells)?, word(count)?, out),
+            [name, one, other] if is(name, b"same") => self.compare(&row(one)?, &row(other)?, out),
+            [name] if is(name, b"back") => self.back(),
+            [name] if is(name, b"counts") => push_counts(out, self.game.counts()),
             fields => self.game.tell(self.alloc, &self.now, fields, out),
         }
     }
@@ -117,8 +156,13 @@ impl<G: Told> Subject for Turns<G> {
 
 impl<G: Told> Turns<G> {
     fn run(&mut self, row: &Row, count: u32, out: &mut Vec<u8>) -> Answer {
-        self.now = after(&mut self.game, &self.now, row, count)?;
-        say(out, b"ok", &[])
+        match after(&mut self.game, &self.now, row, count) {
+            Ok(now) => {
+                self.now = now;
+                say(out, b"ok", &[])
+            }
+            Err(_) => refuse(out, Refusal::NoMemory),
+        }
     }
 
     fn compare(&mut self, one: &Row, other: &Row, out: &mut Vec<u8>) -> Answer {

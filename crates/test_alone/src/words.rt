@@ -1,18 +1,19 @@
 //! The words of commands, and the lines of answers.
+use crate::answers::{put, put_shown};
 use itoa::Buffer;
 use roll_frame::Refusal;
 use roll_game::NoMemory;
 use roll_text::number;
-use std::alloc::AllocError;
+use std::alloc::{AllocError, AllocFailed, Global};
 use std::fmt::Display;
 
 /// A line has at most this many fields.
 pub const FIELDS: usize = 6;
 
 /// Why a command is not carried out.
-#[derive(Clone, Copy, Debug, PartialEq, Eq)]
+#[derive(Drop)]
 pub enum Fault {
-    /// No command has this line.
+    /// The line can't be read, or asks for what isn't there.
     Unreadable,
     NoMemory,
 }
@@ -23,6 +24,16 @@ impl From<AllocError> for Fault {
     ghost from_gives = { λ _ fault. ⊤ };
 
     fn from(_none: AllocError) -> Fault {
+        Fault::NoMemory
+    }
+}
+
+impl<T: Drop> From<AllocFailed<T>> for Fault {
+    ghost use Rattle.std.specs.Prelude.{⊤};
+
+    ghost from_gives = { λ _ fault. ⊤ };
+
+    fn from(_failed: AllocFailed<T>) -> Fault {
         Fault::NoMemory
     }
 }
@@ -40,6 +51,11 @@ impl From<NoMemory> for Fault {
 /// How a command ends whose answer is written.
 pub type Answer = Result<(), Fault>;
 
+/// Whether a field is this name.
+pub fn is(field: &[u8], name: &[u8]) -> bool {
+    field == name
+}
+
 /// A number of 32 bits.
 pub fn word(text: &[u8]) -> Result<u32, Fault> {
     number(text).ok_or(Fault::Unreadable)
@@ -47,10 +63,11 @@ pub fn word(text: &[u8]) -> Result<u32, Fault> {
 
 /// A number of 8 bits.
 pub fn small(text: &[u8]) -> Result<u8, Fault> {
-    match u8::try_from(word(text)?) {
-        Ok(n) => Ok(n),
-        Err(_) => Err(Fault::Unreadable),
+    let n = word(text)?;
+    if n > 255 {
+        return Err(Fault::Unreadable);
     }
+    Ok(n as u8)
 }
 
 /// A number of 32 bits with a sign.
@@ -65,18 +82,12 @@ pub fn signed(text: &[u8]) -> Result<i32, Fault> {
     }
 }
 
-/// Writes a number.
-pub fn push_count(out: &mut Vec<u8>, n: u64) -> Answer {
-    out.extend_from_slice(Buffer::new().format(n).as_bytes())?;
-    Ok(())
-}
-
 /// Writes a line of a word and numbers.
 pub fn say(out: &mut Vec<u8>, name: &[u8], numbers: &[u64]) -> Answer {
     out.extend_from_slice(name)?;
     for n in numbers {
         out.extend_from_slice(b" ")?;
-        push_count(out, *n)?;
+        out.extend_from_slice(Buffer::new().format(*n).as_bytes())?;
     }
     out.extend_from_slice(b"\n")?;
     Ok(())
@@ -89,7 +100,7 @@ pub fn refuse(out: &mut Vec<u8>, why: Refusal) -> Answer {
 
 /// The number of a refusal.
 pub fn code(why: Refusal) -> u64 {
-    u64::try_from(why.code()).unwrap_or(0)
+    u64::from(why.code().unsigned_abs())
 }
 
 /// Writes what a call is answered: `ok`, or its refusal.
@@ -101,8 +112,7 @@ pub fn tell_whether(out: &mut Vec<u8>, done: Result<(), Refusal>) -> Answer {
 }
 
 /// Writes what can be shown, with a line's end.
-pub fn show<T: Display + Drop>(alloc: std::alloc::Global, out: &mut Vec<u8>, it: T) -> Answer {
-    let text = format!(in alloc; "{it}\n")?;
-    out.extend_from_slice(text.as_bytes())?;
-    Ok(())
+pub fn show<T: Display + Drop>(alloc: Global, out: &mut Vec<u8>, it: T) -> Answer {
+    put_shown(alloc, out, it)?;
+    put(out, b"\n")
 }

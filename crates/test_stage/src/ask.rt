@@ -1,19 +1,17 @@
 //! The commands, a line each.
-
-use crate::rows::{Hand, read_rows};
-use crate::setup::read_call;
-use arrayvec::ArrayVec;
+use crate::rows::Hand;
 use roll_cli::{Command, player_number};
-use roll_game::Call as GameCall;
+use roll_game::Call;
 use roll_link::Remote;
-use roll_text::{fields, number, numbers};
-use std::alloc::{AllocError, Global};
+use roll_text::{few_fields, number, numbers};
+use std::alloc::Global;
+use test_alone::{Fault, is, read_call};
 
-/// The most numbers in a command.
-const NUMBERS: usize = 5;
+/// The most fields of a command that is no script's.
+const FIELDS: usize = 5;
 
 /// A guess of a player's words, up to a frame.
-#[derive(Debug, Drop)]
+#[derive(Drop)]
 pub struct Guess {
     pub player: u8,
     pub words: Vec<u32>,
@@ -21,7 +19,7 @@ pub struct Guess {
 }
 
 /// A command without arguments.
-#[derive(Clone, Copy, Debug, PartialEq, Eq)]
+#[derive(Clone, Copy)]
 pub enum Word {
     Host,
     Session,
@@ -46,7 +44,7 @@ pub enum Word {
 }
 
 /// A command with one number.
-#[derive(Clone, Copy, Debug, PartialEq, Eq)]
+#[derive(Clone, Copy)]
 pub enum One {
     Finish,
     Drop,
@@ -63,238 +61,176 @@ pub enum One {
     Relay,
 }
 
-/// A command with two numbers.
-#[derive(Clone, Copy, Debug, PartialEq, Eq)]
-pub enum Two {
-    Frames,
-    Steps,
-    Cell,
-}
-
 /// A line.
-#[derive(Debug, Drop)]
+#[derive(Drop)]
 pub enum Ask {
     Script(Command),
     Word(Word),
     One(One, u32),
-    Two(Two, u32, u32),
+    /// So many frames, with this word.
+    Frames(u32, u32),
+    /// So many steps of a spectator.
+    Steps(u32, u32),
+    /// Where a player's cell of a frame is from.
+    Cell(u32, u32),
     /// An item for a link.
-    Send { link: u32, item: Remote },
+    Send(u32, Remote),
     /// So many items with this word for the first link, the first of them this one.
-    SendAll { count: u32, item: Remote },
+    SendAll(u32, Remote),
     /// So many remote words, the first of them this one.
-    Remotes { count: u32, item: Remote },
+    Remotes(u32, Remote),
     Speculate(Guess),
     /// A guess as a script's, whose words can be none or too many.
     Guess(Guess),
     Issue(Hand),
     Graft(Hand),
     /// A spectator whose game refuses this call.
-    AddRefusing(GameCall, u32),
+    AddRefusing(Call, u32),
 }
 
 impl Ask {
-    /// The command that a line spells, if it spells one.
-    pub fn read(alloc: Global, line: &[u8]) -> Result<Option<Ask>, AllocError> {
+    /// The command that a line spells.
+    pub fn read(alloc: Global, line: &[u8]) -> Result<Ask, Fault> {
         if let Some(command) = Command::read(alloc, line)? {
-            return Ok(Some(Ask::Script(command)));
+            return Ok(Ask::Script(command));
         }
-        let parts = fields(alloc, line, b' ')?;
-        match parts.split_first() {
-            Some((name, rest)) => read_fields(alloc, name, rest),
-            None => Ok(None),
+        let Some(fields) = few_fields::<FIELDS>(line, b' ') else {
+            return Err(Fault::Unreadable);
+        };
+        match fields.as_slice() {
+            [name] => Ok(Ask::Word(named(&WORDS, name)?)),
+            [name, n] => Ok(Ask::One(named(&ONES, name)?, number_of(n)?)),
+            [name, a, b] => two(name, number_of(a)?, number_of(b)?),
+            [name, rest @ ..] => longer(alloc, name, rest),
+            [] => Err(Fault::Unreadable),
         }
     }
 }
 
-/// The command of this name with these arguments.
-fn read_fields(alloc: Global, name: &[u8], rest: &[&[u8]]) -> Result<Option<Ask>, AllocError> {
-    if let Some(found) = numbers_of(rest) {
-        let ask = with_numbers(name, found.as_slice());
-        if ask.is_some() {
-            return Ok(ask);
-        }
-    }
-    with_values(alloc, name, rest)
-}
-
-/// The numbers that these fields spell. None where one spells none, or they are too many.
-fn numbers_of(rest: &[&[u8]]) -> Option<ArrayVec<u32, NUMBERS>> {
-    let mut found = ArrayVec::new();
-    for field in rest {
-        let n = number(field)?;
-        if found.is_full() {
-            return None;
-        }
-        found.push(n);
-    }
-    Some(found)
-}
-
-fn with_numbers(name: &[u8], found: &[u32]) -> Option<Ask> {
-    match found {
-        [] => Some(Ask::Word(word_named(name)?)),
-        [n] => Some(Ask::One(one_named(name)?, *n)),
-        [a, b] => Some(Ask::Two(two_named(name)?, *a, *b)),
-        [a, b, c, d] => four(name, *a, remote(*b, *c, *d)),
-        _ => None,
-    }
-}
-
-fn remote(player: u32, frame: u32, word: u32) -> Remote {
-    Remote {
-        player: player_number(player),
-        frame,
-        word,
-    }
+fn number_of(text: &[u8]) -> Result<u32, Fault> {
+    number(text).ok_or(Fault::Unreadable)
 }
 
 /// The commands without arguments.
-fn word_named(name: &[u8]) -> Option<Word> {
-    match std::str::from_utf8(name).ok()? {
-        "host" => Some(Word::Host),
-        "session" => Some(Word::Session),
-        "link" => Some(Word::Link),
-        "pump" => Some(Word::Pump),
-        "collect" => Some(Word::Collect),
-        "absorb" => Some(Word::Absorb),
-        "out" => Some(Word::Out),
-        "close" => Some(Word::Close),
-        "settle" => Some(Word::Settle),
-        "seen" => Some(Word::Seen),
-        other => more_words(other),
+const WORDS: [(&[u8], Word); 20] = [
+    (b"host", Word::Host),
+    (b"session", Word::Session),
+    (b"link", Word::Link),
+    (b"pump", Word::Pump),
+    (b"collect", Word::Collect),
+    (b"absorb", Word::Absorb),
+    (b"out", Word::Out),
+    (b"close", Word::Close),
+    (b"settle", Word::Settle),
+    (b"seen", Word::Seen),
+    (b"kept", Word::Kept),
+    (b"counts", Word::Counts),
+    (b"log", Word::Log),
+    (b"replay", Word::Replay),
+    (b"copied", Word::Copied),
+    (b"parts", Word::Parts),
+    (b"settings", Word::Settings),
+    (b"feed", Word::Feed),
+    (b"add", Word::Add),
+    (b"push", Word::Push),
+];
+
+/// The commands with one number.
+const ONES: [(&[u8], One); 13] = [
+    (b"finish", One::Finish),
+    (b"drop", One::Drop),
+    (b"workers", One::Workers),
+    (b"work", One::Work),
+    (b"row", One::Row),
+    (b"reserve", One::Reserve),
+    (b"frames", One::Frames),
+    (b"player", One::Player),
+    (b"gone", One::Gone),
+    (b"step", One::Step),
+    (b"watch", One::Watch),
+    (b"leave", One::Leave),
+    (b"relay", One::Relay),
+];
+
+/// What a list has under a name.
+fn named<T: Copy>(all: &[(&[u8], T)], name: &[u8]) -> Result<T, Fault> {
+    for it in all {
+        if is(it.0, name) {
+            return Ok(it.1);
+        }
     }
+    Err(Fault::Unreadable)
 }
 
-fn more_words(name: &str) -> Option<Word> {
+fn two(name: &[u8], a: u32, b: u32) -> Result<Ask, Fault> {
     match name {
-        "kept" => Some(Word::Kept),
-        "counts" => Some(Word::Counts),
-        "log" => Some(Word::Log),
-        "replay" => Some(Word::Replay),
-        "copied" => Some(Word::Copied),
-        "parts" => Some(Word::Parts),
-        "settings" => Some(Word::Settings),
-        "feed" => Some(Word::Feed),
-        "add" => Some(Word::Add),
-        "push" => Some(Word::Push),
-        _ => None,
+        name if is(name, b"frames") => Ok(Ask::Frames(a, b)),
+        name if is(name, b"steps") => Ok(Ask::Steps(a, b)),
+        name if is(name, b"cell") => Ok(Ask::Cell(a, b)),
+        _ => Err(Fault::Unreadable),
     }
 }
 
-fn one_named(name: &[u8]) -> Option<One> {
-    match std::str::from_utf8(name).ok()? {
-        "finish" => Some(One::Finish),
-        "drop" => Some(One::Drop),
-        "workers" => Some(One::Workers),
-        "work" => Some(One::Work),
-        "row" => Some(One::Row),
-        "reserve" => Some(One::Reserve),
-        "frames" => Some(One::Frames),
-        "player" => Some(One::Player),
-        "gone" => Some(One::Gone),
-        "step" => Some(One::Step),
-        "watch" => Some(One::Watch),
-        "leave" => Some(One::Leave),
-        "relay" => Some(One::Relay),
-        _ => None,
+/// The commands with more arguments.
+fn longer(alloc: Global, name: &[u8], rest: &[&[u8]]) -> Result<Ask, Fault> {
+    match name {
+        name if is(name, b"speculate") => Ok(Ask::Speculate(guess_of(alloc, rest)?)),
+        name if is(name, b"guess") => Ok(Ask::Guess(guess_of(alloc, rest)?)),
+        name if is(name, b"issue") => Ok(Ask::Issue(Hand::read(rest)?)),
+        name if is(name, b"graft") => Ok(Ask::Graft(Hand::read(rest)?)),
+        name if is(name, b"add") => add(rest),
+        name => with_item(name, item(rest)?),
     }
 }
 
-fn two_named(name: &[u8]) -> Option<Two> {
-    match std::str::from_utf8(name).ok()? {
-        "frames" => Some(Two::Frames),
-        "steps" => Some(Two::Steps),
-        "cell" => Some(Two::Cell),
-        _ => None,
+fn with_item(name: &[u8], (n, item): (u32, Remote)) -> Result<Ask, Fault> {
+    match name {
+        name if is(name, b"send") => Ok(Ask::Send(n, item)),
+        name if is(name, b"sends") => Ok(Ask::SendAll(n, item)),
+        name if is(name, b"remotes") => Ok(Ask::Remotes(n, item)),
+        _ => Err(Fault::Unreadable),
     }
 }
 
-fn four(name: &[u8], first: u32, item: Remote) -> Option<Ask> {
-    match std::str::from_utf8(name).ok()? {
-        "send" => Some(Ask::Send { link: first, item }),
-        "sends" => Some(Ask::SendAll { count: first, item }),
-        "remotes" => Some(Ask::Remotes { count: first, item }),
-        _ => None,
-    }
+/// A number, and the remote word behind it.
+fn item(fields: &[&[u8]]) -> Result<(u32, Remote), Fault> {
+    let [n, player, frame, text] = fields else {
+        return Err(Fault::Unreadable);
+    };
+    let remote = Remote {
+        player: player_number(number_of(player)?),
+        frame: number_of(frame)?,
+        word: number_of(text)?,
+    };
+    Ok((number_of(n)?, remote))
 }
 
-/// The commands whose arguments are no plain numbers.
-fn with_values(alloc: Global, name: &[u8], rest: &[&[u8]]) -> Result<Option<Ask>, AllocError> {
-    match rest {
-        [a, b, c] if name == b"speculate".as_slice() => match read_guess(alloc, a, b, c)? {
-            Some(guess) => Ok(Some(Ask::Speculate(guess))),
-            None => Ok(None),
-        },
-        [a, b, c] if name == b"guess".as_slice() => match read_guess(alloc, a, b, c)? {
-            Some(guess) => Ok(Some(Ask::Guess(guess))),
-            None => Ok(None),
-        },
-        [a, b, c] if name == b"add".as_slice() && *a == b"refusing".as_slice() => Ok(add(b, c)),
-        [a, b, c, d] if name == b"issue".as_slice() => match read_hand(alloc, a, b, c, d)? {
-            Some(made) => Ok(Some(Ask::Issue(made))),
-            None => Ok(None),
-        },
-        [a, b, c, d] if name == b"graft".as_slice() => match read_hand(alloc, a, b, c, d)? {
-            Some(made) => Ok(Some(Ask::Graft(made))),
-            None => Ok(None),
-        },
-        _ => Ok(None),
+fn add(fields: &[&[u8]]) -> Result<Ask, Fault> {
+    match fields {
+        [name, call, k] if is(name, b"refusing") => Ok(Ask::AddRefusing(
+            read_call(call)?,
+            number_of(k)?,
+        )),
+        _ => Err(Fault::Unreadable),
     }
-}
-
-fn add(call: &[u8], k: &[u8]) -> Option<Ask> {
-    Some(Ask::AddRefusing(read_call(call)?, number(k)?))
 }
 
 /// A player, a frame, and words with a comma between each two, or a dash for none.
-fn read_guess(
-    alloc: Global,
-    player: &[u8],
-    until: &[u8],
-    words: &[u8],
-) -> Result<Option<Guess>, AllocError> {
-    let (Some(player), Some(until)) = (number(player), number(until)) else {
-        return Ok(None);
+fn guess_of(alloc: Global, fields: &[&[u8]]) -> Result<Guess, Fault> {
+    let [player, until, text] = fields else {
+        return Err(Fault::Unreadable);
     };
-    let Some(words) = read_words(alloc, words)? else {
-        return Ok(None);
-    };
-    Ok(Some(Guess {
-        player: player_number(player),
-        words,
-        until,
-    }))
-}
-
-fn read_words(alloc: Global, text: &[u8]) -> Result<Option<Vec<u32>>, AllocError> {
-    if text == b"-".as_slice() {
-        Ok(Some(Vec::new(alloc)))
+    let words = if is(text, b"-") {
+        Some(Vec::new(alloc))
     } else {
-        numbers(alloc, text)
-    }
-}
-
-fn read_hand(
-    alloc: Global,
-    base: &[u8],
-    own: &[u8],
-    from: &[u8],
-    rows: &[u8],
-) -> Result<Option<Hand>, AllocError> {
-    let (Some(base), Some(from)) = (number(base), number(from)) else {
-        return Ok(None);
+        numbers(alloc, text)?
     };
-    let Some(own) = read_rows(alloc, own)? else {
-        return Ok(None);
-    };
-    match read_rows(alloc, rows)? {
-        Some(rows) => Ok(Some(Hand {
-            base,
-            own,
-            from,
-            rows,
-        })),
-        None => Ok(None),
+    match words {
+        Some(words) => Ok(Guess {
+            player: player_number(number_of(player)?),
+            words,
+            until: number_of(until)?,
+        }),
+        None => Err(Fault::Unreadable),
     }
 }

@@ -1,38 +1,34 @@
 //! Jobs that are made by hand, and what became of jobs.
 
-use crate::answers::{put, put_long};
-use crate::fault::Fault;
+use crate::game::Played;
 use crate::rows::Hand;
-use crate::staged::Staged;
 use arrayvec::ArrayVec;
 use roll_branch::{Done, Job};
 use roll_frame::{Boxed, Path, Route, Row};
-use roll_game::Game;
 use roll_pool::{Outcome, Worked};
-use std::alloc::{AllocError, Global};
+use roll_text::push_number;
+use std::alloc::Global;
+use test_alone::{Answer, Fault, put, put_long};
 
 /// The number of a job that was made by hand, until it is issued.
 const BY_HAND: u64 = 9;
 
-/// The job of a branch made by hand. There is none without rows, and in a game whose states are no numbers.
-pub fn job_of<G: Staged>(alloc: Global, hand: &Hand) -> Result<Option<Job<G>>, AllocError> {
+/// The job of a branch made by hand. There is none without rows.
+pub fn job_of(alloc: Global, hand: &Hand) -> Result<Job<Played>, Fault> {
     let mut rows = ArrayVec::new();
     for row in &hand.rows {
         if !rows.is_full() {
             rows.push(*row);
         }
     }
-    let Some(from) = G::worth(hand.from) else {
-        return Ok(None);
-    };
     let path = path_of(hand.base, &hand.own);
     let room = Vec::with_capacity(alloc, rows.len())?;
     let route = Boxed::new(alloc, Route { path, rows })?;
-    let Some(mut job) = Job::new(route, from, room) else {
-        return Ok(None);
+    let Some(mut job) = Job::new(route, hand.from, room) else {
+        return Err(Fault::Unreadable);
     };
     job.set_ticket(BY_HAND);
-    Ok(Some(job))
+    Ok(job)
 }
 
 /// The path of these rows; those past the 24th are left out.
@@ -47,15 +43,15 @@ fn path_of(base: u32, rows: &[Row]) -> Path {
 }
 
 /// Writes a result: its job's number, and the state after each row.
-pub fn put_done<G: Staged>(out: &mut Vec<u8>, done: Done<G>) -> Result<(), Fault> {
+pub fn put_done(out: &mut Vec<u8>, done: Done<Played>) -> Answer {
     match done {
         Done::Refused(ticket) => put_long(out, b"refused ", ticket)?,
         Done::Grown(branch) => {
             put_long(out, b"ticket ", branch.ticket())?;
-            put(out, " states")?;
+            put(out, b" states")?;
             for state in &branch.into_parts().states {
-                put(out, " ")?;
-                G::put_snapshot(state, out)?;
+                put(out, b" ")?;
+                push_number(out, *state)?;
             }
         }
     }
@@ -63,7 +59,7 @@ pub fn put_done<G: Staged>(out: &mut Vec<u8>, done: Done<G>) -> Result<(), Fault
 }
 
 /// The number of a result's job.
-fn ticket_of<G: Game>(done: &Done<G>) -> u64 {
+fn ticket_of(done: &Done<Played>) -> u64 {
     match done {
         Done::Grown(branch) => branch.ticket(),
         Done::Refused(ticket) => *ticket,
@@ -71,14 +67,14 @@ fn ticket_of<G: Game>(done: &Done<G>) -> u64 {
 }
 
 /// Writes what became of the jobs of a pool: how many were issued and collected, and the numbers of the others.
-pub fn put_outcome<G: Game>(out: &mut Vec<u8>, outcome: &Outcome<G>) -> Result<(), Fault> {
+pub fn put_outcome(out: &mut Vec<u8>, outcome: &Outcome<Played>) -> Answer {
     put_long(out, b"issued ", outcome.issued)?;
     put_long(out, b" collected ", outcome.collected)?;
-    put(out, " late")?;
+    put(out, b" late")?;
     for done in &outcome.late {
         put_long(out, b" ", ticket_of(done))?;
     }
-    put(out, " left")?;
+    put(out, b" left")?;
     for job in &outcome.left {
         put_long(out, b" ", job.ticket())?;
     }
@@ -86,11 +82,11 @@ pub fn put_outcome<G: Game>(out: &mut Vec<u8>, outcome: &Outcome<G>) -> Result<(
 }
 
 /// Writes what a turn of a worker did.
-pub fn put_worked(out: &mut Vec<u8>, worked: Worked) -> Result<(), AllocError> {
+pub fn put_worked(out: &mut Vec<u8>, worked: Worked) -> Answer {
     match worked {
         Worked::Did(ticket) => put_long(out, b"did ", ticket),
-        Worked::Empty => put(out, "empty"),
-        Worked::RingFull => put(out, "ring full"),
-        Worked::Closed => put(out, "closed"),
+        Worked::Empty => put(out, b"empty"),
+        Worked::RingFull => put(out, b"ring full"),
+        Worked::Closed => put(out, b"closed"),
     }
 }

@@ -1,8 +1,10 @@
 //! The program `test_stage`: examples as text. It reads commands from standard input, a line each, and writes what comes of
 //! each on standard output.
 //!
-//! The first line is `game tally` with options (`setup`), and the second is a script's header; or it is
-//! `duel N`, which makes a duel of N ships and no more. Of a session that doesn't start `refused N` is all that is written.
+//! The first line is `game tally` with options (`setup`), and the second is a script's header. Of a session that doesn't start
+//! `refused N` is written, with what is wrong with its settings. Or the first line is `drifting FROM FRAMES`, which makes a
+//! sync test of a game that comes out different, with the file of rows that follows; or it names one of the parts that
+//! stand below a session, as the crate `test_alone` tells them.
 //!
 //! The commands are those of a script, and
 //!
@@ -14,26 +16,26 @@
 //!   `speculate P UNTIL W,W,..` and `absorb`;
 //! - of spectators `feed`, `add`, `add refusing CALL K`, `push`, `relay N`, `step I`, `steps I N`, `watch I`, `leave I`.
 //!
-//! The exit status is 0, 2 at a line that can't be read, and 3 where memory runs out.
+//! The exit status is 0, 2 at a line that can't be read, and 3 where memory runs out or a stream fails.
 #![tactic(auto)]
 
-mod answers;
 mod ask;
+mod claims;
 mod crew;
-mod fault;
+mod game;
 mod hosting;
 mod jobs;
+mod plans;
 mod replays;
 mod rows;
 mod running;
 mod setup;
 mod stage;
-mod staged;
 mod viewers;
 mod views;
 
-use crate::fault::Fault;
 use std::process::ExitCode;
+use test_alone::Fault;
 
 fn main(rt: HostRuntime) -> ExitCode {
     let mut line = 0;
@@ -44,8 +46,8 @@ fn main(rt: HostRuntime) -> ExitCode {
             let _ = println!(rt; "unreadable: line {line}");
             ExitCode::from(2)
         }
-        Err(fault) => {
-            let _ = eprintln!(rt; "test_stage: {fault}");
+        Err(Fault::NoMemory) => {
+            let _ = eprintln!(rt; "test_stage: out of memory, or a stream failed");
             ExitCode::from(3)
         }
     }

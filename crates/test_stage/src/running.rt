@@ -1,54 +1,47 @@
 //! The lines of standard input, one after another.
-
-use crate::answers::{put, put_fault, put_refused};
 use crate::ask::Ask;
-use crate::fault::Fault;
+use crate::game::{Played, refusing};
 use crate::setup::Setup;
 use crate::stage::Stage;
-use crate::staged::Staged;
-use roll_cli::Header;
-use roll_duel::Duel;
-use roll_frame::Settings;
-use roll_game::{Refusing, Tally};
+use crate::{claims, plans};
+use roll_cli::{Header, synctest};
+use roll_frame::{Refusal, Settings};
+use roll_game::Tally;
 use roll_session::Session;
 use roll_text::{fields, number, split_line, write_all};
 use std::alloc::Global;
 use std::io;
 use std::io::Read;
 use std::rt::Runtime;
+use test_alone::{Answer, Drifting, Fault, is, put, put_refused, put_shown};
 
 /// Reads all commands, and carries them out. `line` is the one that it is at.
-pub fn run<R: Runtime>(rt: &R, alloc: Global, line: &mut u32) -> Result<(), Fault> {
+pub fn run<R: Runtime>(rt: &R, alloc: Global, line: &mut u32) -> Answer {
     let mut text = Vec::new(alloc);
     if rt.reader().read_to_end(&mut text).is_err() {
-        return Err(Fault::Stream);
+        return Err(Fault::NoMemory);
     }
     let mut out = Vec::new(alloc);
     let ended = carry_out(alloc, &mut out, &text, line);
     match write_all(&mut io::writer(rt), &out) {
         Ok(()) => ended,
-        Err(_) => Err(Fault::Stream),
+        Err(_) => Err(Fault::NoMemory),
     }
 }
 
 /// Carries out the commands of a text.
-fn carry_out(alloc: Global, out: &mut Vec<u8>, text: &[u8], line: &mut u32) -> Result<(), Fault> {
+fn carry_out(alloc: Global, out: &mut Vec<u8>, text: &[u8], line: &mut u32) -> Answer {
     let (first, rest) = next_line(text, line)?;
     let words = fields(alloc, first, b' ')?;
-    if let [name, ships] = words.as_slice() {
-        if *name == b"duel".as_slice() {
-            return make_duel(alloc, out, ships);
+    match words.as_slice() {
+        [name, _, options @ ..] if is(name, b"game") => {
+            open(alloc, out, Setup::read(options)?, rest, line)
         }
+        [name, from, frames] if is(name, b"drifting") => drift(alloc, out, from, frames, rest),
+        [name, kept, told] if is(name, b"plan") => plans::tell(alloc, kept, told, out),
+        [name, fields @ ..] if is(name, b"claim") => claims::tell(alloc, fields, rest, out),
+        _ => test_alone::answer(alloc, text, out),
     }
-    let Some(setup) = Setup::read(&words) else {
-        return Err(Fault::Unreadable);
-    };
-    let (second, rest) = next_line(rest, line)?;
-    let Some(header) = Header::read(alloc, second)? else {
-        return Err(Fault::Unreadable);
-    };
-    let settings = setup.settings(header.settings());
-    play_tally(alloc, out, setup, settings, rest, line)
 }
 
 /// The next line, and what follows it.
@@ -60,57 +53,47 @@ fn next_line<'a>(text: &'a [u8], line: &mut u32) -> Result<(&'a [u8], &'a [u8]),
     }
 }
 
-/// Makes a duel of so many ships.
-fn make_duel(alloc: Global, out: &mut Vec<u8>, ships: &[u8]) -> Result<(), Fault> {
-    let Some(Ok(ships)) = number(ships).map(u8::try_from) else {
+/// Makes a sync test of the drifting game with a file of rows, and tells whether it came out the same.
+fn drift(alloc: Global, out: &mut Vec<u8>, from: &[u8], frames: &[u8], text: &[u8]) -> Answer {
+    let (Some(from), Some(frames)) = (number(from), number(frames)) else {
         return Err(Fault::Unreadable);
     };
-    match Duel::new(alloc, ships) {
-        Ok(_) => put(out, "ok\n")?,
-        Err(why) => {
-            put_refused(out, why)?;
-            put(out, "\n")?;
-        }
+    let mut reader = text;
+    match synctest(alloc, &mut reader, out, Drifting::new(from), 0, frames) {
+        Ok(true) => put(out, b"same\n"),
+        Ok(false) => put(out, b"different\n"),
+        Err(fault) => put_shown(alloc, out, fault),
     }
-    Ok(())
 }
 
-fn play_tally(
-    alloc: Global,
-    out: &mut Vec<u8>,
-    setup: Setup,
-    settings: Settings,
-    text: &[u8],
-    line: &mut u32,
-) -> Result<(), Fault> {
-    let game = Refusing::new(Tally::new(), setup.game.call, setup.game.k);
-    let helper = Refusing::new(Tally::new(), setup.helper.call, setup.helper.k);
-    match start(alloc, out, setup, settings, game, Tally::opening())? {
-        Some(session) => play(alloc, out, setup, session, helper, text, line),
+/// Opens the session of the header, and carries out the commands behind it.
+fn open(alloc: Global, out: &mut Vec<u8>, setup: Setup, text: &[u8], line: &mut u32) -> Answer {
+    let (first, rest) = next_line(text, line)?;
+    let Some(header) = Header::read(alloc, first)? else {
+        return Err(Fault::Unreadable);
+    };
+    let settings = setup.settings(header.settings());
+    match start(alloc, out, setup, settings)? {
+        Some(session) => play(alloc, out, setup, session, rest, line),
         None => Ok(()),
     }
 }
 
 /// Starts a session, and once more where that is refused and it is wanted. A refusal is written, with what is wrong with the
 /// settings, if that is why.
-fn start<G: Staged>(
+fn start(
     alloc: Global,
     out: &mut Vec<u8>,
     setup: Setup,
     settings: Settings,
-    game: G,
-    opening: G::Snapshot,
-) -> Result<Option<Session<G>>, Fault> {
-    match Session::start(alloc, game, opening, settings) {
+) -> Result<Option<Session<Played>>, Fault> {
+    let game = refusing(setup.game.call, setup.game.k);
+    match Session::start(alloc, game, Tally::opening(), settings) {
         Ok(session) => Ok(Some(session)),
         Err(fault) => {
-            match settings.fault() {
-                Some(why) => put_fault(out, why)?,
-                None => put_refused(out, fault.why)?,
-            }
-            put(out, "\n")?;
+            put_why(alloc, out, fault.why, &settings)?;
             if setup.retry {
-                Ok(start_again(alloc, settings, fault.game, fault.opening))
+                Ok(Session::start(alloc, fault.game, fault.opening, settings).ok())
             } else {
                 Ok(None)
             }
@@ -118,46 +101,44 @@ fn start<G: Staged>(
     }
 }
 
-fn start_again<G: Staged>(
-    alloc: Global,
-    settings: Settings,
-    game: G,
-    opening: G::Snapshot,
-) -> Option<Session<G>> {
-    Session::start(alloc, game, opening, settings).ok()
+fn put_why(alloc: Global, out: &mut Vec<u8>, why: Refusal, settings: &Settings) -> Answer {
+    put_refused(out, why)?;
+    if let Some(fault) = settings.fault() {
+        put(out, b" ")?;
+        put_shown(alloc, out, fault)?;
+    }
+    put(out, b"\n")
 }
 
 /// Carries out the commands of a session.
-fn play<G: Staged>(
+fn play(
     alloc: Global,
     out: &mut Vec<u8>,
     setup: Setup,
-    session: Session<G>,
-    helper: G,
+    session: Session<Played>,
     text: &[u8],
     line: &mut u32,
-) -> Result<(), Fault> {
+) -> Answer {
+    let helper = refusing(setup.helper.call, setup.helper.k);
     let mut stage = Stage::new(alloc, session, helper);
     play_lines(alloc, out, &mut stage, setup.retry, text, line)
 }
 
-fn play_lines<G: Staged>(
+fn play_lines(
     alloc: Global,
     out: &mut Vec<u8>,
-    stage: &mut Stage<G>,
+    stage: &mut Stage,
     retry: bool,
     text: &[u8],
     line: &mut u32,
-) -> Result<(), Fault> {
+) -> Answer {
     let mut rest = text;
     for _ in 0..text.len() {
         if rest.is_empty() {
             break;
         }
         let (next, after) = next_line(rest, line)?;
-        let Some(ask) = Ask::read(alloc, next)? else {
-            return Err(Fault::Unreadable);
-        };
+        let ask = Ask::read(alloc, next)?;
         answer_line(out, stage, retry, &ask)?;
         rest = after;
     }
@@ -165,16 +146,11 @@ fn play_lines<G: Staged>(
 }
 
 /// Writes what a line is answered. Where that is a refusal for want of memory, and it is wanted, it is asked once more.
-fn answer_line<G: Staged>(
-    out: &mut Vec<u8>,
-    stage: &mut Stage<G>,
-    retry: bool,
-    ask: &Ask,
-) -> Result<(), Fault> {
+fn answer_line(out: &mut Vec<u8>, stage: &mut Stage, retry: bool, ask: &Ask) -> Answer {
     stage.answer(out, ask)?;
     if retry && out.ends_with(b"refused 107") {
-        put(out, "\n")?;
+        put(out, b"\n")?;
         stage.answer(out, ask)?;
     }
-    Ok(put(out, "\n")?)
+    put(out, b"\n")
 }

@@ -1,11 +1,11 @@
-//! The first line.
-
+//! The first line of a session.
 use roll_frame::Settings;
 use roll_game::Call;
 use roll_text::number;
+use test_alone::{Fault, is, read_call};
 
 /// Which call of a game is refused, counted from 1; with 0 none.
-#[derive(Clone, Copy, Debug, PartialEq, Eq)]
+#[derive(Clone, Copy)]
 pub struct Refused {
     pub call: Call,
     pub k: u64,
@@ -13,7 +13,7 @@ pub struct Refused {
 
 /// The first line of a session: `game tally`, and in any order `refusing CALL K`, `helper CALL K`, `limit N`,
 /// `log N`, `local BITS` and `retry`.
-#[derive(Clone, Copy, Debug, PartialEq, Eq)]
+#[derive(Clone, Copy)]
 pub struct Setup {
     /// Of the session's game.
     pub game: Refused,
@@ -31,25 +31,9 @@ const NONE: Refused = Refused {
     k: 0,
 };
 
-/// A call of a game.
-pub fn read_call(name: &[u8]) -> Option<Call> {
-    match std::str::from_utf8(name).ok()? {
-        "load" => Some(Call::Load),
-        "save" => Some(Call::Save),
-        "copy" => Some(Call::Copy),
-        "advance" => Some(Call::Advance),
-        _ => None,
-    }
-}
-
 impl Setup {
-    /// What these words say.
-    pub fn read(words: &[&[u8]]) -> Option<Setup> {
-        let (first, after) = words.split_first()?;
-        let (name, after) = after.split_first()?;
-        if *first != b"game".as_slice() || *name != b"tally".as_slice() {
-            return None;
-        }
+    /// What these options say.
+    pub fn read(options: &[&[u8]]) -> Result<Setup, Fault> {
         let mut setup = Setup {
             game: NONE,
             helper: NONE,
@@ -58,45 +42,41 @@ impl Setup {
             local: None,
             retry: false,
         };
-        setup.read_rest(after)?;
-        Some(setup)
-    }
-
-    fn read_rest(&mut self, words: &[&[u8]]) -> Option<()> {
-        let mut at = 0usize;
-        for _ in 0..words.len() {
-            let rest = words.get(at..)?;
-            if rest.is_empty() {
-                break;
-            }
-            at = at.saturating_add(self.read_one(rest)?);
+        let mut rest = options;
+        for _ in 0..options.len() {
+            rest = match rest {
+                [] => break,
+                [name, after @ ..] if is(name, b"retry") => {
+                    setup.retry = true;
+                    after
+                }
+                [name, call, k, after @ ..] if is(name, b"refusing") => {
+                    setup.game = read_refused(call, k)?;
+                    after
+                }
+                [name, call, k, after @ ..] if is(name, b"helper") => {
+                    setup.helper = read_refused(call, k)?;
+                    after
+                }
+                [name, n, after @ ..] => {
+                    setup.limit(name, n)?;
+                    after
+                }
+                _ => return Err(Fault::Unreadable),
+            };
         }
-        Some(())
+        Ok(setup)
     }
 
-    /// Reads the option at the beginning, and says how many words it has, one at least.
-    fn read_one(&mut self, words: &[&[u8]]) -> Option<usize> {
-        let name = std::str::from_utf8(words.first()?).ok()?;
+    fn limit(&mut self, name: &[u8], n: &[u8]) -> Result<(), Fault> {
+        let n = number(n).ok_or(Fault::Unreadable)?;
         match name {
-            "retry" => {
-                self.retry = true;
-                return Some(1);
-            }
-            "refusing" => self.game = read_refused(words)?,
-            "helper" => self.helper = read_refused(words)?,
-            _ => return self.read_number(name, number(words.get(1)?)?),
+            name if is(name, b"limit") => self.limit = Some(n),
+            name if is(name, b"log") => self.log = Some(n),
+            name if is(name, b"local") => self.local = Some(n.min(255) as u8),
+            _ => return Err(Fault::Unreadable),
         }
-        Some(3)
-    }
-
-    fn read_number(&mut self, name: &str, n: u32) -> Option<usize> {
-        match name {
-            "limit" => self.limit = Some(n),
-            "log" => self.log = Some(n),
-            "local" => self.local = Some(u8::try_from(n).ok()?),
-            _ => return None,
-        }
-        Some(2)
+        Ok(())
     }
 
     /// The settings of a header, with these limits.
@@ -110,12 +90,9 @@ impl Setup {
     }
 }
 
-/// The call and its number, behind a word.
-fn read_refused(words: &[&[u8]]) -> Option<Refused> {
-    let call = read_call(words.get(1)?)?;
-    let k = number(words.get(2)?)?;
-    Some(Refused {
-        call,
-        k: u64::from(k),
+fn read_refused(call: &[u8], k: &[u8]) -> Result<Refused, Fault> {
+    Ok(Refused {
+        call: read_call(call)?,
+        k: u64::from(number(k).ok_or(Fault::Unreadable)?),
     })
 }

@@ -1,44 +1,47 @@
 //! A session, its host and its workers, and what is asked of them.
 
-use crate::answers::{put, put_count, put_long, put_named, put_refused, put_settings, put_turns};
-use crate::ask::{Ask, Guess, One, Two, Word};
+use crate::ask::{Ask, Guess, One, Word};
 use crate::crew::Crew;
-use crate::fault::Fault;
+use crate::game::{Played, put_state};
 use crate::hosting::{Hosting, Unhosted};
 use crate::jobs::{job_of, put_done, put_outcome, put_worked};
 use crate::replays::{copied, put_replays};
 use crate::rows::Hand;
-use crate::staged::Staged;
 use crate::viewers::Viewers;
 use crate::views;
 use roll_branch::{Branch, Done, Job, extend};
 use roll_cli::{Command, call, player_number};
 use roll_frame::{Refusal, Reply};
-use roll_game::Call as GameCall;
+use roll_game::{Call as GameCall, RawGame};
 use roll_host::{Absorbed, Pumped};
 use roll_link::Remote;
 use roll_pool::Worked;
 use roll_session::{Call, Request, Session};
+use roll_text::push_number;
 use std::alloc::Global;
+use test_alone::{
+    Answer, Fault, put, put_count, put_counts, put_long, put_named, put_refused, put_settings,
+    put_turns,
+};
 
 /// What stands on the stage.
 #[derive(Drop)]
-pub struct Stage<G: Staged> {
+pub struct Stage {
     alloc: Global,
     /// The session, while no host has it.
-    session: Option<Session<G>>,
-    hosting: Option<Hosting<G>>,
+    session: Option<Session<Played>>,
+    hosting: Option<Hosting>,
     /// The pool, while no host has it.
-    crew: Option<Crew<G>>,
-    viewers: Option<Viewers<G>>,
+    crew: Option<Crew>,
+    viewers: Option<Viewers>,
     /// It runs the jobs.
-    helper: G,
+    helper: Played,
     /// The jobs of the script's guesses.
-    jobs: Vec<Option<Job<G>>>,
+    jobs: Vec<Option<Job<Played>>>,
 }
 
-impl<G: Staged> Stage<G> {
-    pub fn new(alloc: Global, session: Session<G>, helper: G) -> Stage<G> {
+impl Stage {
+    pub fn new(alloc: Global, session: Session<Played>, helper: Played) -> Stage {
         Stage {
             alloc,
             session: Some(session),
@@ -51,15 +54,17 @@ impl<G: Staged> Stage<G> {
     }
 
     /// Does what a line asks for, and writes the answer without its end.
-    pub fn answer(&mut self, out: &mut Vec<u8>, ask: &Ask) -> Result<(), Fault> {
+    pub fn answer(&mut self, out: &mut Vec<u8>, ask: &Ask) -> Answer {
         match ask {
             Ask::Script(command) => self.play(out, command),
             Ask::Word(word) => self.word(out, *word),
             Ask::One(one, n) => self.one(out, *one, *n),
-            Ask::Two(two, a, b) => self.two(out, *two, *a, *b),
-            Ask::Send { link, item } => self.send(out, *link, *item),
-            Ask::SendAll { count, item } => self.send_all(out, *count, *item),
-            Ask::Remotes { count, item } => self.hear_all(out, *count, *item),
+            Ask::Frames(count, word) => self.frames(out, *count, Some(*word)),
+            Ask::Steps(place, times) => self.step(out, *place, *times),
+            Ask::Cell(player, frame) => self.cell(out, player_number(*player), *frame),
+            Ask::Send(link, item) => self.send(out, *link, *item),
+            Ask::SendAll(count, item) => self.send_all(out, *count, *item),
+            Ask::Remotes(count, item) => self.hear_all(out, *count, *item),
             Ask::Speculate(guess) => self.speculate(out, guess),
             Ask::Guess(guess) => self.guess(out, guess.player, &guess.words, guess.until),
             Ask::Issue(hand) => self.issue(out, hand),
@@ -68,7 +73,7 @@ impl<G: Staged> Stage<G> {
         }
     }
 
-    fn word(&mut self, out: &mut Vec<u8>, word: Word) -> Result<(), Fault> {
+    fn word(&mut self, out: &mut Vec<u8>, word: Word) -> Answer {
         match word {
             Word::Host => self.host(out),
             Word::Session => self.unhost(out),
@@ -88,28 +93,28 @@ impl<G: Staged> Stage<G> {
     }
 
     /// Writes what is seen of the session.
-    fn show(&self, out: &mut Vec<u8>, word: Word) -> Result<(), Fault> {
+    fn show(&self, out: &mut Vec<u8>, word: Word) -> Answer {
         let Some(session) = self.session() else {
             return Err(Fault::Unreadable);
         };
         match word {
             Word::Seen => views::put_seen(out, session),
             Word::Kept => views::put_kept(self.alloc, out, session),
-            Word::Counts => views::put_session_counts(out, session),
+            Word::Counts => put_counts(out, session.game().counts()),
             Word::Log => views::put_log(out, session),
-            Word::Settings => Ok(put_settings(out, session.settings())?),
+            Word::Settings => put_settings(out, session.settings()),
             Word::Replay => put_replays(self.alloc, out, session, session.log()),
             Word::Copied => self.replay_copy(out, session),
             _ => Err(Fault::Unreadable),
         }
     }
 
-    fn replay_copy(&self, out: &mut Vec<u8>, session: &Session<G>) -> Result<(), Fault> {
+    fn replay_copy(&self, out: &mut Vec<u8>, session: &Session<Played>) -> Answer {
         let log = copied(self.alloc, session.log())?;
         put_replays(self.alloc, out, session, &log)
     }
 
-    fn one(&mut self, out: &mut Vec<u8>, one: One, n: u32) -> Result<(), Fault> {
+    fn one(&mut self, out: &mut Vec<u8>, one: One, n: u32) -> Answer {
         match one {
             One::Finish => self.finish(out, n),
             One::Drop => self.drop_sender(out, n),
@@ -126,7 +131,7 @@ impl<G: Staged> Stage<G> {
         }
     }
 
-    fn show_one(&self, out: &mut Vec<u8>, one: One, n: u32) -> Result<(), Fault> {
+    fn show_one(&self, out: &mut Vec<u8>, one: One, n: u32) -> Answer {
         match (one, self.session()) {
             (One::Row, Some(session)) => views::put_settled_row(out, session, n),
             (One::Player, Some(session)) => views::put_player(out, session, player_number(n)),
@@ -134,15 +139,7 @@ impl<G: Staged> Stage<G> {
         }
     }
 
-    fn two(&mut self, out: &mut Vec<u8>, two: Two, a: u32, b: u32) -> Result<(), Fault> {
-        match two {
-            Two::Frames => self.frames(out, a, Some(b)),
-            Two::Steps => self.step(out, a, b),
-            Two::Cell => self.cell(out, player_number(a), b),
-        }
-    }
-
-    fn cell(&self, out: &mut Vec<u8>, player: u8, frame: u32) -> Result<(), Fault> {
+    fn cell(&self, out: &mut Vec<u8>, player: u8, frame: u32) -> Answer {
         match self.session() {
             Some(session) => views::put_source(out, session, player, frame),
             None => Err(Fault::Unreadable),
@@ -150,7 +147,7 @@ impl<G: Staged> Stage<G> {
     }
 
     /// The session, whoever has it.
-    fn session(&self) -> Option<&Session<G>> {
+    fn session(&self) -> Option<&Session<Played>> {
         match &self.hosting {
             Some(hosting) => Some(hosting.session()),
             None => self.session.as_ref(),
@@ -159,7 +156,7 @@ impl<G: Staged> Stage<G> {
 
     // Scripts.
 
-    fn play(&mut self, out: &mut Vec<u8>, command: &Command) -> Result<(), Fault> {
+    fn play(&mut self, out: &mut Vec<u8>, command: &Command) -> Answer {
         if let Some(call) = call(command) {
             return self.call(out, call);
         }
@@ -174,22 +171,22 @@ impl<G: Staged> Stage<G> {
         }
     }
 
-    fn claim(&self, out: &mut Vec<u8>) -> Result<(), Fault> {
+    fn claim(&self, out: &mut Vec<u8>) -> Answer {
         match self.session() {
             Some(session) => views::put_claim(self.alloc, out, session),
             None => Err(Fault::Unreadable),
         }
     }
 
-    fn call(&mut self, out: &mut Vec<u8>, call: Call) -> Result<(), Fault> {
+    fn call(&mut self, out: &mut Vec<u8>, call: Call) -> Answer {
         let said = self.make(call);
         self.put_said(out, said)
     }
 
-    fn put_said(&self, out: &mut Vec<u8>, said: Result<Reply, Refusal>) -> Result<(), Fault> {
+    fn put_said(&self, out: &mut Vec<u8>, said: Result<Reply, Refusal>) -> Answer {
         match (said, self.session()) {
             (Ok(reply), Some(session)) => views::put_reply(out, session, &reply),
-            (Err(why), _) => Ok(put_refused(out, why)?),
+            (Err(why), _) => put_refused(out, why),
             (Ok(_), None) => Err(Fault::Unreadable),
         }
     }
@@ -205,7 +202,7 @@ impl<G: Staged> Stage<G> {
     }
 
     /// Lets a player leave, and writes the number of the event that tells it.
-    fn gone(&mut self, out: &mut Vec<u8>, player: u8) -> Result<(), Fault> {
+    fn gone(&mut self, out: &mut Vec<u8>, player: u8) -> Answer {
         let said = match (&mut self.hosting, &mut self.session) {
             (Some(hosting), _) => hosting.disconnect(player),
             (None, Some(session)) => session.disconnect_player(player),
@@ -218,20 +215,19 @@ impl<G: Staged> Stage<G> {
         Ok(())
     }
 
-    fn job(&mut self, player: u8, words: &[u32], until: u32) -> Result<Option<Job<G>>, Refusal> {
+    fn job(
+        &mut self,
+        player: u8,
+        words: &[u32],
+        until: u32,
+    ) -> Result<Option<Job<Played>>, Refusal> {
         match &mut self.session {
             Some(session) => session.guess(self.alloc, player, words, until),
             None => Err(Refusal::Stopped),
         }
     }
 
-    fn guess(
-        &mut self,
-        out: &mut Vec<u8>,
-        player: u8,
-        words: &[u32],
-        until: u32,
-    ) -> Result<(), Fault> {
+    fn guess(&mut self, out: &mut Vec<u8>, player: u8, words: &[u32], until: u32) -> Answer {
         let said = self.job(player, words, until);
         self.keep_job(out, said)
     }
@@ -240,8 +236,8 @@ impl<G: Staged> Stage<G> {
     fn keep_job(
         &mut self,
         out: &mut Vec<u8>,
-        said: Result<Option<Job<G>>, Refusal>,
-    ) -> Result<(), Fault> {
+        said: Result<Option<Job<Played>>, Refusal>,
+    ) -> Answer {
         match said {
             Ok(Some(job)) => {
                 put_count(out, b"job ", self.jobs.len())?;
@@ -249,28 +245,28 @@ impl<G: Staged> Stage<G> {
                 put_count(out, b" path ", job.route().path.rows.len())?;
                 self.jobs.push(Some(job))?;
             }
-            Ok(None) => put(out, "kept")?,
+            Ok(None) => put(out, b"kept")?,
             Err(why) => put_refused(out, why)?,
         }
         Ok(())
     }
 
     /// Runs a job of a guess, and grafts its branch.
-    fn run(&mut self, out: &mut Vec<u8>, number: u32) -> Result<(), Fault> {
+    fn run(&mut self, out: &mut Vec<u8>, number: u32) -> Answer {
         match take_job(&mut self.jobs, number as usize) {
             Some(job) => self.graft(out, job),
-            None => Ok(put_refused(out, Refusal::NoJob)?),
+            None => put_refused(out, Refusal::NoJob),
         }
     }
 
-    fn graft(&mut self, out: &mut Vec<u8>, job: Job<G>) -> Result<(), Fault> {
+    fn graft(&mut self, out: &mut Vec<u8>, job: Job<Played>) -> Answer {
         match extend(&mut self.helper, job) {
             Done::Grown(branch) => self.graft_branch(out, branch),
-            Done::Refused(_) => Ok(put_refused(out, Refusal::NoMemory)?),
+            Done::Refused(_) => put_refused(out, Refusal::NoMemory),
         }
     }
 
-    fn graft_branch(&mut self, out: &mut Vec<u8>, branch: Branch<G>) -> Result<(), Fault> {
+    fn graft_branch(&mut self, out: &mut Vec<u8>, branch: Branch<Played>) -> Answer {
         let Some(session) = &mut self.session else {
             return Err(Fault::Unreadable);
         };
@@ -282,35 +278,33 @@ impl<G: Staged> Stage<G> {
     }
 
     /// Grafts a branch that is made by hand, and writes first what is told of it without a graft.
-    fn graft_hand(&mut self, out: &mut Vec<u8>, hand: &Hand) -> Result<(), Fault> {
-        let Some(job) = job_of(self.alloc, hand)? else {
-            return Err(Fault::Unreadable);
-        };
+    fn graft_hand(&mut self, out: &mut Vec<u8>, hand: &Hand) -> Answer {
+        let job = job_of(self.alloc, hand)?;
         match extend(&mut self.helper, job) {
             Done::Grown(branch) => {
                 self.tell(out, &branch)?;
                 self.graft_branch(out, branch)
             }
-            Done::Refused(_) => Ok(put_refused(out, Refusal::NoMemory)?),
+            Done::Refused(_) => put_refused(out, Refusal::NoMemory),
         }
     }
 
-    fn tell(&self, out: &mut Vec<u8>, branch: &Branch<G>) -> Result<(), Fault> {
+    fn tell(&self, out: &mut Vec<u8>, branch: &Branch<Played>) -> Answer {
         let Some(session) = &self.session else {
             return Err(Fault::Unreadable);
         };
         match session.graft_refusal(branch) {
             Some(why) => put_refused(out, why)?,
-            None => put(out, "fine")?,
+            None => put(out, b"fine")?,
         }
-        put(out, ", ")?;
+        put(out, b", ")?;
         Ok(())
     }
 
     // Many frames and words.
 
     /// Plays frames, with this word for every local player, or else with the number of each frame. Writes the last answer.
-    fn frames(&mut self, out: &mut Vec<u8>, count: u32, word: Option<u32>) -> Result<(), Fault> {
+    fn frames(&mut self, out: &mut Vec<u8>, count: u32, word: Option<u32>) -> Answer {
         let mut said = Err(Refusal::InvalidRequest);
         for _ in 0..count {
             said = self.frame(word);
@@ -336,7 +330,7 @@ impl<G: Staged> Stage<G> {
     }
 
     /// Hears remote words with the same word, from a frame on. Writes the last answer.
-    fn hear_all(&mut self, out: &mut Vec<u8>, count: u32, item: Remote) -> Result<(), Fault> {
+    fn hear_all(&mut self, out: &mut Vec<u8>, count: u32, item: Remote) -> Answer {
         let mut said = Err(Refusal::InvalidRequest);
         for past in 0..count {
             said = self.make(Call::Remote {
@@ -348,7 +342,7 @@ impl<G: Staged> Stage<G> {
         self.put_said(out, said)
     }
 
-    fn reserve(&mut self, out: &mut Vec<u8>, events: u32) -> Result<(), Fault> {
+    fn reserve(&mut self, out: &mut Vec<u8>, events: u32) -> Answer {
         let said = match (&mut self.hosting, &mut self.session) {
             (Some(hosting), _) => hosting.reserve(events),
             (None, Some(session)) => session.reserve_log(events),
@@ -360,41 +354,41 @@ impl<G: Staged> Stage<G> {
     // Hosts and links.
 
     /// Makes a host of the session and the pool, if there is one. It has one link.
-    fn host(&mut self, out: &mut Vec<u8>) -> Result<(), Fault> {
+    fn host(&mut self, out: &mut Vec<u8>) -> Answer {
         let Some(session) = self.session.take() else {
             return Err(Fault::Unreadable);
         };
         match Hosting::new(self.alloc, session, self.crew.take()) {
             Ok(hosting) => {
                 self.hosting = Some(hosting);
-                Ok(put(out, "hosted")?)
+                put(out, b"hosted")
             }
             Err(Unhosted::Back(session, crew)) => {
                 self.session = Some(session);
                 self.crew = crew;
-                Ok(put_refused(out, Refusal::NoMemory)?)
+                put_refused(out, Refusal::NoMemory)
             }
             Err(Unhosted::NoLink) => Err(Fault::NoMemory),
         }
     }
 
     /// Takes the session out of its host, which is let go of.
-    fn unhost(&mut self, out: &mut Vec<u8>) -> Result<(), Fault> {
+    fn unhost(&mut self, out: &mut Vec<u8>) -> Answer {
         let Some(hosting) = self.hosting.take() else {
             return Err(Fault::Unreadable);
         };
         self.session = Some(hosting.into_session());
-        Ok(put(out, "alone")?)
+        put(out, b"alone")
     }
 
-    fn hosting(&mut self) -> Result<&mut Hosting<G>, Fault> {
+    fn hosting(&mut self) -> Result<&mut Hosting, Fault> {
         match &mut self.hosting {
             Some(hosting) => Ok(hosting),
             None => Err(Fault::Unreadable),
         }
     }
 
-    fn link(&mut self, out: &mut Vec<u8>) -> Result<(), Fault> {
+    fn link(&mut self, out: &mut Vec<u8>) -> Answer {
         match self.hosting()?.add_link() {
             Ok(number) => put_count(out, b"link ", number)?,
             Err(why) => put_refused(out, why)?,
@@ -402,9 +396,9 @@ impl<G: Staged> Stage<G> {
         Ok(())
     }
 
-    fn send(&mut self, out: &mut Vec<u8>, link: u32, item: Remote) -> Result<(), Fault> {
+    fn send(&mut self, out: &mut Vec<u8>, link: u32, item: Remote) -> Answer {
         match self.hosting()?.send(link as usize, item) {
-            Some(true) => put(out, "sent")?,
+            Some(true) => put(out, b"sent")?,
             Some(false) => put_refused(out, Refusal::Full)?,
             None => return Err(Fault::Unreadable),
         }
@@ -412,7 +406,7 @@ impl<G: Staged> Stage<G> {
     }
 
     /// Sends items by the first link, with the same word from a frame on, and writes how many found a place.
-    fn send_all(&mut self, out: &mut Vec<u8>, count: u32, item: Remote) -> Result<(), Fault> {
+    fn send_all(&mut self, out: &mut Vec<u8>, count: u32, item: Remote) -> Answer {
         let hosting = self.hosting()?;
         let mut sent = 0u32;
         for past in 0..count {
@@ -424,27 +418,27 @@ impl<G: Staged> Stage<G> {
                 sent = sent.saturating_add(1);
             }
         }
-        Ok(put_named(out, b"sent ", sent)?)
+        put_named(out, b"sent ", sent)
     }
 
-    fn finish(&mut self, out: &mut Vec<u8>, link: u32) -> Result<(), Fault> {
+    fn finish(&mut self, out: &mut Vec<u8>, link: u32) -> Answer {
         if link != 0 {
             return Err(Fault::Unreadable);
         }
         match self.hosting()?.finish() {
-            Some(left) => Ok(put_named(out, b"left ", left)?),
+            Some(left) => put_named(out, b"left ", left),
             None => Err(Fault::Unreadable),
         }
     }
 
-    fn drop_sender(&mut self, out: &mut Vec<u8>, link: u32) -> Result<(), Fault> {
+    fn drop_sender(&mut self, out: &mut Vec<u8>, link: u32) -> Answer {
         if !self.hosting()?.drop_sender(link as usize) {
             return Err(Fault::Unreadable);
         }
-        Ok(put(out, "dropped")?)
+        put(out, b"dropped")
     }
 
-    fn pump(&mut self, out: &mut Vec<u8>) -> Result<(), Fault> {
+    fn pump(&mut self, out: &mut Vec<u8>) -> Answer {
         let Pumped {
             applied,
             refused,
@@ -454,7 +448,7 @@ impl<G: Staged> Stage<G> {
         put_named(out, b" refused ", refused)?;
         match held {
             Some(why) => {
-                put(out, " held ")?;
+                put(out, b" held ")?;
                 put_refused(out, why)?;
             }
             None => {}
@@ -464,7 +458,7 @@ impl<G: Staged> Stage<G> {
 
     // Workers.
 
-    fn open_crew(&mut self, out: &mut Vec<u8>, workers: u32) -> Result<(), Fault> {
+    fn open_crew(&mut self, out: &mut Vec<u8>, workers: u32) -> Answer {
         match Crew::open(self.alloc, workers as usize) {
             Ok(crew) => {
                 put_count(out, b"workers ", crew.ends.len())?;
@@ -475,16 +469,16 @@ impl<G: Staged> Stage<G> {
         Ok(())
     }
 
-    fn crew(&mut self) -> Result<&mut Crew<G>, Fault> {
+    fn crew(&mut self) -> Result<&mut Crew, Fault> {
         match &mut self.crew {
             Some(crew) => Ok(crew),
             None => Err(Fault::Unreadable),
         }
     }
 
-    fn work(&mut self, out: &mut Vec<u8>, place: u32) -> Result<(), Fault> {
+    fn work(&mut self, out: &mut Vec<u8>, place: u32) -> Answer {
         match self.turn(place as usize) {
-            Some(worked) => Ok(put_worked(out, worked)?),
+            Some(worked) => put_worked(out, worked),
             None => Err(Fault::Unreadable),
         }
     }
@@ -499,10 +493,8 @@ impl<G: Staged> Stage<G> {
         }
     }
 
-    fn issue(&mut self, out: &mut Vec<u8>, hand: &Hand) -> Result<(), Fault> {
-        let Some(job) = job_of(self.alloc, hand)? else {
-            return Err(Fault::Unreadable);
-        };
+    fn issue(&mut self, out: &mut Vec<u8>, hand: &Hand) -> Answer {
+        let job = job_of(self.alloc, hand)?;
         match self.crew()?.issue(job) {
             Ok(ticket) => put_long(out, b"ticket ", ticket)?,
             Err(fault) => {
@@ -513,33 +505,33 @@ impl<G: Staged> Stage<G> {
         Ok(())
     }
 
-    fn collect(&mut self, out: &mut Vec<u8>) -> Result<(), Fault> {
+    fn collect(&mut self, out: &mut Vec<u8>) -> Answer {
         match self.crew()?.collect() {
             Some(done) => put_done(out, done),
-            None => Ok(put(out, "none")?),
+            None => put(out, b"none"),
         }
     }
 
-    fn count_out(&mut self, out: &mut Vec<u8>) -> Result<(), Fault> {
+    fn count_out(&mut self, out: &mut Vec<u8>) -> Answer {
         let crew = self.crew()?;
         put_count(out, b"out ", crew.owner.out())?;
         put_long(out, b" issued ", crew.owner.issued())?;
         Ok(())
     }
 
-    fn speculate(&mut self, out: &mut Vec<u8>, guess: &Guess) -> Result<(), Fault> {
+    fn speculate(&mut self, out: &mut Vec<u8>, guess: &Guess) -> Answer {
         let said = self
             .hosting()?
             .speculate(guess.player, &guess.words, guess.until);
         match said {
             Ok(Some(ticket)) => put_long(out, b"ticket ", ticket)?,
-            Ok(None) => put(out, "kept")?,
+            Ok(None) => put(out, b"kept")?,
             Err(why) => put_refused(out, why)?,
         }
         Ok(())
     }
 
-    fn absorb(&mut self, out: &mut Vec<u8>) -> Result<(), Fault> {
+    fn absorb(&mut self, out: &mut Vec<u8>) -> Answer {
         let Absorbed {
             taken,
             added,
@@ -553,17 +545,17 @@ impl<G: Staged> Stage<G> {
         Ok(())
     }
 
-    fn close(&mut self, out: &mut Vec<u8>) -> Result<(), Fault> {
+    fn close(&mut self, out: &mut Vec<u8>) -> Answer {
         match (&self.crew, &self.hosting) {
             (Some(crew), _) => crew.owner.close(),
             (None, Some(hosting)) => hosting.close(),
             (None, None) => return Err(Fault::Unreadable),
         }
-        Ok(put(out, "closed")?)
+        put(out, b"closed")
     }
 
     /// Ends the pool, or else the host, and writes what became of the jobs.
-    fn settle(&mut self, out: &mut Vec<u8>) -> Result<(), Fault> {
+    fn settle(&mut self, out: &mut Vec<u8>) -> Answer {
         if let Some(crew) = self.crew.take() {
             return put_outcome(out, &crew.settle());
         }
@@ -577,86 +569,83 @@ impl<G: Staged> Stage<G> {
 
     // Spectators.
 
-    fn feed(&mut self, out: &mut Vec<u8>) -> Result<(), Fault> {
+    fn feed(&mut self, out: &mut Vec<u8>) -> Answer {
         match Viewers::new(self.alloc) {
             Ok(viewers) => {
                 self.viewers = Some(viewers);
-                put(out, "fed")?;
+                put(out, b"fed")?;
             }
             Err(why) => put_refused(out, why)?,
         }
         Ok(())
     }
 
-    fn add(&mut self, out: &mut Vec<u8>, call: GameCall, k: u64) -> Result<(), Fault> {
+    fn add(&mut self, out: &mut Vec<u8>, call: GameCall, k: u64) -> Answer {
         match &mut self.viewers {
             Some(viewers) => viewers.add(out, call, k),
             None => Err(Fault::Unreadable),
         }
     }
 
-    fn push(&mut self, out: &mut Vec<u8>) -> Result<(), Fault> {
+    fn push(&mut self, out: &mut Vec<u8>) -> Answer {
+        match (&mut self.viewers, &self.session) {
+            (Some(viewers), Some(session)) => { put_named(out, b"sent ", viewers.push(session)) }
+            _ => Err(Fault::Unreadable),
+        }
+    }
+
+    fn relay(&mut self, out: &mut Vec<u8>, times: u32) -> Answer {
         match (&mut self.viewers, &self.session) {
             (Some(viewers), Some(session)) => {
-                Ok(put_named(out, b"sent ", viewers.push(session))?)
+                put_named(out, b"sent ", viewers.relay(session, times))
             }
             _ => Err(Fault::Unreadable),
         }
     }
 
-    fn relay(&mut self, out: &mut Vec<u8>, times: u32) -> Result<(), Fault> {
-        match (&mut self.viewers, &self.session) {
-            (Some(viewers), Some(session)) => {
-                Ok(put_named(out, b"sent ", viewers.relay(session, times))?)
-            }
-            _ => Err(Fault::Unreadable),
-        }
-    }
-
-    fn step(&mut self, out: &mut Vec<u8>, place: u32, times: u32) -> Result<(), Fault> {
+    fn step(&mut self, out: &mut Vec<u8>, place: u32, times: u32) -> Answer {
         match &mut self.viewers {
             Some(viewers) => viewers.step(out, place, times),
             None => Err(Fault::Unreadable),
         }
     }
 
-    fn watch(&self, out: &mut Vec<u8>, place: u32) -> Result<(), Fault> {
+    fn watch(&self, out: &mut Vec<u8>, place: u32) -> Answer {
         match &self.viewers {
             Some(viewers) => viewers.watch(out, place),
             None => Err(Fault::Unreadable),
         }
     }
 
-    fn leave(&mut self, out: &mut Vec<u8>, place: u32) -> Result<(), Fault> {
+    fn leave(&mut self, out: &mut Vec<u8>, place: u32) -> Answer {
         let Some(viewers) = &mut self.viewers else {
             return Err(Fault::Unreadable);
         };
         if !viewers.leave(place) {
             return Err(Fault::Unreadable);
         }
-        Ok(put(out, "left")?)
+        put(out, b"left")
     }
 
     // The end.
 
     /// Takes the session apart, and writes the state that was shown, the snapshot that it was opened with, and how often
     /// its game was asked.
-    fn parts(&mut self, out: &mut Vec<u8>) -> Result<(), Fault> {
+    fn parts(&mut self, out: &mut Vec<u8>) -> Answer {
         let Some(session) = self.session.take() else {
             return Err(Fault::Unreadable);
         };
         let parts = session.into_parts();
-        put(out, "shown")?;
-        views::put_state(out, &parts.game, parts.shown.as_ref())?;
-        put(out, " opening ")?;
-        G::put_snapshot(&parts.opening, out)?;
-        put_turns(out, parts.game.counts())?;
-        Ok(())
+        put(out, b"shown")?;
+        put_state(out, parts.shown.as_ref())?;
+        put(out, b" opening ")?;
+        push_number(out, parts.opening)?;
+        put_turns(out, parts.game.counts())
     }
 }
 
 /// Makes a call of a session.
-fn make_in<G: Staged>(session: &mut Session<G>, call: Call) -> Result<Reply, Refusal> {
+fn make_in(session: &mut Session<Played>, call: Call) -> Result<Reply, Refusal> {
     match session.perform(Request::Call(call)) {
         Ok(Reply::Refused(why)) => Err(why),
         Ok(reply) => Ok(reply),
@@ -665,13 +654,13 @@ fn make_in<G: Staged>(session: &mut Session<G>, call: Call) -> Result<Reply, Ref
 }
 
 /// Takes a job away, if there is one of this number.
-fn take_job<G: Staged>(jobs: &mut Vec<Option<Job<G>>>, number: usize) -> Option<Job<G>> {
+fn take_job(jobs: &mut Vec<Option<Job<Played>>>, number: usize) -> Option<Job<Played>> {
     jobs.get_mut(number)?.take()
 }
 
-fn put_done_or(out: &mut Vec<u8>, said: Result<(), Refusal>) -> Result<(), Fault> {
+fn put_done_or(out: &mut Vec<u8>, said: Result<(), Refusal>) -> Answer {
     match said {
-        Ok(()) => put(out, "ok")?,
+        Ok(()) => put(out, b"ok")?,
         Err(why) => put_refused(out, why)?,
     }
     Ok(())

@@ -1,24 +1,22 @@
 //! Spectators, and the feed that sends them rows.
 
-use crate::answers::{put_count, put_named, put_refused, put_turns};
-use crate::fault::Fault;
-use crate::staged::Staged;
-use crate::views::put_state;
+use crate::game::{Played, put_state, refusing};
 use roll_frame::Refusal;
-use roll_game::{Call, Game};
+use roll_game::{Call, RawGame, Tally};
 use roll_session::Session;
 use roll_spectate::{Feed, RING_ROWS, RowReceiver, Spectator, SpectatorFault};
 use std::alloc::Global;
+use test_alone::{Answer, Fault, put, put_count, put_named, put_refused, put_turns};
 
 /// A feed, and its spectators by number. None where one is gone.
 #[derive(Drop)]
-pub struct Viewers<G: Game> {
+pub struct Viewers {
     feed: Feed,
-    seats: Vec<Option<Spectator<G>>>,
+    seats: Vec<Option<Spectator<Played>>>,
 }
 
-impl<G: Staged> Viewers<G> {
-    pub fn new(alloc: Global) -> Result<Viewers<G>, Refusal> {
+impl Viewers {
+    pub fn new(alloc: Global) -> Result<Viewers, Refusal> {
         Ok(Viewers {
             feed: Feed::new(alloc)?,
             seats: Vec::new(alloc),
@@ -27,57 +25,43 @@ impl<G: Staged> Viewers<G> {
 
     /// Adds a spectator whose game refuses a call, and writes its number, or the refusal. One that doesn't start is started
     /// once more.
-    pub fn add(&mut self, out: &mut Vec<u8>, call: Call, k: u64) -> Result<(), Fault> {
+    pub fn add(&mut self, out: &mut Vec<u8>, call: Call, k: u64) -> Answer {
         match self.feed.add() {
             Ok(receiver) => self.seat(out, receiver, call, k),
-            Err(why) => Ok(put_refused(out, why)?),
+            Err(why) => put_refused(out, why),
         }
     }
 
-    fn seat(
-        &mut self,
-        out: &mut Vec<u8>,
-        receiver: RowReceiver,
-        call: Call,
-        k: u64,
-    ) -> Result<(), Fault> {
-        let (Some(game), Some(opening)) = (G::another(call, k), G::worth(0)) else {
-            return Err(Fault::Unreadable);
-        };
-        match Spectator::new(game, &opening, receiver) {
+    fn seat(&mut self, out: &mut Vec<u8>, receiver: RowReceiver, call: Call, k: u64) -> Answer {
+        match Spectator::new(refusing(call, k), &Tally::opening(), receiver) {
             Ok(spectator) => self.take(out, spectator),
-            Err(fault) => self.seat_again(out, fault, &opening),
+            Err(fault) => self.seat_again(out, fault),
         }
     }
 
-    fn seat_again(
-        &mut self,
-        out: &mut Vec<u8>,
-        fault: SpectatorFault<G>,
-        opening: &G::Snapshot,
-    ) -> Result<(), Fault> {
+    fn seat_again(&mut self, out: &mut Vec<u8>, fault: SpectatorFault<Played>) -> Answer {
         put_refused(out, fault.why)?;
         put_turns(out, fault.game.counts())?;
-        out.extend_from_slice(b"; ")?;
-        match Spectator::new(fault.game, opening, fault.receiver) {
+        put(out, b"; ")?;
+        match Spectator::new(fault.game, &Tally::opening(), fault.receiver) {
             Ok(spectator) => self.take(out, spectator),
             Err(_) => Err(Fault::NoMemory),
         }
     }
 
-    fn take(&mut self, out: &mut Vec<u8>, spectator: Spectator<G>) -> Result<(), Fault> {
+    fn take(&mut self, out: &mut Vec<u8>, spectator: Spectator<Played>) -> Answer {
         put_count(out, b"spectator ", self.seats.len())?;
         self.seats.push(Some(spectator))?;
         Ok(())
     }
 
     /// Sends rows, and answers how many.
-    pub fn push(&mut self, session: &Session<G>) -> u32 {
+    pub fn push(&mut self, session: &Session<Played>) -> u32 {
         self.feed.push(session)
     }
 
     /// Sends rows so many times, and after each lets every spectator step through its ring. How many rows were sent.
-    pub fn relay(&mut self, session: &Session<G>, times: u32) -> u32 {
+    pub fn relay(&mut self, session: &Session<Played>, times: u32) -> u32 {
         let mut sent = 0u32;
         for _ in 0..times {
             sent = sent.saturating_add(self.feed.push(session));
@@ -95,7 +79,7 @@ impl<G: Staged> Viewers<G> {
     }
 
     /// Steps a spectator so many times, and writes what came of the last one.
-    pub fn step(&mut self, out: &mut Vec<u8>, place: u32, times: u32) -> Result<(), Fault> {
+    pub fn step(&mut self, out: &mut Vec<u8>, place: u32, times: u32) -> Answer {
         let Some(Some(spectator)) = self.seats.get_mut(place as usize) else {
             return Err(Fault::Unreadable);
         };
@@ -103,18 +87,17 @@ impl<G: Staged> Viewers<G> {
             Ok(frame) => put_named(out, b"frame ", frame)?,
             Err(why) => put_refused(out, why)?,
         }
-        put_state(out, spectator.game(), spectator.state())
+        put_state(out, spectator.state())
     }
 
     /// Writes what a spectator shows, and how often its game was asked.
-    pub fn watch(&self, out: &mut Vec<u8>, place: u32) -> Result<(), Fault> {
+    pub fn watch(&self, out: &mut Vec<u8>, place: u32) -> Answer {
         let Some(Some(spectator)) = self.seats.get(place as usize) else {
             return Err(Fault::Unreadable);
         };
-        out.extend_from_slice(b"shown")?;
-        put_state(out, spectator.game(), spectator.state())?;
-        put_turns(out, spectator.game().counts())?;
-        Ok(())
+        put(out, b"shown")?;
+        put_state(out, spectator.state())?;
+        put_turns(out, spectator.game().counts())
     }
 
     /// Lets go of a spectator. Whether it was there.
@@ -126,7 +109,7 @@ impl<G: Staged> Viewers<G> {
     }
 }
 
-fn step_times<G: Game>(spectator: &mut Spectator<G>, times: u32) -> Result<u32, Refusal> {
+fn step_times(spectator: &mut Spectator<Played>, times: u32) -> Result<u32, Refusal> {
     let mut said = Err(Refusal::InvalidRequest);
     for _ in 0..times {
         said = spectator.step();
@@ -135,7 +118,7 @@ fn step_times<G: Game>(spectator: &mut Spectator<G>, times: u32) -> Result<u32, 
 }
 
 /// Steps as often as a ring has rows, or until there is none.
-fn step_through<G: Game>(spectator: &mut Spectator<G>) {
+fn step_through(spectator: &mut Spectator<Played>) {
     for _ in 0..RING_ROWS {
         if spectator.step().is_err() {
             return;

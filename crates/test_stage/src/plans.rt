@@ -2,18 +2,14 @@
 //! where the timeline's first row is told. Its plan to frame 1 is written, and its claim, before and after it is made.
 ghost use Rattle.std.specs.Prelude.{◌≡◌, length};
 
-use crate::rows::pair;
-use crate::words::{Answer, Fault, refuse, say};
 use roll_cert::write;
 use roll_frame::Row;
 use roll_plan::{Plan, Planner};
 use roll_tree::Tree;
 use std::alloc::Global;
+use test_alone::{Answer, Fault, pair, refuse, say};
 
-pub fn tell(alloc: Global, fields: &[&[u8]], out: &mut Vec<u8>) -> Answer {
-    let [kept, told] = fields else {
-        return Err(Fault::Unreadable);
-    };
+pub fn tell(alloc: Global, kept: &[u8], told: &[u8], out: &mut Vec<u8>) -> Answer {
     let (kept, told) = (pair(kept)?, pair(told)?);
     let mut planner = Planner::new(alloc, 2)?;
     push_claim(alloc, &planner, out)?;
