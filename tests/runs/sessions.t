@@ -135,7 +135,7 @@ A log that is played again on a new session. Once more on the same, its two fram
 counts already.
 
   $ printf "${late}replay\n" | two | tail -n 1
-  ok frame 2 state 77 log 6, again repeated 4 frame 4 state 7777 log 10
+  ok frame 2 state 77 log 6, again entry 4 repeats a word frame 4 state 7777 log 10
 
 A log that is made of calls.
 
@@ -146,37 +146,10 @@ No replay makes a graft: it stops there.
 
   $ { printf 'L 1 1\nA\nL 1 1\nA\ngraft 0 . 0 1,3/1,3\nlog\nreplay\n'; } | two | tail -n 2
   log 5; L 1 1; A; L 1 1; A; graft 9
-  no call 4 frame 2 state 11 log 4, again no call 4 frame 4 state 1111 log 8
-
-What a start refuses, by name.
-
-  $ opens() { { echo "game tally${2:+ $2}"; echo "$1"; } | test_stage; }
-  $ opens 'roll 1 players 5 local 1 delay 0,0,0,0,0 threshold 8'
-  refused 3 players
-  $ opens "$header" 'local 0'
-  refused 11 no local player
-  $ opens "$header" 'local 5'
-  refused 11 local player outside 3
-  $ opens 'roll 1 players 2 local 1 delay 9,0 threshold 8'
-  refused 11 long delay 1
-  $ opens 'roll 1 players 2 local 1 delay 0,1 threshold 8'
-  refused 11 delay of remote player 2
-  $ opens 'roll 1 players 2 local 1 delay 0,0 threshold 9'
-  refused 11 threshold
-  $ opens "$header" 'limit 0'
-  refused 11 frame limit
-  $ opens "$header" 'log 0'
-  refused 11 log limit
-  $ opens "$header"
+  entry 4 is no call frame 2 state 11 log 4, again entry 4 is no call frame 4 state 1111 log 8
 
 Ship duels are for two to four players.
 
-  $ for ships in 0 1 2 4 5; do echo "duel $ships" | test_stage; done
-  refused 3
-  refused 3
-  ok
-  ok
-  refused 3
   $ echo 'roll 3 players 5 local 1 delay 0,0,0,0,0 mask 0,0,0,0,0 threshold 8' | rollduel play --game duel -
   refused 3
   [1]

@@ -58,7 +58,7 @@ A text of two pieces is read: the third read finds its end. Where a read fails n
   2 0 rollduel: cannot read
   2 0 rollduel: cannot read
   2 0 rollduel: cannot read
-  0 76 
+  0 62 
   $ reads synctest
   2 0 rollduel: cannot read
   2 0 rollduel: cannot read

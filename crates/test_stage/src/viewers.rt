@@ -80,14 +80,10 @@ impl Viewers {
 
     /// Steps a spectator so many times, and writes what came of the last one.
     pub fn step(&mut self, out: &mut Vec<u8>, place: u32, times: u32) -> Answer {
-        let Some(Some(spectator)) = self.seats.get_mut(place as usize) else {
-            return Err(Fault::Unreadable);
-        };
-        match step_times(spectator, times) {
-            Ok(frame) => put_named(out, b"frame ", frame)?,
-            Err(why) => put_refused(out, why)?,
+        match self.seats.get_mut(place as usize) {
+            Some(Some(spectator)) => put_step(out, spectator, times),
+            _ => Err(Fault::Unreadable),
         }
-        put_state(out, spectator.state())
     }
 
     /// Writes what a spectator shows, and how often its game was asked.
@@ -107,6 +103,14 @@ impl Viewers {
             None => false,
         }
     }
+}
+
+fn put_step(out: &mut Vec<u8>, spectator: &mut Spectator<Played>, times: u32) -> Answer {
+    match step_times(spectator, times) {
+        Ok(frame) => put_named(out, b"frame ", frame)?,
+        Err(why) => put_refused(out, why)?,
+    }
+    put_state(out, spectator.state())
 }
 
 fn step_times(spectator: &mut Spectator<Played>, times: u32) -> Result<u32, Refusal> {
