@@ -1,4 +1,4 @@
-//! Sends words from one thread to another, as `bench_threads links` does, by the standard library's `sync_channel` with 64
+//! Sends words from one thread to another, as `test_threads links` does, by the standard library's `sync_channel` with 64
 //! places, into a `Vec`: links WORDS
 //!
 //! Prints for each way of waiting how long a word takes: the fastest of 25 runs.

@@ -3,51 +3,26 @@
 # Both play the same scripts, and must write the same bytes. A time is that of a whole run, the least of 25. It takes some
 # two minutes.
 #
-# Measures what of the library needs threads by bench_threads, both tables or one of them:
-#     bench/run.sh --all BENCH_THREADS
-#     bench/run.sh --links|--match BENCH_THREADS [COUNT]
+# Measures what of the library needs threads by test_threads, both tables or one of them (`bench/threads.py`):
+#     bench/run.sh --all TEST_THREADS
+#     bench/run.sh --links|--match TEST_THREADS [COUNT]
 # The match takes 12 minutes, the links a few.
 set -euo pipefail
-usage="usage: bench/run.sh ROLLDUEL, or bench/run.sh --all|--links|--match BENCH_THREADS [COUNT]"
+usage="usage: bench/run.sh ROLLDUEL, or bench/run.sh --all|--links|--match TEST_THREADS [COUNT]"
 here=$(dirname -- "$(realpath -- "$0")")
 work=$(mktemp -d)
 trap 'rm -rf -- "$work"' EXIT
 
-# Words through a link, beside those through a channel of the standard library; each as a multiple of the fastest of these.
-links() {
-    rustc -O -o "$work/links" "$here/links.rs"
-    python3 - "$work/links" "$@" <<'END'
-import subprocess
-import sys
-
-plain, bench_threads, *count = sys.argv[1:]
-
-
-def rows(*command):
-    lines = subprocess.run(command, stdout=subprocess.PIPE, check=True, text=True).stdout.splitlines()
-    return [line for line in lines if " ns |" in line]
-
-
-def nanoseconds(row):
-    return float(row.split("|")[2].split()[0])
-
-
-theirs, ours = rows(plain, *count), rows(bench_threads, "links", *count)
-least = min(map(nanoseconds, theirs))
-print("| Way | A word | Words a second | Of the fastest channel |")
-print("|---|---|---|---|")
-for row in theirs + ours:
-    print(f"{row} {nanoseconds(row) / least:.2f} |")
-END
-}
-
-# One table of bench_threads.
+# One table of what needs threads: words through a link, beside those through a channel of the standard library, or a match.
 table() {
-    local what=$1
-    shift
+    local what=$1 program=$2
+    shift 2
     case $what in
-        links) links "$@" ;;
-        match) "$1" match "${@:2}" ;;
+        links)
+            rustc -O -o "$work/links" "$here/links.rs"
+            python3 "$here/threads.py" links "$program" "$work/links" "$@"
+            ;;
+        match) python3 "$here/threads.py" match "$program" "$@" ;;
         alone | calls | sessions)
             echo "bench/run.sh: --$what went with the older program that measured it: see docs/PERFORMANCE.md" >&2
             exit 2

@@ -1,96 +1,141 @@
-//! Examples of the library, by its public calls alone: those that must end well whichever allocation is refused, and others,
-//! most of them on threads.
+//! Examples of what needs threads, by the library's public calls alone, and what is measured of it.
 //!
-//! The program runs them and prints how each ends. Standard input may have the number of allocations to make first, so that
-//! one refused at a fixed place, as `rt try --fail-alloc` does it, falls on any growth of the examples; then the others are
-//! left out.
+//! Without words the program runs the examples, and prints how each ends. With the words `links` or `match` it measures, and
+//! prints numbers alone (`bench/threads.py` makes tables of them).
 #![tactic(auto)]
 
-mod growths;
-mod guesses;
 mod host_laws;
+mod hosts;
 mod laws;
 mod links;
-mod live;
 mod matches;
-mod once;
+mod numbers;
+mod rates;
 mod serial;
+mod slow;
 mod spectators;
 mod workers;
 
-use growths::{Ending, Example};
-use once::Once;
-use roll_text::number;
-use std::alloc::{AllocError, AllocGlobal, Global};
-use std::io::{self, Read};
+use matches::Rules;
+use roll_frame::Refusal;
+use std::alloc::{AllocGlobal, Global};
+use std::env;
 use std::process::ExitCode;
 use std::rt::Runtime;
 use std::sync::Wait;
 use std::thread::Threads;
 
+const USAGE: &str = "usage: test_threads
+       test_threads links PLAYERS COUNT
+       test_threads match WORKERS sixty|free FRAMES ROUNDS
+";
+
+/// What the command line asks for.
+enum Task {
+    Examples,
+    Links { players: u8, count: u32 },
+    Match { rules: Rules },
+}
+
 fn main(rt: HostRuntime) -> ExitCode {
     match run(&rt) {
-        Ok(true) => ExitCode::from(0),
-        _ => ExitCode::from(1),
+        Ok(true) => ExitCode::SUCCESS,
+        Ok(false) => ExitCode::from(1),
+        Err(why) => {
+            // Where standard error can't be written either, the status alone tells.
+            let _ = eprintln!(rt; "test_threads: {why}");
+            ExitCode::from(1)
+        }
     }
 }
 
-/// Prints how each example ends, and answers whether each does so well.
-fn run<R>(rt: &R) -> io::Result<bool>
+/// Does what the command line asks for, and answers whether all was as it must be.
+fn run<R>(rt: &R) -> Result<bool, Refusal>
 where
-    R: Runtime + AllocGlobal + Threads + Wait + Copy + Send + 'static,
+    R: Runtime + AllocGlobal + Threads + Wait + Copy + Send + Sync + 'static,
 {
-    match asked(&mut rt.reader())? {
-        Some(count) => run_growths(rt, count),
-        None => Ok(run_growths(rt, 0)? & run_once(rt)?),
+    match asked(rt) {
+        Some(Task::Examples) => Ok(run_examples(rt, rt.alloc())),
+        Some(Task::Links { players, count }) => rates::measure(rt, rt.alloc(), players, count),
+        Some(Task::Match { rules }) => matches::measure(rt, rt.alloc(), rules),
+        None => {
+            let _ = eprint!(rt; "{USAGE}");
+            Ok(false)
+        }
     }
 }
 
-/// Runs the examples whose growths may be refused, after so many allocations.
-fn run_growths<R>(rt: &R, count: u32) -> io::Result<bool>
+/// What the command line asks for, if it can be read.
+fn asked<R: Runtime + AllocGlobal>(rt: &R) -> Option<Task> {
+    let words: Vec<String> = env::args(rt).ok()?.collect(rt.alloc()).ok()?;
+    named(&words)
+}
+
+/// The task of these words, of which the first is the program's name.
+fn named(words: &[String]) -> Option<Task> {
+    let Some(what) = words.get(1) else {
+        return Some(Task::Examples);
+    };
+    match what.as_str() {
+        "links" => Some(Task::Links {
+            players: u8::try_from(number(words, 2)?).ok()?,
+            count: number(words, 3)?,
+        }),
+        "match" => Some(Task::Match {
+            rules: Rules {
+                workers: number(words, 2)?,
+                is_paced: words.get(3)?.as_str() == "sixty",
+                frames: number(words, 4)?,
+                rounds: number(words, 5)?,
+                ..Rules::MEASURED
+            },
+        }),
+        _ => None,
+    }
+}
+
+/// The number that stands at a place.
+fn number(words: &[String], place: usize) -> Option<u32> {
+    words.get(place)?.parse().ok()
+}
+
+/// Runs all examples, prints how each ends, and answers whether all end well.
+fn run_examples<R>(rt: &R, alloc: Global) -> bool
 where
-    R: Runtime + AllocGlobal + Threads + Wait + Copy + Send + 'static,
+    R: Runtime + Threads + Wait + Copy + Send + Sync + 'static,
 {
-    let alloc = rt.alloc();
-    let _first = taken(alloc, count);
-    let mut well = true;
-    for example in Example::ALL {
-        let ending = example.run(rt, alloc);
-        println!(rt; "{example:?}: {ending:?}")?;
-        well &= ending != Ending::Wrong;
-    }
-    Ok(well)
+    told(rt, "TwoWorkersOverlap", workers::overlap(rt, alloc))
+        & told(
+            rt,
+            "FourWorkersRunEachJobOnce",
+            workers::run_each_job_once(rt, alloc),
+        )
+        & told(rt, "ASleepingWorkerWakes", workers::wake(rt, alloc))
+        & told(
+            rt,
+            "ALinkHearsAnotherThread",
+            links::hear_another_thread(rt, alloc),
+        )
+        & told(
+            rt,
+            "ALinkHearsADroppedSender",
+            links::hear_a_dropped_sender(rt, alloc),
+        )
+        & told(rt, "FourThreadsSend", links::hear_four_threads(rt, alloc))
+        & told(rt, "FourWorkersGuess", matches::guess_on_threads(rt, alloc))
+        & told(
+            rt,
+            "TwoSpectatorsFollow",
+            spectators::follow_on_threads(rt, alloc),
+        )
 }
 
-/// Runs the others.
-fn run_once<R>(rt: &R) -> io::Result<bool>
-where
-    R: Runtime + AllocGlobal + Threads + Wait + Copy + Send + 'static,
-{
-    let mut well = true;
-    for example in Once::ALL {
-        let ending = example.run(rt);
-        println!(rt; "{example:?}: {ending:?}")?;
-        well &= ending == Ending::Whole;
-    }
-    Ok(well)
-}
-
-/// The number that a reader has, of at most four digits.
-fn asked<I: Read>(reader: &mut I) -> io::Result<Option<u32>> {
-    let mut text = [0u8; 4];
-    let count = reader.read(&mut text)?;
-    match text.get(..count) {
-        Some(text) => Ok(number(text)),
-        None => Ok(None),
-    }
-}
-
-/// So many allocations, and one for their list.
-fn taken(alloc: Global, count: u32) -> Result<Vec<Box<u32>>, AllocError> {
-    let mut boxes = Vec::with_capacity(alloc, count as usize)?;
-    for number in 0..count {
-        boxes.push(Box::new(alloc, number)?)?;
-    }
-    Ok(boxes)
+/// Prints how an example ended, and answers whether all was as it must be.
+fn told<R: Runtime>(rt: &R, name: &str, answer: Result<bool, Refusal>) -> bool {
+    let ending = match answer {
+        Ok(true) => "Whole",
+        Ok(false) => "Wrong",
+        Err(_) => "Refused",
+    };
+    println!(rt; "{name}: {ending}").is_ok() && answer == Ok(true)
 }

@@ -1,68 +1,441 @@
-//! Matches of two peers that no command line asks for.
-use roll_cli::{GameName, PlayFault};
-use roll_examples::FakeWriter;
+//! A match of two players whose words come late, and of which workers run each likely one ahead.
+ghost use Rattle.std.specs.Prelude.{◌≡◌, ◌<◌, IfOk};
+ghost use Rattle.roll_host.specs.Hosted.{places_of};
+
+use crate::hosts::{Heard, TURNS, TWO, hear, hosted, nanoseconds, open, play};
+use crate::numbers::print_line;
+use crate::serial::{Drawn, Serial, WORDS};
+use crate::slow::Slow;
+use crate::workers::staffed;
+use rand_core::utils::NextWord;
+use rand_pcg::Pcg32;
 use roll_frame::Refusal;
-use roll_match::{Guesses, MatchOptions, Totals, play, run};
-use std::alloc::Global;
+use roll_host::Host;
+use roll_link::{LinkSender, Remote};
+use roll_pool::{Crew, Outcome};
+use std::alloc::{AllocError, Global};
+use std::rt::Runtime;
+use std::sync::Wait;
+use std::thread;
+use std::thread::Threads;
+use std::time::{Clock, Duration};
 
-/// A match of four frames in which each word differs from the one before, and comes at once.
-const FOUR: MatchOptions = MatchOptions {
-    frames: 4,
-    seed: 1,
-    late: 0,
-    lost: 0,
-    hold: 1,
-    delay: 0,
-    threshold: 8,
-    guesses: Guesses::Off,
-    game: GameName::Tally,
-};
+/// The time between two frames in nanoseconds, at 60 frames a second.
+const FRAME: u64 = 16_666_667;
 
-/// Whether all that is told of a match is that its settings are refused.
-fn is_refused(alloc: Global, options: &MatchOptions) -> bool {
-    let mut out: Vec<u8> = Vec::new(alloc);
-    let ending = run(alloc, options, &mut out);
-    out.as_slice() == b"refused 11\n".as_slice() && ending.status == 1 && ending.fault.is_none()
+/// How long a paced match rests in nanoseconds before it looks again for results of the workers.
+const REST: u64 = 1_000_000;
+
+/// How many words a guess has at the most: the last one held for up to 8 frames, and then another.
+const LONGEST: usize = 9;
+
+/// How a match is played.
+#[derive(Clone, Copy)]
+pub struct Rules {
+    pub workers: u32,
+    /// Whether there are 60 frames a second, or they follow each other as fast as they can.
+    pub is_paced: bool,
+    pub frames: u32,
+    /// How long the game computes in a frame.
+    pub rounds: u32,
+    /// For how many frames a word is held on average.
+    pub hold: u32,
+    /// By how many frames a word comes late at the most.
+    pub late: u32,
+    pub seed: u64,
+    /// Whether the workers run all guesses at each 64th frame, before its words are heard.
+    pub waits: bool,
 }
 
-/// Settings out of the command line's ranges are refused, as others are that no session starts with.
-pub fn refuse_settings(alloc: Global) -> Result<bool, Refusal> {
-    let lost = is_refused(alloc, &MatchOptions { lost: 100, ..FOUR });
-    let hold = is_refused(alloc, &MatchOptions { hold: 0, ..FOUR });
-    let frames = is_refused(alloc, &MatchOptions { frames: 0, ..FOUR });
-    Ok(lost && hold && frames)
-}
-
-/// Whether a side ran nothing again, nor would by GGPO's policy.
-fn is_right(side: &Totals) -> bool {
-    side.rollbacks == 0 && side.rerun == 0 && side.ggpo == 0 && side.deepest == 0
-}
-
-/// A word that is held for ever is always predicted right, however late it comes.
-pub fn hold_for_ever(alloc: Global) -> Result<bool, Refusal> {
-    let options = MatchOptions {
-        hold: u32::MAX,
+impl Rules {
+    /// A match that is measured.
+    pub const MEASURED: Rules = Rules {
+        workers: 0,
+        is_paced: false,
+        frames: 0,
+        rounds: 0,
+        hold: 10,
         late: 8,
-        ..FOUR
+        seed: 1,
+        waits: false,
     };
-    let report = play(alloc, &options)?;
-    Ok(is_right(&report.first) && is_right(&report.second))
+
+    /// A match that is an example.
+    const EXAMPLE: Rules = Rules {
+        workers: 4,
+        frames: 10_000,
+        hold: 3,
+        late: 7,
+        seed: 7,
+        waits: true,
+        ..Rules::MEASURED
+    };
 }
 
-/// Whether a match tells that it can't be written, where the third write takes nothing, or `fails`.
-fn is_told(alloc: Global, fails: bool) -> bool {
-    let mut writer = FakeWriter {
-        held: Vec::new(alloc),
-        most: 100,
-        stops_at: 2,
-        fails,
-        writes: 0,
-    };
-    let ending = run(alloc, &FOUR, &mut writer);
-    ending.status == 2 && ending.fault == Some(PlayFault::Write)
+/// Draws the words of all frames, none of which is heard before an earlier one.
+fn drawn(alloc: Global, rules: Rules) -> Result<Vec<Drawn>, AllocError> {
+    let mut draw = Pcg32::new(rules.seed, 54);
+    let mut words = Vec::with_capacity(alloc, rules.frames as usize)?;
+    let (mut word, mut heard) = (0u32, 0u32);
+    for frame in 0..rules.frames {
+        if draw.next_word() % rules.hold.max(1) == 0 {
+            word = word.saturating_add(1 + draw.next_word() % (WORDS - 1)) % WORDS;
+        }
+        let late = draw.next_word() % rules.late.saturating_add(1);
+        heard = frame.saturating_add(late).max(heard);
+        words.push(Drawn { word, heard })?;
+    }
+    Ok(words)
 }
 
-/// A write that fails in mid-stream is told.
-pub fn tell_failed_writes(alloc: Global) -> Result<bool, Refusal> {
-    Ok(is_told(alloc, false) && is_told(alloc, true))
+/// A rollback for words that were heard.
+#[derive(Clone, Copy)]
+struct Rollback {
+    frame: u32,
+    /// How many words were heard up to it.
+    heard: u32,
+    /// How many frames had to run again.
+    rerun: u32,
+    nanoseconds: u64,
+}
+
+/// A match that is being played, and what was seen of it.
+#[derive(Drop)]
+struct Match<'a> {
+    rules: Rules,
+    words: &'a [Drawn],
+    sender: LinkSender,
+    /// How many words were sent.
+    sent: u32,
+    serial: Serial<'a>,
+    /// The guesses whose jobs were issued, and those for which there was no place.
+    issued: u64,
+    full: u64,
+    /// The results that were taken in, the states that they added, and those of them that were dropped.
+    taken: u64,
+    added: u64,
+    dropped: u64,
+    /// Words of which each guess was taken in before they came.
+    foreseen: u32,
+    rollbacks: Vec<Rollback>,
+    /// How long the match took.
+    nanoseconds: u64,
+}
+
+impl<'a> Match<'a> {
+    fn new(
+        alloc: Global,
+        rules: Rules,
+        words: &'a [Drawn],
+        sender: LinkSender,
+    ) -> Result<Match<'a>, AllocError> {
+        Ok(Match {
+            rules,
+            words,
+            sender,
+            sent: 0,
+            serial: Serial::new(2, words),
+            issued: 0,
+            full: 0,
+            taken: 0,
+            added: 0,
+            dropped: 0,
+            foreseen: 0,
+            rollbacks: Vec::with_capacity(alloc, words.len())?,
+            nanoseconds: 0,
+        })
+    }
+
+    /// Whether the workers run all guesses at this frame.
+    fn waits_at(&self, frame: u32) -> bool {
+        self.rules.waits && frame % 64 == 0
+    }
+
+    /// The last word that was sent, and 0 where none was.
+    fn last_word(&self) -> u32 {
+        match self.words.get((self.sent as usize).wrapping_sub(1)) {
+            Some(drawn) => drawn.word,
+            None => 0,
+        }
+    }
+
+    /// Sends the words that are heard in a frame. Answers how many they are.
+    fn send_due(&mut self, frame: u32) -> u32 {
+        let before = self.sent;
+        for drawn in self.words.iter().skip(before as usize) {
+            if drawn.heard > frame {
+                break;
+            }
+            let item = Remote {
+                player: 2,
+                frame: self.sent,
+                word: drawn.word,
+            };
+            self.serial.is_well &= self.sender.send(item).is_ok();
+            self.sent = self.sent.saturating_add(1);
+        }
+        self.sent.saturating_sub(before)
+    }
+
+    /// Notes the rollback in a frame for so many words. One word whose guesses had all been run costs no frame.
+    fn note(&mut self, frame: u32, heard: Heard, rerun: u32) {
+        let rollback = Rollback {
+            frame,
+            heard: self.sent,
+            rerun,
+            nanoseconds: heard.nanoseconds,
+        };
+        self.serial.is_well &= self.rollbacks.push(rollback).is_ok();
+        if heard.words == 1 && self.waits_at(frame) {
+            self.serial.is_well &= rerun == 0;
+            self.foreseen = self.foreseen.saturating_add(1);
+        }
+    }
+}
+
+/// Takes in what the workers have run.
+fn take_in(host: &mut Host<Slow>, game: &mut Match)
+    ensures { places_of host.new.pool ≡ places_of host.old.pool }
+{
+    let did = host.absorb();
+    game.taken = game.taken.saturating_add(u64::from(did.taken));
+    game.added = game.added.saturating_add(u64::from(did.added));
+    game.dropped = game.dropped.saturating_add(u64::from(did.dropped));
+}
+
+/// Takes in all that the workers have to run.
+fn take_all(host: &mut Host<Slow>, game: &mut Match)
+    ensures { places_of host.new.pool ≡ places_of host.old.pool }
+{
+    for _ in 0..TURNS {
+        if game.taken == game.issued {
+            return;
+        }
+        take_in(host, game);
+        thread::yield_now();
+    }
+}
+
+/// Guesses that player 2 holds the last word for some frames more, and then gives another.
+fn guess(host: &mut Host<Slow>, game: &mut Match, held: usize, word: u32)
+    requires { held < LONGEST }
+    ensures { places_of host.new.pool ≡ places_of host.old.pool }
+{
+    let mut words = [game.last_word(); LONGEST];
+    words[held] = word;
+    let until = host.session().frame();
+    match host.speculate(2, &words[..held + 1], until) {
+        Ok(Some(_)) => game.issued = game.issued.saturating_add(1),
+        Ok(None) => {}
+        Err(Refusal::Full) => game.full = game.full.saturating_add(1),
+        Err(_) => game.serial.is_well = false,
+    }
+}
+
+/// Guesses each word from the first unknown frame on, and each other one after the last word was held for some frames.
+fn guess_all(host: &mut Host<Slow>, game: &mut Match)
+    ensures { places_of host.new.pool ≡ places_of host.old.pool }
+{
+    let unknown = host.session().frame().saturating_sub(game.sent);
+    let last = game.last_word();
+    for number in 0..unknown.min(LONGEST as u32) * WORDS {
+        let (held, word) = (number / WORDS, number % WORDS);
+        if held == 0 || word != last {
+            guess(host, game, held as usize, word);
+        }
+    }
+}
+
+/// Makes guesses, and lets the workers run all of them where they are waited for.
+fn look_ahead(host: &mut Host<Slow>, game: &mut Match)
+    ensures { places_of host.new.pool ≡ places_of host.old.pool }
+{
+    let waits = game.waits_at(host.session().frame());
+    if waits {
+        take_all(host, game);
+    }
+    guess_all(host, game);
+    if waits {
+        take_all(host, game);
+    }
+}
+
+/// Hears the words that come in this frame, plays it, and makes guesses.
+fn play_frame(clock: &impl Clock, host: &mut Host<Slow>, game: &mut Match)
+    ensures { places_of host.new.pool ≡ places_of host.old.pool }
+{
+    take_in(host, game);
+    let frame = host.session().frame();
+    let sent = game.send_due(frame);
+    let heard = hear(clock, host, &mut game.serial);
+    game.serial.is_well &= heard.words == sent;
+    if sent > 0 {
+        let rerun = host.session().last_plan().map_or(0, |plan| plan.rerun);
+        game.note(frame, heard, rerun);
+    }
+    play(host, &mut game.serial);
+    look_ahead(host, game);
+}
+
+/// Waits until a time, and takes in meanwhile what the workers have run.
+fn rest(clock: &impl Clock, host: &mut Host<Slow>, game: &mut Match, due: u64)
+    ensures { places_of host.new.pool ≡ places_of host.old.pool }
+{
+    for _ in 0..TURNS {
+        let left = due.saturating_sub(nanoseconds(clock));
+        if left == 0 {
+            break;
+        }
+        thread::sleep(clock, Duration::from_nanos(left.min(REST)));
+        take_in(host, game);
+    }
+}
+
+/// Plays all frames.
+fn play_all(clock: &impl Clock, host: &mut Host<Slow>, game: &mut Match)
+    ensures { places_of host.new.pool ≡ places_of host.old.pool }
+{
+    let start = nanoseconds(clock);
+    for frame in 0..game.rules.frames {
+        if game.rules.is_paced {
+            let due = FRAME.saturating_mul(u64::from(frame)).saturating_add(start);
+            rest(clock, host, game, due);
+        }
+        play_frame(clock, host, game);
+    }
+    game.nanoseconds = nanoseconds(clock).saturating_sub(start);
+}
+
+/// Adds a link, and plays.
+fn play_linked<'a>(
+    clock: &impl Clock,
+    alloc: Global,
+    host: &mut Host<Slow>,
+    rules: Rules,
+    words: &'a [Drawn],
+) -> Result<Match<'a>, Refusal>
+    ensures { places_of host.new.pool ≡ places_of host.old.pool }
+{
+    let mut game = Match::new(alloc, rules, words, host.add_link()?)?;
+    play_all(clock, host, &mut game);
+    if rules.waits {
+        take_all(host, &mut game);
+    }
+    game.serial.is_well &= host.session().frame() == rules.frames;
+    Ok(game)
+}
+
+/// A host, and its workers, who run.
+fn with_crew<R>(rt: R, alloc: Global, rules: Rules) -> Result<(Host<Slow>, Crew<Slow>), Refusal>
+where
+    R: Threads + Wait + Copy + Send + 'static,
+    ensures { IfOk result (λ both. both.1 ≡ places_of both.0.pool) }
+{
+    let session = open(alloc, TWO, rules.rounds)?;
+    let (owner, crew) = staffed(rt, alloc, rules.workers as usize, rules.rounds)?;
+    match Host::with_workers(alloc, session, owner) {
+        Ok(host) => Ok((host, crew)),
+        Err(failed) => {
+            failed.value.1.close();
+            let _back = crew.join(&rt);
+            Err(Refusal::NoMemory)
+        }
+    }
+}
+
+/// Plays a match with workers, and waits for these. All jobs come back.
+fn play_staffed<'a, R>(
+    rt: &R,
+    alloc: Global,
+    rules: Rules,
+    words: &'a [Drawn],
+) -> Result<Match<'a>, Refusal>
+where
+    R: Clock + Threads + Wait + Copy + Send + 'static,
+{
+    let (mut host, crew) = with_crew(*rt, alloc, rules)?;
+    let played = play_linked(rt, alloc, &mut host, rules, words);
+    host.close();
+    let (ends, _games) = crew.join(rt);
+    let (_session, outcome) = host.settle(ends);
+    let mut game = played?;
+    game.serial.is_well &= are_counted(&game, &outcome);
+    Ok(game)
+}
+
+/// Whether all jobs that were issued were taken in or come back.
+fn are_counted(game: &Match, outcome: &Outcome<Slow>) -> bool {
+    let back = outcome.late.len().saturating_add(outcome.left.len());
+    outcome.issued == game.issued
+        && outcome.collected == game.taken
+        && game.issued.saturating_sub(game.taken) == back as u64
+}
+
+/// What is shown is the serial run, whatever was guessed, and words whose guesses had all been run cost no frame.
+pub fn guess_on_threads<R>(rt: &R, alloc: Global) -> Result<bool, Refusal>
+where
+    R: Clock + Threads + Wait + Copy + Send + 'static,
+{
+    let words = drawn(alloc, Rules::EXAMPLE)?;
+    let game = play_staffed(rt, alloc, Rules::EXAMPLE, &words)?;
+    let guessed = game.foreseen > 0 && game.issued > 0 && game.taken == game.issued;
+    Ok(game.serial.is_well && guessed)
+}
+
+/// Plays a match without workers.
+fn play_alone<'a>(
+    clock: &impl Clock,
+    alloc: Global,
+    rules: Rules,
+    words: &'a [Drawn],
+) -> Result<Match<'a>, Refusal> {
+    let mut host = hosted(alloc, TWO, rules.rounds)?;
+    play_linked(clock, alloc, &mut host, rules, words)
+}
+
+/// Plays a match, and prints each word of player 2, each rollback and what was counted.
+pub fn measure<R>(rt: &R, alloc: Global, rules: Rules) -> Result<bool, Refusal>
+where
+    R: Runtime + Threads + Wait + Copy + Send + 'static,
+{
+    let words = drawn(alloc, rules)?;
+    let game = if rules.workers == 0 {
+        play_alone(rt, alloc, rules, &words)?
+    } else {
+        play_staffed(rt, alloc, rules, &words)?
+    };
+    Ok(print(rt, &game) && game.serial.is_well)
+}
+
+/// Prints a match. Whether it could be printed.
+fn print<R: Runtime>(rt: &R, game: &Match) -> bool {
+    let mut all = true;
+    for drawn in game.words {
+        all &= print_line(rt, "word", &[u64::from(drawn.word)]);
+    }
+    all &= print_rollbacks(rt, &game.rollbacks);
+    let counted = [
+        game.issued,
+        game.full,
+        game.taken,
+        game.added,
+        game.dropped,
+        game.nanoseconds,
+    ];
+    all & print_line(rt, "match", &counted)
+}
+
+/// Prints rollbacks: the frame, the words heard up to it, the frames that ran again, and the nanoseconds.
+fn print_rollbacks<R: Runtime>(rt: &R, rollbacks: &[Rollback]) -> bool {
+    let mut all = true;
+    for rollback in rollbacks {
+        let numbers = [
+            u64::from(rollback.frame),
+            u64::from(rollback.heard),
+            u64::from(rollback.rerun),
+            rollback.nanoseconds,
+        ];
+        all &= print_line(rt, "rollback", &numbers);
+    }
+    all
 }

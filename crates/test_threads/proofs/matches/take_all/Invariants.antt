@@ -1,6 +1,6 @@
 use Rattle.std.proofs.Common.{◌≡◌}
 use Rattle.roll_host.specs.Hosted.{places_of}
-use Rattle.test_threads.proofs.guesses.take_all.Given as goal
+use Rattle.test_threads.proofs.matches.take_all.Given as goal
 
 abbrev pub invariant-loop : goal.invariant-loop
 invariant-loop l = places_of l.host.pool ≡ places_of l.initial.host.pool

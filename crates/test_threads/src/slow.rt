@@ -1,19 +1,12 @@
 //! A game whose frame takes a while.
 use roll_frame::Row;
 use roll_game::{Counts, Game, NoMemory, RawGame, Tally};
-use std::io;
 use std::marker::Model;
-use std::time::{Clock, Duration, Instant};
 
 /// Any word but 0.
 const FIRST_WORD: u64 = 0x9e37_79b9_7f4a_7c15;
 
-/// How many rounds are timed to tell how long one takes, and how often: a try is short, so that some are not interrupted.
-const TIMED_ROUNDS: u32 = 100_000;
-
-const TRIES: u32 = 200;
-
-/// A tally that computes for a while in each frame, to no end.
+/// A tally that computes for a while in each frame, to no end. Without any rounds it is the tally.
 #[derive(Drop)]
 pub struct Slow {
     tally: Tally,
@@ -38,11 +31,6 @@ impl Slow {
             rounds,
             word: FIRST_WORD,
         }
-    }
-
-    /// What all rounds led to. Who prints it keeps the compiler from leaving them out.
-    pub fn word(&self) -> u64 {
-        self.word
     }
 }
 
@@ -105,23 +93,4 @@ fn turned(word: u64, rounds: u32) -> u64 {
         word ^= word << 17;
     }
     word
-}
-
-/// How many rounds take so long on this machine, by the fastest of several tries; and a word that they led to.
-pub fn rounds_in(clock: &impl Clock, time: Duration) -> io::Result<(u32, u64)> {
-    let mut word = FIRST_WORD;
-    let mut least = Duration::MAX;
-    for _ in 0..TRIES {
-        let start = Instant::now(clock)?;
-        word = turned(word, TIMED_ROUNDS);
-        least = least.min(start.elapsed(clock)?);
-    }
-    Ok((share_of(TIMED_ROUNDS, time, least), word))
-}
-
-/// So large a share of a number as one time is of another.
-fn share_of(number: u32, part: Duration, whole: Duration) -> u32 {
-    let product = u128::from(number).saturating_mul(part.as_nanos());
-    let share = product / whole.as_nanos().max(1);
-    u32::try_from(share).unwrap_or(u32::MAX)
 }
