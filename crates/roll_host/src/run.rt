@@ -65,11 +65,13 @@ impl<G: Game> Host<G> {
     ) -> Result<(), NoMemory>
         requires room { vec_len replies.old + length requests.old.items ≤ vec_capacity replies.old }
         requires ends { All (EndsOwn (rings_of self.old.links)) requests.old.items }
-        ensures headline { IsHeadline (is_ok result) G.step self.old self.new requests.old.items requests.new.items replies.old.items replies.new.items }
+        ensures headline { IsHeadline (is_ok result) G.step self.old self.new requests.old.items
+            requests.new.items replies.old.items replies.new.items }
         ensures done { OnOk result (IsDoneTo G.step self.old self.new requests.old.items [] replies.old.items replies.new.items) }
         ensures empty { OnOk result (requests.new.items ≡ []) }
         ensures left { OnErr result (IsEndedEarly G.step self.old self.new requests.old.items requests.new.items replies.old.items replies.new.items) }
-        ensures rings { rings_of self.new.links ≡ fold rings_after (rings_of self.old.links) (drop (length replies.old.items) replies.new.items) }
+        ensures rings { rings_of self.new.links ≡ fold rings_after (rings_of self.old.links)
+            (drop (length replies.old.items) replies.new.items) }
         ensures places { places_of self.new.pool ≡ places_of self.old.pool }
     {
         self.session().laws();

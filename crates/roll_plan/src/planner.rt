@@ -82,9 +82,11 @@ impl Planner {
     pub fn plan<S>(&mut self, tree: &Tree<S>, to: u32) -> (usize, u32)
         requires { CanPlan self.old.players tree.now to }
         ensures plan { self.new ≡ record self.old { last = Some (made_of tree.now (time_to tree.now to)) } }
-        ensures node { IsSomeAnd (state_named tree.now result.0) (λ s. s.path ≡ take (longest (kept_paths tree.now) (time_to tree.now to)) (time_to tree.now to)) }
+        ensures node { IsSomeAnd (state_named tree.now result.0)
+            (λ s. s.path ≡ take (longest (kept_paths tree.now) (time_to tree.now to)) (time_to tree.now to)) }
         ensures length { result.1 ≡ tree.now.base + longest (kept_paths tree.now) (time_to tree.now to) }
-        ensures longest { All (λ s. begins_with (time_to tree.now to) s.path ≡ true → tree.now.base + length s.path ≤ result.1) tree.now.states }
+        ensures longest { All (λ s. begins_with (time_to tree.now to) s.path ≡ true
+            → tree.now.base + length s.path ≤ result.1) tree.now.states }
         ensures within { result.1 ≤ to }
     {
         let (start, from) = tree.deepest(to);

@@ -84,7 +84,8 @@ impl<G: Game> Session<G> {
         replies: &mut Vec<Reply>,
     ) -> Result<(), NoMemory>
         requires { vec_len replies.old + length requests.old.items ≤ vec_capacity replies.old }
-        ensures headline { IsHeadline (is_ok result) G.step self.old self.new requests.old.items requests.new.items (drop (length replies.old.items) replies.new.items) }
+        ensures headline { IsHeadline (is_ok result) G.step self.old self.new requests.old.items
+            requests.new.items (drop (length replies.old.items) replies.new.items) }
         ensures played { OnOk result (IsPlayed G.step self.old self.new (all_asked requests.old.items)) }
         ensures replies { OnOk result (replies.new.items ≡ replies.old.items ++ replies_to G.step self.old (all_asked requests.old.items)) }
         ensures empty { OnOk result (requests.new.items ≡ []) }
@@ -105,7 +106,8 @@ impl<G: Game> Session<G> {
     ///
     /// What comes before the entry of the fault is done. That entry changes nothing, but for a roll that the game refuses.
     pub fn replay(&mut self, log: &Log) -> Result<(), ReplayFault>
-        ensures headline { OnOk result (Headline G.step self.old self.new (map plain log.now.entries) (replies_to G.step self.old (map plain log.now.entries))) }
+        ensures headline { OnOk result (Headline G.step self.old self.new (map plain log.now.entries)
+            (replies_to G.step self.old (map plain log.now.entries))) }
         ensures replayed { OnOk result (IsReplayed G.step self.old self.new log.now.entries) }
         ensures stopped { IfErr result (λ fault. IsStopped G.step self.old self.new log.now.entries fault) }
         ensures own { self.old.log ≡ [] → AreLogged self.old.settings log.now.entries → IfErr result IsWantOfMemory }
