@@ -13,3 +13,4 @@ pub mod Claimed
 pub mod Played
 pub mod Starts
 pub mod Ended
+pub mod Headlines

@@ -10,3 +10,4 @@ pub mod SyncTests
 pub mod Faults
 pub mod Certified
 pub mod Programs
+pub mod Headlines

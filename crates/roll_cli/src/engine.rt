@@ -7,6 +7,7 @@ ghost use Rattle.roll_text.specs.declared.streams.TheConstants.{TEXT_LIMIT};
 ghost use Rattle.roll_cli.specs.Faults.{TakesAtMost};
 ghost use Rattle.roll_cli.specs.Output.{IsOutput, IsOutputAfter, duel_output, duel_refusals, output, output_under, refusals, refusals_under, refused_line};
 ghost use Rattle.roll_cli.specs.Headers.{IsSetup, setup_of};
+ghost use Rattle.roll_cli.specs.Headlines.{IsHeadlinedDuel, IsHeadlinedOutput};
 ghost use Rattle.roll_cli.specs.Plays.{AreCommands, IsPlay, IsScript, play_lines, play_of};
 ghost use Rattle.roll_cli.specs.declared.command.Command.{Command};
 ghost use Rattle.roll_cli.specs.declared.engine.PlayFault.TheVariants.{NoMemory, Unreadable, Write as CannotWrite};
@@ -138,6 +139,8 @@ pub fn play<G: Shown + Drop, R: Read, W: Write>(
 ) -> Result<u32, PlayFault>
     ensures written { IfOk result (λ refused. IfSome (R.remaining reader.old) (λ text.
         (written : List ℕ) × IsOutput (output G.text_of (record { opening = G.snapshot_value opening; step = G.step })) (refusals (record { opening = G.snapshot_value opening; step = G.step })) text written refused × Appends (W.contents writer.old) (W.contents writer.new) written)) }
+    ensures headline { IfOk result (λ refused. IfSome (R.remaining reader.old) (λ text.
+        (written : List ℕ) × IsHeadlinedOutput G.text_of (record { opening = G.snapshot_value opening; step = G.step }) text written refused × Appends (W.contents writer.old) (W.contents writer.new) written)) }
     ensures unreadable { (line : ℕ) → result ≡ Err (Unreadable line) → IfSome (R.remaining reader.old) (IsBadAt IsScript line) }
     ensures cut { result ≡ Err CannotWrite → IfSome (R.remaining reader.old) (λ text.
         (whole : List ℕ) × (refused : ℕ) × IsOutput (output G.text_of (record { opening = G.snapshot_value opening; step = G.step })) (refusals (record { opening = G.snapshot_value opening; step = G.step })) text whole refused × AppendsPart (W.contents writer.old) (W.contents writer.new) whole) }
@@ -158,6 +161,8 @@ pub fn play_duel<R: Read, W: Write>(
 ) -> Result<u32, PlayFault>
     ensures written { IfOk result (λ refused. IfSome (R.remaining reader.old) (λ text.
         (written : List ℕ) × IsOutput duel_output duel_refusals text written refused × Appends (W.contents writer.old) (W.contents writer.new) written)) }
+    ensures headline { IfOk result (λ refused. IfSome (R.remaining reader.old) (λ text.
+        (written : List ℕ) × IsHeadlinedDuel text written refused × Appends (W.contents writer.old) (W.contents writer.new) written)) }
     ensures unreadable { (line : ℕ) → result ≡ Err (Unreadable line) → IfSome (R.remaining reader.old) (IsBadAt IsScript line) }
     ensures cut { result ≡ Err CannotWrite → IfSome (R.remaining reader.old) (λ text.
         (whole : List ℕ) × (refused : ℕ) × IsOutput duel_output duel_refusals text whole refused × AppendsPart (W.contents writer.old) (W.contents writer.new) whole) }

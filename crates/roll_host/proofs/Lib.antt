@@ -4,5 +4,7 @@ pub mod Joining
 pub mod Fates
 pub mod Speculating
 pub mod Copies
+pub mod Standing
 pub mod Running
 pub mod Branches
+pub mod Headlines

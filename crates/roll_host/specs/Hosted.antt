@@ -1,11 +1,14 @@
 -- A host as its callers see it, and a link of it that is added or ended.
-use Rattle.std.specs.Prelude.{◌≡◌, ◌++◌, ℕ, List, [], length, map, false, true, Option, None, Some, slice_get, slice_set}
+use Rattle.std.specs.Prelude.{◌≡◌, ◌<◌, ◌≤◌, ◌+◌, ◌++◌, ℕ, List, [], ◌∷◌, length, map, max, false, true, Option, None, Some, Result, Ok, Err, slice_get, slice_set}
 use Rattle.roll_branch.specs.Routed.{Routed}
+use Rattle.roll_frame.specs.declared.refusal.Refusal.{Refusal}
+use Rattle.roll_frame.specs.declared.refusal.Refusal.TheVariants.{InvalidRequest, LogFull}
 use Rattle.roll_link.specs.Linked.{Linked, Sending, left}
 use Rattle.roll_link.specs.Rings.{Ring}
 use Rattle.roll_pool.specs.Owners.{Pool}
 use Rattle.roll_pool.specs.Rings.{Place}
-use Rattle.roll_session.specs.Seen.{Seen}
+use Rattle.roll_session.specs.Seen.{Seen, core_of}
+use Rattle.roll_host.specs.declared.limits.TheConstants.{LINK_LIMIT}
 
 pub record Hosted (D : Type 0) : Type 0 where
   pub session : Seen
@@ -32,7 +35,23 @@ pub record EndsLink {D : Type 0} (old new : Hosted D) (place : ℕ) (finished : 
   pub sent : finished.sent ≡ after.applied ++ left after
   pub count_is : count ≡ length (left after)
 
+-- there is room in the log for so many events more
+abbrev pub FitsLog : Seen → ℕ → Type 0
+FitsLog s events = (core_of s).logged + events ≤ s.settings.log
+
 module _ {D : Type 0} where
+  -- a link more, by which nothing was sent; it is refused where there are 4
+  abbrev pub AddsLink : Hosted D → Hosted D → Result Sending Refusal → Type 0
+  AddsLink old new (Ok sender) =
+      (new ≡ record old { links = old.links ++ new_link sender.ring ∷ [] }) × (sender.sent ≡ []) × (length old.links < LINK_LIMIT)
+  AddsLink old new (Err why) = (new ≡ old) × (why ≡ InvalidRequest) × (LINK_LIMIT ≤ length old.links)
+
+  -- room for so many events more; it is refused where the log would pass its limit
+  abbrev pub ReservesLog : {X : Type 0} → Hosted D → Hosted D → ℕ → Result X Refusal → Type 0
+  ReservesLog old new events (Ok done) =
+      (new ≡ record old { session = record old.session { reserved = max old.session.reserved events } }) × FitsLog old.session events
+  ReservesLog old new events (Err why) = (new ≡ old) × (why ≡ LogFull) × (old.session.settings.log < (core_of old.session).logged + events)
+
   -- the workers' places, and the jobs that were issued
   abbrev pub places_of : Option (Pool D) → List Place
   places_of None = []

@@ -5,3 +5,4 @@ pub mod Outcomes
 pub mod Requests
 pub mod Absorbs
 pub mod Guesses
+pub mod Headline

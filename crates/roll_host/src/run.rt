@@ -1,7 +1,8 @@
 //! Requests of a host as values, and whole lists of them.
-ghost use Rattle.std.specs.Prelude.{◌≡◌, ◌≤◌, ◌+◌, [], length, vec_capacity, vec_len, IfOk, OnErr, OnOk};
+ghost use Rattle.std.specs.Prelude.{◌≡◌, ◌≤◌, ◌+◌, [], drop, fold, is_ok, length, vec_capacity, vec_len, All, IfOk, OnErr, OnOk};
+ghost use Rattle.roll_host.specs.Headline.{IsHeadline};
 ghost use Rattle.roll_host.specs.Hosted.{places_of, rings_of};
-ghost use Rattle.roll_host.specs.Requests.{IsDone, IsDoneTo, IsEndedEarly, IsShortOf};
+ghost use Rattle.roll_host.specs.Requests.{rings_after, rings_by, EndsOwn, IsDone, IsDoneTo, IsEndedEarly, IsShortOf};
 
 use crate::host::Host;
 use crate::request::{HostReply, HostRequest};
@@ -13,9 +14,10 @@ impl<G: Game> Host<G> {
     /// Does what is asked for, and answers its reply. A refusal is a reply like any other; only want of memory is an error,
     /// but a pump then holds an item, and an absorb drops a branch.
     pub fn perform(&mut self, request: HostRequest<G>) -> Result<HostReply, NoMemory>
+        requires { EndsOwn (rings_of self.old.links) request }
         ensures done { IfOk result (λ reply. IsDone G.step self.old self.new request reply) }
         ensures short { OnErr result (IsShortOf G.step self.old self.new request) }
-        ensures rings { rings_of self.new.links ≡ rings_of self.old.links }
+        ensures rings { rings_of self.new.links ≡ rings_by (rings_of self.old.links) result }
         ensures places { places_of self.new.pool ≡ places_of self.old.pool }
     {
         match request {
@@ -34,6 +36,23 @@ impl<G: Game> Host<G> {
                 Err(Refusal::NoMemory) => Err(NoMemory),
                 Err(why) => Ok(HostReply::Speculated(Err(why))),
             },
+            HostRequest::AddLink => match self.add_link() {
+                Ok(sender) => Ok(HostReply::LinkAdded(Ok(sender))),
+                Err(Refusal::NoMemory) => Err(NoMemory),
+                Err(why) => Ok(HostReply::LinkAdded(Err(why))),
+            },
+            HostRequest::EndLink { link, finished } => {
+                Ok(HostReply::LinkEnded(self.end_link(link, finished)))
+            }
+            HostRequest::ReserveLog { events } => match self.reserve_log(events) {
+                Ok(()) => Ok(HostReply::LogReserved(Ok(()))),
+                Err(Refusal::NoMemory) => Err(NoMemory),
+                Err(why) => Ok(HostReply::LogReserved(Err(why))),
+            },
+            HostRequest::Close => {
+                self.close();
+                Ok(HostReply::Closed)
+            }
         }
     }
 
@@ -44,13 +63,18 @@ impl<G: Game> Host<G> {
         requests: &mut VecDeque<HostRequest<G>>,
         replies: &mut Vec<HostReply>,
     ) -> Result<(), NoMemory>
-        requires { vec_len replies.old + length requests.old.items ≤ vec_capacity replies.old }
+        requires room { vec_len replies.old + length requests.old.items ≤ vec_capacity replies.old }
+        requires ends { All (EndsOwn (rings_of self.old.links)) requests.old.items }
+        ensures headline { IsHeadline (is_ok result) G.step self.old self.new requests.old.items
+            requests.new.items replies.old.items replies.new.items }
         ensures done { OnOk result (IsDoneTo G.step self.old self.new requests.old.items [] replies.old.items replies.new.items) }
         ensures empty { OnOk result (requests.new.items ≡ []) }
         ensures left { OnErr result (IsEndedEarly G.step self.old self.new requests.old.items requests.new.items replies.old.items replies.new.items) }
-        ensures rings { rings_of self.new.links ≡ rings_of self.old.links }
+        ensures rings { rings_of self.new.links ≡ fold rings_after (rings_of self.old.links)
+            (drop (length replies.old.items) replies.new.items) }
         ensures places { places_of self.new.pool ≡ places_of self.old.pool }
     {
+        self.session().laws();
         while let Some(request) = requests.pop_front() {
             let reply = self.perform(request)?;
             replies.push_reserved(reply);

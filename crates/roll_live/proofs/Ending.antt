@@ -18,7 +18,8 @@ use Rattle.roll_cli.specs.declared.engine.PlayFault.{PlayFault}
 use Rattle.roll_cli.specs.declared.engine.PlayFault.TheVariants.{Unreadable, NoMemory, Read, Write}
 use Rattle.roll_cli.specs.declared.program.GameName.{GameName}
 use Rattle.roll_cli.proofs.Guessed.{refused_so}
-use Rattle.roll_live.specs.Lives.{FarOf, IsFault, IsOutput, IsUnreadable, WritesOf, WritesUnder, started}
+use Rattle.roll_cli.specs.Headlines.{started}
+use Rattle.roll_live.specs.Lives.{FarOf, IsFault, IsOutput, IsUnreadable, WritesOf, WritesUnder}
 
 -- a fault that is handed on names a line only where it is that of a line too far ahead
 pub far_here : {Y : Type 0} (answer : Result Y PlayFault) (fault : PlayFault) (line at : ℕ) (Far : Type 0) → IsErrAnd answer (λ other. other ≡ fault) → answer ≡ Err (Unreadable line)

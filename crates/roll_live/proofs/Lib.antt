@@ -2,4 +2,5 @@ pub mod Logged
 pub mod Judged
 pub mod Printed
 pub mod Played
+pub mod Headlines
 pub mod Ending

@@ -11,7 +11,7 @@ use Rattle.roll_session.specs.Seen.{Seen, Step}
 use Rattle.roll_cli.specs.Output.{Texts}
 use Rattle.roll_cli.specs.declared.command.Command.{Command}
 use Rattle.roll_live.specs.Told.{Line, IsTold}
-use Rattle.roll_live.specs.Lives.{AreTold, IsLive, Telling}
+use Rattle.roll_live.specs.Tellings.{AreTold, IsLive, Telling}
 
 module _ (step : Step) where
   -- items that were heard after none

@@ -1,3 +1,5 @@
 pub mod Items
 pub mod Told
+pub mod Tellings
+pub mod Headlines
 pub mod Lives

@@ -1,9 +1,8 @@
 -- Whole scripts that are played live.
-use Rattle.std.specs.Prelude.{◌≡◌, ◌⊎◌, ℕ, ◌+◌, ◌==◌, List, [], ◌∷◌, ◌++◌, Bool, true, false, count_by, length, map, Option, None, Some, MatchOption, if◌then◌else◌, ⊤}
+use Rattle.std.specs.Prelude.{◌≡◌, ◌⊎◌, ℕ, ◌+◌, ◌==◌, List, ◌∷◌, ◌++◌, Bool, true, false, length, Option, None, Some, MatchOption, if◌then◌else◌, ⊤}
 use Rattle.std.specs.Int.{is_in_range}
 use Rattle.std.specs.Io.KnownBytes.{Appends}
-use Rattle.std.specs.List.{flat_map}
-use Rattle.roll_frame.specs.Games.{Game, Value}
+use Rattle.roll_frame.specs.Games.{Game}
 use Rattle.roll_frame.specs.Settings.{start_refusal}
 use Rattle.roll_frame.specs.declared.refusal.Refusal.TheVariants.{PlayerOutOfRange}
 use Rattle.roll_frame.specs.declared.settings.Settings.{Settings}
@@ -12,6 +11,7 @@ use Rattle.roll_session.specs.Seen.{Seen, Step}
 use Rattle.roll_text.specs.Lines.{ended, text_of}
 use Rattle.roll_text.specs.Streams.{AppendsPart, IsBadAt}
 use Rattle.roll_cli.specs.Headers.{settings_of}
+use Rattle.roll_cli.specs.Headlines.{started}
 use Rattle.roll_cli.specs.Output.{Texts, duel_game, refused_line, tally_game}
 use Rattle.roll_cli.specs.Plays.{IsPlay, IsScript, Play, play_lines}
 use Rattle.roll_cli.specs.Shown.{duel_text, tally_text}
@@ -21,28 +21,11 @@ use Rattle.roll_cli.specs.declared.engine.PlayFault.TheVariants.{Unreadable, NoM
 use Rattle.roll_cli.specs.declared.program.Ending.{Ending}
 use Rattle.roll_cli.specs.declared.program.GameName.{GameName}
 use Rattle.roll_cli.specs.declared.program.GameName.TheVariants.{Tally, Duel}
-use Rattle.roll_live.specs.Told.{Line, IsFar, IsTold}
-
--- a command, what it wrote, and the session after it
-pub record Telling : Type 0 where
-  pub command : Command
-  pub line : Line
-  pub after : Seen
+use Rattle.roll_live.specs.Headlines.{HasHeadline}
+use Rattle.roll_live.specs.Tellings.{IsLive}
+use Rattle.roll_live.specs.Told.{IsFar}
 
 module _ (step : Step) (texts : Texts) where
-  -- commands one after another
-  abbrev pub AreTold : Seen → List Telling → Seen → Type 0
-  AreTold old [] new = new ≡ old
-  AreTold old (first ∷ more) new = IsTold step texts old first.after first.command first.line × AreTold first.after more new
-
-  -- these commands were played, which wrote this, with so many refusals
-  pub record IsLive (old new : Seen) (commands : List Command) (written : List ℕ) (refused : ℕ) : Type 0 where
-    pub tellings : List Telling
-    pub commands_are : commands ≡ map (λ telling. telling.command) tellings
-    pub are_told : AreTold old tellings new
-    pub written_is : written ≡ flat_map (λ telling. telling.line.text) tellings
-    pub refused_is : refused ≡ count_by (λ telling. telling.line.refused) tellings
-
   -- the command in this line, of which the first stands in line 2, ended the run after those before it
   pub record IsFarAt (old : Seen) (commands : List Command) (line : ℕ) : Type 0 where
     pub front : List Command
@@ -53,18 +36,15 @@ module _ (step : Step) (texts : Texts) where
     pub written : List ℕ
     pub refused : ℕ
     pub mid : Seen
-    pub played : IsLive old mid front written refused
+    pub played : IsLive step texts old mid front written refused
     pub far : IsFar mid command
 
--- a session that has just started
-abbrev pub started : Settings → Value → Counts → Seen
-started settings opening counts = record { settings = settings; opening = opening; log = []; counts = counts; reserved = 0 }
-
 module _ (texts : Texts) (game : Game) where
-  -- what the commands of a session write, and how many of their replies are refusals: one where the session doesn't start
+  -- what the commands of a session write, with the headline, and how many of their replies are refusals: one where the session
+  -- doesn't start
   abbrev pub WritesUnder : Settings → List Command → List ℕ → ℕ → Type 0
   WritesUnder settings commands written refused =
-      MatchOption (start_refusal settings) ((counts : Counts) × (new : Seen) × IsLive game.step texts (started settings game.opening counts) new commands written refused)
+      MatchOption (start_refusal settings) ((counts : Counts) × (new : Seen) × HasHeadline game.step texts (started settings game.opening counts) new commands written refused)
       (λ why. (written ≡ ended (refused_line why)) × (refused ≡ 1))
 
   -- the command in this line of a session is too far ahead

@@ -10,6 +10,7 @@ use Rattle.roll_frame.specs.Paths.{run}
 use Rattle.roll_frame.specs.declared.entry.Entry.TheVariants.{Local, Disconnect, Sync, Advance}
 use Rattle.roll_frame.specs.declared.reply.Reply.{Reply}
 use Rattle.roll_frame.specs.declared.reply.Reply.TheVariants.{Synchronized, Reached}
+use Rattle.roll_game.specs.declared.counts.Counts.{Counts}
 use Rattle.roll_host.specs.Heard.{event_of, AreHeard}
 use Rattle.roll_link.specs.declared.remote.Remote.{Remote}
 use Rattle.roll_session.specs.Answered.{IsPlayed, IsReplied}
@@ -50,6 +51,10 @@ said_line texts game core said = record { text = ended (live_line texts game cor
 abbrev pub item_of : ℕ → ℕ → ℕ → Remote
 item_of p f word = record { player = narrowed p; frame = f; word = word }
 
+-- the counts, with others of copies, and of refusals
+abbrev pub guessed_counts : Counts → Counts → Counts
+guessed_counts counts others = record counts { copies = others.copies; refusals = others.refusals }
+
 module _ (step : Step) (texts : Texts) where
   -- an event was asked for, and its reply written
   pub record IsAsked (old new : Seen) (event : CoreEvent) (line : Line) : Type 0 where
@@ -77,7 +82,7 @@ module _ (step : Step) (texts : Texts) where
   IsTold old new (Leaves p) line = IsAsked old new (plain (Disconnect (narrowed p))) line
   IsTold old new Syncs line = IsAsked old new (plain Sync) line
   IsTold old new Advances line = IsAsked old new (plain Advance) line
-  IsTold old new (Guess p until words) line = (line ≡ silent) × (new ≡ record old { counts = new.counts })
+  IsTold old new (Guess p until words) line = (line ≡ silent) × (new ≡ record old { counts = guessed_counts old.counts new.counts })
   IsTold old new (Extend j) line = (line ≡ silent) × ((branches : List Routed) × IsPlayed step old new (map grafting branches))
   IsTold old new Claim line = (line ≡ silent) × (new ≡ old)
 

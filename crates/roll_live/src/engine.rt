@@ -10,7 +10,8 @@ ghost use Rattle.roll_text.specs.declared.streams.TheConstants.{TEXT_LIMIT};
 ghost use Rattle.roll_cli.specs.Faults.{TakesAtMost};
 ghost use Rattle.roll_cli.specs.Plays.{IsPlay, play_of};
 ghost use Rattle.roll_cli.specs.declared.engine.PlayFault.TheVariants.{NoMemory, Unreadable, Write as CannotWrite};
-ghost use Rattle.roll_live.specs.Lives.{IsFarAt, IsFarOf, IsFarUnder, IsLive, IsOutput, IsUnreadable, Writes, WritesUnder};
+ghost use Rattle.roll_live.specs.Headlines.{HasHeadline};
+ghost use Rattle.roll_live.specs.Lives.{IsFarAt, IsFarOf, IsFarUnder, IsOutput, IsUnreadable, Writes, WritesUnder};
 
 use crate::playing::Playing;
 use roll_cli::{Command, PlayFault, Script, Shown, push_not_started, read_script};
@@ -140,7 +141,7 @@ where
     G::Snapshot: Send + 'static,
     requires few { length commands.now < 2 ^ 32 }
     requires workers { (1 ≤ vec_len helpers) × (vec_len helpers ≤ TEAM) }
-    ensures played { IfOk result (λ refused. (new : Seen) × (written : List ℕ) × IsLive G.step G.text_of session new commands.now written refused × (out.new.items ≡ out.old.items ++ written)) }
+    ensures played { IfOk result (λ refused. (new : Seen) × (written : List ℕ) × HasHeadline G.step G.text_of session new commands.now written refused × (out.new.items ≡ out.old.items ++ written)) }
     ensures far { (line : ℕ) → result ≡ Err (Unreadable line) → IsFarAt G.step G.text_of session commands.now line }
     ensures fault { IfErr result (λ fault. fault ≢ CannotWrite) }
 {
@@ -174,11 +175,12 @@ where
     G: Shown + Drop,
     requires few { length commands.now < 2 ^ 32 }
     requires crew { crew ≡ places_of host.pool }
-    ensures played { IfOk result (λ refused. (new : Seen) × (written : List ℕ) × IsLive G.step G.text_of host.session new commands.now written refused × (out.new.items ≡ out.old.items ++ written)) }
+    ensures played { IfOk result (λ refused. (new : Seen) × (written : List ℕ) × HasHeadline G.step G.text_of host.session new commands.now written refused × (out.new.items ≡ out.old.items ++ written)) }
     ensures far { (line : ℕ) → result ≡ Err (Unreadable line) → IsFarAt G.step G.text_of host.session commands.now line }
     ensures fault { IfErr result (λ fault. fault ≢ CannotWrite) }
 {
     let mut host = host;
+    host.session().laws();
     match host.add_link() {
         Ok(sender) => {
             let mut playing = Playing { host, sender };

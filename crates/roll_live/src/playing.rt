@@ -9,8 +9,9 @@ ghost use Rattle.roll_session.specs.Answered.{IsPlayed};
 ghost use Rattle.roll_session.specs.Calls.{event_of as event_of_call, grafting};
 ghost use Rattle.roll_session.specs.Seen.{core_of};
 ghost use Rattle.roll_cli.specs.Output.{is_refused as refuses};
-ghost use Rattle.roll_live.specs.Lives.{IsFarAt, IsLive};
-ghost use Rattle.roll_live.specs.Told.{Line, IsAsked, IsFar, IsHeard, IsTold};
+ghost use Rattle.roll_live.specs.Lives.{IsFarAt};
+ghost use Rattle.roll_live.specs.Tellings.{IsLive};
+ghost use Rattle.roll_live.specs.Told.{guessed_counts, Line, IsAsked, IsFar, IsHeard, IsTold};
 
 use crate::item::item_reply;
 use crate::output::push_line;
@@ -163,7 +164,7 @@ impl<G: Shown> Playing<G> {
 
     /// Has the workers run a guess. Where it is refused it isn't run, and nothing else is different.
     fn guess(&mut self, player: u8, words: &[u32], until: u32)
-        ensures session { self.new.host.session ≡ record self.old.host.session { counts = self.new.host.session.counts } }
+        ensures session { self.new.host.session ≡ record self.old.host.session { counts = guessed_counts self.old.host.session.counts self.new.host.session.counts } }
         ensures places { places_of self.new.host.pool ≡ places_of self.old.host.pool }
     {
         let _ = self.host.speculate(player, words, until);

@@ -6,3 +6,4 @@ pub mod Ranking
 pub mod Spelling
 pub mod Making
 pub mod Passing
+pub mod Longest

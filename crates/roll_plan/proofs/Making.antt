@@ -63,7 +63,7 @@ all_ordered P ps all =
 pub root_ordered : (ps : List Rows) → contains ps [] ≡ true → contains (in_order ps) [] ≡ true
 root_ordered ps h = in_has (in_order ps) [] (ordered_in [] ps (has_in ps [] h))
 
-module _ {S : Type 0} (players start to : ℕ) (t : SavedStates S) (can : CanPlan players t start to) where
+module _ {S : Type 0} (players start to : ℕ) (t : SavedStates S) (can : CanPlan players t to) (starts : start ≡ t.base + longest (paths_of t) (time_to t to)) where
   -- the timeline's rows up to the frame
   abbrev rows : Rows
   rows = time_to t to
@@ -74,7 +74,7 @@ module _ {S : Type 0} (players start to : ℕ) (t : SavedStates S) (can : CanPla
   -- by the marks, an entry is that of the plan
   marked_is : (state : ℕ) (path : Rows) → marked_for t start to state (path_of t.base path) ≡ entry_for (made_of t rows) state path
   marked_is state path =
-      ap (λ n. cond (nat_lt n end && nat_le end to) (named (least_place t.base path t.time)) None) can.starts
+      ap (λ n. cond (nat_lt n end && nat_le end to) (named (least_place t.base path t.time)) None) starts
       ∙ ap (λ n. cond (nat_lt from end && nat_le end n) (named (least_place t.base path t.time)) None) (sym end_is)
       ∙ go (nat_lt from end) (nat_le end (t.base + length rows)) refl
     where
@@ -125,7 +125,7 @@ module _ {S : Type 0} (players start to : ℕ) (t : SavedStates S) (can : CanPla
 
   -- the roll goes on from where it starts
   pub goes_on : start ≤ to
-  goes_on = omega (arith, can.starts, end_is, longest_within (paths_of t) rows)
+  goes_on = omega (arith, starts, end_is, longest_within (paths_of t) rows)
 
   -- the fields of a planner after a plan
   pub record IsDone (p : Inside) : Type 0 where
@@ -144,13 +144,13 @@ module _ {S : Type 0} (players start to : ℕ) (t : SavedStates S) (can : CanPla
     pub differs : p.plan.differs.items ≡ entries_by (marked_for t start to) 0 (map (path_of t.base) (in_order (paths_of t)))
 
   pub made_is : (p : Inside) → IsDone p → made_in p ≡ made_of t rows
-  made_is p done = λ i. record { base = done.base i; kept = in_order (done.taken i); time = done.time i; from = (done.from_is ∙ can.starts) i }
+  made_is p done = λ i. record { base = done.base i; kept = in_order (done.taken i); time = done.time i; from = (done.from_is ∙ starts) i }
 
   done_plan : (p : Inside) → IsDone p → IsPlanOf players (made_of t rows) p.plan
   done_plan p done =
       record {
         to = done.to_is ∙ sym end_is;
-        from = done.from_is ∙ can.starts;
+        from = done.from_is ∙ starts;
         rerun = done.rerun;
         differs = λ settled e. done.differs ∙ entries_are settled e;
       }

@@ -48,11 +48,10 @@ pub record IsPlanOf (players : ℕ) (made : Made) (plan : Plan) : Type 0 where
   pub rerun : plan.rerun ≡ plan.to - plan.from
   pub differs : (settled : Rows) → length settled ≡ made.base → plan.differs.items ≡ (claim_of players (roll_of settled made)).differs
 
--- a tree that was told the timeline up to a frame, and where the roll to there starts, of which a claim can be made
-pub record CanPlan {S : Type 0} (players : ℕ) (t : SavedStates S) (start to : ℕ) : Type 0 where
+-- a tree that was told the timeline up to a frame, of which the plan of a roll to there can be made, and its claim
+pub record CanPlan {S : Type 0} (players : ℕ) (t : SavedStates S) (to : ℕ) : Type 0 where
   pub base : t.base ≤ FRAME_LIMIT
   pub from : t.base ≤ to
   pub known : to ≤ t.base + length t.time
-  pub starts : start ≡ t.base + longest (paths_of t) (time_to t to)
   pub time : AreRowsOf players (time_to t to)
   pub paths : All (AreRowsOf players) (paths_of t)

@@ -1,8 +1,9 @@
 //! The planner.
-ghost use Rattle.std.specs.Prelude.{◌≡◌, ◌==◌, ◌≤◌, ◌<◌, ◌+◌, None, Some, IfOk, IfErr, IfSome, OnOk, All, is_none, length, map, position, vec_capacity, false, if◌then◌else◌};
+ghost use Rattle.std.specs.Prelude.{◌≡◌, ◌==◌, ◌≤◌, ◌<◌, ◌+◌, None, Some, IfOk, IfErr, IfSome, IsSomeAnd, OnOk, All, is_none, length, map, position, take, vec_capacity, false, true, if◌then◌else◌};
 ghost use Rattle.roll_frame.specs.Claims.{IsRight};
 ghost use Rattle.roll_frame.specs.Order.{in_order};
-ghost use Rattle.roll_tree.specs.SavedStates.{path_of, paths_of as kept_paths, time_to};
+ghost use Rattle.roll_frame.specs.Paths.{begins_with, longest};
+ghost use Rattle.roll_tree.specs.SavedStates.{path_of, paths_of as kept_paths, state_named, time_to};
 ghost use Rattle.roll_plan.specs.Ranks.{IsKept, entries_by, entry_by_marks, marked_for, path_named};
 ghost use Rattle.roll_plan.specs.Spelled.{path_before, path_in, spelled};
 ghost use Rattle.roll_plan.specs.Plans.{CanPlan, IsClaimOf, IsPlanOf, made_of};
@@ -76,21 +77,39 @@ impl Planner {
         })
     }
 
-    /// Plans a roll to a frame that a tree was told the timeline up to, from the end of the deepest state on its way.
-    pub fn plan<S>(&mut self, tree: &Tree<S>, start: u32, to: u32)
-        requires { CanPlan self.old.players tree.now start to }
+    /// Plans a roll to a frame that a tree was told the timeline up to, and answers where it starts: the deepest state on
+    /// its way, and the length of its path, from frame 0.
+    pub fn plan<S>(&mut self, tree: &Tree<S>, to: u32) -> (usize, u32)
+        requires { CanPlan self.old.players tree.now to }
+        ensures plan { self.new ≡ record self.old { last = Some (made_of tree.now (time_to tree.now to)) } }
+        ensures node { IsSomeAnd (state_named tree.now result.0)
+            (λ s. s.path ≡ take (longest (kept_paths tree.now) (time_to tree.now to)) (time_to tree.now to)) }
+        ensures length { result.1 ≡ tree.now.base + longest (kept_paths tree.now) (time_to tree.now to) }
+        ensures longest { All (λ s. begins_with (time_to tree.now to) s.path ≡ true
+            → tree.now.base + length s.path ≤ result.1) tree.now.states }
+        ensures within { result.1 ≤ to }
+    {
+        let (start, from) = tree.deepest(to);
+        self.plan_from(tree, from, to);
+        (start, from)
+    }
+
+    /// Takes down the plan of a roll to a frame from there.
+    fn plan_from<S>(&mut self, tree: &Tree<S>, from: u32, to: u32)
+        requires can { CanPlan self.old.players tree.now to }
+        requires starts { from ≡ tree.now.base + longest (kept_paths tree.now) (time_to tree.now to) }
         ensures { self.new ≡ record self.old { last = Some (made_of tree.now (time_to tree.now to)) } }
     {
         tree.laws();
         take_down(&mut self.taken, tree);
-        name_passed(&mut self.plan.differs, &mut self.ranked, tree, start, to);
+        name_passed(&mut self.plan.differs, &mut self.ranked, tree, from, to);
         self.base = tree.base();
         let rows = &tree.time()[..(to - self.base) as usize];
         self.time.clear();
         self.time.try_extend_from_slice(rows).unwrap();
         self.plan.to = to;
-        self.plan.from = start;
-        self.plan.rerun = to - start;
+        self.plan.from = from;
+        self.plan.rerun = to - from;
         self.is_made = true;
     }
 

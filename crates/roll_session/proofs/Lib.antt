@@ -24,3 +24,7 @@ pub mod Settles
 pub mod Steps
 pub mod Rolling
 pub mod Rolled
+pub mod Words
+pub mod Turns
+pub mod Headlines
+pub mod Shown

@@ -1,10 +1,11 @@
 -- A log's entries, made anew as calls.
 use Rattle.std.proofs.Common.{◌≡◌, ◌∙◌, ℕ, zero, suc, List, [], ◌∷◌, ◌++◌, map, take, Bool, cond, true, false, Option, Some, None, refl, ap, sym, subst}
-use Rattle.std.specs.Prelude.{slice_get}
+use Rattle.std.specs.Prelude.{◌&&◌, slice_get}
 use Rattle.std.specs.List.{list_all}
 use Rattle.std.specs.Option.{option_map_or}
 use Rattle.std.proofs.lemmas.Bool.{and_parts, false≢true}
 use Rattle.std.proofs.lemmas.List.{map-append}
+use Rattle.std.proofs.lemmas.List.Folds.{list_all-append}
 use Rattle.roll_frame.specs.Core.{Core}
 use Rattle.roll_frame.specs.Events.{answer, is_accepted, is_repeat, log_from, replay}
 use Rattle.roll_frame.specs.Games.{Game, Value}
@@ -28,7 +29,7 @@ use Rattle.roll_session.specs.declared.event.ReplayFault.TheVariants.{NotACall, 
 use Rattle.roll_session.proofs.Runs.{none_added, played_more, played_none}
 
 pub replayed_none : (step : Step) (s : Seen) → IsReplayed step s s []
-replayed_none step s = record { played = played_none step s; all = refl }
+replayed_none step s = record { played = played_none step s; all = refl; calls = refl }
 
 pub replayed_more : (step : Step) (old mid new : Seen) (entries more : List Entry) → IsReplayed step old mid entries → IsReplayed step mid new more → IsReplayed step old new (entries ++ more)
 replayed_more step old mid new entries more a b =
@@ -40,6 +41,7 @@ replayed_more step old mid new entries more a b =
       played = subst (IsPlayed step old new) (sym events) (played_more step old mid new (map plain entries) (map plain more) a.played b.played);
       all = ap (log_from old.settings (game_of step old) (core_of old)) events ∙ log_from-append old.settings (game_of step old) (core_of old) (map plain entries) (map plain more)
           ∙ (λ i. a.all i ++ (rw (a.played.core, settings, opening) at rest) i);
+      calls = list_all-append is_call entries more ∙ (λ i. a.calls i && b.calls i);
     }
 
 -- a call gives no refusal, and nothing that was given before
@@ -83,7 +85,7 @@ module _ (step : Step) (old new : Seen) (call : Call) where
       go false (Some other) e f h = let same : why ≡ other = cc h in (e, f ∙ ap Some (sym same), same_where_not r.played (rw (e, f) refl))
 
   pub was_made : (said : Reply) → IsReplied step old new (event_of call) said → (said ≡ Repeated → ⊥) → ((why : Refusal) → said ≡ Refused why → ⊥) → IsReplayed step old new (entry_of call ∷ [])
-  was_made said r never none = record { played = r.played; all = go (is_repeat (core_of old) (entry_of call)) (refusal_of step old (entry_of call)) refl refl r.said_is }
+  was_made said r never none = record { played = r.played; all = go (is_repeat (core_of old) (entry_of call)) (refusal_of step old (entry_of call)) refl refl r.said_is; calls = rw (entry_calls call) refl }
     where
       go : (b : Bool) (o : Option Refusal) → is_repeat (core_of old) (entry_of call) ≡ b → refusal_of step old (entry_of call) ≡ o → said ≡ cond b Repeated (option_map_or Refused o (answer (core_of old) (entry_of call)))
           → log_from old.settings (game_of step old) (core_of old) (event_of call ∷ []) ≡ entry_of call ∷ []

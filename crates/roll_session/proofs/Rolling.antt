@@ -13,7 +13,7 @@ use Rattle.roll_frame.specs.declared.row.Cell.{Cell}
 use Rattle.roll_frame.specs.Cells.{Rows}
 use Rattle.roll_frame.specs.Claims.{AreRowsOf}
 use Rattle.roll_frame.specs.Games.{Value}
-use Rattle.roll_frame.specs.Paths.{contains, longest, prefixes, run}
+use Rattle.roll_frame.specs.Paths.{contains, prefixes, run}
 use Rattle.roll_frame.specs.Timeline.{Player, row_at, timeline}
 use Rattle.roll_plan.specs.Plans.{CanPlan}
 use Rattle.roll_tree.specs.SavedStates.{CanGrow, SavedStates, Saved, state_named, paths_of, time_to, with_state}
@@ -39,16 +39,15 @@ settled_read players settled frame = go (cases_lt frame settled)
 
 module _ {S : Type 0} where
   -- the plan of a roll to there can be made
-  pub plan_fits : (t : SavedStates S) (players : List Player) (settled start to count frame : ℕ) (base : t.base ≡ settled) (told : t.time ≡ rows_from players settled (length t.time)) (from : settled ≤ to) (far : to ≤ settled + length t.time)
-      → settled ≤ frame → frame ≤ FRAME_LIMIT → start ≡ settled + longest (paths_of t) (rows_from players settled (to - settled))
-      → AreRowsOf count (rows_from players settled (to - settled)) → All (AreRowsOf count) (paths_of t) → CanPlan count t start to
-  plan_fits t players settled start to count frame base told from far reached short starts time paths =
+  pub plan_fits : (t : SavedStates S) (players : List Player) (settled to count frame : ℕ) (base : t.base ≡ settled) (told : t.time ≡ rows_from players settled (length t.time)) (from : settled ≤ to) (far : to ≤ settled + length t.time)
+      → settled ≤ frame → frame ≤ FRAME_LIMIT
+      → AreRowsOf count (rows_from players settled (to - settled)) → All (AreRowsOf count) (paths_of t) → CanPlan count t to
+  plan_fits t players settled to count frame base told from far reached short time paths =
       let rows : time_to t to ≡ rows_from players settled (to - settled) = time_is t players settled to base told from far in
       record {
         base = omega (arith, base, reached, short);
         from = omega (arith, base, from);
         known = omega (arith, base, far);
-        starts = starts ∙ (λ i. sym base i + longest (paths_of t) (sym rows i));
         time = subst (AreRowsOf count) (sym rows) time;
         paths = paths;
       }

@@ -32,10 +32,10 @@ pub played_none : (step : Step) (s : Seen) → IsPlayed step s s []
 played_none step s = record { seen = none_added s; core = refl }
 
 -- one event came, which was accepted, or wasn't
-played_one : (step : Step) (old new : Seen) (event : CoreEvent) → is_accepted old.settings (game_of step old) (core_of old) event ≡ true → new ≡ with_entries old (event.entry ∷ []) (counts_by (core_of old) event.entry old.counts) → IsPlayed step old new (event ∷ [])
+pub played_one : (step : Step) (old new : Seen) (event : CoreEvent) → is_accepted old.settings (game_of step old) (core_of old) event ≡ true → new ≡ with_entries old (event.entry ∷ []) (counts_by (core_of old) event.entry old.counts) → IsPlayed step old new (event ∷ [])
 played_one step old new event e h = record { seen = rw e h; core = rw e (ap core_of h ∙ replay-push old.settings old.log event.entry) }
 
-played_not : (step : Step) (s : Seen) (event : CoreEvent) → is_accepted s.settings (game_of step s) (core_of s) event ≡ false → IsPlayed step s s (event ∷ [])
+pub played_not : (step : Step) (s : Seen) (event : CoreEvent) → is_accepted s.settings (game_of step s) (core_of s) event ≡ false → IsPlayed step s s (event ∷ [])
 played_not step s event e = record { seen = rw e (none_added s); core = rw e refl }
 
 module _ (step : Step) (old : Seen) (event : CoreEvent) where

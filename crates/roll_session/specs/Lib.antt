@@ -8,6 +8,7 @@ pub mod Held
 pub mod Calls
 pub mod Logs
 pub mod Requests
+pub mod Headline
 pub mod Grafting
 pub mod Guessing
 pub mod Replaying

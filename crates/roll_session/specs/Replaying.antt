@@ -12,10 +12,11 @@ use Rattle.roll_session.specs.Seen.{Step, Seen, core_of, game_of, plain, refusal
 use Rattle.roll_session.specs.declared.event.ReplayFault.{ReplayFault}
 use Rattle.roll_session.specs.declared.event.ReplayFault.TheVariants.{NotACall, Repeated, Refused, NoMemory}
 
--- these entries came as events, and the log grew by each of them
+-- these entries are calls that came as events, and the log grew by each of them
 pub record IsReplayed (step : Step) (old new : Seen) (entries : List Entry) : Type 0 where
   pub played : IsPlayed step old new (map plain entries)
   pub all : log_from old.settings (game_of step old) (core_of old) (map plain entries) ≡ entries
+  pub calls : list_all is_call entries ≡ true
 
 -- why the entry at a place was not made anew, and what became of the session
 abbrev pub Stops : Step → Seen → Seen → Entry → ℕ → ReplayFault → Type 0

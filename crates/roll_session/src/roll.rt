@@ -91,8 +91,7 @@ pub fn roll<G: Game>(
     ensures no_plan { OnErr result (planner.new ≡ record planner.old { last = None }) }
 {
     saves.laws();
-    let (start, from) = saves.deepest(to);
-    saves.plan(planner, from, to);
+    let (start, from) = saves.plan(planner, to);
     match run_on(game, saves, start, from, to) {
         Ok(state) => Ok(Rolled { state, from }),
         Err(made) => {

@@ -1,10 +1,12 @@
 //! Requests as values, and whole lists of them.
-ghost use Rattle.std.specs.Prelude.{◌≡◌, ◌≢◌, ◌≤◌, ◌+◌, ◌++◌, ◌∷◌, [], length, vec_capacity, vec_len, IfErr, IfOk, OnErr, OnOk};
+ghost use Rattle.std.specs.Prelude.{◌≡◌, ◌≢◌, ◌≤◌, ◌+◌, ◌++◌, ◌∷◌, [], drop, is_ok, length, map, vec_capacity, vec_len, IfErr, IfOk, OnErr, OnOk};
 ghost use Rattle.roll_session.specs.Answered.{replied, replies_to, IsAnswered, IsPlayed, IsReplied, IsShort};
 ghost use Rattle.roll_session.specs.Calls.{asked, event_of};
+ghost use Rattle.roll_session.specs.Headline.{Headline, IsHeadline};
 ghost use Rattle.roll_session.specs.Logs.{told};
 ghost use Rattle.roll_session.specs.Replaying.{AreLogged, IsReplayed, IsStopped, IsWantOfMemory, Stops};
 ghost use Rattle.roll_session.specs.Requests.{all_asked, IsEndedEarly};
+ghost use Rattle.roll_session.specs.Seen.{plain};
 
 use crate::event::{Call, Grafted, Reached, ReplayFault, Request};
 use crate::log::{Log, Logged};
@@ -82,11 +84,14 @@ impl<G: Game> Session<G> {
         replies: &mut Vec<Reply>,
     ) -> Result<(), NoMemory>
         requires { vec_len replies.old + length requests.old.items ≤ vec_capacity replies.old }
+        ensures headline { IsHeadline (is_ok result) G.step self.old self.new requests.old.items
+            requests.new.items (drop (length replies.old.items) replies.new.items) }
         ensures played { OnOk result (IsPlayed G.step self.old self.new (all_asked requests.old.items)) }
         ensures replies { OnOk result (replies.new.items ≡ replies.old.items ++ replies_to G.step self.old (all_asked requests.old.items)) }
         ensures empty { OnOk result (requests.new.items ≡ []) }
         ensures left { OnErr result (IsEndedEarly G.step self.old self.new requests.old.items requests.new.items replies.old.items replies.new.items) }
     {
+        self.laws();
         while let Some(request) = requests.pop_front() {
             let reply = self.perform(request)?;
             replies.push_reserved(reply);
@@ -101,10 +106,13 @@ impl<G: Game> Session<G> {
     ///
     /// What comes before the entry of the fault is done. That entry changes nothing, but for a roll that the game refuses.
     pub fn replay(&mut self, log: &Log) -> Result<(), ReplayFault>
+        ensures headline { OnOk result (Headline G.step self.old self.new (map plain log.now.entries)
+            (replies_to G.step self.old (map plain log.now.entries))) }
         ensures replayed { OnOk result (IsReplayed G.step self.old self.new log.now.entries) }
         ensures stopped { IfErr result (λ fault. IsStopped G.step self.old self.new log.now.entries fault) }
         ensures own { self.old.log ≡ [] → AreLogged self.old.settings log.now.entries → IfErr result IsWantOfMemory }
     {
+        self.laws();
         for place in 0..log.len() {
             self.redo(log.at(place), place)?;
         }

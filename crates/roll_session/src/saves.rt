@@ -197,11 +197,14 @@ impl<S> Saves<S> {
         self.board.settle(end);
     }
 
-    /// The deepest saved state on the timeline's way to a frame, and the length of its path. The tree is told the
-    /// timeline that far.
-    pub fn deepest(&mut self, to: u32) -> (usize, u32)
+    /// Plans a roll to a frame, and answers where it starts: the deepest saved state on the timeline's way there, and the
+    /// length of its path. The tree is told the timeline that far.
+    pub fn plan(&mut self, planner: &mut Planner, to: u32) -> (usize, u32)
         requires from { self.old.inputs.settled ≤ to }
         requires near { to ≤ self.old.inputs.settled + PATH_LIMIT }
+        requires time { AreRowsOf planner.old.players (rows_to self.old.inputs to) }
+        requires paths { All (AreRowsOf planner.old.players) (paths_of self.old.tree) }
+        ensures plan { planner.new ≡ record planner.old { last = Some (made_of self.old.tree (rows_to self.old.inputs to)) } }
         ensures inputs { self.new.inputs ≡ self.old.inputs }
         ensures tree { self.new.tree ≡ record self.old.tree { time = self.new.tree.time } }
         ensures told { to ≤ self.old.inputs.settled + length self.new.tree.time }
@@ -212,7 +215,7 @@ impl<S> Saves<S> {
     {
         self.board.laws();
         reach(&mut self.tree, &self.board, to);
-        self.tree.deepest(to)
+        planner.plan(&self.tree, to)
     }
 
     /// The timeline's row of a frame that the tree was told of.
@@ -251,19 +254,6 @@ impl<S> Saves<S> {
         } else {
             self.board.allows(frame, row)
         }
-    }
-
-    /// Takes down the plan of a roll to a frame, which the tree was told of, from where its deepest state there ends.
-    pub fn plan(&self, planner: &mut Planner, start: u32, to: u32)
-        requires from { self.now.inputs.settled ≤ to }
-        requires told { to ≤ self.now.inputs.settled + length self.now.tree.time }
-        requires start { start ≡ self.now.inputs.settled + longest (paths_of self.now.tree) (rows_to self.now.inputs to) }
-        requires time { AreRowsOf planner.old.players (rows_to self.now.inputs to) }
-        requires paths { All (AreRowsOf planner.old.players) (paths_of self.now.tree) }
-        ensures { planner.new ≡ record planner.old { last = Some (made_of self.now.tree (rows_to self.now.inputs to)) } }
-    {
-        self.board.laws();
-        planner.plan(&self.tree, start, to);
     }
 
     /// The inputs.

@@ -23,6 +23,7 @@ ghost use Rattle.roll_session.specs.Answered.{counts_by, replied, with_entries, 
 ghost use Rattle.roll_session.specs.Calls.{entry_of, event_of, grafting, heard_reply, input_reply, judged, IsAdmitted, IsAllowed, IsInput, IsRollTo};
 ghost use Rattle.roll_session.specs.Seen.{core_of, game_of, IsLeast};
 ghost use Rattle.roll_session.specs.Started.{IsGivenBack};
+ghost use Rattle.roll_session.specs.Headline.{last_claim, value_shown};
 
 use crate::event::{Call, Grafted, Reached};
 use crate::guess::{guessed_rows, job_along};
@@ -453,7 +454,8 @@ impl<G: Game> Session<G> {
 
     /// The state that is shown.
     pub fn current(&self) -> Option<&G::State>
-        ensures { Shows G.state_value G.step self.now.opening (core_of self.now).shown (option_copied result) }
+        ensures shows { Shows G.state_value G.step self.now.opening (core_of self.now).shown (option_copied result) }
+        ensures value { option_map G.state_value (option_copied result) ≡ value_shown G.step self.now }
     {
         self.current.as_ref()
     }
@@ -495,6 +497,7 @@ impl<G: Game> Session<G> {
     /// `NoPlan` where there is no last plan, else `NoMemory` where the allocator has no room.
     pub fn claim(&self, alloc: Global) -> Result<Claim, Refusal>
         ensures claim { IfOk result (λ claim. IfSome (core_of self.now).last (λ roll. claim ≡ claim_of self.now.settings.players roll)) }
+        ensures last { IfOk result (λ claim. last_claim self.now ≡ Some claim) }
         ensures right { IfOk result (λ claim. IsRight claim) }
         ensures made { OnOk result (is_none (core_of self.now).last ≡ false) }
         ensures refused { IfErr result (λ why. why ≡ (if is_none (core_of self.now).last then Refusal.NoPlan else Refusal.NoMemory)) }

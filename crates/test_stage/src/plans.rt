@@ -35,8 +35,7 @@ fn plan(alloc: Global, planner: &mut Planner, kept: Row, told: Row) -> Answer
         return Err(Fault::NoMemory);
     };
     tree.tell(told);
-    let (_, start) = tree.deepest(1);
-    planner.plan(&tree, start, 1);
+    planner.plan(&tree, 1);
     Ok(())
 }
 

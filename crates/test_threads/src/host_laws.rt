@@ -1,7 +1,9 @@
 //! What whoever holds a host knows of it by the laws, without its fields.
-ghost use Rattle.std.specs.Prelude.{◌≡◌, ◌≤◌, ◌+◌, ℕ, Some, OnOk, length, option_copied, vec_capacity, vec_len};
+ghost use Rattle.std.specs.Prelude.{◌≡◌, ◌≤◌, ◌+◌, ℕ, All, Some, OnOk, length, option_copied, vec_capacity, vec_len};
 ghost use Rattle.roll_frame.specs.Core.{settled};
 ghost use Rattle.roll_frame.specs.declared.row.Cell.{Cell};
+ghost use Rattle.roll_host.specs.Hosted.{rings_of};
+ghost use Rattle.roll_host.specs.Requests.{EndsOwn};
 ghost use Rattle.roll_laws.specs.Laws.{known_cell};
 ghost use Rattle.roll_laws.specs.Sessions.{IsLog};
 ghost use Rattle.roll_session.specs.Held.{Shows};
@@ -26,7 +28,8 @@ pub fn host_goes_on<G: Game>(
     requests: &mut VecDeque<HostRequest<G>>,
     replies: &mut Vec<HostReply>,
 ) -> Result<(), NoMemory>
-    requires { vec_len replies.old + length requests.old.items ≤ vec_capacity replies.old }
+    requires room { vec_len replies.old + length requests.old.items ≤ vec_capacity replies.old }
+    requires ends { All (EndsOwn (rings_of host.old.links)) requests.old.items }
     ensures settled { OnOk result (settled (core_of host.old.session) ≤ settled (core_of host.new.session)) }
     ensures known { OnOk result ((place t : ℕ) (cell : Cell) → known_cell (core_of host.old.session).players place t ≡ Some cell → known_cell (core_of host.new.session).players place t ≡ Some cell) }
     ensures least { OnOk result ((m : ℕ) → IsLeast (core_of host.new.session) m) }

@@ -1,7 +1,9 @@
 use Rattle.std.proofs.Common.{◌∙◌, sym}
 use Rattle.std.proofs.lemmas.Option.{IfSome_then}
 use Rattle.std.proofs.lemmas.Result.{IfOk-weaker}
+use Rattle.std.specs.Io.KnownBytes.{Appends}
 use Rattle.roll_cli.specs.Headers.{setup_of}
+use Rattle.roll_cli.proofs.Headlines.{also_headlined}
 use Rattle.roll_cli.proofs.Outlined.{output_of_outline}
 use Rattle.roll_cli.proofs.engine.play.Goals as goal
 
@@ -11,6 +13,14 @@ returns-clause-written g c =
     (λ refused h. IfSome_then (g.R.Read.remaining c.args.reader.now) c.in_ok-text.ensures.all
     (λ known same. (h.0, output_of_outline (setup_of c.in_ok-header.header) c.in_ok-header.commands.now c.deref.result.now known _ _ h.0 refused c.in_ok-header.ensures.outlined (sym same ∙ sym c.deref.ensures.value) h.1, h.2)))
     c.write_played.ensures.written
+
+pub returns-clause-headline : goal.returns-clause-headline
+returns-clause-headline g c =
+    IfOk-weaker c.write_played.result _ _
+    (λ refused h.
+    also_headlined g.G.Shown.text_of (record { opening = g.G.RawGame.snapshot_value c.args.opening; step = g.G.Game.step })
+    (Appends (g.W.Write.contents c.args.writer.now) (g.W.Write.contents c.write_played.new.writer)) (g.R.Read.remaining c.args.reader.now) refused h)
+    (returns-clause-written g c)
 
 pub returns-clause-cut : goal.returns-clause-cut
 returns-clause-cut g c = λ failed.

@@ -6,6 +6,7 @@ use Rattle.roll_cli.specs.declared.program.GameName.TheVariants.{Tally, Duel}
 use Rattle.roll_cli.specs.declared.program.Task.TheVariants.{Play}
 use Rattle.roll_cli.proofs.Ended.{ends_in_fault, hands_fault_on}
 use Rattle.roll_cli.proofs.program.play_named.Goals as goal
+use Rattle.roll_cli.proofs.program.play_named.Goals.{in-Tally+in_ok-refused-in-Tally, in-Duel+in_ok-refused-in-Duel}
 
 pub returns-in_err-refused-in-Tally-clause-fault : goal.returns-in_err-refused-in-Tally-clause-fault
 returns-in_err-refused-in-Tally-clause-fault g c =
@@ -22,3 +23,10 @@ returns-in_err-refused-in-Duel-clause-fault g c =
     (rw c.in-Duel.is
     (ends_in_fault (Play Duel) (g.R.Read.remaining c.args.reader.now) (g.W.Write.contents c.args.writer.now) (g.W.Write.contents c.play_duel.new.writer) c.play_duel.result c.play_duel.ensures.unreadable
     (λ failed. IfSome_then (g.R.Read.remaining c.args.reader.now) (c.play_duel.ensures.cut failed) (λ text cut. (cut.0, _, (cut.1, cut.2, refl), cut.3)))))
+
+pub returns-clause-taken : goal.returns-clause-taken
+returns-clause-taken g c =
+    elim c.match-game.branch [
+      | in-Tally+in_ok-refused-in-Tally w ↦ rw w.reader-is w.play_tally.ensures.taken
+      | in-Duel+in_ok-refused-in-Duel w ↦ rw w.reader-is w.play_duel.ensures.taken
+    ]

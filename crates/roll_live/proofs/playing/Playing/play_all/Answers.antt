@@ -2,7 +2,7 @@ use Rattle.std.proofs.Common.{◌≡◌, ◌∙◌, ◌+◌, ◌++◌, [], ◌�
 use Rattle.std.proofs.lemmas.List.{take-append-drop, take_more}
 use Rattle.std.proofs.lemmas.Grind.{common_steps}
 use Rattle.roll_cli.specs.declared.command.Command.{Command}
-use Rattle.roll_live.specs.Lives.{IsLive}
+use Rattle.roll_live.specs.Tellings.{IsLive}
 use Rattle.roll_live.specs.Told.{IsFar}
 use Rattle.roll_live.proofs.Ending.{far_here}
 use Rattle.roll_live.proofs.Played.{live_more}

@@ -1,6 +1,6 @@
 use Rattle.std.proofs.Common.{◌≡◌, ◌≤◌, ◌+◌, ◌++◌, ℕ, List, take}
 use Rattle.roll_host.specs.Hosted.{places_of}
-use Rattle.roll_live.specs.Lives.{IsLive}
+use Rattle.roll_live.specs.Tellings.{IsLive}
 use Rattle.roll_live.proofs.playing.Playing.play_all.Given as goal
 
 -- the commands so far were played, and what they wrote stands written

@@ -1,67 +1,13 @@
-use Rattle.std.proofs.Common.{◌∙◌, ◌-◌, ◌≤◌, ◌++◌, length, take, ap, arith, refl, true, Some}
-use Rattle.std.proofs.lemmas.List.Elements.{All-map}
-use Rattle.roll_frame.specs.declared.limits.TheConstants.{PATH_LIMIT}
-use Rattle.roll_frame.specs.Cells.{Rows}
-use Rattle.roll_tree.specs.SavedStates.{Saved}
-use Rattle.roll_plan.specs.Plans.{CanPlan, Planned}
-use Rattle.roll_plan.specs.declared.planner.Planner.TheInside.{Inside}
-use Rattle.roll_plan.proofs.Making.{IsDone, done_last, goes_on, made_is}
-use Rattle.roll_plan.proofs.planner.Planner.plan.Given.{Over}
+use Rattle.std.proofs.Common.{◌-◌, length-take, arith}
+use Rattle.roll_frame.proofs.Beginnings.{longest_within}
+use Rattle.roll_tree.specs.SavedStates.{paths_of, time_to}
+use Rattle.roll_plan.proofs.Longest.{none_longer}
 use Rattle.roll_plan.proofs.planner.Planner.plan.Goals as goal
 
-can_plan : (g : Over) (c : goal.After-self-5-1 g) → CanPlan c.args.self.now.players c.args.tree.now c.args.start c.args.to
-can_plan g c = c.requires
+pub returns-clause-longest : goal.returns-clause-longest
+returns-clause-longest g c = none_longer c.args.tree.now (time_to c.args.tree.now c.args.to) c.deepest-start.result.1 c.deepest-start.ensures.length
 
-pub overflow_sub-self : goal.overflow_sub-self
-overflow_sub-self g c = goes_on c.args.self.now.players c.args.start c.args.to c.args.tree.now c.requires
-
--- the fields at the end
-abbrev inside : (g : Over) (c : goal.After-self-5-1 g) → Inside
-inside g c =
-    record {
-      players = c.self.inside.players;
-      base = c.base-self-inside.result;
-      time = c.try_extend_from_slice.new.self;
-      taken = c.take_down.new.taken;
-      ranked = c.name_passed.new.ranked;
-      plan = record { to = c.args.to; from = c.args.start; rerun = c.args.to - c.args.start; differs = c.name_passed.new.differs };
-      is_made = true;
-    }
-
-is_done : (g : Over) (c : goal.After-self-5-1 g) → IsDone c.args.self.now.players c.args.start c.args.to c.args.tree.now (can_plan g c) (inside g c)
-is_done g c =
-    let extended = rw c.unwrap.ensures at c.try_extend_from_slice.ensures.ok in
-    record {
-      some = c.self.invariant.some;
-      few = c.self.invariant.few;
-      players_are = ap (λ (s : Planned). s.players) c.self.view_is;
-      root = c.laws.ensures.rooted;
-      short = omega (arith, c.time.ensures.few, ap (λ (l : Rows). length l) c.time.ensures.value);
-      base = c.base-self-inside.ensures;
-      time =
-          extended
-          ∙ ap (λ (l : Rows). l ++ take (c.args.to - c.base-self-inside.result) c.time.result.now) c.clear.ensures
-          ∙ (λ i. take (c.args.to - c.base-self-inside.ensures i) (c.time.ensures.value i));
-      taken = c.take_down.ensures.paths;
-      paths = All-map (λ (p : Rows). length p ≤ PATH_LIMIT) (λ (s : Saved g.row.S.Denot). s.path) c.args.tree.now.states c.laws.ensures.short;
-      to_is = refl;
-      from_is = refl;
-      rerun = refl;
-      differs = c.name_passed.ensures.entries;
-    }
-
-pub invariant_of-self : goal.invariant_of-self
-invariant_of-self g c =
-    record {
-      some = c.self.invariant.some;
-      few = c.self.invariant.few;
-      room = c.take_down.ensures.room;
-      ranks = c.name_passed.ensures.ranked;
-      space = c.name_passed.ensures.differs;
-      last = λ _. done_last c.args.self.now.players c.args.start c.args.to c.args.tree.now (can_plan g c) (inside g c) (is_done g c);
-    }
-
-pub returns : goal.returns
-returns g c =
-    let made = made_is c.args.self.now.players c.args.start c.args.to c.args.tree.now (can_plan g c) (inside g c) (is_done g c) in
-    λ i. record { players = (c.self.view_is i).players; last = Some (made i) }
+pub returns-clause-within : goal.returns-clause-within
+returns-clause-within g c =
+    let t = c.args.tree.now in
+    omega (arith, c.deepest-start.ensures.length, longest_within (paths_of t) (time_to t c.args.to), length-take (c.args.to - t.base) t.time, c.requires.from, c.requires.known)

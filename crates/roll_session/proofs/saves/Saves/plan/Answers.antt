@@ -1,23 +1,42 @@
-use Rattle.std.proofs.Common.{◌∙◌, ap, Some}
-use Rattle.roll_frame.specs.Cells.{Rows}
+use Rattle.std.proofs.Common.{◌≡◌, ◌∙◌, Some, refl}
 use Rattle.roll_plan.specs.Plans.{made_of}
 use Rattle.roll_session.proofs.Rolling.{plan_fits}
-use Rattle.roll_session.proofs.Steps.{time_is}
+use Rattle.roll_session.proofs.Steps.{deepest_is, time_is}
 use Rattle.roll_session.proofs.saves.Saves.plan.Goals as goal
 
 pub plan-requires : goal.plan-requires
 plan-requires g c =
     let i = c.self.inside in
+    let t = c.reach.new.tree in
     let from = rw (← c.self.view_is) at c.requires.from in
-    let told = rw (← c.self.view_is) at c.requires.told in
-    let start = rw (← c.self.view_is) at c.requires.start in
     let time = rw (← c.self.view_is) at c.requires.time in
     let paths = rw (← c.self.view_is) at c.requires.paths in
-    plan_fits i.tree i.board.players i.board.settled c.args.start c.args.to c.args.planner.now.players i.board.frame c.self.invariant.base c.self.invariant.told from told c.laws.ensures.reached c.laws.ensures.short start time paths
+    let base : t.base ≡ i.board.settled = (rw c.reach.ensures.same refl) ∙ c.self.invariant.base in
+    plan_fits t i.board.players i.board.settled c.args.to c.args.planner.now.players i.board.frame base c.reach.ensures.told from c.reach.ensures.far c.laws.ensures.reached c.laws.ensures.short time (rw c.reach.ensures.same paths)
 
-pub returns : goal.returns
-returns g c =
+pub returns-clause-plan : goal.returns-clause-plan
+returns-clause-plan g c =
     let i = c.self.inside in
+    let t = c.reach.new.tree in
     let from = rw (← c.self.view_is) at c.requires.from in
-    let told = rw (← c.self.view_is) at c.requires.told in
-    rw (← c.self.view_is) (c.plan.ensures ∙ ap (λ (rows : Rows). record c.args.planner.now { last = Some (made_of i.tree rows) }) (time_is i.tree i.board.players i.board.settled c.args.to c.self.invariant.base c.self.invariant.told from told))
+    let base : t.base ≡ i.board.settled = (rw c.reach.ensures.same refl) ∙ c.self.invariant.base in
+    let rows = time_is t i.board.players i.board.settled c.args.to base c.reach.ensures.told from c.reach.ensures.far in
+    rw (← c.self.view_is) (c.plan.ensures.plan ∙ (λ j. record c.args.planner.now { last = Some (made_of (c.reach.ensures.same j) (rows j)) }))
+
+pub returns-clause-node : goal.returns-clause-node
+returns-clause-node g c =
+    let i = c.self.inside in
+    let t = c.reach.new.tree in
+    let from = rw (← c.self.view_is) at c.requires.from in
+    let base : t.base ≡ i.board.settled = (rw c.reach.ensures.same refl) ∙ c.self.invariant.base in
+    let node = deepest_is t i.board.players i.board.settled c.args.to base c.reach.ensures.told from c.reach.ensures.far c.plan.result.0 c.plan.ensures.node in
+    rw (← c.self.view_is) (rw c.reach.ensures.same at node)
+
+pub returns-clause-length : goal.returns-clause-length
+returns-clause-length g c =
+    let i = c.self.inside in
+    let t = c.reach.new.tree in
+    let from = rw (← c.self.view_is) at c.requires.from in
+    let base : t.base ≡ i.board.settled = (rw c.reach.ensures.same refl) ∙ c.self.invariant.base in
+    let rows = time_is t i.board.players i.board.settled c.args.to base c.reach.ensures.told from c.reach.ensures.far in
+    rw (← c.self.view_is) (c.plan.ensures.length ∙ (rw (rows, c.reach.ensures.same, c.self.invariant.base) refl))

@@ -1,11 +1,13 @@
-use Rattle.std.proofs.Common.{◌≡◌, ◌+◌, ◌++◌, ◌∷◌, [], ◌∙◌, List, Err, Some, ap, rules, subst, sym, take}
+use Rattle.std.proofs.Common.{arith, map, ◌≡◌, ◌+◌, ◌++◌, ◌∷◌, [], ◌∙◌, List, Err, Some, ap, rules, subst, sym, take}
 use Rattle.std.specs.Prelude.{slice_get}
 use Rattle.std.proofs.lemmas.Option.{get_or_from_slice_get, slice_get_within}
-use Rattle.std.proofs.lemmas.List.{take_more}
+use Rattle.std.proofs.lemmas.List.{take_all, take_more}
 use Rattle.roll_frame.specs.declared.entry.Entry.{Entry}
 use Rattle.roll_session.specs.declared.event.ReplayFault.{ReplayFault}
 use Rattle.roll_session.specs.Logs.{told}
 use Rattle.roll_session.specs.Replaying.{IsReplayed, IsStopped}
+use Rattle.roll_session.specs.Seen.{plain}
+use Rattle.roll_session.proofs.Headlines.{calls_are_asked, headline_of}
 use Rattle.roll_session.proofs.Replaying.{own_log, replayed_more}
 use Rattle.roll_session.proofs.session.Session.replay.Goals as goal
 
@@ -33,3 +35,9 @@ returns-in_err-redo-clause-own g c =
       stops = c.in_err-redo.ensures.stops;
     } in
     λ fresh logged. rw is (own_log g.G.Game.step c.args.self.now c.redo.new.self log fault fresh logged stopped)
+
+pub returns-clause-headline : goal.returns-clause-headline
+returns-clause-headline g c =
+    let log : List Entry = c.args.log.now.entries in
+    let whole : IsReplayed g.G.Game.step c.args.self.now c.loop-place.self log = subst (IsReplayed g.G.Game.step c.args.self.now c.loop-place.self) (take_all c.loop-place.place log (omega arith)) c.loop-place.invariant in
+    headline_of g.G.Game.step (map plain log) c.args.self.now c.loop-place.self c.laws.ensures.log (calls_are_asked log whole.calls) whole.played
