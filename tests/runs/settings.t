@@ -7,13 +7,14 @@ behind the options of the first line, and plays no line of it.
   $ eight='mask 0,0,0,0,0,0,0,0'
   $ start "roll 3 players 8 local 1,8 delay 0,0,0,0,0,0,0,0 $eight threshold 15"
 
-What a start refuses, with what is wrong. First numbers of players.
+What a start refuses, with what is wrong. First numbers of players; those that no header has, as they are refused where settings
+are made.
 
   $ start 'roll 1 players 5 local 1 delay 0,0,0,0,0 threshold 8'
   refused 3 the number of players is out of range
-  $ start 'roll 1 players 0 local 1 delay 0 threshold 8'
+  $ printf 'settings\nnew 0 1\nnew 9 1\nnew 200 1\n' | test_stage
   refused 3 the number of players is out of range
-  $ start "roll 3 players 9 local 1,8 delay 0,0,0,0,0,0,0,0 $eight threshold 15"
+  refused 3 the number of players is out of range
   refused 3 the number of players is out of range
 
 No local player, and one outside the players.

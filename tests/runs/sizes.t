@@ -1,4 +1,5 @@
-The greatest texts: a script of 1,048,576 bytes, each of whose replies is a refusal, and one byte more.
+The greatest texts: a script of 1,048,576 bytes, each of whose replies is a refusal, and one byte more. Of its output, six
+megabytes, a million bytes are taken at a time, and the fifth write fails.
 
   $ { echo 'roll 1 players 2 local 1 delay 0,0 threshold 8'; echo L 2 10; yes A | head -n 524261; } > greatest
   $ wc -c < greatest
@@ -8,6 +9,11 @@ The greatest texts: a script of 1,048,576 bytes, each of whose replies is a refu
   $ sort out | uniq -c | tr -s ' '
    524261 refused 101
    1 refused 2
+  $ MOST_WRITTEN=1000000 LD_PRELOAD=$REFUSE rollduel play greatest | cmp - out
+  $ MOST_WRITTEN=1000000 REFUSE_WRITE=5 LD_PRELOAD=$REFUSE rollduel play greatest > front
+  rollduel: cannot write
+  [2]
+  $ head -c 4000000 out | cmp - front
   $ { echo 'roll 1 players 2 local 1 delay 0,0 threshold 8'; echo L 2 100; yes A | head -n 524261; } > longer
   $ wc -c < longer
   1048577

@@ -173,11 +173,29 @@ wrong with it, until a result is taken in.
   refused 2
   ticket 64
 
-On a fresh host it is the same.
+On a fresh host it is the same, with another word in each guess. Once a result is taken in, there is a place again.
 
-  $ { printf 'workers 1\nhost\n'; copies 65 'speculate 2 2 3'; } | two | tail -n 2
-  ticket 63
+  $ { printf 'workers 1\nhost\n'; seq -f 'speculate 2 1 %g' 65; printf 'work 0\nabsorb\nspeculate 2 1 65\n'; } | two > said
+  $ sed -n '3,66p' said | diff - tickets; tail -n +67 said
   refused 119
+  did 0
+  taken 1 added 1 dropped 0 unmade 0
+  ticket 64
+
+After two frames, a worker whose game refuses its first advance: the guess's job is done, and nothing comes of it.
+
+  $ options='helper advance 1' after <<END
+  > workers 1
+  > host
+  > speculate 2 2 3
+  > work 0
+  > absorb
+  > END
+  workers 1
+  hosted
+  ticket 0
+  did 0
+  taken 1 added 0 dropped 0 unmade 1
 
 A host without workers takes no guess, has nothing to take in or to close, and nothing is left of its jobs.
 

@@ -1,22 +1,22 @@
 //! The ends of a pool's workers, beside its owner.
 ghost use Rattle.std.specs.Prelude.{◌≡◌, ◌<◌, map, vec_len, IfOk, IfErr};
 
-use crate::game::Played;
 use roll_branch::{Done, Job};
 use roll_frame::Refusal;
+use roll_game::Game;
 use roll_pool::{IssueFault, OpenGate, Outcome, Owner, Worked, WorkerEnd};
 use std::alloc::Global;
 
 /// A pool whose workers are all here.
 #[derive(Drop)]
-pub struct Crew {
-    pub owner: Owner<Played>,
-    pub ends: Vec<WorkerEnd<Played>>,
+pub struct Crew<G: Game> {
+    pub owner: Owner<G>,
+    pub ends: Vec<WorkerEnd<G>>,
     ghost places: { map (λ end. end.place) ends.items ≡ owner.places },
 }
 
 /// Lets a worker do one turn. None where there is no such worker.
-pub fn work_at(ends: &mut Vec<WorkerEnd<Played>>, place: usize, game: &mut Played) -> Option<Worked>
+pub fn work_at<G: Game>(ends: &mut Vec<WorkerEnd<G>>, place: usize, game: &mut G) -> Option<Worked>
     ensures { map (λ end. end.place) ends.new.items ≡ map (λ end. end.place) ends.old.items }
 {
     if place >= ends.len() {
@@ -25,37 +25,37 @@ pub fn work_at(ends: &mut Vec<WorkerEnd<Played>>, place: usize, game: &mut Playe
     Some(work_there(ends, place, game))
 }
 
-fn work_there(ends: &mut Vec<WorkerEnd<Played>>, place: usize, game: &mut Played) -> Worked
+fn work_there<G: Game>(ends: &mut Vec<WorkerEnd<G>>, place: usize, game: &mut G) -> Worked
     requires { place < vec_len ends.old }
     ensures { map (λ end. end.place) ends.new.items ≡ map (λ end. end.place) ends.old.items }
 {
     ends[place].work_one(game, &OpenGate)
 }
 
-impl Crew {
+impl<G: Game> Crew<G> {
     /// A pool of so many workers.
     ///
     /// # Errors
     ///
     /// Those of `Owner::open`.
-    pub fn open(alloc: Global, workers: usize) -> Result<Crew, Refusal> {
+    pub fn open(alloc: Global, workers: usize) -> Result<Crew<G>, Refusal> {
         let (owner, ends) = Owner::open(alloc, workers)?;
         Ok(Crew { owner, ends })
     }
 
-    pub fn issue(&mut self, job: Job<Played>) -> Result<u64, IssueFault<Played>> {
+    pub fn issue(&mut self, job: Job<G>) -> Result<u64, IssueFault<G>> {
         self.owner.issue(job)
     }
 
-    pub fn collect(&mut self) -> Option<Done<Played>> {
+    pub fn collect(&mut self) -> Option<Done<G>> {
         self.owner.collect()
     }
 
-    pub fn work(&mut self, place: usize, game: &mut Played) -> Option<Worked> {
+    pub fn work(&mut self, place: usize, game: &mut G) -> Option<Worked> {
         work_at(&mut self.ends, place, game)
     }
 
-    pub fn settle(self) -> Outcome<Played> {
+    pub fn settle(self) -> Outcome<G> {
         let Crew { owner, ends } = self;
         owner.settle(ends)
     }

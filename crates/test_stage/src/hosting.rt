@@ -4,8 +4,8 @@ ghost use Rattle.std.specs.Option.{ForSome};
 ghost use Rattle.roll_host.specs.Hosted.{places_of};
 
 use crate::crew::{Crew, work_at};
-use crate::game::Played;
 use roll_frame::{Event, Refusal, Reply};
+use roll_game::Game;
 use roll_host::{Absorbed, Host, Pumped};
 use roll_link::{LinkSender, Remote};
 use roll_pool::{Outcome, Worked, WorkerEnd};
@@ -14,45 +14,49 @@ use std::alloc::Global;
 
 /// Why there is no host.
 #[derive(Drop)]
-pub enum Unhosted {
+pub enum Unhosted<G: Game> {
     /// There is no memory for it: what it was to be made of is handed back.
-    Back(Session<Played>, Option<Crew>),
+    Back(Session<G>, Option<Crew<G>>),
     /// There is none for its link.
     NoLink,
 }
 
 /// A host, the sender of its first link while it is there, those of the others, and all its workers.
 #[derive(Drop)]
-pub struct Hosting {
-    host: Host<Played>,
+pub struct Hosting<G: Game> {
+    host: Host<G>,
     first: Option<LinkSender>,
     others: Vec<Option<LinkSender>>,
-    ends: Vec<WorkerEnd<Played>>,
+    ends: Vec<WorkerEnd<G>>,
     ghost ring: { ForSome first (λ sender. slice_get (map (λ link. link.ring) host.links) 0 ≡ Some sender.ring) },
     ghost places: { map (λ end. end.place) ends.items ≡ places_of host.pool },
 }
 
-impl Hosting {
+impl<G: Game + Drop> Hosting<G> {
     /// A host of a session with one link, and with the workers of a crew where there is one.
     pub fn new(
         alloc: Global,
-        session: Session<Played>,
-        crew: Option<Crew>,
-    ) -> Result<Hosting, Unhosted> {
+        session: Session<G>,
+        crew: Option<Crew<G>>,
+    ) -> Result<Hosting<G>, Unhosted<G>> {
         match crew {
             Some(crew) => Hosting::with_crew(alloc, session, crew),
             None => Hosting::alone(alloc, session),
         }
     }
 
-    fn alone(alloc: Global, session: Session<Played>) -> Result<Hosting, Unhosted> {
+    fn alone(alloc: Global, session: Session<G>) -> Result<Hosting<G>, Unhosted<G>> {
         match Host::new(alloc, session) {
             Ok(host) => Hosting::linked(alloc, host, Vec::new(alloc)),
             Err(failed) => Err(Unhosted::Back(failed.value, None)),
         }
     }
 
-    fn with_crew(alloc: Global, session: Session<Played>, crew: Crew) -> Result<Hosting, Unhosted> {
+    fn with_crew(
+        alloc: Global,
+        session: Session<G>,
+        crew: Crew<G>,
+    ) -> Result<Hosting<G>, Unhosted<G>> {
         let Crew { owner, ends } = crew;
         match Host::with_workers(alloc, session, owner) {
             Ok(host) => Hosting::linked(alloc, host, ends),
@@ -65,9 +69,9 @@ impl Hosting {
 
     fn linked(
         alloc: Global,
-        host: Host<Played>,
-        ends: Vec<WorkerEnd<Played>>,
-    ) -> Result<Hosting, Unhosted>
+        host: Host<G>,
+        ends: Vec<WorkerEnd<G>>,
+    ) -> Result<Hosting<G>, Unhosted<G>>
         requires links { host.links ≡ [] }
         requires places { map (λ end. end.place) ends.items ≡ places_of host.pool }
     {
@@ -83,7 +87,7 @@ impl Hosting {
         }
     }
 
-    pub fn session(&self) -> &Session<Played> {
+    pub fn session(&self) -> &Session<G> {
         self.host.session()
     }
 
@@ -148,7 +152,7 @@ impl Hosting {
     }
 
     /// Lets a worker do one turn. None where there is no such worker.
-    pub fn work(&mut self, place: usize, game: &mut Played) -> Option<Worked> {
+    pub fn work(&mut self, place: usize, game: &mut G) -> Option<Worked> {
         work_at(&mut self.ends, place, game)
     }
 
@@ -185,7 +189,7 @@ impl Hosting {
     }
 
     /// The session, and what became of the jobs.
-    pub fn settle(self) -> (Session<Played>, Outcome<Played>) {
+    pub fn settle(self) -> (Session<G>, Outcome<G>) {
         let Hosting {
             host,
             first: _,
@@ -195,7 +199,7 @@ impl Hosting {
         host.settle(ends)
     }
 
-    pub fn into_session(self) -> Session<Played> {
+    pub fn into_session(self) -> Session<G> {
         self.host.into_session()
     }
 }

@@ -1,12 +1,12 @@
 //! Jobs that are made by hand, and what became of jobs.
 
-use crate::game::Played;
+use crate::game::Staged;
 use crate::rows::Hand;
 use arrayvec::ArrayVec;
 use roll_branch::{Done, Job};
 use roll_frame::{Boxed, Path, Route, Row};
+use roll_game::Game;
 use roll_pool::{Outcome, Worked};
-use roll_text::push_number;
 use std::alloc::Global;
 use test_alone::{Answer, Fault, put, put_long};
 
@@ -14,7 +14,7 @@ use test_alone::{Answer, Fault, put, put_long};
 const BY_HAND: u64 = 9;
 
 /// The job of a branch made by hand. There is none without rows.
-pub fn job_of(alloc: Global, hand: &Hand) -> Result<Job<Played>, Fault> {
+pub fn job_of<G: Staged>(alloc: Global, hand: &Hand) -> Result<Job<G>, Fault> {
     let mut rows = ArrayVec::new();
     for row in &hand.rows {
         if !rows.is_full() {
@@ -24,7 +24,7 @@ pub fn job_of(alloc: Global, hand: &Hand) -> Result<Job<Played>, Fault> {
     let path = path_of(hand.base, &hand.own);
     let room = Vec::with_capacity(alloc, rows.len())?;
     let route = Boxed::new(alloc, Route { path, rows })?;
-    let Some(mut job) = Job::new(route, hand.from, room) else {
+    let Some(mut job) = Job::new(route, G::worth(hand.from), room) else {
         return Err(Fault::Unreadable);
     };
     job.set_ticket(BY_HAND);
@@ -43,7 +43,7 @@ fn path_of(base: u32, rows: &[Row]) -> Path {
 }
 
 /// Writes a result: its job's number, and the state after each row.
-pub fn put_done(out: &mut Vec<u8>, done: Done<Played>) -> Answer {
+pub fn put_done<G: Staged>(out: &mut Vec<u8>, done: Done<G>) -> Answer {
     match done {
         Done::Refused(ticket) => put_long(out, b"refused ", ticket)?,
         Done::Grown(branch) => {
@@ -51,7 +51,7 @@ pub fn put_done(out: &mut Vec<u8>, done: Done<Played>) -> Answer {
             put(out, b" states")?;
             for state in &branch.into_parts().states {
                 put(out, b" ")?;
-                push_number(out, *state)?;
+                G::put_snapshot(out, state)?;
             }
         }
     }
@@ -59,7 +59,7 @@ pub fn put_done(out: &mut Vec<u8>, done: Done<Played>) -> Answer {
 }
 
 /// The number of a result's job.
-fn ticket_of(done: &Done<Played>) -> u64 {
+fn ticket_of<G: Game>(done: &Done<G>) -> u64 {
     match done {
         Done::Grown(branch) => branch.ticket(),
         Done::Refused(ticket) => *ticket,
@@ -67,7 +67,7 @@ fn ticket_of(done: &Done<Played>) -> u64 {
 }
 
 /// Writes what became of the jobs of a pool: how many were issued and collected, and the numbers of the others.
-pub fn put_outcome(out: &mut Vec<u8>, outcome: &Outcome<Played>) -> Answer {
+pub fn put_outcome<G: Game>(out: &mut Vec<u8>, outcome: &Outcome<G>) -> Answer {
     put_long(out, b"issued ", outcome.issued)?;
     put_long(out, b" collected ", outcome.collected)?;
     put(out, b" late")?;

@@ -1,20 +1,21 @@
 //! Logs that are played again.
 
-use crate::game::{Played, put_state, refusing};
+use crate::game::{Staged, put_state};
 use roll_game::Call;
 use roll_session::{Log, Logged, Session};
 use std::alloc::Global;
 use test_alone::{Answer, Fault, put, put_count, put_named, put_shown};
 
 /// Plays a log on a new session with the same settings as this one, and then once more, and writes what comes of each.
-pub fn put_replays(
+pub fn put_replays<G: Staged>(
     alloc: Global,
     out: &mut Vec<u8>,
-    settings_of: &Session<Played>,
+    settings_of: &Session<G>,
     log: &Log,
 ) -> Answer {
-    let game = refusing(Call::Load, 0);
-    let Ok(mut session) = Session::start(alloc, game, 0, *settings_of.settings()) else {
+    let game = G::refusing(Call::Load, 0);
+    let settings = *settings_of.settings();
+    let Ok(mut session) = Session::start(alloc, game, G::worth(0), settings) else {
         return Err(Fault::NoMemory);
     };
     put_replay(alloc, out, &mut session, log)?;
@@ -22,10 +23,10 @@ pub fn put_replays(
     put_replay(alloc, out, &mut session, log)
 }
 
-fn put_replay(
+fn put_replay<G: Staged>(
     alloc: Global,
     out: &mut Vec<u8>,
-    session: &mut Session<Played>,
+    session: &mut Session<G>,
     log: &Log,
 ) -> Answer {
     match session.replay(log) {
@@ -33,7 +34,7 @@ fn put_replay(
         Err(fault) => put_shown(alloc, out, fault)?,
     }
     put_named(out, b" frame ", session.frame())?;
-    put_state(out, session.current())?;
+    put_state::<G>(out, session.current())?;
     put_count(out, b" log ", session.log().len())
 }
 

@@ -1,12 +1,12 @@
 //! The lines of standard input, one after another.
 use crate::ask::Ask;
-use crate::game::{Played, refusing};
+use crate::game::Staged;
 use crate::setup::Setup;
 use crate::stage::Stage;
 use crate::{claims, plans};
 use roll_cli::{Header, synctest};
 use roll_frame::{Refusal, Settings};
-use roll_game::Tally;
+use roll_game::{Refusing, Tally};
 use roll_session::Session;
 use roll_text::{fields, number, split_line, write_all};
 use std::alloc::Global;
@@ -14,6 +14,9 @@ use std::io;
 use std::io::Read;
 use std::rt::Runtime;
 use test_alone::{Answer, Drifting, Fault, is, put, put_refused, put_shown};
+
+/// The game that is played.
+type Played = Refusing<Tally>;
 
 /// Reads all commands, and carries them out. `line` is the one that it is at.
 pub fn run<R: Runtime>(rt: &R, alloc: Global, line: &mut u32) -> Answer {
@@ -87,7 +90,7 @@ fn start(
     setup: Setup,
     settings: Settings,
 ) -> Result<Option<Session<Played>>, Fault> {
-    let game = refusing(setup.game.call, setup.game.k);
+    let game = Played::refusing(setup.game.call, setup.game.k);
     match Session::start(alloc, game, Tally::opening(), settings) {
         Ok(session) => Ok(Some(session)),
         Err(fault) => {
@@ -119,7 +122,7 @@ fn play(
     text: &[u8],
     line: &mut u32,
 ) -> Answer {
-    let helper = refusing(setup.helper.call, setup.helper.k);
+    let helper = Played::refusing(setup.helper.call, setup.helper.k);
     let mut stage = Stage::new(alloc, session, helper);
     play_lines(alloc, out, &mut stage, setup.retry, text, line)
 }
@@ -127,7 +130,7 @@ fn play(
 fn play_lines(
     alloc: Global,
     out: &mut Vec<u8>,
-    stage: &mut Stage,
+    stage: &mut Stage<Played>,
     retry: bool,
     text: &[u8],
     line: &mut u32,
@@ -146,7 +149,7 @@ fn play_lines(
 }
 
 /// Writes what a line is answered. Where that is a refusal for want of memory, and it is wanted, it is asked once more.
-fn answer_line(out: &mut Vec<u8>, stage: &mut Stage, retry: bool, ask: &Ask) -> Answer {
+fn answer_line(out: &mut Vec<u8>, stage: &mut Stage<Played>, retry: bool, ask: &Ask) -> Answer {
     stage.answer(out, ask)?;
     if retry && out.ends_with(b"refused 107") {
         put(out, b"\n")?;

@@ -2,7 +2,7 @@
 
 use crate::ask::{Ask, Guess, One, Word};
 use crate::crew::Crew;
-use crate::game::{Played, put_state};
+use crate::game::{Staged, put_state};
 use crate::hosting::{Hosting, Unhosted};
 use crate::jobs::{job_of, put_done, put_outcome, put_worked};
 use crate::replays::{copied, put_replays};
@@ -17,7 +17,6 @@ use roll_host::{Absorbed, Pumped};
 use roll_link::Remote;
 use roll_pool::Worked;
 use roll_session::{Call, Request, Session};
-use roll_text::push_number;
 use std::alloc::Global;
 use test_alone::{
     Answer, Fault, put, put_count, put_counts, put_long, put_named, put_refused, put_settings,
@@ -26,22 +25,22 @@ use test_alone::{
 
 /// What stands on the stage.
 #[derive(Drop)]
-pub struct Stage {
+pub struct Stage<G: Staged> {
     alloc: Global,
     /// The session, while no host has it.
-    session: Option<Session<Played>>,
-    hosting: Option<Hosting>,
+    session: Option<Session<G>>,
+    hosting: Option<Hosting<G>>,
     /// The pool, while no host has it.
-    crew: Option<Crew>,
-    viewers: Option<Viewers>,
+    crew: Option<Crew<G>>,
+    viewers: Option<Viewers<G>>,
     /// It runs the jobs.
-    helper: Played,
+    helper: G,
     /// The jobs of the script's guesses.
-    jobs: Vec<Option<Job<Played>>>,
+    jobs: Vec<Option<Job<G>>>,
 }
 
-impl Stage {
-    pub fn new(alloc: Global, session: Session<Played>, helper: Played) -> Stage {
+impl<G: Staged> Stage<G> {
+    pub fn new(alloc: Global, session: Session<G>, helper: G) -> Stage<G> {
         Stage {
             alloc,
             session: Some(session),
@@ -109,7 +108,7 @@ impl Stage {
         }
     }
 
-    fn replay_copy(&self, out: &mut Vec<u8>, session: &Session<Played>) -> Answer {
+    fn replay_copy(&self, out: &mut Vec<u8>, session: &Session<G>) -> Answer {
         let log = copied(self.alloc, session.log())?;
         put_replays(self.alloc, out, session, &log)
     }
@@ -147,7 +146,7 @@ impl Stage {
     }
 
     /// The session, whoever has it.
-    fn session(&self) -> Option<&Session<Played>> {
+    fn session(&self) -> Option<&Session<G>> {
         match &self.hosting {
             Some(hosting) => Some(hosting.session()),
             None => self.session.as_ref(),
@@ -215,12 +214,7 @@ impl Stage {
         Ok(())
     }
 
-    fn job(
-        &mut self,
-        player: u8,
-        words: &[u32],
-        until: u32,
-    ) -> Result<Option<Job<Played>>, Refusal> {
+    fn job(&mut self, player: u8, words: &[u32], until: u32) -> Result<Option<Job<G>>, Refusal> {
         match &mut self.session {
             Some(session) => session.guess(self.alloc, player, words, until),
             None => Err(Refusal::Stopped),
@@ -233,22 +227,16 @@ impl Stage {
     }
 
     /// Keeps a job, and writes its number, how many rows it has, and how many its path has.
-    fn keep_job(
-        &mut self,
-        out: &mut Vec<u8>,
-        said: Result<Option<Job<Played>>, Refusal>,
-    ) -> Answer {
+    fn keep_job(&mut self, out: &mut Vec<u8>, said: Result<Option<Job<G>>, Refusal>) -> Answer {
         match said {
             Ok(Some(job)) => {
-                put_count(out, b"job ", self.jobs.len())?;
-                put_count(out, b" rows ", job.route().rows.len())?;
-                put_count(out, b" path ", job.route().path.rows.len())?;
+                let told = put_job(out, self.jobs.len(), &job);
                 self.jobs.push(Some(job))?;
+                told
             }
-            Ok(None) => put(out, b"kept")?,
-            Err(why) => put_refused(out, why)?,
+            Ok(None) => put(out, b"kept"),
+            Err(why) => put_refused(out, why),
         }
-        Ok(())
     }
 
     /// Runs a job of a guess, and grafts its branch.
@@ -259,14 +247,14 @@ impl Stage {
         }
     }
 
-    fn graft(&mut self, out: &mut Vec<u8>, job: Job<Played>) -> Answer {
+    fn graft(&mut self, out: &mut Vec<u8>, job: Job<G>) -> Answer {
         match extend(&mut self.helper, job) {
             Done::Grown(branch) => self.graft_branch(out, branch),
             Done::Refused(_) => put_refused(out, Refusal::NoMemory),
         }
     }
 
-    fn graft_branch(&mut self, out: &mut Vec<u8>, branch: Branch<Played>) -> Answer {
+    fn graft_branch(&mut self, out: &mut Vec<u8>, branch: Branch<G>) -> Answer {
         let Some(session) = &mut self.session else {
             return Err(Fault::Unreadable);
         };
@@ -289,7 +277,7 @@ impl Stage {
         }
     }
 
-    fn tell(&self, out: &mut Vec<u8>, branch: &Branch<Played>) -> Answer {
+    fn tell(&self, out: &mut Vec<u8>, branch: &Branch<G>) -> Answer {
         let Some(session) = &self.session else {
             return Err(Fault::Unreadable);
         };
@@ -381,7 +369,7 @@ impl Stage {
         put(out, b"alone")
     }
 
-    fn hosting(&mut self) -> Result<&mut Hosting, Fault> {
+    fn hosting(&mut self) -> Result<&mut Hosting<G>, Fault> {
         match &mut self.hosting {
             Some(hosting) => Ok(hosting),
             None => Err(Fault::Unreadable),
@@ -469,7 +457,7 @@ impl Stage {
         Ok(())
     }
 
-    fn crew(&mut self) -> Result<&mut Crew, Fault> {
+    fn crew(&mut self) -> Result<&mut Crew<G>, Fault> {
         match &mut self.crew {
             Some(crew) => Ok(crew),
             None => Err(Fault::Unreadable),
@@ -637,15 +625,15 @@ impl Stage {
         };
         let parts = session.into_parts();
         put(out, b"shown")?;
-        put_state(out, parts.shown.as_ref())?;
+        put_state::<G>(out, parts.shown.as_ref())?;
         put(out, b" opening ")?;
-        push_number(out, parts.opening)?;
+        G::put_snapshot(out, &parts.opening)?;
         put_turns(out, parts.game.counts())
     }
 }
 
 /// Makes a call of a session.
-fn make_in(session: &mut Session<Played>, call: Call) -> Result<Reply, Refusal> {
+fn make_in<G: Staged>(session: &mut Session<G>, call: Call) -> Result<Reply, Refusal> {
     match session.perform(Request::Call(call)) {
         Ok(Reply::Refused(why)) => Err(why),
         Ok(reply) => Ok(reply),
@@ -653,8 +641,15 @@ fn make_in(session: &mut Session<Played>, call: Call) -> Result<Reply, Refusal> 
     }
 }
 
+/// Writes a job's number, how many rows it has, and how many its path has.
+fn put_job<G: Staged>(out: &mut Vec<u8>, number: usize, job: &Job<G>) -> Answer {
+    put_count(out, b"job ", number)?;
+    put_count(out, b" rows ", job.route().rows.len())?;
+    put_count(out, b" path ", job.route().path.rows.len())
+}
+
 /// Takes a job away, if there is one of this number.
-fn take_job(jobs: &mut Vec<Option<Job<Played>>>, number: usize) -> Option<Job<Played>> {
+fn take_job<G: Staged>(jobs: &mut Vec<Option<Job<G>>>, number: usize) -> Option<Job<G>> {
     jobs.get_mut(number)?.take()
 }
 

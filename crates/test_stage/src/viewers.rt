@@ -1,8 +1,8 @@
 //! Spectators, and the feed that sends them rows.
 
-use crate::game::{Played, put_state, refusing};
+use crate::game::{Staged, put_state};
 use roll_frame::Refusal;
-use roll_game::{Call, RawGame, Tally};
+use roll_game::{Call, Game};
 use roll_session::Session;
 use roll_spectate::{Feed, RING_ROWS, RowReceiver, Spectator, SpectatorFault};
 use std::alloc::Global;
@@ -10,13 +10,13 @@ use test_alone::{Answer, Fault, put, put_count, put_named, put_refused, put_turn
 
 /// A feed, and its spectators by number. None where one is gone.
 #[derive(Drop)]
-pub struct Viewers {
+pub struct Viewers<G: Game> {
     feed: Feed,
-    seats: Vec<Option<Spectator<Played>>>,
+    seats: Vec<Option<Spectator<G>>>,
 }
 
-impl Viewers {
-    pub fn new(alloc: Global) -> Result<Viewers, Refusal> {
+impl<G: Staged> Viewers<G> {
+    pub fn new(alloc: Global) -> Result<Viewers<G>, Refusal> {
         Ok(Viewers {
             feed: Feed::new(alloc)?,
             seats: Vec::new(alloc),
@@ -33,35 +33,35 @@ impl Viewers {
     }
 
     fn seat(&mut self, out: &mut Vec<u8>, receiver: RowReceiver, call: Call, k: u64) -> Answer {
-        match Spectator::new(refusing(call, k), &Tally::opening(), receiver) {
+        match Spectator::new(G::refusing(call, k), &G::worth(0), receiver) {
             Ok(spectator) => self.take(out, spectator),
             Err(fault) => self.seat_again(out, fault),
         }
     }
 
-    fn seat_again(&mut self, out: &mut Vec<u8>, fault: SpectatorFault<Played>) -> Answer {
+    fn seat_again(&mut self, out: &mut Vec<u8>, fault: SpectatorFault<G>) -> Answer {
         put_refused(out, fault.why)?;
         put_turns(out, fault.game.counts())?;
         put(out, b"; ")?;
-        match Spectator::new(fault.game, &Tally::opening(), fault.receiver) {
+        match Spectator::new(fault.game, &G::worth(0), fault.receiver) {
             Ok(spectator) => self.take(out, spectator),
             Err(_) => Err(Fault::NoMemory),
         }
     }
 
-    fn take(&mut self, out: &mut Vec<u8>, spectator: Spectator<Played>) -> Answer {
+    fn take(&mut self, out: &mut Vec<u8>, spectator: Spectator<G>) -> Answer {
         put_count(out, b"spectator ", self.seats.len())?;
         self.seats.push(Some(spectator))?;
         Ok(())
     }
 
     /// Sends rows, and answers how many.
-    pub fn push(&mut self, session: &Session<Played>) -> u32 {
+    pub fn push(&mut self, session: &Session<G>) -> u32 {
         self.feed.push(session)
     }
 
     /// Sends rows so many times, and after each lets every spectator step through its ring. How many rows were sent.
-    pub fn relay(&mut self, session: &Session<Played>, times: u32) -> u32 {
+    pub fn relay(&mut self, session: &Session<G>, times: u32) -> u32 {
         let mut sent = 0u32;
         for _ in 0..times {
             sent = sent.saturating_add(self.feed.push(session));
@@ -92,7 +92,7 @@ impl Viewers {
             return Err(Fault::Unreadable);
         };
         put(out, b"shown")?;
-        put_state(out, spectator.state())?;
+        put_state::<G>(out, spectator.state())?;
         put_turns(out, spectator.game().counts())
     }
 
@@ -105,15 +105,15 @@ impl Viewers {
     }
 }
 
-fn put_step(out: &mut Vec<u8>, spectator: &mut Spectator<Played>, times: u32) -> Answer {
+fn put_step<G: Staged>(out: &mut Vec<u8>, spectator: &mut Spectator<G>, times: u32) -> Answer {
     match step_times(spectator, times) {
         Ok(frame) => put_named(out, b"frame ", frame)?,
         Err(why) => put_refused(out, why)?,
     }
-    put_state(out, spectator.state())
+    put_state::<G>(out, spectator.state())
 }
 
-fn step_times(spectator: &mut Spectator<Played>, times: u32) -> Result<u32, Refusal> {
+fn step_times<G: Game>(spectator: &mut Spectator<G>, times: u32) -> Result<u32, Refusal> {
     let mut said = Err(Refusal::InvalidRequest);
     for _ in 0..times {
         said = spectator.step();
@@ -122,7 +122,7 @@ fn step_times(spectator: &mut Spectator<Played>, times: u32) -> Result<u32, Refu
 }
 
 /// Steps as often as a ring has rows, or until there is none.
-fn step_through(spectator: &mut Spectator<Played>) {
+fn step_through<G: Game>(spectator: &mut Spectator<G>) {
     for _ in 0..RING_ROWS {
         if spectator.step().is_err() {
             return;

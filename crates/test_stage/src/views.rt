@@ -1,17 +1,16 @@
 //! What is told of a session.
 
-use crate::game::{Played, put_state};
+use crate::game::{Staged, put_state};
 use roll_frame::{Refusal, Reply};
 use roll_plan::Plan;
 use roll_session::{Call, Logged, Session, Source};
-use roll_text::push_number;
 use std::alloc::Global;
 use test_alone::{
     Answer, Fault, put, put_count, put_long, put_maybe, put_named, put_path, put_refused, put_row,
 };
 
 /// Writes a reply, as a script's is written. A sync tells its row too.
-pub fn put_reply(out: &mut Vec<u8>, session: &Session<Played>, reply: &Reply) -> Answer {
+pub fn put_reply<G: Staged>(out: &mut Vec<u8>, session: &Session<G>, reply: &Reply) -> Answer {
     match reply {
         Reply::Refused(why) => put_refused(out, *why)?,
         Reply::Done => put(out, b"ok")?,
@@ -30,23 +29,27 @@ pub fn put_reply(out: &mut Vec<u8>, session: &Session<Played>, reply: &Reply) ->
 }
 
 /// Writes what the last roll led to.
-fn put_rolled(out: &mut Vec<u8>, session: &Session<Played>) -> Answer {
+fn put_rolled<G: Staged>(out: &mut Vec<u8>, session: &Session<G>) -> Answer {
     put_named(out, b"frame ", session.frame())?;
-    let plan = session.last_plan();
-    put_maybe(out, b" from ", plan.map(|plan| plan.from))?;
-    put_maybe(out, b" rerun ", plan.map(|plan| plan.rerun))?;
+    match session.last_plan() {
+        Some(plan) => {
+            put_named(out, b" from ", plan.from)?;
+            put_named(out, b" rerun ", plan.rerun)?;
+        }
+        None => put(out, b" from - rerun -")?,
+    }
     put_count(out, b" settled ", session.settled())?;
-    put_state(out, session.current())
+    put_state::<G>(out, session.current())
 }
 
 /// Writes the frame, the settled frame, the length of the log, both states, and the last plan.
-pub fn put_seen(out: &mut Vec<u8>, session: &Session<Played>) -> Answer {
+pub fn put_seen<G: Staged>(out: &mut Vec<u8>, session: &Session<G>) -> Answer {
     put_named(out, b"frame ", session.frame())?;
     put_count(out, b" settled ", session.settled())?;
     put_count(out, b" log ", session.log().len())?;
-    put_state(out, session.current())?;
+    put_state::<G>(out, session.current())?;
     put(out, b" settled state ")?;
-    push_number(out, *session.settled_state())?;
+    G::put_snapshot(out, session.settled_state())?;
     put_plan(out, session.last_plan())
 }
 
@@ -62,7 +65,7 @@ fn put_plan(out: &mut Vec<u8>, plan: Option<&Plan>) -> Answer {
 }
 
 /// Writes the paths of all kept states.
-pub fn put_kept(alloc: Global, out: &mut Vec<u8>, session: &Session<Played>) -> Answer {
+pub fn put_kept<G: Staged>(alloc: Global, out: &mut Vec<u8>, session: &Session<G>) -> Answer {
     let Ok(kept) = session.kept(alloc) else {
         return Err(Fault::NoMemory);
     };
@@ -75,7 +78,7 @@ pub fn put_kept(alloc: Global, out: &mut Vec<u8>, session: &Session<Played>) -> 
 }
 
 /// Writes a settled row, or a dash.
-pub fn put_settled_row(out: &mut Vec<u8>, session: &Session<Played>, frame: u32) -> Answer {
+pub fn put_settled_row<G: Staged>(out: &mut Vec<u8>, session: &Session<G>, frame: u32) -> Answer {
     match session.settled_row(frame as usize) {
         Some(row) => put_row(out, &row),
         None => put(out, b"-"),
@@ -83,7 +86,7 @@ pub fn put_settled_row(out: &mut Vec<u8>, session: &Session<Played>, frame: u32)
 }
 
 /// Writes whether a player is local, where its next word counts, and how many of its words are confirmed.
-pub fn put_player(out: &mut Vec<u8>, session: &Session<Played>, player: u8) -> Answer {
+pub fn put_player<G: Staged>(out: &mut Vec<u8>, session: &Session<G>, player: u8) -> Answer {
     let local: &[u8] = if session.is_local(player) {
         b"local"
     } else {
@@ -95,7 +98,12 @@ pub fn put_player(out: &mut Vec<u8>, session: &Session<Played>, player: u8) -> A
 }
 
 /// Writes the confirmed word of a cell, and where the cell is from.
-pub fn put_source(out: &mut Vec<u8>, session: &Session<Played>, player: u8, frame: u32) -> Answer {
+pub fn put_source<G: Staged>(
+    out: &mut Vec<u8>,
+    session: &Session<G>,
+    player: u8,
+    frame: u32,
+) -> Answer {
     put_maybe(out, b"word ", session.confirmed_word(player, frame))?;
     let from: &[u8] = match session.source(player, frame) {
         Some(Source::Confirmed) => b" confirmed",
@@ -107,7 +115,7 @@ pub fn put_source(out: &mut Vec<u8>, session: &Session<Played>, player: u8, fram
 }
 
 /// Writes the entries of the log.
-pub fn put_log(out: &mut Vec<u8>, session: &Session<Played>) -> Answer {
+pub fn put_log<G: Staged>(out: &mut Vec<u8>, session: &Session<G>) -> Answer {
     let log = session.log();
     put_count(out, b"log ", log.len())?;
     for place in 0..log.len() {
@@ -152,7 +160,7 @@ fn put_call(out: &mut Vec<u8>, call: Call) -> Answer {
 }
 
 /// Writes the claim of the last roll, without its last line's end, or the refusal.
-pub fn put_claim(alloc: Global, out: &mut Vec<u8>, session: &Session<Played>) -> Answer {
+pub fn put_claim<G: Staged>(alloc: Global, out: &mut Vec<u8>, session: &Session<G>) -> Answer {
     match session.claim(alloc) {
         Ok(claim) => {
             let text = roll_cert::write(alloc, &claim)?;
