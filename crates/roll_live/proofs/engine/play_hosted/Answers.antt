@@ -18,10 +18,10 @@ returns-in-Ok-clause-played g c =
     let logged = rw c.session.ensures at c.laws.ensures.log in
     IfOk-weaker c.play_all-played.result _ _
     (λ refused h. (
-    c.play_all-played.new.self.host.session,
-    h.0,
-    live_headline g.G.Game.step g.G.Shown.text_of c.args.host.session c.play_all-played.new.self.host.session c.args.commands.now h.0 refused logged
-    (subst (λ (s : Seen). IsLive g.G.Game.step g.G.Shown.text_of s c.play_all-played.new.self.host.session c.args.commands.now h.0 refused) same h.1),
-    h.2,
+      c.play_all-played.new.self.host.session,
+      h.0,
+      live_headline g.G.Game.step g.G.Shown.text_of c.args.host.session c.play_all-played.new.self.host.session c.args.commands.now h.0 refused logged
+          (subst (λ (s : Seen). IsLive g.G.Game.step g.G.Shown.text_of s c.play_all-played.new.self.host.session c.args.commands.now h.0 refused) same h.1),
+      h.2,
     ))
     c.play_all-played.ensures.played
