@@ -4,7 +4,7 @@ ghost use Rattle.roll_text.specs.declared.streams.TheConstants.{TEXT_LIMIT};
 ghost use Rattle.roll_cli.specs.Faults.{TakesAtMost};
 ghost use Rattle.roll_cli.specs.Plays.{IsPlay, play_of};
 ghost use Rattle.roll_cli.specs.Programs.{Ends};
-ghost use Rattle.roll_cli.specs.declared.engine.PlayFault.TheVariants.{Write as CannotWrite};
+ghost use Rattle.prog_parts.specs.declared.fault.PlayFault.TheVariants.{Write as CannotWrite};
 
 use crate::forms::diagnose;
 use crate::refusals::{push_refused, refusal_in};

@@ -1,7 +1,7 @@
 //! What is wrong with a line of a script, a file of rows or a claim.
 ghost use Rattle.std.specs.Prelude.{◌≡◌, ◌≢◌, ◌-◌, [], IfSome, None, drop, length, slice_index_or};
 ghost use Rattle.roll_text.specs.Lines.{lines_of};
-ghost use Rattle.roll_cli.specs.declared.program.GameName.{GameName};
+ghost use Rattle.prog_parts.specs.declared.ending.GameName.{GameName};
 ghost use Rattle.prog_explain.specs.Diagnoses.{IsCommandForm, IsCommandLine, IsSaidOf, IsTrueInside, IsTrueOf, fields};
 
 use crate::diagnosis::Diagnosis;

@@ -2,8 +2,8 @@
 use Rattle.std.proofs.Common.{◌≡◌, ℕ, List, refl, ap, sym, subst, Option, Some, None}
 use Rattle.std.specs.Prelude.{IfSome, IfErr, IsErrAnd, Result, Ok, Err, ⊤, Bool}
 use Rattle.roll_text.specs.Streams.{AppendsPart, IsBadAt}
-use Rattle.roll_cli.specs.declared.engine.PlayFault.{PlayFault}
-use Rattle.roll_cli.specs.declared.engine.PlayFault.TheVariants.{Unreadable, NoMemory, Read, Write}
+use Rattle.prog_parts.specs.declared.fault.PlayFault.{PlayFault}
+use Rattle.prog_parts.specs.declared.fault.PlayFault.TheVariants.{Unreadable, NoMemory, Read, Write}
 use Rattle.roll_cli.specs.declared.program.Task.{Task}
 use Rattle.roll_cli.specs.Programs.{IsDone, IsFault, IsReadable}
 

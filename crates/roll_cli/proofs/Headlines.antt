@@ -23,7 +23,7 @@ use Rattle.roll_cli.specs.Headlines.{events_from, line_of, lines_from, started, 
 use Rattle.roll_cli.specs.Output.{Playing, Texts, after_command, asked_by, duel_game, duel_output, duel_refusals, event_text, first_playing, job_at, output, refusals, reply_line, IsOutput}
 use Rattle.roll_cli.specs.Headers.{settings_of}
 use Rattle.roll_cli.specs.Plays.{Play}
-use Rattle.roll_cli.specs.Shown.{duel_text}
+use Rattle.prog_parts.specs.Shown.{duel_text}
 use Rattle.roll_cli.specs.declared.command.Command.{Command}
 use Rattle.roll_cli.specs.declared.command.Command.TheVariants.{Local as Gives, Remote as Tells, Disconnect as Leaves, Sync as Syncs, Advance as Advances, Guess, Extend, Claim}
 

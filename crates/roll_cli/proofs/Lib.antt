@@ -1,7 +1,5 @@
 pub mod Spelled
 pub mod Headings
-pub mod ShownExamples
-pub mod ShownTexts
 pub mod Unplayed
 pub mod RowsRead
 pub mod Tested

@@ -17,7 +17,7 @@ use Rattle.roll_cli.specs.Output.{Playing, Texts, after_command, asked_by, event
 use Rattle.roll_cli.specs.Output.{duel_game, duel_output, duel_refusals}
 use Rattle.roll_cli.specs.Output.{first_playing, output, refusals, reply_line, IsOutput}
 use Rattle.roll_cli.specs.Plays.{Play}
-use Rattle.roll_cli.specs.Shown.{duel_text}
+use Rattle.prog_parts.specs.Shown.{duel_text}
 use Rattle.roll_cli.specs.declared.command.Command.{Command}
 
 -- a session that has just started, over a game with these counts

@@ -1,7 +1,6 @@
 pub mod Commands
 pub mod Headers
 pub mod Plays
-pub mod Shown
 pub mod Output
 pub mod Playings
 pub mod Calls

@@ -31,7 +31,7 @@ use Rattle.roll_cli.specs.declared.command.Command.{Command}
 use Rattle.roll_cli.specs.declared.command.Command.TheVariants.{Local as Gives, Remote as Tells, Disconnect as Leaves, Sync as Syncs, Advance as Advances, Guess, Extend, Claim}
 use Rattle.roll_cli.specs.Headers.{Setup, settings_of}
 use Rattle.roll_cli.specs.Plays.{AreCommands, Play, IsPlay, play_lines}
-use Rattle.roll_cli.specs.Shown.{duel_text}
+use Rattle.prog_parts.specs.Shown.{duel_text}
 
 -- how a game's states are printed, by their values
 abbrev pub Texts : Type 0

@@ -3,10 +3,10 @@ use Rattle.std.specs.Prelude.{◌≡◌, ◌==◌, ℕ, List, Bool, if◌then◌
 use Rattle.std.specs.Io.KnownBytes.{Appends}
 use Rattle.roll_cert.specs.Texts.{IsClaimText}
 use Rattle.roll_text.specs.Streams.{AppendsPart, IsBadAt}
-use Rattle.roll_cli.specs.declared.engine.PlayFault.{PlayFault}
-use Rattle.roll_cli.specs.declared.engine.PlayFault.TheVariants.{Unreadable, NoMemory, Read, Write}
-use Rattle.roll_cli.specs.declared.program.Ending.{Ending}
-use Rattle.roll_cli.specs.declared.program.GameName.TheVariants.{Tally, Duel}
+use Rattle.prog_parts.specs.declared.fault.PlayFault.{PlayFault}
+use Rattle.prog_parts.specs.declared.fault.PlayFault.TheVariants.{Unreadable, NoMemory, Read, Write}
+use Rattle.prog_parts.specs.declared.ending.Ending.{Ending}
+use Rattle.prog_parts.specs.declared.ending.GameName.TheVariants.{Tally, Duel}
 use Rattle.roll_cli.specs.declared.program.Task.{Task}
 use Rattle.roll_cli.specs.declared.program.Task.TheVariants.{Play, SyncTest, Certify}
 use Rattle.roll_cli.specs.Certified.{IsCertified}
@@ -14,7 +14,7 @@ use Rattle.roll_cli.specs.Output.{IsOutput, output, refusals, tally_game, duel_o
 use Rattle.roll_cli.specs.Plays.{IsScript}
 use Rattle.roll_cli.specs.RowsFiles.{IsRowsText}
 use Rattle.roll_cli.specs.SyncTests.{IsDuelSynced, IsTallySynced}
-use Rattle.roll_cli.specs.Shown.{tally_text}
+use Rattle.prog_parts.specs.Shown.{tally_text}
 
 -- the texts that a task can read
 abbrev pub IsReadable : Task → List ℕ → Type 0

@@ -8,9 +8,9 @@ ghost use Rattle.roll_text.specs.declared.streams.TheConstants.{TEXT_LIMIT};
 ghost use Rattle.roll_cert.specs.Texts.{IsClaimText, IsSized, claim_lines};
 ghost use Rattle.roll_cli.specs.Certified.{IsAnswer, IsCertified, right_line, wrong_line};
 ghost use Rattle.roll_cli.specs.Faults.{TakesAtMost, fault_of_claim};
-ghost use Rattle.roll_cli.specs.declared.engine.PlayFault.TheVariants.{NoMemory, Unreadable, Write as CannotWrite};
+ghost use Rattle.prog_parts.specs.declared.fault.PlayFault.TheVariants.{NoMemory, Unreadable, Write as CannotWrite};
 
-use crate::engine::PlayFault;
+use prog_parts::PlayFault;
 use roll_cert::{Flaw, check};
 use roll_frame::{Claim, Refusal};
 use roll_text::{read_all, write_all};

@@ -6,8 +6,7 @@ ghost use Rattle.roll_session.specs.Seen.{core_of, game_of};
 ghost use Rattle.roll_text.specs.Lines.{ended};
 ghost use Rattle.roll_cli.specs.Output.{claim_text, frame_line, refused_line, reply_line};
 
-use crate::engine::PlayFault;
-use crate::shown::Shown;
+use prog_parts::{PlayFault, Shown};
 use roll_frame::{Refusal, Reply};
 use roll_session::Session;
 use roll_text::{push_number, push_signed};

@@ -11,9 +11,8 @@ ghost use Rattle.roll_cli.specs.Plays.{AreCommands};
 ghost use Rattle.roll_cli.specs.declared.command.Command.{Command};
 
 use crate::command::{Command, first_command};
-use crate::engine::PlayFault;
 use crate::output::{push_claim, push_job, push_reply};
-use crate::shown::Shown;
+use prog_parts::{PlayFault, Shown};
 use roll_branch::{Done, Job, extend};
 use roll_frame::{Refusal, Reply};
 use roll_game::Game;

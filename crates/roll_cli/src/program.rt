@@ -7,13 +7,14 @@ ghost use Rattle.roll_cli.specs.Faults.{TakesAtMost};
 ghost use Rattle.roll_cli.specs.Output.{IsOutput, output, refusals, tally_game};
 ghost use Rattle.roll_cli.specs.Plays.{IsScript};
 ghost use Rattle.roll_cli.specs.Programs.{Ends, IsDone, IsFault};
-ghost use Rattle.roll_cli.specs.Shown.{tally_text};
-ghost use Rattle.roll_cli.specs.declared.engine.PlayFault.TheVariants.{Unreadable, Write as CannotWrite};
+ghost use Rattle.prog_parts.specs.Shown.{tally_text};
+ghost use Rattle.prog_parts.specs.declared.fault.PlayFault.TheVariants.{Unreadable, Write as CannotWrite};
 ghost use Rattle.roll_cli.specs.declared.program.Task.TheVariants.{Play, SyncTest};
 
 use crate::certificate::certify;
-use crate::engine::{PlayFault, play, play_duel};
+use crate::engine::{play, play_duel};
 use crate::sync_test::{synctest_duel, synctest_tally};
+use prog_parts::{Ending, GameName, PlayFault};
 use roll_game::Tally;
 use std::alloc::Global;
 use std::io::{Read, Write};
@@ -27,35 +28,6 @@ pub enum Task {
     SyncTest { game: GameName, frames: u32 },
     /// The text is a claim, to be checked.
     Certify,
-}
-
-/// The games that a script can be played with, and that can be tested.
-#[derive(Clone, Copy, Debug, PartialEq, Eq)]
-pub enum GameName {
-    Tally,
-    Duel,
-}
-
-/// How the program ends.
-#[derive(Clone, Copy, Debug, PartialEq, Eq)]
-pub struct Ending {
-    /// The exit status: 0; 1 where a reply was a refusal, a frame came out different or a claim isn't right; 2 after a fault.
-    pub status: u8,
-    /// What is told on standard error.
-    pub fault: Option<PlayFault>,
-}
-
-impl From<PlayFault> for Ending {
-    ghost use Rattle.std.specs.Prelude.{◌≡◌, Some};
-
-    ghost from_gives = { λ fault ending. ending ≡ record { status = 2; fault = Some fault } };
-
-    fn from(fault: PlayFault) -> Ending {
-        Ending {
-            status: 2,
-            fault: Some(fault),
-        }
-    }
 }
 
 /// Does what a task asks for with the text that a reader holds, and answers how the program ends.

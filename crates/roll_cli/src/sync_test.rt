@@ -9,11 +9,12 @@ ghost use Rattle.roll_text.specs.declared.streams.TheConstants.{TEXT_LIMIT};
 ghost use Rattle.roll_cli.specs.Faults.{TakesAtMost};
 ghost use Rattle.roll_cli.specs.RowsFiles.{IsRowsFile, IsRowsText, file_lines, file_of};
 ghost use Rattle.roll_cli.specs.SyncTests.{AreSaid, IsDuelSynced, IsTallySynced, IsTested, IsTold, duel_sync_output, is_duel_startable, is_startable, verdict_line};
-ghost use Rattle.roll_cli.specs.declared.engine.PlayFault.TheVariants.{NoMemory, Unreadable, Write as CannotWrite};
+ghost use Rattle.prog_parts.specs.declared.fault.PlayFault.TheVariants.{NoMemory, Unreadable, Write as CannotWrite};
 
-use crate::engine::{PlayFault, push_not_started, write_not_started};
+use crate::engine::{push_not_started, write_not_started};
 use crate::output::push_named;
 use crate::rows_file::RowsFile;
+use prog_parts::PlayFault;
 use roll_duel::Duel;
 use roll_frame::{Refusal, Row};
 use roll_game::{RawGame, Tally, never_diverges};

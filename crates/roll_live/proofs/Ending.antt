@@ -14,9 +14,9 @@ use Rattle.roll_text.specs.Streams.{AppendsPart, IsBadAt}
 use Rattle.roll_cli.specs.Output.{Texts, refused_line}
 use Rattle.roll_cli.specs.Plays.{IsScript, Play}
 use Rattle.roll_cli.specs.declared.command.Command.{Command}
-use Rattle.roll_cli.specs.declared.engine.PlayFault.{PlayFault}
-use Rattle.roll_cli.specs.declared.engine.PlayFault.TheVariants.{Unreadable, NoMemory, Read, Write}
-use Rattle.roll_cli.specs.declared.program.GameName.{GameName}
+use Rattle.prog_parts.specs.declared.fault.PlayFault.{PlayFault}
+use Rattle.prog_parts.specs.declared.fault.PlayFault.TheVariants.{Unreadable, NoMemory, Read, Write}
+use Rattle.prog_parts.specs.declared.ending.GameName.{GameName}
 use Rattle.roll_cli.proofs.Guessed.{refused_so}
 use Rattle.roll_cli.specs.Headlines.{started}
 use Rattle.roll_live.specs.Lives.{FarOf, IsFault, IsOutput, IsUnreadable, WritesOf, WritesUnder}

@@ -14,13 +14,13 @@ use Rattle.roll_cli.specs.Headers.{settings_of}
 use Rattle.roll_cli.specs.Headlines.{started}
 use Rattle.roll_cli.specs.Output.{Texts, duel_game, refused_line, tally_game}
 use Rattle.roll_cli.specs.Plays.{IsPlay, IsScript, Play, play_lines}
-use Rattle.roll_cli.specs.Shown.{duel_text, tally_text}
+use Rattle.prog_parts.specs.Shown.{duel_text, tally_text}
 use Rattle.roll_cli.specs.declared.command.Command.{Command}
-use Rattle.roll_cli.specs.declared.engine.PlayFault.{PlayFault}
-use Rattle.roll_cli.specs.declared.engine.PlayFault.TheVariants.{Unreadable, NoMemory, Read, Write}
-use Rattle.roll_cli.specs.declared.program.Ending.{Ending}
-use Rattle.roll_cli.specs.declared.program.GameName.{GameName}
-use Rattle.roll_cli.specs.declared.program.GameName.TheVariants.{Tally, Duel}
+use Rattle.prog_parts.specs.declared.fault.PlayFault.{PlayFault}
+use Rattle.prog_parts.specs.declared.fault.PlayFault.TheVariants.{Unreadable, NoMemory, Read, Write}
+use Rattle.prog_parts.specs.declared.ending.Ending.{Ending}
+use Rattle.prog_parts.specs.declared.ending.GameName.{GameName}
+use Rattle.prog_parts.specs.declared.ending.GameName.TheVariants.{Tally, Duel}
 use Rattle.roll_live.specs.Headlines.{HasHeadline}
 use Rattle.roll_live.specs.Tellings.{IsLive}
 use Rattle.roll_live.specs.Told.{IsFar}

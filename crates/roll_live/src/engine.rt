@@ -9,7 +9,7 @@ ghost use Rattle.roll_text.specs.Streams.{AppendsPart};
 ghost use Rattle.roll_text.specs.declared.streams.TheConstants.{TEXT_LIMIT};
 ghost use Rattle.roll_cli.specs.Faults.{TakesAtMost};
 ghost use Rattle.roll_cli.specs.Plays.{IsPlay, play_of};
-ghost use Rattle.roll_cli.specs.declared.engine.PlayFault.TheVariants.{NoMemory, Unreadable, Write as CannotWrite};
+ghost use Rattle.prog_parts.specs.declared.fault.PlayFault.TheVariants.{NoMemory, Unreadable, Write as CannotWrite};
 ghost use Rattle.roll_live.specs.Headlines.{HasHeadline};
 ghost use Rattle.roll_live.specs.Lives.{IsFarAt, IsFarOf, IsFarUnder, IsOutput, IsUnreadable, Writes, WritesUnder};
 

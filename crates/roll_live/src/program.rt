@@ -6,8 +6,8 @@ ghost use Rattle.roll_text.specs.Streams.{AppendsPart};
 ghost use Rattle.roll_text.specs.declared.streams.TheConstants.{TEXT_LIMIT};
 ghost use Rattle.roll_cli.specs.Faults.{TakesAtMost};
 ghost use Rattle.roll_cli.specs.Plays.{IsPlay, play_of};
-ghost use Rattle.roll_cli.specs.declared.engine.PlayFault.TheVariants.{NoMemory, Unreadable, Write as CannotWrite};
-ghost use Rattle.roll_cli.specs.declared.program.GameName.TheVariants.{Duel as DuelName};
+ghost use Rattle.prog_parts.specs.declared.fault.PlayFault.TheVariants.{NoMemory, Unreadable, Write as CannotWrite};
+ghost use Rattle.prog_parts.specs.declared.ending.GameName.TheVariants.{Duel as DuelName};
 ghost use Rattle.roll_live.specs.Lives.{DuelWrites, Ends, FarOf, IsFault, IsOutput, WritesOf};
 
 use crate::engine::{live, write_live};

@@ -1,6 +1,6 @@
 //! What a match is played with.
 
-use roll_cli::GameName;
+use prog_parts::GameName;
 
 /// Which guesses a peer makes after each of its frames.
 #[derive(Clone, Copy, Debug, PartialEq, Eq)]

@@ -1,14 +1,14 @@
 //! A match from its options to what is written of it.
 ghost use Rattle.std.specs.Prelude.{◌≡◌, ◌⊎◌, ◌<◌, ◌≤◌, ◌^◌, IfErr, IfSome, MatchOption, OnOk, vec_len};
 ghost use Rattle.roll_match.specs.Options.{IsPlayable};
-ghost use Rattle.roll_cli.specs.declared.engine.PlayFault.TheVariants.{Write as CannotWrite};
+ghost use Rattle.prog_parts.specs.declared.fault.PlayFault.TheVariants.{Write as CannotWrite};
 
 use crate::options::MatchOptions;
 use crate::playing::{Engines, Match};
 use crate::side::Side;
 use crate::table::{Report, push_report};
 use crate::totals::sum_up;
-use roll_cli::{Ending, GameName, PlayFault, Shown};
+use prog_parts::{Ending, GameName, PlayFault, Shown};
 use roll_duel::Duel;
 use roll_frame::Refusal;
 use roll_game::Tally;

@@ -1,7 +1,7 @@
 //! What is printed of a match.
 use crate::options::{Guesses, MatchOptions};
 use crate::totals::Totals;
-use roll_cli::GameName;
+use prog_parts::GameName;
 use std::alloc::AllocError;
 use std::fmt::Write;
 

@@ -3,7 +3,7 @@ ghost use Rattle.std.specs.Prelude.{◌<◌};
 
 use crate::draws::Draws;
 use crate::options::MatchOptions;
-use roll_cli::GameName;
+use prog_parts::GameName;
 use std::alloc::{AllocError, Global};
 
 /// How many words a player chooses among.

@@ -4,7 +4,7 @@ use Rattle.clap.specs.Kinds.{HasKind, IsAmong, Kinds}
 use Rattle.clap.specs.Values.{kind_of}
 use Rattle.clap.specs.declared.error.Error.{Error}
 use Rattle.clap.specs.declared.error.kind.ErrorKind.{ErrorKind}
-use Rattle.roll_cli.specs.declared.program.Ending.{Ending}
+use Rattle.prog_parts.specs.declared.ending.Ending.{Ending}
 use Rattle.rollduel.specs.Endings.{EndsRefused, IsPrinted, IsTold, IsToldOfOne}
 
 told_of_one : (kinds : Kinds) (kind : ErrorKind) (ending : Ending) → IsAmong kind kinds → IsTold kind ending → IsToldOfOne kinds ending

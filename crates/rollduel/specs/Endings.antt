@@ -3,9 +3,9 @@ use Rattle.std.specs.Prelude.{◌≡◌, ◌≢◌, ◌≤◌, ◌⊎◌, ℕ, L
 use Rattle.clap.specs.Kinds.{Kinds}
 use Rattle.clap.specs.declared.error.kind.ErrorKind.{ErrorKind}
 use Rattle.clap.specs.declared.error.kind.ErrorKind.TheVariants.{DisplayHelp, DisplayVersion, OutOfMemory}
-use Rattle.roll_cli.specs.declared.engine.PlayFault.{PlayFault}
-use Rattle.roll_cli.specs.declared.engine.PlayFault.TheVariants.{NoMemory, Read, Write}
-use Rattle.roll_cli.specs.declared.program.Ending.{Ending}
+use Rattle.prog_parts.specs.declared.fault.PlayFault.{PlayFault}
+use Rattle.prog_parts.specs.declared.fault.PlayFault.TheVariants.{NoMemory, Read, Write}
+use Rattle.prog_parts.specs.declared.ending.Ending.{Ending}
 
 -- the program ends with a fault
 abbrev pub faulted : PlayFault → Ending

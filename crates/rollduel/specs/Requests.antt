@@ -5,8 +5,8 @@ use Rattle.std.specs.Str.Parse.{digits_value, without_leading_plus}
 use Rattle.clap.specs.Simple.{subcommand_of}
 use Rattle.clap.specs.ValueTests.{is_numeral}
 use Rattle.clap.specs.Walk.{Row, Text, byte_or_zero, first_of}
-use Rattle.roll_cli.specs.declared.program.GameName.{GameName}
-use Rattle.roll_cli.specs.declared.program.GameName.TheVariants.{Tally, Duel}
+use Rattle.prog_parts.specs.declared.ending.GameName.{GameName}
+use Rattle.prog_parts.specs.declared.ending.GameName.TheVariants.{Tally, Duel}
 use Rattle.roll_cli.specs.declared.program.Task.{Task}
 use Rattle.roll_cli.specs.declared.program.Task.TheVariants.{Play, SyncTest, Certify}
 use Rattle.roll_live.specs.declared.program.Live.{Live}

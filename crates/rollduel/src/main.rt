@@ -9,7 +9,7 @@ ghost use Rattle.std.specs.Process.{exit_status};
 ghost use Rattle.clap.specs.Faults.{fault_of};
 ghost use Rattle.clap.specs.Kinds.{FailsBy};
 ghost use Rattle.clap.specs.Words.{kind_of};
-ghost use Rattle.roll_cli.specs.declared.engine.PlayFault.TheVariants.{NoMemory, Read as CannotRead, Write as CannotWrite};
+ghost use Rattle.prog_parts.specs.declared.fault.PlayFault.TheVariants.{NoMemory, Read as CannotRead, Write as CannotWrite};
 ghost use Rattle.rollduel.specs.Commands.{rollduel_app};
 ghost use Rattle.rollduel.specs.Endings.{HasStatus, EndsOn, EndsOnFile, EndsRefused, IsPrinted};
 ghost use Rattle.rollduel.specs.Requests.{IfLive, IfMatch, IfText, asked_by};

@@ -9,7 +9,7 @@ use Rattle.roll_cli.specs.declared.command.Command.{Command}
 use Rattle.roll_cli.specs.Headers.{setup_of}
 use Rattle.roll_cli.specs.Output.{duel_output, duel_refusals, output, refusals, refused_line}
 use Rattle.roll_cli.specs.Plays.{Play}
-use Rattle.roll_cli.specs.Shown.{duel_text}
+use Rattle.prog_parts.specs.Shown.{duel_text}
 use Rattle.roll_cli.proofs.engine.write_duel.Goals as goal
 
 pub returns-in_default-clause-cut : goal.returns-in_default-clause-cut

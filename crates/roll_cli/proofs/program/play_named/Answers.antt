@@ -2,7 +2,7 @@ use Rattle.std.proofs.Common.{refl}
 use Rattle.std.proofs.lemmas.Option.{IfSome_then}
 use Rattle.std.specs.Prelude.{IfSome}
 use Rattle.roll_cli.specs.Programs.{IsFault}
-use Rattle.roll_cli.specs.declared.program.GameName.TheVariants.{Tally, Duel}
+use Rattle.prog_parts.specs.declared.ending.GameName.TheVariants.{Tally, Duel}
 use Rattle.roll_cli.specs.declared.program.Task.TheVariants.{Play}
 use Rattle.roll_cli.proofs.Ended.{ends_in_fault, hands_fault_on}
 use Rattle.roll_cli.proofs.program.play_named.Goals as goal

@@ -1,4 +1,4 @@
-use Rattle.roll_cli.specs.declared.program.GameName.TheVariants.{Tally, Duel}
+use Rattle.prog_parts.specs.declared.ending.GameName.TheVariants.{Tally, Duel}
 use Rattle.roll_cli.specs.declared.program.Task.TheVariants.{SyncTest}
 use Rattle.roll_cli.proofs.Ended.{ends_in_fault}
 use Rattle.roll_cli.proofs.program.test_named.Goals as goal

@@ -6,8 +6,8 @@ use Rattle.roll_game.specs.Tally.{tally_step}
 use Rattle.roll_text.specs.Streams.{AppendsPart}
 use Rattle.roll_cli.specs.Output.{tally_game}
 use Rattle.roll_cli.specs.Plays.{play_of}
-use Rattle.roll_cli.specs.Shown.{tally_text}
-use Rattle.roll_cli.specs.declared.program.GameName.TheVariants.{Tally, Duel}
+use Rattle.prog_parts.specs.Shown.{tally_text}
+use Rattle.prog_parts.specs.declared.ending.GameName.TheVariants.{Tally, Duel}
 use Rattle.roll_cli.proofs.Ended.{hands_fault_on}
 use Rattle.roll_live.specs.Lives.{IsFarOf, IsFault, IsOutput, IsUnreadable, Writes}
 use Rattle.roll_live.proofs.Ending.{ends_in_fault, never_cut}

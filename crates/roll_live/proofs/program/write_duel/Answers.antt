@@ -8,7 +8,7 @@ use Rattle.roll_frame.specs.declared.refusal.Refusal.TheVariants.{PlayerOutOfRan
 use Rattle.roll_text.specs.Lines.{ended}
 use Rattle.roll_cli.specs.Output.{duel_game, refused_line}
 use Rattle.roll_cli.specs.Plays.{play_of}
-use Rattle.roll_cli.specs.Shown.{duel_text}
+use Rattle.prog_parts.specs.Shown.{duel_text}
 use Rattle.roll_live.specs.Lives.{Writes}
 use Rattle.roll_live.proofs.program.write_duel.Goals as goal
 

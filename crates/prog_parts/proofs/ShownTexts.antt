@@ -6,7 +6,7 @@ use Rattle.std.proofs.lemmas.List.{append-nil}
 use Rattle.roll_text.specs.Numbers.{list_of}
 use Rattle.roll_duel.specs.declared.ship.Ship.{Ship}
 use Rattle.roll_duel.specs.Bytes.{field_of}
-use Rattle.roll_cli.specs.Shown.{duel_text, ship_text}
+use Rattle.prog_parts.specs.Shown.{duel_text, ship_text}
 
 -- pieces that are written one after the other
 in_order : (out a b c d : List ℕ) → ((((((out ++ a) ++ codes ",") ++ b) ++ codes ",") ++ c) ++ codes ",") ++ d ≡ out ++ (a ++ 44 ∷ (b ++ 44 ∷ (c ++ 44 ∷ d)))

@@ -1,7 +1,7 @@
 //! Games whose states can be printed.
 ghost use Rattle.std.specs.Prelude.{◌≡◌, ℕ, List, ◌++◌, OnOk, codes, flat_map};
 ghost use Rattle.roll_duel.specs.Bytes.{bytes_of};
-ghost use Rattle.roll_cli.specs.Shown.{duel_text, ship_text, tally_text};
+ghost use Rattle.prog_parts.specs.Shown.{duel_text, ship_text, tally_text};
 
 use roll_duel::{Duel, Ship, State};
 use roll_game::{Game, NoMemory, Tally};

@@ -1,8 +1,8 @@
 use Rattle.std.proofs.Common.{◌≡◌, ◌∙◌, ap, ℤ, rules, arith, w16, w32, FitsSigned, to_z, of_z}
 use Rattle.std.proofs.lemmas.Int.{ints, to_z-of_z}
 use Rattle.std.proofs.lemmas.Result.{on_ok_weaker}
-use Rattle.roll_cli.proofs.ShownTexts.{ship_pieces}
-use Rattle.roll_cli.proofs.shown.push_ship.Goals as goal
+use Rattle.prog_parts.proofs.ShownTexts.{ship_pieces}
+use Rattle.prog_parts.proofs.shown.push_ship.Goals as goal
 
 -- a number of 16 bits is the same in 32
 widened : (speed : ℤ) → FitsSigned w16 speed → to_z w32 (of_z w32 (to_z w16 (of_z w16 speed))) ≡ speed

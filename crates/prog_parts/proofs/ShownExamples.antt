@@ -5,7 +5,7 @@ use Rattle.roll_frame.specs.declared.row.Cell.TheVariants.{Word}
 use Rattle.roll_duel.specs.Bytes.{bytes_of, ship_bytes, bullet_bytes, field_of, ships_of, ship_of, bullets_of, bullet_of, step}
 use Rattle.roll_duel.specs.Frame.{opening_of}
 use Rattle.roll_duel.specs.Ships.{placed}
-use Rattle.roll_cli.specs.Shown.{duel_text, ship_text}
+use Rattle.prog_parts.specs.Shown.{duel_text, ship_text}
 
 pub opening_text : duel_text (bytes_of (opening_of 2)) ≡ codes "20480,15360,0,0,0,0,0 61440,46080,0,0,4,0,0 b0"
 unfolding duel_text ship_text bytes_of ship_bytes bullet_bytes field_of ships_of ship_of bullets_of bullet_of digits

@@ -1,0 +1,2 @@
+pub mod ShownExamples
+pub mod ShownTexts
