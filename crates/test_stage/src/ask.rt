@@ -1,11 +1,11 @@
 //! The commands, a line each.
-use crate::rows::Hand;
 use roll_cli::{Command, player_number};
 use roll_game::Call;
 use roll_link::Remote;
 use roll_text::{few_fields, number, numbers};
 use std::alloc::Global;
 use test_alone::{Fault, is, read_call};
+use test_hosts::Hand;
 
 /// The most fields of a command that is no script's.
 const FIELDS: usize = 5;

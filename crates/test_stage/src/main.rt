@@ -20,19 +20,9 @@
 #![tactic(auto)]
 
 mod ask;
-mod claims;
-mod crew;
-mod game;
-mod hosting;
-mod jobs;
-mod plans;
-mod replays;
-mod rows;
 mod running;
 mod setup;
 mod stage;
-mod viewers;
-mod views;
 
 use std::process::ExitCode;
 use test_alone::Fault;

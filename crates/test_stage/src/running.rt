@@ -1,9 +1,7 @@
 //! The lines of standard input, one after another.
 use crate::ask::Ask;
-use crate::game::Staged;
 use crate::setup::Setup;
 use crate::stage::Stage;
-use crate::{claims, plans};
 use roll_cli::{Header, synctest};
 use roll_frame::{Refusal, Settings};
 use roll_game::{Refusing, Tally};
@@ -14,6 +12,7 @@ use std::io;
 use std::io::Read;
 use std::rt::Runtime;
 use test_alone::{Answer, Drifting, Fault, is, put, put_refused, put_shown};
+use test_hosts::{Staged, tell_claim, tell_plan};
 
 /// The game that is played.
 type Played = Refusing<Tally>;
@@ -41,8 +40,8 @@ fn carry_out(alloc: Global, out: &mut Vec<u8>, text: &[u8], line: &mut u32) -> A
             open(alloc, out, Setup::read(options)?, rest, line)
         }
         [name, from, frames] if is(name, b"drifting") => drift(alloc, out, from, frames, rest),
-        [name, kept, told] if is(name, b"plan") => plans::tell(alloc, kept, told, out),
-        [name, fields @ ..] if is(name, b"claim") => claims::tell(alloc, fields, rest, out),
+        [name, kept, told] if is(name, b"plan") => tell_plan(alloc, kept, told, out),
+        [name, fields @ ..] if is(name, b"claim") => tell_claim(alloc, fields, rest, out),
         _ => test_alone::answer(alloc, text, out),
     }
 }

@@ -1,26 +1,19 @@
 //! A session, its host and its workers, and what is asked of them.
 
 use crate::ask::{Ask, Guess, One, Word};
-use crate::crew::Crew;
-use crate::game::{Staged, put_state};
-use crate::hosting::{Hosting, Unhosted};
-use crate::jobs::{job_of, put_done, put_outcome, put_worked};
-use crate::replays::{copied, put_replays};
-use crate::rows::Hand;
-use crate::viewers::Viewers;
-use crate::views;
 use roll_branch::{Branch, Done, Job, extend};
 use roll_cli::{Command, call, player_number};
 use roll_frame::{Refusal, Reply};
 use roll_game::{Call as GameCall, RawGame};
-use roll_host::{Absorbed, Pumped};
 use roll_link::Remote;
 use roll_pool::Worked;
-use roll_session::{Call, Request, Session};
+use roll_session::{Call, Session};
 use std::alloc::Global;
-use test_alone::{
-    Answer, Fault, put, put_count, put_counts, put_long, put_named, put_refused, put_settings,
-    put_turns,
+use test_alone::{Answer, Fault, put, put_count, put_counts, put_named, put_refused, put_settings};
+use test_hosts::{
+    Crew, Hand, Hosting, Staged, Unhosted, Viewers, copied, job_of, make_in, put_claim, put_done,
+    put_grafted, put_job, put_kept, put_log, put_outcome, put_parts, put_player, put_replays,
+    put_reply, put_seen, put_settled_row, put_source, put_worked,
 };
 
 /// What stands on the stage.
@@ -59,16 +52,23 @@ impl<G: Staged> Stage<G> {
             Ask::Word(word) => self.word(out, *word),
             Ask::One(one, n) => self.one(out, *one, *n),
             Ask::Frames(count, word) => self.frames(out, *count, Some(*word)),
-            Ask::Steps(place, times) => self.step(out, *place, *times),
+            Ask::Steps(place, times) => self.viewers()?.step(out, *place, *times),
             Ask::Cell(player, frame) => self.cell(out, player_number(*player), *frame),
-            Ask::Send(link, item) => self.send(out, *link, *item),
-            Ask::SendAll(count, item) => self.send_all(out, *count, *item),
+            Ask::Send(link, item) => self.hosting()?.put_sent(out, *link, *item),
+            Ask::SendAll(count, item) => self.hosting()?.put_all_sent(out, *count, *item),
             Ask::Remotes(count, item) => self.hear_all(out, *count, *item),
-            Ask::Speculate(guess) => self.speculate(out, guess),
+            Ask::Speculate(guess) => {
+                let Guess {
+                    player,
+                    words,
+                    until,
+                } = guess;
+                self.hosting()?.put_guessed(out, *player, words, *until)
+            }
             Ask::Guess(guess) => self.guess(out, guess.player, &guess.words, guess.until),
             Ask::Issue(hand) => self.issue(out, hand),
             Ask::Graft(hand) => self.graft_hand(out, hand),
-            Ask::AddRefusing(call, k) => self.add(out, *call, u64::from(*k)),
+            Ask::AddRefusing(call, k) => self.viewers()?.add(out, *call, u64::from(*k)),
         }
     }
 
@@ -76,15 +76,15 @@ impl<G: Staged> Stage<G> {
         match word {
             Word::Host => self.host(out),
             Word::Session => self.unhost(out),
-            Word::Link => self.link(out),
-            Word::Pump => self.pump(out),
+            Word::Link => self.hosting()?.put_link(out),
+            Word::Pump => self.hosting()?.put_pumped(out),
             Word::Collect => self.collect(out),
-            Word::Absorb => self.absorb(out),
-            Word::Out => self.count_out(out),
+            Word::Absorb => self.hosting()?.put_absorbed(out),
+            Word::Out => self.crew()?.put_out(out),
             Word::Close => self.close(out),
             Word::Settle => self.settle(out),
             Word::Feed => self.feed(out),
-            Word::Add => self.add(out, GameCall::Load, 0),
+            Word::Add => self.viewers()?.add(out, GameCall::Load, 0),
             Word::Push => self.push(out),
             Word::Parts => self.parts(out),
             _ => self.show(out, word),
@@ -97,10 +97,10 @@ impl<G: Staged> Stage<G> {
             return Err(Fault::Unreadable);
         };
         match word {
-            Word::Seen => views::put_seen(out, session),
-            Word::Kept => views::put_kept(self.alloc, out, session),
+            Word::Seen => put_seen(out, session),
+            Word::Kept => put_kept(self.alloc, out, session),
             Word::Counts => put_counts(out, session.game().counts()),
-            Word::Log => views::put_log(out, session),
+            Word::Log => put_log(out, session),
             Word::Settings => put_settings(out, session.settings()),
             Word::Replay => put_replays(self.alloc, out, session, session.log()),
             Word::Copied => self.replay_copy(out, session),
@@ -115,32 +115,32 @@ impl<G: Staged> Stage<G> {
 
     fn one(&mut self, out: &mut Vec<u8>, one: One, n: u32) -> Answer {
         match one {
-            One::Finish => self.finish(out, n),
-            One::Drop => self.drop_sender(out, n),
+            One::Finish if n == 0 => self.hosting()?.put_left(out),
+            One::Drop => self.hosting()?.put_dropped(out, n),
             One::Workers => self.open_crew(out, n),
             One::Work => self.work(out, n),
             One::Reserve => self.reserve(out, n),
             One::Frames => self.frames(out, n, None),
-            One::Step => self.step(out, n, 1),
-            One::Watch => self.watch(out, n),
-            One::Leave => self.leave(out, n),
+            One::Step => self.viewers()?.step(out, n, 1),
+            One::Watch => self.viewers()?.watch(out, n),
+            One::Leave => self.viewers()?.put_left(out, n),
             One::Relay => self.relay(out, n),
             One::Gone => self.gone(out, player_number(n)),
-            One::Row | One::Player => self.show_one(out, one, n),
+            _ => self.show_one(out, one, n),
         }
     }
 
     fn show_one(&self, out: &mut Vec<u8>, one: One, n: u32) -> Answer {
         match (one, self.session()) {
-            (One::Row, Some(session)) => views::put_settled_row(out, session, n),
-            (One::Player, Some(session)) => views::put_player(out, session, player_number(n)),
+            (One::Row, Some(session)) => put_settled_row(out, session, n),
+            (One::Player, Some(session)) => put_player(out, session, player_number(n)),
             _ => Err(Fault::Unreadable),
         }
     }
 
     fn cell(&self, out: &mut Vec<u8>, player: u8, frame: u32) -> Answer {
         match self.session() {
-            Some(session) => views::put_source(out, session, player, frame),
+            Some(session) => put_source(out, session, player, frame),
             None => Err(Fault::Unreadable),
         }
     }
@@ -172,7 +172,7 @@ impl<G: Staged> Stage<G> {
 
     fn claim(&self, out: &mut Vec<u8>) -> Answer {
         match self.session() {
-            Some(session) => views::put_claim(self.alloc, out, session),
+            Some(session) => put_claim(self.alloc, out, session),
             None => Err(Fault::Unreadable),
         }
     }
@@ -184,7 +184,7 @@ impl<G: Staged> Stage<G> {
 
     fn put_said(&self, out: &mut Vec<u8>, said: Result<Reply, Refusal>) -> Answer {
         match (said, self.session()) {
-            (Ok(reply), Some(session)) => views::put_reply(out, session, &reply),
+            (Ok(reply), Some(session)) => put_reply(out, session, &reply),
             (Err(why), _) => put_refused(out, why),
             (Ok(_), None) => Err(Fault::Unreadable),
         }
@@ -255,14 +255,10 @@ impl<G: Staged> Stage<G> {
     }
 
     fn graft_branch(&mut self, out: &mut Vec<u8>, branch: Branch<G>) -> Answer {
-        let Some(session) = &mut self.session else {
-            return Err(Fault::Unreadable);
-        };
-        match session.graft(branch) {
-            Ok(grafted) => put_named(out, b"added ", grafted.added)?,
-            Err(why) => put_refused(out, why)?,
+        match &mut self.session {
+            Some(session) => put_grafted(out, session, branch),
+            None => Err(Fault::Unreadable),
         }
-        Ok(())
     }
 
     /// Grafts a branch that is made by hand, and writes first what is told of it without a graft.
@@ -376,74 +372,6 @@ impl<G: Staged> Stage<G> {
         }
     }
 
-    fn link(&mut self, out: &mut Vec<u8>) -> Answer {
-        match self.hosting()?.add_link() {
-            Ok(number) => put_count(out, b"link ", number)?,
-            Err(why) => put_refused(out, why)?,
-        }
-        Ok(())
-    }
-
-    fn send(&mut self, out: &mut Vec<u8>, link: u32, item: Remote) -> Answer {
-        match self.hosting()?.send(link as usize, item) {
-            Some(true) => put(out, b"sent")?,
-            Some(false) => put_refused(out, Refusal::Full)?,
-            None => return Err(Fault::Unreadable),
-        }
-        Ok(())
-    }
-
-    /// Sends items by the first link, with the same word from a frame on, and writes how many found a place.
-    fn send_all(&mut self, out: &mut Vec<u8>, count: u32, item: Remote) -> Answer {
-        let hosting = self.hosting()?;
-        let mut sent = 0u32;
-        for past in 0..count {
-            let next = Remote {
-                frame: item.frame.saturating_add(past),
-                ..item
-            };
-            if hosting.send(0, next) == Some(true) {
-                sent = sent.saturating_add(1);
-            }
-        }
-        put_named(out, b"sent ", sent)
-    }
-
-    fn finish(&mut self, out: &mut Vec<u8>, link: u32) -> Answer {
-        if link != 0 {
-            return Err(Fault::Unreadable);
-        }
-        match self.hosting()?.finish() {
-            Some(left) => put_named(out, b"left ", left),
-            None => Err(Fault::Unreadable),
-        }
-    }
-
-    fn drop_sender(&mut self, out: &mut Vec<u8>, link: u32) -> Answer {
-        if !self.hosting()?.drop_sender(link as usize) {
-            return Err(Fault::Unreadable);
-        }
-        put(out, b"dropped")
-    }
-
-    fn pump(&mut self, out: &mut Vec<u8>) -> Answer {
-        let Pumped {
-            applied,
-            refused,
-            held,
-        } = self.hosting()?.pump();
-        put_named(out, b"applied ", applied)?;
-        put_named(out, b" refused ", refused)?;
-        match held {
-            Some(why) => {
-                put(out, b" held ")?;
-                put_refused(out, why)?;
-            }
-            None => {}
-        }
-        Ok(())
-    }
-
     // Workers.
 
     fn open_crew(&mut self, out: &mut Vec<u8>, workers: u32) -> Answer {
@@ -483,14 +411,7 @@ impl<G: Staged> Stage<G> {
 
     fn issue(&mut self, out: &mut Vec<u8>, hand: &Hand) -> Answer {
         let job = job_of(self.alloc, hand)?;
-        match self.crew()?.issue(job) {
-            Ok(ticket) => put_long(out, b"ticket ", ticket)?,
-            Err(fault) => {
-                put_refused(out, fault.why)?;
-                put_long(out, b" back ", fault.job.ticket())?;
-            }
-        }
-        Ok(())
+        self.crew()?.put_issued(out, job)
     }
 
     fn collect(&mut self, out: &mut Vec<u8>) -> Answer {
@@ -498,39 +419,6 @@ impl<G: Staged> Stage<G> {
             Some(done) => put_done(out, done),
             None => put(out, b"none"),
         }
-    }
-
-    fn count_out(&mut self, out: &mut Vec<u8>) -> Answer {
-        let crew = self.crew()?;
-        put_count(out, b"out ", crew.owner.out())?;
-        put_long(out, b" issued ", crew.owner.issued())?;
-        Ok(())
-    }
-
-    fn speculate(&mut self, out: &mut Vec<u8>, guess: &Guess) -> Answer {
-        let said = self
-            .hosting()?
-            .speculate(guess.player, &guess.words, guess.until);
-        match said {
-            Ok(Some(ticket)) => put_long(out, b"ticket ", ticket)?,
-            Ok(None) => put(out, b"kept")?,
-            Err(why) => put_refused(out, why)?,
-        }
-        Ok(())
-    }
-
-    fn absorb(&mut self, out: &mut Vec<u8>) -> Answer {
-        let Absorbed {
-            taken,
-            added,
-            dropped,
-            unmade,
-        } = self.hosting()?.absorb();
-        put_named(out, b"taken ", taken)?;
-        put_named(out, b" added ", added)?;
-        put_named(out, b" dropped ", dropped)?;
-        put_named(out, b" unmade ", unmade)?;
-        Ok(())
     }
 
     fn close(&mut self, out: &mut Vec<u8>) -> Answer {
@@ -568,9 +456,9 @@ impl<G: Staged> Stage<G> {
         Ok(())
     }
 
-    fn add(&mut self, out: &mut Vec<u8>, call: GameCall, k: u64) -> Answer {
+    fn viewers(&mut self) -> Result<&mut Viewers<G>, Fault> {
         match &mut self.viewers {
-            Some(viewers) => viewers.add(out, call, k),
+            Some(viewers) => Ok(viewers),
             None => Err(Fault::Unreadable),
         }
     }
@@ -591,61 +479,14 @@ impl<G: Staged> Stage<G> {
         }
     }
 
-    fn step(&mut self, out: &mut Vec<u8>, place: u32, times: u32) -> Answer {
-        match &mut self.viewers {
-            Some(viewers) => viewers.step(out, place, times),
-            None => Err(Fault::Unreadable),
-        }
-    }
-
-    fn watch(&self, out: &mut Vec<u8>, place: u32) -> Answer {
-        match &self.viewers {
-            Some(viewers) => viewers.watch(out, place),
-            None => Err(Fault::Unreadable),
-        }
-    }
-
-    fn leave(&mut self, out: &mut Vec<u8>, place: u32) -> Answer {
-        let Some(viewers) = &mut self.viewers else {
-            return Err(Fault::Unreadable);
-        };
-        if !viewers.leave(place) {
-            return Err(Fault::Unreadable);
-        }
-        put(out, b"left")
-    }
-
     // The end.
 
-    /// Takes the session apart, and writes the state that was shown, the snapshot that it was opened with, and how often
-    /// its game was asked.
     fn parts(&mut self, out: &mut Vec<u8>) -> Answer {
-        let Some(session) = self.session.take() else {
-            return Err(Fault::Unreadable);
-        };
-        let parts = session.into_parts();
-        put(out, b"shown")?;
-        put_state::<G>(out, parts.shown.as_ref())?;
-        put(out, b" opening ")?;
-        G::put_snapshot(out, &parts.opening)?;
-        put_turns(out, parts.game.counts())
+        match self.session.take() {
+            Some(session) => put_parts(out, session),
+            None => Err(Fault::Unreadable),
+        }
     }
-}
-
-/// Makes a call of a session.
-fn make_in<G: Staged>(session: &mut Session<G>, call: Call) -> Result<Reply, Refusal> {
-    match session.perform(Request::Call(call)) {
-        Ok(Reply::Refused(why)) => Err(why),
-        Ok(reply) => Ok(reply),
-        Err(_) => Err(Refusal::NoMemory),
-    }
-}
-
-/// Writes a job's number, how many rows it has, and how many its path has.
-fn put_job<G: Staged>(out: &mut Vec<u8>, number: usize, job: &Job<G>) -> Answer {
-    put_count(out, b"job ", number)?;
-    put_count(out, b" rows ", job.route().rows.len())?;
-    put_count(out, b" path ", job.route().path.rows.len())
 }
 
 /// Takes a job away, if there is one of this number.

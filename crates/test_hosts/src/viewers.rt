@@ -96,11 +96,16 @@ impl<G: Staged> Viewers<G> {
         put_turns(out, spectator.game().counts())
     }
 
-    /// Lets go of a spectator. Whether it was there.
-    pub fn leave(&mut self, place: u32) -> bool {
-        match self.seats.get_mut(place as usize) {
+    /// Lets go of a spectator.
+    pub fn put_left(&mut self, out: &mut Vec<u8>, place: u32) -> Answer {
+        let was_there = match self.seats.get_mut(place as usize) {
             Some(seat) => seat.take().is_some(),
             None => false,
+        };
+        if was_there {
+            put(out, b"left")
+        } else {
+            Err(Fault::Unreadable)
         }
     }
 }

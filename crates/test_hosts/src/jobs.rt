@@ -8,7 +8,7 @@ use roll_frame::{Boxed, Path, Route, Row};
 use roll_game::Game;
 use roll_pool::{Outcome, Worked};
 use std::alloc::Global;
-use test_alone::{Answer, Fault, put, put_long};
+use test_alone::{Answer, Fault, put, put_count, put_long};
 
 /// The number of a job that was made by hand, until it is issued.
 const BY_HAND: u64 = 9;
@@ -40,6 +40,13 @@ fn path_of(base: u32, rows: &[Row]) -> Path {
         }
     }
     path
+}
+
+/// Writes a job's number, how many rows it has, and how many its path has.
+pub fn put_job<G: Game>(out: &mut Vec<u8>, number: usize, job: &Job<G>) -> Answer {
+    put_count(out, b"job ", number)?;
+    put_count(out, b" rows ", job.route().rows.len())?;
+    put_count(out, b" path ", job.route().path.rows.len())
 }
 
 /// Writes a result: its job's number, and the state after each row.

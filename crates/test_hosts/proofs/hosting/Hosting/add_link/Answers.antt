@@ -1,7 +1,7 @@
 use Rattle.std.proofs.Common.{◌≡◌, ◌∙◌, ap, sym, ◌∷◌, []}
 use Rattle.roll_host.specs.Hosted.{new_link, places_of}
-use Rattle.test_stage.proofs.Firsts.{first_kept}
-use Rattle.test_stage.proofs.hosting.Hosting.add_link.Goals as goal
+use Rattle.test_hosts.proofs.Firsts.{first_kept}
+use Rattle.test_hosts.proofs.hosting.Hosting.add_link.Goals as goal
 
 pub invariant_of-self-2 : goal.invariant_of-self-2
 invariant_of-self-2 g c = record {

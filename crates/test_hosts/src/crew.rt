@@ -4,8 +4,9 @@ ghost use Rattle.std.specs.Prelude.{◌≡◌, ◌<◌, map, vec_len, IfOk, IfEr
 use roll_branch::{Done, Job};
 use roll_frame::Refusal;
 use roll_game::Game;
-use roll_pool::{IssueFault, OpenGate, Outcome, Owner, Worked, WorkerEnd};
+use roll_pool::{OpenGate, Outcome, Owner, Worked, WorkerEnd};
 use std::alloc::Global;
+use test_alone::{Answer, put_count, put_long, put_refused};
 
 /// A pool whose workers are all here.
 #[derive(Drop)]
@@ -43,12 +44,26 @@ impl<G: Game> Crew<G> {
         Ok(Crew { owner, ends })
     }
 
-    pub fn issue(&mut self, job: Job<G>) -> Result<u64, IssueFault<G>> {
-        self.owner.issue(job)
+    /// Issues a job, and writes its number, or the refusal with the job that is handed back.
+    pub fn put_issued(&mut self, out: &mut Vec<u8>, job: Job<G>) -> Answer {
+        match self.owner.issue(job) {
+            Ok(ticket) => put_long(out, b"ticket ", ticket),
+            Err(fault) => {
+                put_refused(out, fault.why)?;
+                put_long(out, b" back ", fault.job.ticket())
+            }
+        }
     }
 
+    /// The next result.
     pub fn collect(&mut self) -> Option<Done<G>> {
         self.owner.collect()
+    }
+
+    /// Writes how many jobs are out, and how many were issued.
+    pub fn put_out(&self, out: &mut Vec<u8>) -> Answer {
+        put_count(out, b"out ", self.owner.out())?;
+        put_long(out, b" issued ", self.owner.issued())
     }
 
     pub fn work(&mut self, place: usize, game: &mut G) -> Option<Worked> {

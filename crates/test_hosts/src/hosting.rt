@@ -6,11 +6,12 @@ ghost use Rattle.roll_host.specs.Hosted.{places_of};
 use crate::crew::{Crew, work_at};
 use roll_frame::{Event, Refusal, Reply};
 use roll_game::Game;
-use roll_host::{Absorbed, Host, Pumped};
+use roll_host::Host;
 use roll_link::{LinkSender, Remote};
 use roll_pool::{Outcome, Worked, WorkerEnd};
 use roll_session::{Call, Reached, Session};
 use std::alloc::Global;
+use test_alone::{Answer, Fault, put, put_count, put_long, put_named, put_refused};
 
 /// Why there is no host.
 #[derive(Drop)]
@@ -91,15 +92,22 @@ impl<G: Game + Drop> Hosting<G> {
         self.host.session()
     }
 
-    /// One link more. Its number.
-    pub fn add_link(&mut self) -> Result<usize, Refusal> {
+    fn add_link(&mut self) -> Result<usize, Refusal> {
         let sender = self.host.add_link()?;
         self.others.push(Some(sender))?;
         Ok(self.others.len())
     }
 
+    /// Adds a link, and writes its number.
+    pub fn put_link(&mut self, out: &mut Vec<u8>) -> Answer {
+        match self.add_link() {
+            Ok(number) => put_count(out, b"link ", number),
+            Err(why) => put_refused(out, why),
+        }
+    }
+
     /// Sends an item by a link. None where there is no such sender.
-    pub fn send(&mut self, link: usize, item: Remote) -> Option<bool> {
+    fn send(&mut self, link: usize, item: Remote) -> Option<bool> {
         if link == 0 {
             return self.send_first(item);
         }
@@ -116,15 +124,47 @@ impl<G: Game + Drop> Hosting<G> {
         }
     }
 
+    /// Sends an item by a link, and writes whether it found a place.
+    pub fn put_sent(&mut self, out: &mut Vec<u8>, link: u32, item: Remote) -> Answer {
+        match self.send(link as usize, item) {
+            Some(true) => put(out, b"sent"),
+            Some(false) => put_refused(out, Refusal::Full),
+            None => Err(Fault::Unreadable),
+        }
+    }
+
+    /// Sends items by the first link, with the same word from a frame on, and writes how many found a place.
+    pub fn put_all_sent(&mut self, out: &mut Vec<u8>, count: u32, item: Remote) -> Answer {
+        let mut sent = 0u32;
+        for past in 0..count {
+            let next = Remote {
+                frame: item.frame.saturating_add(past),
+                ..item
+            };
+            if self.send_first(next) == Some(true) {
+                sent = sent.saturating_add(1);
+            }
+        }
+        put_named(out, b"sent ", sent)
+    }
+
     /// Ends the first link: how many items are left. None where its sender is gone.
-    pub fn finish(&mut self) -> Option<u32> {
+    fn finish(&mut self) -> Option<u32> {
         let sender = self.first.take()?;
         let finished = sender.finish()?;
         Some(self.host.end_link(0, finished))
     }
 
+    /// Ends the first link, and writes how many items are left.
+    pub fn put_left(&mut self, out: &mut Vec<u8>) -> Answer {
+        match self.finish() {
+            Some(left) => put_named(out, b"left ", left),
+            None => Err(Fault::Unreadable),
+        }
+    }
+
     /// Lets go of a link's sender. Whether there was one.
-    pub fn drop_sender(&mut self, link: usize) -> bool {
+    fn drop_sender(&mut self, link: usize) -> bool {
         if link == 0 {
             return self.first.take().is_some();
         }
@@ -134,21 +174,51 @@ impl<G: Game + Drop> Hosting<G> {
         }
     }
 
-    pub fn pump(&mut self) -> Pumped {
-        self.host.pump()
+    /// Lets go of a link's sender.
+    pub fn put_dropped(&mut self, out: &mut Vec<u8>, link: u32) -> Answer {
+        if self.drop_sender(link as usize) {
+            put(out, b"dropped")
+        } else {
+            Err(Fault::Unreadable)
+        }
     }
 
-    pub fn absorb(&mut self) -> Absorbed {
-        self.host.absorb()
+    /// Pumps, and writes what that did.
+    pub fn put_pumped(&mut self, out: &mut Vec<u8>) -> Answer {
+        let did = self.host.pump();
+        put_named(out, b"applied ", did.applied)?;
+        put_named(out, b" refused ", did.refused)?;
+        match did.held {
+            Some(why) => {
+                put(out, b" held ")?;
+                put_refused(out, why)
+            }
+            None => Ok(()),
+        }
     }
 
-    pub fn speculate(
+    /// Absorbs, and writes what that did.
+    pub fn put_absorbed(&mut self, out: &mut Vec<u8>) -> Answer {
+        let did = self.host.absorb();
+        put_named(out, b"taken ", did.taken)?;
+        put_named(out, b" added ", did.added)?;
+        put_named(out, b" dropped ", did.dropped)?;
+        put_named(out, b" unmade ", did.unmade)
+    }
+
+    /// Has a guess run by a worker, and writes its number.
+    pub fn put_guessed(
         &mut self,
+        out: &mut Vec<u8>,
         player: u8,
         words: &[u32],
         until: u32,
-    ) -> Result<Option<u64>, Refusal> {
-        self.host.speculate(player, words, until)
+    ) -> Answer {
+        match self.host.speculate(player, words, until) {
+            Ok(Some(ticket)) => put_long(out, b"ticket ", ticket),
+            Ok(None) => put(out, b"kept"),
+            Err(why) => put_refused(out, why),
+        }
     }
 
     /// Lets a worker do one turn. None where there is no such worker.
