@@ -92,60 +92,99 @@ The script with a guess, played live with two workers. The threads have ended.
   taken
   frame 3 state 177
 
-Below, what is refused is asked for once more: `asked` tells how such runs end, but for the lines that a refusal and nothing else comes of: whole; or up to
-where the program itself, or a part that isn't asked for again, lacks memory.
+Below, what is refused is asked for once more. `asked SCRIPT` tells how such runs end, once the sed script has taken away what
+comes of a refusal and nothing else: whole; or up to where the program itself, or a part that isn't asked for again, lacks memory.
+Where runs end whole it says if some of them were refused something. Then come the last lines of the runs that ended well.
 
+  $ refused='/^refused 107/d'
   $ asked() {
-  >     cat > asked; counted test_stage < asked > whole; most=$(cut -d ' ' -f 2 counts)
+  >     cat > asked; counted test_stage < asked > whole; most=$(cut -d ' ' -f 2 counts); sed "$1" whole > all; : > lasts
   >     for n in $(seq $most); do
   >         REFUSE_ALLOCATION=$n counted test_stage < asked > told 2> why
   >         status=$?
-  >         grep -v '^refused 107' told > rest
-  >         echo "$status $(cmp -s rest whole && echo whole; head -c $(wc -c < rest) whole | cmp -s - rest && echo front) $(cat why) $(cmp -s told rest || echo refused)"
-  >     done | sort | uniq -c | sed 's/^ *[0-9]* //' | tr '\n' ';'
-  >     echo; tail -n 1 whole
+  >         [ $status != 0 ] || tail -n 1 told >> lasts
+  >         sed "$1" told > rest
+  >         if [ $status = 0 ] && cmp -s rest all; then way=whole; elif head -c $(wc -c < rest) all | cmp -s - rest; then way=front; else way=neither; fi
+  >         echo "$status $way $(cat why)$(cmp -s told whole || [ $status != 0 ] || echo refused)"
+  >     done | sort -u
+  >     sort -u lasts
   > }
 
 A session, and one whose log was reserved: of 600 events none is refused afterwards.
 
-  $ { echo game tally retry; cat late; echo seen; } | sed 's/^C$/seen/' | asked
-  $ asked <<END
+  $ { echo game tally retry; cat late; echo seen; } | sed 's/^C$/seen/' | asked "$refused"
+  0 whole 
+  0 whole refused
+  3 front test_stage: out of memory, or a stream failed
+  frame 2 settled 1 log 6 state 77 settled state 7 plan to 2 from 0 rerun 2
+  $ asked "$refused" <<END
   > game tally retry
   > roll 1 players 1 local 1 delay 0 threshold 8
   > reserve 600
   > frames 300 1
   > seen
   > END
+  0 whole 
+  0 whole refused
+  3 front test_stage: out of memory, or a stream failed
+  frame 300 settled 300 log 600 state 111111 settled state 111111 plan to 300 from 299 rerun 1
 
-A tree; a duel, of whose calls one is refused and counted; advice; a sync test.
+A tree, and advice, which end where they lack memory. A duel: the call that is refused says so, is counted, and no other; a state that can't be
+saved leaves the one before.
 
-  $ asked <<END
+  $ asked "$refused" <<END
   > tree 3
   > insert 0 1,3 71
   > cut 1 3 1
   > kept
   > longest 1,3
   > END
-  $ asked <<END
-  > turns duel 2
-  > row 8,8
-  > counts
-  > END
-  $ asked <<END
+  0 whole 
+  3 front test_stage: out of memory, or a stream failed
+  node 1 4
+  $ asked "$refused" <<END
   > advice
   > note 1 -3 2
   > tell
   > END
-  $ asked <<END
+  0 whole 
+  3 front test_stage: out of memory, or a stream failed
+  ahead 3 event 1005 frames 3
+  $ asked 's/^refused 107/ok/; /^loads/d' <<END
+  > turns duel 2
+  > row 8,8
+  > counts
+  > END
+  0 whole 
+  0 whole refused
+  3 front test_stage: out of memory, or a stream failed
+  loads 0 saves 0 copies 1 turns 0 refusals 1
+  loads 1 saves 0 copies 1 turns 0 refusals 1
+  loads 1 saves 0 copies 1 turns 1 refusals 1
+  loads 1 saves 1 copies 1 turns 1 refusals 0
+  loads 1 saves 1 copies 1 turns 1 refusals 1
+
+A sync test hands back its game, which was asked for nothing, and its opening.
+
+  $ asked '/^refused 107$/,/^opening 0$/d' <<END
   > sync tally 2
   > step 1,3 2
   > counts
   > END
+  0 whole 
+  0 whole refused
+  3 front test_stage: out of memory, or a stream failed
+  loads 2 saves 4 copies 0 turns 4 refusals 0
 
-A feed and its spectator; a host and its link; workers and a guess.
+A feed and its spectator; a host and its link, by which a word comes that is held while the log can't grow; workers and a guess, whose branch is
+dropped if the log can't grow.
 
-  $ { echo game tally retry; head -n 7 late; printf 'feed\nadd\npush\nstep 0\n'; } | asked
-  $ asked <<END
+  $ { echo game tally retry; head -n 7 late; printf 'feed\nadd\npush\nstep 0\n'; } | asked "$refused"
+  0 whole 
+  0 whole refused
+  3 front test_stage: out of memory, or a stream failed
+  frame 1 state 7
+  $ asked "$refused; /^applied 0/d" <<END
   > game tally retry
   > roll 1 players 2 local 1 delay 0,0 threshold 8
   > host
@@ -154,7 +193,11 @@ A feed and its spectator; a host and its link; workers and a guess.
   > pump
   > log
   > END
-  $ asked <<END
+  0 whole 
+  0 whole refused
+  3 front test_stage: out of memory, or a stream failed
+  log 1; R 2 0 3
+  $ asked "$refused; s/added 0 dropped 1/added 2 dropped 0/" <<END
   > game tally retry
   > roll 1 players 2 local 1 delay 0,0 threshold 8
   > workers 1
@@ -163,3 +206,8 @@ A feed and its spectator; a host and its link; workers and a guess.
   > work 0
   > absorb
   > END
+  0 whole 
+  0 whole refused
+  3 front test_stage: out of memory, or a stream failed
+  taken 1 added 0 dropped 1 unmade 0
+  taken 1 added 2 dropped 0 unmade 0

@@ -1,7 +1,7 @@
 Settings with which a session starts: two players, the first local; one; eight in the wide profile. `start` opens a session with a header
 behind the options of the first line, and plays no line of it.
 
-  $ start() { printf "game tally $2\n$1\n" | test_stage; }
+  $ start() { printf "game tally${2:+ $2}\n$1\n" | test_stage; }
   $ start 'roll 1 players 2 local 1 delay 0,0 threshold 8'
   $ start 'roll 1 players 1 local 1 delay 0 threshold 8'
   $ eight='mask 0,0,0,0,0,0,0,0'
