@@ -60,6 +60,18 @@ Each allocation is refused in turn: the whole output is written, or nothing of i
   0 whole 
   2 nothing rollduel: out of memory
 
+With notes too: what is told may break off, and then the last line says so.
+
+  $ printf 'roll 1 players 2 local 1 delay 0,0 threshold 8\nA\nS\nA\n' > twice
+  $ REFUSE_COUNTS=counts refusing rollduel play twice --explain > whole_twice 2> /dev/null
+  [1]
+  $ explains() { for n in $(seq $(cut -d ' ' -f 2 counts)); do REFUSE_ALLOCATION=$n refusing rollduel play twice --explain > told 2> why; echo "$? $(cmp -s told whole_twice && echo whole; test -s told || echo nothing) $(tr '\n' ';' < why)"; done | sort -u; }
+  $ explains
+  1 whole line 2: refused 101: LocalInputMissing: a local input is missing;line 4: refused 101: LocalInputMissing: a local input is missing;
+  1 whole line 2: refused 101: LocalInputMissing: a local input is missing;rollduel: no memory for more notes;
+  1 whole rollduel: no memory for more notes;
+  2 nothing rollduel: out of memory;
+
 A worker's thread that can't be started: nothing is written, and the threads that were started are waited for.
 
   $ for n in 1 2 3 4; do REFUSE_THREAD=$n REFUSE_COUNTS=counts refusing rollduel live late --workers 4; echo "status $?"; cut -d ' ' -f 7- counts; done

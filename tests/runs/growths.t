@@ -211,3 +211,14 @@ dropped if the log can't grow.
   3 front test_stage: out of memory, or a stream failed
   taken 1 added 0 dropped 1 unmade 0
   taken 1 added 2 dropped 0 unmade 0
+
+A list of ten calls of a host, made by one call: memory can run out for the second, a sync, for the fifth, a guess, and for the
+seventh, a link. Those before it are done, and those after it are left.
+
+  $ printf 'game tally\nroll 1 players 2 local 1 delay 0,0 threshold 8\nworkers 1\nhost\nround\n' > round
+  $ counted test_stage < round > whole; tail -n 1 whole
+  all done
+  $ for n in $(seq $(cut -d ' ' -f 2 counts)); do REFUSE_ALLOCATION=$n counted test_stage < round 2>/dev/null | grep '^no memory'; done | sort -u
+  no memory, left 3
+  no memory, left 5
+  no memory, left 8

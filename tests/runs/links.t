@@ -244,3 +244,26 @@ one that it lacks.
   sent
   applied 2 refused 1
   frame 0 from 0 rerun 0 settled 0 state 0 row 0,4
+
+A list of calls is made by one call. `round` makes such a list: a pump, a sync, player 1's word 1, an advance, a guess that
+player 2 gives the word 3 up to frame 2, an absorb, a link more, room for four events, the end of link 0, a close. What a sync or
+an advance is answered is told with the state after the whole list. Without workers the guess finds no place.
+
+  $ two <<END
+  > send 0 2 0 3
+  > round
+  > log
+  > END
+  sent
+  applied 1 refused 0
+  frame 1 from 0 rerun 1 settled 1 state 7 row 0,3
+  ok
+  frame 1 from 0 rerun 1 settled 1 state 7
+  refused 119
+  taken 0 added 0 dropped 0 unmade 0
+  link
+  ok
+  left 0
+  closed
+  all done
+  log 4; R 2 0 3; S; L 1 1; A

@@ -225,6 +225,10 @@ What is wrong with a line is told behind the fault, where it is asked for.
   rollduel: cannot read
   folder: a read failed
   [2]
+  $ rollduel play "$(printf 'red\033[31m\nname')" --explain
+  rollduel: cannot read
+  red\u{1b}[31m\nname: No such file or directory (os error 2)
+  [2]
   $ rollduel play long --explain 2>&1 | head -n 2
   refused 101
   refused 101

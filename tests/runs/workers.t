@@ -227,3 +227,30 @@ One to four workers of whom none ran anything: all jobs are handed back.
   frame 2 settled 0 log 4 state 11 settled state 0 plan to 2 from 1 rerun 1
   issued 3 collected 0 late left 0 1 2
   frame 2 settled 0 log 4 state 11 settled state 0 plan to 2 from 1 rerun 1
+
+The same list of calls as `links.t` has, made by one call: the guess goes to the worker, which the close stops.
+
+  $ two <<END
+  > workers 1
+  > host
+  > send 0 2 0 3
+  > round
+  > work 0
+  > settle
+  > END
+  workers 1
+  hosted
+  sent
+  applied 1 refused 0
+  frame 1 from 0 rerun 1 settled 1 state 7 row 0,3
+  ok
+  frame 1 from 0 rerun 1 settled 1 state 7
+  ticket 0
+  taken 0 added 0 dropped 0 unmade 0
+  link
+  ok
+  left 0
+  closed
+  all done
+  closed
+  issued 1 collected 0 late left 0

@@ -3,6 +3,7 @@
 
 ghost use Rattle.std.specs.Prelude.{◌≡◌, IfOk, vec_len};
 ghost use Rattle.roll_host.specs.Hosted.{places_of};
+ghost use Rattle.roll_pool.specs.Crews.{places_in};
 
 mod network;
 mod side;
@@ -14,7 +15,7 @@ use roll_host::Host;
 use roll_pool::{Crew, Owner, start_all};
 use roll_session::Session;
 use side::{LAST_FRAME, Side};
-use std::alloc::{AllocError, AllocFailed, AllocGlobal, Global};
+use std::alloc::{AllocError, AllocGlobal, Global};
 use std::process::ExitCode;
 use std::rt::Runtime;
 use std::sync::atomic::{AtomicBool, Ordering};
@@ -78,11 +79,10 @@ where
         Err(fault) => return Err(fault.why),
     };
     let (owner, ends) = Owner::open(alloc, usize::from(WORKERS))?;
-    let crew = start_all(*rt, alloc, &owner, ends, fights(alloc)?)?;
+    let crew = start_all(*rt, alloc, ends, fights(alloc)?)?;
     match Host::with_workers(alloc, session, owner) {
         Ok(host) => play_hosted(rt, alloc, host, crew),
-        Err(AllocFailed { value: (_, owner) }) => {
-            owner.close();
+        Err(_) => {
             let (_ends, _games) = crew.join(rt);
             Err(Refusal::NoMemory)
         }
@@ -108,11 +108,10 @@ fn play_hosted<R>(
 ) -> Result<(State, State), Refusal>
 where
     R: Threads + Wait + Copy + Send + 'static,
-    requires { crew ≡ places_of host.pool }
+    requires { places_in crew ≡ places_of host.pool }
 {
     let mut host = host;
     let played = play_match(rt, alloc, &mut host);
-    host.close();
     let (ends, _games) = crew.join(rt);
     let (_session, _outcome) = host.settle(ends);
     played

@@ -18,6 +18,9 @@ pub const ME: u8 = 1;
 
 pub const OTHER: u8 = 2;
 
+/// In how many frames this side asks once for advice to wait.
+const ADVISED_EVERY: u32 = 40;
+
 /// What the frame loop keeps beside the host.
 #[derive(Drop)]
 pub struct Side {
@@ -26,6 +29,8 @@ pub struct Side {
     /// The frame that the viewer has seen.
     seen: u32,
     advice: Advice,
+    /// The frame from which on this side asks for advice again.
+    ask_from: u32,
     /// How many turns more this side waits for the other.
     wait: u32,
 }
@@ -42,6 +47,7 @@ impl Side {
             viewer,
             seen: 0,
             advice: Advice::new(alloc)?,
+            ask_from: ADVISED_EVERY,
             wait: 0,
         })
     }
@@ -127,9 +133,10 @@ impl Side {
         self.advice.note(behind, -behind);
     }
 
-    /// Whether the other is to catch up first.
+    /// Whether the other is to catch up first. It asks once in so many frames, since the advice is the same until more is heard.
     fn is_to_wait(&mut self, frame: u32) -> bool {
-        if self.wait == 0 && frame % 40 == 39 {
+        if frame >= self.ask_from {
+            self.ask_from = frame.saturating_add(ADVISED_EVERY);
             self.wait = self.advice.frames_ahead();
         }
         let waits = self.wait > 0;

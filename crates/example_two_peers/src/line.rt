@@ -25,7 +25,7 @@ struct UnderWay {
     packet: Packet,
 }
 
-/// Packets come 1 to 6 turns late, in their order, and about one in five is lost.
+/// Packets come 1 to 6 turns late, in their order, and about one in five is lost. Now and then one comes that no peer sent.
 #[derive(Drop)]
 pub struct Line {
     packets: VecDeque<UnderWay>,
@@ -45,6 +45,10 @@ impl Line {
             return Ok(());
         }
         let arrives = now.saturating_add(1 + drawn % 6);
+        if drawn % 7 == 0 {
+            let packet = strange(drawn);
+            self.packets.push_back(UnderWay { arrives, packet })?;
+        }
         self.packets.push_back(UnderWay { arrives, packet })?;
         Ok(())
     }
@@ -56,5 +60,18 @@ impl Line {
         }
         let next = self.packets.pop_front()?;
         Some(next.packet)
+    }
+}
+
+/// A packet that no peer sent: it thanks for more words than there are, or brings a word of a frame far ahead.
+fn strange(drawn: u32) -> Packet {
+    let mut words = ArrayVec::new();
+    let _ = words.try_push(drawn);
+    Packet {
+        frame: 500,
+        behind: 0,
+        has: if drawn % 2 == 0 { 4_000_000_000 } else { 0 },
+        first: 500,
+        words,
     }
 }

@@ -14,22 +14,29 @@ use std::io;
 use std::process::ExitCode;
 use std::rt::Runtime;
 
+/// How many turns later than the first peer the second one starts, in the second match.
+const LATE: u32 = 8;
+
 fn main(rt: HostRuntime) -> ExitCode {
-    match run(&rt) {
-        Ok(true) => ExitCode::from(0),
+    match (run(&rt, 0), run(&rt, LATE)) {
+        (Ok(true), Ok(true)) => ExitCode::from(0),
         _ => ExitCode::from(1),
     }
 }
 
-/// Plays the match, prints how it went, and says whether the peers agree in the end.
-fn run<R: Runtime + AllocGlobal>(rt: &R) -> io::Result<bool> {
-    let (first, second) = match play(rt.alloc()) {
+/// Plays a match whose second peer starts so many turns late, prints how it went, and says whether the peers agree in the end.
+fn run<R: Runtime + AllocGlobal>(rt: &R, late: u32) -> io::Result<bool> {
+    let (first, second) = match play(rt.alloc(), late) {
         Ok(peers) => peers,
         Err(why) => {
             println!(rt; "{why}")?;
             return Ok(false);
         }
     };
+    println!(rt;
+        "{late} turns late: waited {} and {}",
+        first.waited, second.waited
+    )?;
     for peer in [&first, &second] {
         print(rt, &peer.session)?;
     }
@@ -66,14 +73,16 @@ fn is_replayed(alloc: Global, session: &Session<Fight>) -> Result<bool, Refusal>
 }
 
 /// Both peers after the match: after its last frame they go on telling each other what is missing.
-fn play(alloc: Global) -> Result<(Peer, Peer), Refusal> {
+fn play(alloc: Global, late: u32) -> Result<(Peer, Peer), Refusal> {
     let mut first = Peer::new(alloc, 1, 2, 2)?;
     let mut second = Peer::new(alloc, 2, 1, 1)?;
     let mut to_first = Line::new(alloc);
     let mut to_second = Line::new(alloc);
     for now in 0..3 * LAST_FRAME {
         first.turn(now, &mut to_first, &mut to_second)?;
-        second.turn(now, &mut to_second, &mut to_first)?;
+        if now >= late {
+            second.turn(now, &mut to_second, &mut to_first)?;
+        }
     }
     Ok((first, second))
 }

@@ -12,6 +12,9 @@ pub const LAST_FRAME: u32 = 300;
 /// The most packets that a peer takes in a turn.
 const MOST_PACKETS: u32 = 100;
 
+/// In how many frames a peer asks once for advice to wait.
+const ADVISED_EVERY: u32 = 40;
+
 /// A peer, whose own player is local in its session and the other's remote.
 #[derive(Drop)]
 pub struct Peer {
@@ -23,8 +26,12 @@ pub struct Peer {
     advice: Advice,
     // How many frames this side is behind the other, as far as it knows.
     behind: i32,
+    // The frame from which on it asks for advice again.
+    ask_from: u32,
     // How many turns more this side waits for the other.
     wait: u32,
+    /// How many turns this side waited, since it was ahead.
+    pub waited: u32,
 }
 
 impl Peer {
@@ -38,7 +45,9 @@ impl Peer {
             acknowledged: 0,
             advice: Advice::new(alloc)?,
             behind: 0,
+            ask_from: ADVISED_EVERY,
             wait: 0,
+            waited: 0,
         })
     }
 
@@ -57,19 +66,39 @@ impl Peer {
 
     /// Takes the other's words, and rolls back where a prediction was wrong.
     fn hear(&mut self, packet: &Packet) -> Result<(), Refusal> {
+        if !self.is_from_other(packet) {
+            return Ok(());
+        }
         self.acknowledged = self.acknowledged.max(packet.has);
         self.behind = behind(self.session.frame(), packet.frame);
         self.advice.note(self.behind, packet.behind);
-        let mut news = false;
-        let mut frame = packet.first;
-        for word in packet.words.iter() {
-            news |= self.session.remote_input(self.other, frame, *word)? == Heard::Taken;
-            frame = frame.saturating_add(1);
-        }
-        if news {
+        if self.take(packet)? {
             self.session.synchronize_input()?;
         }
         Ok(())
+    }
+
+    /// Whether the other can have sent this. They have no words that weren't given here, and begin with none past those that
+    /// this side told them that it has.
+    fn is_from_other(&self, packet: &Packet) -> bool {
+        packet.has <= self.session.confirmed(self.me).unwrap_or(0)
+            && packet.first <= self.session.confirmed(self.other).unwrap_or(0)
+    }
+
+    /// Takes the other's words up to the first that the session refuses, and says whether one is new.
+    fn take(&mut self, packet: &Packet) -> Result<bool, Refusal> {
+        let mut news = false;
+        let mut frame = packet.first;
+        for word in packet.words.iter() {
+            match self.session.remote_input(self.other, frame, *word) {
+                Ok(heard) => news |= heard == Heard::Taken,
+                Err(why @ (Refusal::NoMemory | Refusal::LogFull)) => return Err(why),
+                // A word that is refused ends no match: the other repeats what this side doesn't have.
+                Err(_) => break,
+            }
+            frame = frame.saturating_add(1);
+        }
+        Ok(news)
     }
 
     /// Plays the next frame, unless this side has to wait.
@@ -91,14 +120,18 @@ impl Peer {
         Ok(())
     }
 
-    /// Whether the other is to catch up first.
+    /// Whether the other is to catch up first. It asks once in so many frames, since the advice is the same until more is heard.
     fn is_to_wait(&mut self) -> bool {
-        if self.wait == 0 && self.session.frame() % 40 == 39 {
+        if self.session.frame() >= self.ask_from {
+            self.ask_from = self.session.frame().saturating_add(ADVISED_EVERY);
             self.wait = self.advice.frames_ahead();
         }
-        let waits = self.wait > 0;
-        self.wait = self.wait.saturating_sub(1);
-        waits
+        if self.wait == 0 {
+            return false;
+        }
+        self.wait -= 1;
+        self.waited = self.waited.saturating_add(1);
+        true
     }
 
     /// What the other hasn't said that it has.

@@ -5,8 +5,7 @@ ghost use Rattle.fighter.specs.Text.{fighter_text, readiness_text, state_text};
 use crate::fight::Fight;
 use crate::fighter::Fighter;
 use crate::state::State;
-use roll_cli::Shown;
-use roll_game::NoMemory;
+use roll_game::{NoMemory, Shown};
 use roll_text::push_number;
 use std::alloc::AllocError;
 

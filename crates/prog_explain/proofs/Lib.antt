@@ -1,5 +1,2 @@
-mod Diagnosed
-mod LinesOf
-mod Rising
-mod Said
 mod Unread
+mod Noting

@@ -6,7 +6,7 @@ use Rattle.roll_text.specs.declared.streams.ReadFault.TheVariants.{TooLong, NoMe
 use Rattle.roll_text.specs.declared.streams.TheConstants.{TEXT_LIMIT}
 use Rattle.prog_parts.specs.declared.fault.PlayFault.{PlayFault}
 use Rattle.prog_parts.specs.declared.ending.Ending.{Ending}
-use Rattle.roll_cli.specs.declared.program.Task.{Task}
+use Rattle.prog_parts.specs.declared.task.Task.{Task}
 use Rattle.prog_parts.specs.Faults.{fault_of_read}
 use Rattle.roll_cli.specs.Programs.{Ends, EndsBy}
 

@@ -1,3 +1,2 @@
-pub mod Diagnoses
-pub mod DiagnosisTexts
 pub mod Refused
+pub mod Noted

@@ -5,7 +5,7 @@ use Rattle.std.specs.List.{Contains}
 use Rattle.roll_frame.specs.declared.refusal.Refusal.{Refusal}
 use Rattle.roll_text.specs.Lines.{ended}
 use Rattle.prog_explain.specs.declared.refusals.TheConstants.{REFUSALS}
-use Rattle.roll_cli.specs.Output.{refused_line}
+use Rattle.prog_replies.specs.Output.{refused_line}
 
 abbrev pub IsListed : Refusal → Type 0
 IsListed why = Contains REFUSALS why

@@ -1,31 +1,54 @@
 //! What the program does with a text where more is asked for than its answers.
-ghost use Rattle.std.specs.Prelude.{◌≡◌, ◌≤◌, ◌<◌, ◌⊎◌, ◌+◌, ◌^◌, IfErr, IfSome, MatchOption, length};
+ghost use Rattle.std.specs.Prelude.{◌≡◌, ◌≤◌, ◌<◌, ◌⊎◌, ◌+◌, ◌++◌, ◌^◌, ℕ, List, IfErr, IfSome, MatchOption, OnOk, length};
+ghost use Rattle.std.specs.String.{string_bytes};
 ghost use Rattle.roll_text.specs.declared.streams.TheConstants.{TEXT_LIMIT};
-ghost use Rattle.roll_cli.specs.Faults.{TakesAtMost};
-ghost use Rattle.roll_cli.specs.Plays.{IsPlay, play_of};
+ghost use Rattle.prog_scripts.specs.Faults.{TakesAtMost};
+ghost use Rattle.prog_scripts.specs.Plays.{IsPlay, play_of};
 ghost use Rattle.roll_cli.specs.Programs.{Ends};
+ghost use Rattle.roll_cli.specs.Playings.{game_of};
+ghost use Rattle.prog_explain.specs.Noted.{AreNoted, IsNoted, replies_from};
 ghost use Rattle.prog_parts.specs.declared.fault.PlayFault.TheVariants.{Write as CannotWrite};
 
-use crate::forms::diagnose;
 use crate::refusals::{push_refused, refusal_in};
-use roll_cli::{Command, Ending, GameName, PlayFault, Playing, Script, Shown, Task, run};
+use prog_parts::{Ending, GameName, PlayFault, Task};
+use prog_scripts::{Command, Script, diagnose};
+use roll_cli::{Playing, run};
 use roll_duel::Duel;
 use roll_frame::Refusal;
-use roll_game::Tally;
+use roll_game::{Shown, Tally};
 use roll_session::Session;
 use roll_text::{ReadFault, read_all};
-use std::alloc::Global;
+use std::alloc::{AllocError, Global};
 use std::fmt::Write as _;
 use std::io::{Read, Write};
 
+/// What is told of a text beside its answers.
+#[derive(Drop)]
+pub struct Notes {
+    /// The notes, a line each.
+    pub text: String,
+    /// There was no memory for all of them.
+    pub is_cut: bool,
+}
+
+impl Notes {
+    /// No notes.
+    pub fn new(alloc: Global) -> Notes {
+        Notes {
+            text: String::new(alloc),
+            is_cut: false,
+        }
+    }
+}
+
 /// Does what `run` does, and notes at the end of `notes` what is wrong with a line that can't be read, and what each
-/// refusal means, a line each. Where there is no memory for notes, they break off.
+/// refusal means, a line each. Where there is no memory for notes, they break off, and are told to be cut.
 pub fn explain<R: Read, W: Write>(
     alloc: Global,
     task: Task,
     reader: &mut R,
     writer: &mut W,
-    notes: &mut String,
+    notes: &mut Notes,
 ) -> Ending
     ensures ends { IfSome (R.remaining reader.old) (λ text. Ends task text (W.contents writer.old) (W.contents writer.new) result) }
     ensures status { MatchOption result.fault (result.status ≤ 1) (λ fault. result.status ≡ 2) }
@@ -35,17 +58,18 @@ pub fn explain<R: Read, W: Write>(
     match read_all(alloc, reader) {
         Ok(text) => explain_text(alloc, task, &text, writer, notes),
         Err(fault) => {
-            note_unread(notes, fault);
+            notes.is_cut |= note_unread(&mut notes.text, fault).is_err();
             Ending::from(PlayFault::from(fault))
         }
     }
 }
 
 /// Notes that a text is too long.
-fn note_unread(notes: &mut String, fault: ReadFault) {
+fn note_unread(notes: &mut String, fault: ReadFault) -> Result<(), AllocError> {
     if fault == ReadFault::TooLong {
-        let _ = notes.push_str("more than 1,048,576 bytes\n");
+        notes.push_str("more than 1,048,576 bytes\n")?;
     }
+    Ok(())
 }
 
 /// Does what `explain` does, with a text that was read.
@@ -54,7 +78,7 @@ fn explain_text<W: Write>(
     task: Task,
     text: &[u8],
     writer: &mut W,
-    notes: &mut String,
+    notes: &mut Notes,
 ) -> Ending
     requires { length text.now ≤ TEXT_LIMIT }
     ensures ends { Ends task text.now (W.contents writer.old) (W.contents writer.new) result }
@@ -63,7 +87,7 @@ fn explain_text<W: Write>(
 {
     let mut reader = text;
     let ending = run(alloc, task, &mut reader, writer);
-    let _ = note(alloc, notes, task, text, &ending);
+    notes.is_cut |= note(alloc, &mut notes.text, task, text, &ending).is_err();
     ending
 }
 
@@ -114,7 +138,10 @@ fn note_tested(
     text: &[u8],
 ) -> Result<(), PlayFault> {
     let mut written = Vec::new(alloc);
-    run(alloc, task, &mut &text[..], &mut written);
+    let ending = run(alloc, task, &mut &text[..], &mut written);
+    if let Some(fault) = ending.fault {
+        return Err(fault);
+    }
     if let Some(why) = refusal_in(&written) {
         push_refused(notes, 1, why)?;
     }
@@ -166,6 +193,7 @@ fn note_session<G: Shown + Drop>(
             let mut playing = Playing::new(alloc, session, helper);
             note_all(alloc, notes, &mut playing, &script.commands)
         }
+        Err(fault) if fault.why == Refusal::NoMemory => Err(PlayFault::NoMemory),
         Err(fault) => Ok(push_refused(notes, 1, fault.why)?),
     }
 }
@@ -178,6 +206,8 @@ fn note_all<G: Shown>(
     commands: &[Command],
 ) -> Result<(), PlayFault>
     requires { length playing.old.now.jobs + length commands.now < 2 ^ 32 }
+    ensures noted { OnOk result ((more : List ℕ) × AreNoted 2 (replies_from G.text_of playing.old.settings (game_of G.step playing.old) playing.old.now commands.now) more
+        × (string_bytes notes.new ≡ string_bytes notes.old ++ more)) }
     ensures fault { IfErr result (λ fault. fault ≡ PlayFault.NoMemory) }
 {
     let mut reply = Vec::new(alloc);
@@ -186,9 +216,17 @@ fn note_all<G: Shown>(
         line += 1;
         reply.clear();
         playing.play(alloc, &mut reply, command)?;
-        if let Some(why) = refusal_in(&reply) {
-            push_refused(notes, line, why)?;
-        }
+        note_reply(notes, line, &reply)?;
     }
     Ok(())
+}
+
+/// Notes the refusal that the reply to the command in a line tells, if it tells one.
+fn note_reply(notes: &mut String, line: u64, reply: &[u8]) -> Result<(), AllocError>
+    ensures { OnOk result ((note : List ℕ) × IsNoted line reply.now note × (string_bytes notes.new ≡ string_bytes notes.old ++ note)) }
+{
+    match refusal_in(reply) {
+        Some(why) => push_refused(notes, line, why),
+        None => Ok(()),
+    }
 }

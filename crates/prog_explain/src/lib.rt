@@ -2,13 +2,8 @@
 //! each refusal means.
 #![tactic(auto)]
 
-mod diagnosis;
 mod explained;
-mod forms;
-mod lines;
 mod refusals;
 
-pub use diagnosis::{Diagnosis, NumberFault};
-pub use explained::explain;
-pub use forms::diagnose;
+pub use explained::{Notes, explain};
 pub use refusals::{REFUSALS, push_refusals};

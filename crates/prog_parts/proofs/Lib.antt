@@ -1,2 +1,1 @@
-pub mod ShownExamples
-pub mod ShownTexts
+pub mod HandedOn

@@ -1,10 +1,10 @@
-//! What scripts, matches and what is told of them share: the texts of states, faults, and how the program ends.
+//! What scripts, matches and what is told of them share: what is asked for, faults, and how the program ends.
 #![tactic(auto)]
 
 mod ending;
 mod fault;
-mod shown;
+mod task;
 
 pub use ending::{Ending, GameName};
 pub use fault::PlayFault;
-pub use shown::Shown;
+pub use task::Task;

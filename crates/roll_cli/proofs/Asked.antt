@@ -16,10 +16,10 @@ use Rattle.roll_frame.specs.declared.settings.Settings.{Settings}
 use Rattle.roll_session.specs.Calls.{event_of}
 use Rattle.roll_session.specs.Seen.{plain}
 use Rattle.roll_session.specs.declared.event.Call.{Call}
-use Rattle.roll_cli.specs.declared.command.Command.{Command}
-use Rattle.roll_cli.specs.declared.command.Command.TheVariants.{Local as Gives, Remote as Tells, Disconnect as Leaves, Sync as Syncs, Advance as Advances, Guess, Extend, Claim}
-use Rattle.roll_cli.specs.Calls.{narrowed, call_of}
-use Rattle.roll_cli.specs.Output.{Playing, Texts, after_command, event_text, guessed, is_refused, refused_by, reply_line, written_by}
+use Rattle.prog_scripts.specs.declared.command.Command.{Command}
+use Rattle.prog_scripts.specs.declared.command.Command.TheVariants.{Local as Gives, Remote as Tells, Disconnect as Leaves, Sync as Syncs, Advance as Advances, Guess, Extend, Claim}
+use Rattle.prog_replies.specs.Calls.{narrowed, call_of}
+use Rattle.prog_replies.specs.Output.{Playing, Texts, after_command, event_text, guessed, is_refused, refused_by, reply_line, written_by}
 use Rattle.roll_text.specs.Lines.{ended}
 
 -- a number past all players' becomes 0

@@ -4,7 +4,7 @@ use Rattle.std.specs.Prelude.{IfSome, IfErr, IsErrAnd, Result, Ok, Err, ⊤, Boo
 use Rattle.roll_text.specs.Streams.{AppendsPart, IsBadAt}
 use Rattle.prog_parts.specs.declared.fault.PlayFault.{PlayFault}
 use Rattle.prog_parts.specs.declared.fault.PlayFault.TheVariants.{Unreadable, NoMemory, Read, Write}
-use Rattle.roll_cli.specs.declared.program.Task.{Task}
+use Rattle.prog_parts.specs.declared.task.Task.{Task}
 use Rattle.roll_cli.specs.Programs.{IsDone, IsFault, IsReadable}
 
 of_any : (known : Option (List ℕ)) → IfSome known (λ text. ⊤)
@@ -28,8 +28,3 @@ pub ends_in_fault : {X : Type 0} (task : Task) (known old new : Option (List ℕ
     → IfErr result (λ fault. IfSome known (λ text. IsFault task text old new fault))
 ends_in_fault task known old new (Ok x) bad cut = tt
 ends_in_fault task known old new (Err fault) bad cut = is_fault task known old new fault (λ line e. bad line (ap Err e)) (λ e. cut (ap Err e))
-
--- and of a result that hands its fault on
-pub hands_fault_on : {X Y : Type 0} (result : Result X PlayFault) (answer : Result Y PlayFault) (fault : PlayFault) (P : PlayFault → Type 0) → result ≡ Err fault → IsErrAnd answer (λ other. other ≡ fault) → IfErr result P → IfErr answer P
-hands_fault_on result (Ok y) fault P e h p = absurd h
-hands_fault_on result (Err other) fault P e h p = subst P (sym h) (subst (λ (r : Result _ PlayFault). IfErr r P) e p)

@@ -6,17 +6,13 @@ use Rattle.roll_frame.specs.declared.refusal.Refusal.{Refusal}
 use Rattle.roll_frame.specs.declared.refusal.Refusal.TheVariants.{NoMemory}
 use Rattle.roll_session.specs.Guessing.{guess_job_of, guess_refusal_of}
 use Rattle.roll_session.specs.Seen.{Seen, Step, core_of}
-use Rattle.roll_cli.specs.Output.{guess_line, guessed, with_job}
+use Rattle.prog_replies.specs.Output.{guess_line, guessed, with_job}
+use Rattle.prog_replies.proofs.Refused.{refused_so}
 use Rattle.roll_cli.specs.Playings.{Played, game_of}
 
 -- a script that is being played, by its session and its jobs
 abbrev pub played_of : Seen → List (Option Routed) → Played
 played_of s jobs = record { settings = s.settings; opening = s.opening; now = record { core = core_of s; jobs = jobs } }
-
--- a refusal other than for want of memory is that of the tests
-pub refused_so : (o : Option Refusal) (why : Refusal) → why ≡ unwrap_or o NoMemory → why ≢ NoMemory → o ≡ Some why
-refused_so None why e ne = absurd (ne e)
-refused_so (Some w) why e ne = ap Some (sym e)
 
 module _ (step : Step) (old : Played) (s : Seen) (jobs : List (Option Routed)) (is : played_of s jobs ≡ old) where
   module _ (p : ℕ) (words : List ℕ) (until : ℕ) where

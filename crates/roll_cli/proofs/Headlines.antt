@@ -19,13 +19,14 @@ use Rattle.roll_session.specs.Calls.{grafting}
 use Rattle.roll_session.specs.Seen.{Seen, Step, core_of, game_of}
 use Rattle.roll_session.specs.Headline.{AreTurns, IsByTheRules, Turn}
 use Rattle.roll_text.specs.Lines.{ended}
-use Rattle.roll_cli.specs.Headlines.{events_from, line_of, lines_from, started, HasHeadline, IsHeadlined, IsHeadlinedDuel, IsHeadlinedOutput}
-use Rattle.roll_cli.specs.Output.{Playing, Texts, after_command, asked_by, duel_game, duel_output, duel_refusals, event_text, first_playing, job_at, output, refusals, reply_line, IsOutput}
-use Rattle.roll_cli.specs.Headers.{settings_of}
-use Rattle.roll_cli.specs.Plays.{Play}
-use Rattle.prog_parts.specs.Shown.{duel_text}
-use Rattle.roll_cli.specs.declared.command.Command.{Command}
-use Rattle.roll_cli.specs.declared.command.Command.TheVariants.{Local as Gives, Remote as Tells, Disconnect as Leaves, Sync as Syncs, Advance as Advances, Guess, Extend, Claim}
+use Rattle.prog_replies.specs.Starts.{started}
+use Rattle.roll_cli.specs.Headlines.{events_from, line_of, lines_from, HasHeadline, IsHeadlined, IsHeadlinedDuel, IsHeadlinedOutput}
+use Rattle.prog_replies.specs.Output.{Playing, Texts, after_command, asked_by, duel_game, duel_output, duel_refusals, event_text, first_playing, job_at, output, refusals, reply_line, IsOutput}
+use Rattle.prog_scripts.specs.Headers.{settings_of}
+use Rattle.prog_scripts.specs.Plays.{Play}
+use Rattle.roll_duel.specs.Text.{duel_text}
+use Rattle.prog_scripts.specs.declared.command.Command.{Command}
+use Rattle.prog_scripts.specs.declared.command.Command.TheVariants.{Local as Gives, Remote as Tells, Disconnect as Leaves, Sync as Syncs, Advance as Advances, Guess, Extend, Claim}
 
 module _ (texts : Texts) (settings : Settings) (game : Game) where
   -- the lines of events from a core on

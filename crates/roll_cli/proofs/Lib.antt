@@ -1,13 +1,8 @@
-pub mod Spelled
-pub mod Headings
-pub mod Unplayed
-pub mod RowsRead
 pub mod Tested
 pub mod Asked
 pub mod Guessed
-pub mod Written
-pub mod Outlined
-pub mod Claimed
+pub mod Jobs
+pub mod PlayedTo
 pub mod Played
 pub mod Starts
 pub mod Ended

@@ -1,4 +1,4 @@
--- What a session that starts writes, and how long scripts are.
+-- What a session that starts writes.
 use Rattle.std.proofs.Common.{◌≡◌, ℕ, ◌≤◌, ◌<◌, ◌^◌, List, [], ◌∷◌, length, length-append, refl, sym, ap, ◌∙◌, arith, None}
 use Rattle.std.specs.Prelude.{◌≢◌, unwrap_or, Result, Ok, Err, IfOk, OnOk}
 use Rattle.std.proofs.lemmas.List.{length-map}
@@ -13,21 +13,14 @@ use Rattle.roll_session.specs.Seen.{Seen}
 use Rattle.roll_session.proofs.Holding.{replay-nil}
 use Rattle.roll_text.specs.Lines.{ended, text_of}
 use Rattle.roll_text.specs.declared.streams.TheConstants.{TEXT_LIMIT}
-use Rattle.roll_cli.specs.declared.command.Command.{Command}
-use Rattle.roll_cli.specs.Commands.{line_of}
-use Rattle.roll_cli.specs.Output.{Texts, first_playing, output_under, refusals_under, refused_line, refusals_from, written_from}
+use Rattle.prog_scripts.specs.declared.command.Command.{Command}
+use Rattle.prog_scripts.specs.Commands.{line_of}
+use Rattle.prog_replies.specs.Output.{Texts, first_playing, output_under, refusals_under, refused_line, refusals_from, written_from}
 use Rattle.roll_cli.specs.Playings.{Played}
-use Rattle.roll_cli.specs.Headers.{Setup, header_of}
-use Rattle.roll_cli.specs.Plays.{IsOutlined, Play, play_lines}
-use Rattle.roll_cli.proofs.Guessed.{played_of, refused_so}
-
-lines_fit : (lines : List (List ℕ)) → length lines ≤ length (text_of lines)
-lines_fit [] = omega arith
-lines_fit (line ∷ lines) = omega (arith, length-append (ended line) (text_of lines), length-append line (10 ∷ []), lines_fit lines)
-
--- a text that isn't too long has few commands
-pub few_commands : (play : Play) (text : List ℕ) → text ≡ text_of (play_lines play) → length text ≤ TEXT_LIMIT → length play.commands < 2 ^ 32
-few_commands play text e short = omega (arith, ap length e, lines_fit (play_lines play), length-map play.commands line_of)
+use Rattle.prog_scripts.specs.Headers.{Setup, header_of}
+use Rattle.prog_scripts.specs.Plays.{IsOutlined, Play, play_lines}
+use Rattle.roll_cli.proofs.Guessed.{played_of}
+use Rattle.prog_replies.proofs.Refused.{refused_so}
 
 -- what a session that starts writes, and how many of the replies are refusals
 pub written_started : (texts : Texts) (game : Game) (commands : List Command) (settings : Settings) → start_refusal settings ≡ None

@@ -12,18 +12,14 @@ use Rattle.roll_session.specs.Headline.{Headline}
 use Rattle.roll_session.specs.Seen.{Seen, core_of}
 use Rattle.roll_session.specs.Headline.{Turn}
 use Rattle.roll_text.specs.Lines.{ended}
-use Rattle.roll_cli.specs.Headers.{settings_of}
-use Rattle.roll_cli.specs.Output.{Playing, Texts, after_command, asked_by, event_text}
-use Rattle.roll_cli.specs.Output.{duel_game, duel_output, duel_refusals}
-use Rattle.roll_cli.specs.Output.{first_playing, output, refusals, reply_line, IsOutput}
-use Rattle.roll_cli.specs.Plays.{Play}
-use Rattle.prog_parts.specs.Shown.{duel_text}
-use Rattle.roll_cli.specs.declared.command.Command.{Command}
-
--- a session that has just started, over a game with these counts
-abbrev pub started : Settings → Value → Counts → Seen
-started settings opening counts =
-    record { settings = settings; opening = opening; log = []; counts = counts; reserved = 0 }
+use Rattle.prog_scripts.specs.Headers.{settings_of}
+use Rattle.prog_replies.specs.Output.{Playing, Texts, after_command, asked_by, event_text}
+use Rattle.prog_replies.specs.Output.{duel_game, duel_output, duel_refusals}
+use Rattle.prog_replies.specs.Output.{first_playing, output, refusals, reply_line, IsOutput}
+use Rattle.prog_replies.specs.Starts.{started}
+use Rattle.prog_scripts.specs.Plays.{Play}
+use Rattle.roll_duel.specs.Text.{duel_text}
+use Rattle.prog_scripts.specs.declared.command.Command.{Command}
 
 -- the events that commands ask for, in their order
 abbrev pub events_from : Settings → Game → Playing → List Command → List CoreEvent

@@ -1,12 +1,5 @@
-pub mod Commands
-pub mod Headers
-pub mod Plays
-pub mod Output
 pub mod Playings
-pub mod Calls
-pub mod RowsFiles
 pub mod SyncTests
-pub mod Faults
 pub mod Certified
 pub mod Programs
 pub mod Headlines

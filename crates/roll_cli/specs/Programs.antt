@@ -7,14 +7,14 @@ use Rattle.prog_parts.specs.declared.fault.PlayFault.{PlayFault}
 use Rattle.prog_parts.specs.declared.fault.PlayFault.TheVariants.{Unreadable, NoMemory, Read, Write}
 use Rattle.prog_parts.specs.declared.ending.Ending.{Ending}
 use Rattle.prog_parts.specs.declared.ending.GameName.TheVariants.{Tally, Duel}
-use Rattle.roll_cli.specs.declared.program.Task.{Task}
-use Rattle.roll_cli.specs.declared.program.Task.TheVariants.{Play, SyncTest, Certify}
+use Rattle.prog_parts.specs.declared.task.Task.{Task}
+use Rattle.prog_parts.specs.declared.task.Task.TheVariants.{Play, SyncTest, Certify}
 use Rattle.roll_cli.specs.Certified.{IsCertified}
-use Rattle.roll_cli.specs.Output.{IsOutput, output, refusals, tally_game, duel_output, duel_refusals}
-use Rattle.roll_cli.specs.Plays.{IsScript}
-use Rattle.roll_cli.specs.RowsFiles.{IsRowsText}
+use Rattle.prog_replies.specs.Output.{IsOutput, output, refusals, tally_game, duel_output, duel_refusals}
+use Rattle.prog_scripts.specs.Plays.{IsScript}
+use Rattle.prog_scripts.specs.RowsFiles.{IsRowsText}
 use Rattle.roll_cli.specs.SyncTests.{IsDuelSynced, IsTallySynced}
-use Rattle.prog_parts.specs.Shown.{tally_text}
+use Rattle.roll_game.specs.Shown.{tally_text}
 
 -- the texts that a task can read
 abbrev pub IsReadable : Task → List ℕ → Type 0

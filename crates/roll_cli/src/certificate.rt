@@ -7,7 +7,7 @@ ghost use Rattle.roll_text.specs.Streams.{AppendsPart, IsBadAt};
 ghost use Rattle.roll_text.specs.declared.streams.TheConstants.{TEXT_LIMIT};
 ghost use Rattle.roll_cert.specs.Texts.{IsClaimText, IsSized, claim_lines};
 ghost use Rattle.roll_cli.specs.Certified.{IsAnswer, IsCertified, right_line, wrong_line};
-ghost use Rattle.roll_cli.specs.Faults.{TakesAtMost, fault_of_claim};
+ghost use Rattle.prog_scripts.specs.Faults.{TakesAtMost, fault_of_claim};
 ghost use Rattle.prog_parts.specs.declared.fault.PlayFault.TheVariants.{NoMemory, Unreadable, Write as CannotWrite};
 
 use prog_parts::PlayFault;

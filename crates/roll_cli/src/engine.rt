@@ -4,21 +4,21 @@ ghost use Rattle.std.specs.Io.KnownBytes.{Appends};
 ghost use Rattle.roll_text.specs.Lines.{ended, text_of as text_of_lines};
 ghost use Rattle.roll_text.specs.Streams.{AppendsPart, IsBadAt};
 ghost use Rattle.roll_text.specs.declared.streams.TheConstants.{TEXT_LIMIT};
-ghost use Rattle.roll_cli.specs.Faults.{TakesAtMost};
-ghost use Rattle.roll_cli.specs.Output.{IsOutput, IsOutputAfter, duel_output, duel_refusals, output, output_under, refusals, refusals_under, refused_line};
-ghost use Rattle.roll_cli.specs.Headers.{IsSetup, setup_of};
+ghost use Rattle.prog_scripts.specs.Faults.{TakesAtMost};
+ghost use Rattle.prog_replies.specs.Output.{IsOutput, IsOutputAfter, duel_output, duel_refusals, output, output_under, refusals, refusals_under, refused_line};
+ghost use Rattle.prog_scripts.specs.Headers.{IsSetup, setup_of};
 ghost use Rattle.roll_cli.specs.Headlines.{IsHeadlinedDuel, IsHeadlinedOutput};
-ghost use Rattle.roll_cli.specs.Plays.{AreCommands, IsPlay, IsScript, play_lines, play_of};
-ghost use Rattle.roll_cli.specs.declared.command.Command.{Command};
+ghost use Rattle.prog_scripts.specs.Plays.{AreCommands, IsPlay, IsScript, play_lines, play_of};
+ghost use Rattle.prog_scripts.specs.declared.command.Command.{Command};
 ghost use Rattle.prog_parts.specs.declared.fault.PlayFault.TheVariants.{NoMemory, Unreadable, Write as CannotWrite};
 
-use crate::header::Header;
-use crate::output::push_refused;
 use crate::playing::Playing;
-use crate::script::{Script, ScriptFault, outline};
-use prog_parts::{PlayFault, Shown};
+use prog_parts::PlayFault;
+use prog_replies::{push_not_started, write_not_started};
+use prog_scripts::{Header, outline};
 use roll_duel::Duel;
 use roll_frame::{Refusal, Settings};
+use roll_game::Shown;
 use roll_session::Session;
 use roll_text::{read_all, write_all};
 use std::alloc::Global;
@@ -27,20 +27,6 @@ use std::io::{Read, Write};
 /// Room is taken at first for replies so many times as long as the commands: where frames are played without guesses, they
 /// are four times as long.
 const REPLIES: usize = 5;
-
-impl From<ScriptFault> for PlayFault {
-    ghost use Rattle.std.specs.Prelude.{◌≡◌};
-    ghost use Rattle.roll_cli.specs.Faults.{fault_of_script};
-
-    ghost from_gives = { λ error fault. fault ≡ fault_of_script error };
-
-    fn from(error: ScriptFault) -> PlayFault {
-        match error {
-            ScriptFault::Unreadable(line) => PlayFault::Unreadable(line),
-            ScriptFault::NoMemory => PlayFault::NoMemory,
-        }
-    }
-}
 
 /// Plays a script: reads all of it, writes the reply to each command, and answers how many replies are refusals. The
 /// game starts at `opening`; `helper`, a second game of its kind, runs the jobs that guesses give. Where the helper refuses,
@@ -93,20 +79,6 @@ pub fn play_duel<R: Read, W: Write>(
     write_duel(alloc, writer, &header, commands)
 }
 
-/// The script that a reader holds.
-pub fn read_script<R: Read>(alloc: Global, reader: &mut R) -> Result<Script, PlayFault>
-    ensures fits { IfOk result (λ script. IsPlay (play_of script)) }
-    ensures few { IfOk result (λ script. length script.commands.items < 2 ^ 32) }
-    ensures spelled { IfOk result (λ script. IfSome (R.remaining reader.old) (λ text. text ≡ text_of_lines (play_lines (play_of script)))) }
-    ensures unreadable { (line : ℕ) → result ≡ Err (Unreadable line) → IfSome (R.remaining reader.old) (IsBadAt IsScript line) }
-    ensures fault { IfErr result (λ fault. fault ≢ CannotWrite) }
-    ensures taken { TakesAtMost (TEXT_LIMIT + 1) (R.remaining reader.old) (R.remaining reader.new) }
-{
-    let text = read_all(alloc, reader)?;
-    let script = Script::read(alloc, &text)?;
-    Ok(script)
-}
-
 /// Plays the commands whose lines a text is, with a script's header, and writes all that they write at once.
 fn write_played<G: Shown + Drop, W: Write>(
     alloc: Global,
@@ -157,23 +129,6 @@ fn write_duel<W: Write>(
     write_played(alloc, writer, header, commands, duel, opening, helper)
 }
 
-/// Writes why there is no game to play.
-pub fn write_not_started<W: Write>(
-    alloc: Global,
-    writer: &mut W,
-    why: Refusal,
-) -> Result<u32, PlayFault>
-    ensures written { OnOk result (Appends (W.contents writer.old) (W.contents writer.new) (ended (refused_line why))) }
-    ensures refused { IfOk result (λ refused. refused ≡ 1) }
-    ensures cut { result ≡ Err CannotWrite → AppendsPart (W.contents writer.old) (W.contents writer.new) (ended (refused_line why)) }
-    ensures fault { IfErr result (λ fault. (fault ≡ CannotWrite) ⊎ ((fault ≡ NoMemory) × (writer.new ≡ writer.old))) }
-{
-    let mut out = Vec::new(alloc);
-    let refused = push_not_started(&mut out, why)?;
-    write_all(writer, &out)?;
-    Ok(refused)
-}
-
 /// Writes all that the commands of a session write at the end, whose lines a text is, and answers how many replies are
 /// refusals.
 fn push_output<G: Shown + Drop>(
@@ -200,18 +155,4 @@ fn push_output<G: Shown + Drop>(
         }
         Err(fault) => push_not_started(out, fault.why),
     }
-}
-
-/// Writes why a session didn't start, unless memory was refused: the only reply, and a refusal.
-pub fn push_not_started(out: &mut Vec<u8>, why: Refusal) -> Result<u32, PlayFault>
-    ensures written { OnOk result (out.new.items ≡ out.old.items ++ ended (refused_line why)) }
-    ensures refused { IfOk result (λ refused. (refused ≡ 1) × (why ≢ Refusal.NoMemory)) }
-    ensures fault { IfErr result (λ fault. fault ≡ NoMemory) }
-{
-    if why == Refusal::NoMemory {
-        return Err(PlayFault::NoMemory);
-    }
-    push_refused(out, why)?;
-    out.extend_from_slice(b"\n")?;
-    Ok(1)
 }

@@ -4,18 +4,18 @@ ghost use Rattle.roll_frame.specs.Events.{after, reply};
 ghost use Rattle.roll_session.specs.Calls.{asked};
 ghost use Rattle.roll_session.specs.Seen.{core_of};
 ghost use Rattle.roll_text.specs.Lines.{ended};
-ghost use Rattle.roll_cli.specs.Calls.{call_of, narrowed};
-ghost use Rattle.roll_cli.specs.Output.{after_command, event_text, guess_line, guessed, is_refused as refuses, job_at, refusals_from, refused_by, with_job, written_by, written_from};
+ghost use Rattle.prog_replies.specs.Calls.{call_of, narrowed};
+ghost use Rattle.prog_replies.specs.Output.{after_command, event_text, guess_line, guessed, is_refused as refuses, job_at, refusals_from, refused_by, with_job, written_by, written_from};
 ghost use Rattle.roll_cli.specs.Playings.{game_of};
-ghost use Rattle.roll_cli.specs.Plays.{AreCommands};
-ghost use Rattle.roll_cli.specs.declared.command.Command.{Command};
+ghost use Rattle.prog_scripts.specs.Plays.{AreCommands};
+ghost use Rattle.prog_scripts.specs.declared.command.Command.{Command};
 
-use crate::command::{Command, first_command};
-use crate::output::{push_claim, push_job, push_reply};
-use prog_parts::{PlayFault, Shown};
+use prog_parts::PlayFault;
+use prog_replies::{call, player_number, push_claim, push_job, push_reply};
+use prog_scripts::{Command, first_command};
 use roll_branch::{Done, Job, extend};
 use roll_frame::{Refusal, Reply};
-use roll_game::Game;
+use roll_game::{Game, Shown};
 use roll_session::{Call, Request, Session};
 use std::alloc::Global;
 use std::marker::Model;
@@ -200,39 +200,4 @@ fn is_refused(reply: &Reply) -> bool
     ensures { result ≡ refuses reply.now }
 {
     matches!(reply, Reply::Refused(_))
-}
-
-/// The call that a command asks for. A number that is past those of any player stands for none, as 0 does.
-#[inline(always)]
-pub fn call(command: &Command) -> Option<Call>
-    ensures { result ≡ call_of command.now }
-{
-    match command {
-        Command::Local { player, word } => Some(Call::Local {
-            player: player_number(*player),
-            word: *word,
-        }),
-        Command::Remote {
-            player,
-            frame,
-            word,
-        } => Some(Call::Remote {
-            player: player_number(*player),
-            frame: *frame,
-            word: *word,
-        }),
-        Command::Disconnect { player } => Some(Call::Disconnect {
-            player: player_number(*player),
-        }),
-        Command::Sync => Some(Call::Sync),
-        Command::Advance => Some(Call::Advance),
-        Command::Guess { .. } | Command::Extend { .. } | Command::Claim => None,
-    }
-}
-
-/// A player's number as a call has it: 0, which is nobody's, for one that is past those of any player.
-pub fn player_number(n: u32) -> u8
-    ensures { result ≡ narrowed n }
-{
-    u8::try_from(n).unwrap_or(0)
 }

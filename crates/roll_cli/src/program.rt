@@ -3,32 +3,21 @@ ghost use Rattle.std.specs.Prelude.{◌≡◌, ◌≤◌, ◌⊎◌, ◌+◌, �
 ghost use Rattle.std.specs.Io.KnownBytes.{Appends};
 ghost use Rattle.roll_text.specs.Streams.{AppendsPart, IsBadAt};
 ghost use Rattle.roll_text.specs.declared.streams.TheConstants.{TEXT_LIMIT};
-ghost use Rattle.roll_cli.specs.Faults.{TakesAtMost};
-ghost use Rattle.roll_cli.specs.Output.{IsOutput, output, refusals, tally_game};
-ghost use Rattle.roll_cli.specs.Plays.{IsScript};
+ghost use Rattle.prog_scripts.specs.Faults.{TakesAtMost};
+ghost use Rattle.prog_replies.specs.Output.{IsOutput, output, refusals, tally_game};
+ghost use Rattle.prog_scripts.specs.Plays.{IsScript};
 ghost use Rattle.roll_cli.specs.Programs.{Ends, IsDone, IsFault};
-ghost use Rattle.prog_parts.specs.Shown.{tally_text};
+ghost use Rattle.roll_game.specs.Shown.{tally_text};
 ghost use Rattle.prog_parts.specs.declared.fault.PlayFault.TheVariants.{Unreadable, Write as CannotWrite};
-ghost use Rattle.roll_cli.specs.declared.program.Task.TheVariants.{Play, SyncTest};
+ghost use Rattle.prog_parts.specs.declared.task.Task.TheVariants.{Play, SyncTest};
 
 use crate::certificate::certify;
 use crate::engine::{play, play_duel};
 use crate::sync_test::{synctest_duel, synctest_tally};
-use prog_parts::{Ending, GameName, PlayFault};
+use prog_parts::{Ending, GameName, PlayFault, Task};
 use roll_game::Tally;
 use std::alloc::Global;
 use std::io::{Read, Write};
-
-/// What is to be done with a text.
-#[derive(Clone, Copy, Debug, PartialEq, Eq)]
-pub enum Task {
-    /// The text is a script, to be played with this game.
-    Play(GameName),
-    /// The text is a file of rows, with which this game is tested, so many frames at once.
-    SyncTest { game: GameName, frames: u32 },
-    /// The text is a claim, to be checked.
-    Certify,
-}
 
 /// Does what a task asks for with the text that a reader holds, and answers how the program ends.
 ///

@@ -6,15 +6,14 @@ ghost use Rattle.roll_synctest.specs.declared.verdict.Verdict.{Verdict as Verdic
 ghost use Rattle.roll_text.specs.Lines.{ended, text_of};
 ghost use Rattle.roll_text.specs.Streams.{AppendsPart, IsBadAt};
 ghost use Rattle.roll_text.specs.declared.streams.TheConstants.{TEXT_LIMIT};
-ghost use Rattle.roll_cli.specs.Faults.{TakesAtMost};
-ghost use Rattle.roll_cli.specs.RowsFiles.{IsRowsFile, IsRowsText, file_lines, file_of};
+ghost use Rattle.prog_scripts.specs.Faults.{TakesAtMost};
+ghost use Rattle.prog_scripts.specs.RowsFiles.{IsRowsFile, IsRowsText, file_lines, file_of};
 ghost use Rattle.roll_cli.specs.SyncTests.{AreSaid, IsDuelSynced, IsTallySynced, IsTested, IsTold, duel_sync_output, is_duel_startable, is_startable, verdict_line};
 ghost use Rattle.prog_parts.specs.declared.fault.PlayFault.TheVariants.{NoMemory, Unreadable, Write as CannotWrite};
 
-use crate::engine::{push_not_started, write_not_started};
-use crate::output::push_named;
-use crate::rows_file::RowsFile;
 use prog_parts::PlayFault;
+use prog_replies::{push_named, push_not_started, write_not_started};
+use prog_scripts::RowsFile;
 use roll_duel::Duel;
 use roll_frame::{Refusal, Row};
 use roll_game::{RawGame, Tally, never_diverges};

@@ -5,3 +5,4 @@ pub mod Frame
 pub mod Bytes
 pub mod Ranges
 pub mod Duels
+pub mod Text

@@ -18,6 +18,7 @@ mod pad;
 mod ship;
 mod space;
 mod state;
+mod text;
 
 pub use bullet::Bullet;
 pub use duel::Duel;

@@ -11,14 +11,14 @@ use Rattle.roll_game.specs.declared.counts.Counts.{Counts}
 use Rattle.roll_session.specs.Seen.{Seen}
 use Rattle.roll_text.specs.Lines.{ended}
 use Rattle.roll_text.specs.Streams.{AppendsPart, IsBadAt}
-use Rattle.roll_cli.specs.Output.{Texts, refused_line}
-use Rattle.roll_cli.specs.Plays.{IsScript, Play}
-use Rattle.roll_cli.specs.declared.command.Command.{Command}
+use Rattle.prog_replies.specs.Output.{Texts, refused_line}
+use Rattle.prog_scripts.specs.Plays.{IsScript, Play}
+use Rattle.prog_scripts.specs.declared.command.Command.{Command}
 use Rattle.prog_parts.specs.declared.fault.PlayFault.{PlayFault}
 use Rattle.prog_parts.specs.declared.fault.PlayFault.TheVariants.{Unreadable, NoMemory, Read, Write}
 use Rattle.prog_parts.specs.declared.ending.GameName.{GameName}
-use Rattle.roll_cli.proofs.Guessed.{refused_so}
-use Rattle.roll_cli.specs.Headlines.{started}
+use Rattle.prog_replies.proofs.Refused.{refused_so}
+use Rattle.prog_replies.specs.Starts.{started}
 use Rattle.roll_live.specs.Lives.{FarOf, IsFault, IsOutput, IsUnreadable, WritesOf, WritesUnder}
 
 -- a fault that is handed on names a line only where it is that of a line too far ahead

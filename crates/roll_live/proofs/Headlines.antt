@@ -13,10 +13,10 @@ use Rattle.roll_session.proofs.Headlines.{headline_of, AreAsked}
 use Rattle.roll_session.proofs.Runs.{played_more, played_none}
 use Rattle.roll_session.specs.Answered.{IsPlayed}
 use Rattle.roll_session.specs.Seen.{Seen, Step, game_of, plain}
-use Rattle.roll_cli.specs.Calls.{narrowed}
-use Rattle.roll_cli.specs.Output.{Texts}
-use Rattle.roll_cli.specs.declared.command.Command.{Command}
-use Rattle.roll_cli.specs.declared.command.Command.TheVariants.{Local as Gives, Remote as Tells, Disconnect as Leaves, Sync as Syncs, Advance as Advances, Guess, Extend, Claim}
+use Rattle.prog_replies.specs.Calls.{narrowed}
+use Rattle.prog_replies.specs.Output.{Texts}
+use Rattle.prog_scripts.specs.declared.command.Command.{Command}
+use Rattle.prog_scripts.specs.declared.command.Command.TheVariants.{Local as Gives, Remote as Tells, Disconnect as Leaves, Sync as Syncs, Advance as Advances, Guess, Extend, Claim}
 use Rattle.roll_live.specs.Headlines.{all_events, but_guesses, events_told, HasHeadline}
 use Rattle.roll_live.specs.Tellings.{AreTold, IsLive, Telling}
 use Rattle.roll_live.specs.Told.{guessed_counts, Line, IsTold}

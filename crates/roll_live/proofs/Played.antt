@@ -1,6 +1,7 @@
 -- Commands that were played live, one after another.
-use Rattle.std.proofs.Common.{◌≡◌, ◌∙◌, ℕ, ◌+◌, List, [], ◌∷◌, ◌++◌, length, Bool, cond, refl, ap, sym, subst, arith, append-nil}
+use Rattle.std.proofs.Common.{◌≡◌, ◌∙◌, ℕ, ◌+◌, List, [], ◌∷◌, ◌++◌, length, Bool, false, cond, refl, ap, sym, subst, arith, append-nil}
 use Rattle.std.specs.List.{flat_map}
+use Rattle.std.specs.Prelude.{is_err, OnOk, Result, Ok, Err}
 use Rattle.std.proofs.lemmas.Grind.{flat_map-append}
 use Rattle.std.proofs.lemmas.List.{map-append}
 use Rattle.std.proofs.lemmas.List.Sums.{sum_by-append}
@@ -8,10 +9,15 @@ use Rattle.roll_host.specs.Heard.{AreHeard}
 use Rattle.roll_host.proofs.Hearing.{heard_more}
 use Rattle.roll_link.specs.declared.remote.Remote.{Remote}
 use Rattle.roll_session.specs.Seen.{Seen, Step}
-use Rattle.roll_cli.specs.Output.{Texts}
-use Rattle.roll_cli.specs.declared.command.Command.{Command}
+use Rattle.prog_replies.specs.Output.{Texts}
+use Rattle.prog_scripts.specs.declared.command.Command.{Command}
 use Rattle.roll_live.specs.Told.{Line, IsTold}
 use Rattle.roll_live.specs.Tellings.{AreTold, IsLive, Telling}
+
+-- what holds of a call that succeeds
+pub succeeded : {X Y : Type 0} (r : Result X Y) (P : Type 0) → is_err r ≡ false → OnOk r P → P
+succeeded (Ok x) P e h = h
+succeeded (Err y) P e h = absurd (cc e)
 
 module _ (step : Step) where
   -- items that were heard after none

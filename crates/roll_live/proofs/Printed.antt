@@ -8,7 +8,7 @@ use Rattle.roll_frame.specs.Games.{Game}
 use Rattle.roll_frame.specs.Paths.{run}
 use Rattle.roll_frame.specs.declared.row.Cell.{Cell}
 use Rattle.roll_session.specs.Held.{Shows}
-use Rattle.roll_cli.specs.Output.{Texts}
+use Rattle.prog_replies.specs.Output.{Texts}
 use Rattle.roll_live.specs.Told.{state_line}
 
 no_rows : {S : Type 0} (value : S → List ℕ) (step : List ℕ → List Cell → List ℕ) (x : List ℕ) (shown : Option Rows) → Shows value step x shown None → shown ≡ None

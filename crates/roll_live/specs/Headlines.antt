@@ -7,13 +7,13 @@ use Rattle.roll_session.specs.Answered.{replies_to}
 use Rattle.roll_session.specs.Calls.{grafting}
 use Rattle.roll_session.specs.Headline.{Headline}
 use Rattle.roll_session.specs.Seen.{Seen, Step, plain}
-use Rattle.roll_cli.specs.Calls.{narrowed}
-use Rattle.roll_cli.specs.Output.{Texts}
-use Rattle.roll_cli.specs.declared.command.Command.{Command}
-use Rattle.roll_cli.specs.declared.command.Command.TheVariants.{Local as Gives, Remote as Tells}
-use Rattle.roll_cli.specs.declared.command.Command.TheVariants.{Disconnect as Leaves, Sync as Syncs}
-use Rattle.roll_cli.specs.declared.command.Command.TheVariants.{Advance as Advances, Guess, Extend}
-use Rattle.roll_cli.specs.declared.command.Command.TheVariants.{Claim}
+use Rattle.prog_replies.specs.Calls.{narrowed}
+use Rattle.prog_replies.specs.Output.{Texts}
+use Rattle.prog_scripts.specs.declared.command.Command.{Command}
+use Rattle.prog_scripts.specs.declared.command.Command.TheVariants.{Local as Gives, Remote as Tells}
+use Rattle.prog_scripts.specs.declared.command.Command.TheVariants.{Disconnect as Leaves, Sync as Syncs}
+use Rattle.prog_scripts.specs.declared.command.Command.TheVariants.{Advance as Advances, Guess, Extend}
+use Rattle.prog_scripts.specs.declared.command.Command.TheVariants.{Claim}
 use Rattle.roll_live.specs.Told.{Line, IsTold}
 use Rattle.roll_live.specs.Tellings.{AreTold, IsLive, Telling}
 

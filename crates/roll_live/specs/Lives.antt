@@ -10,12 +10,13 @@ use Rattle.roll_game.specs.declared.counts.Counts.{Counts}
 use Rattle.roll_session.specs.Seen.{Seen, Step}
 use Rattle.roll_text.specs.Lines.{ended, text_of}
 use Rattle.roll_text.specs.Streams.{AppendsPart, IsBadAt}
-use Rattle.roll_cli.specs.Headers.{settings_of}
-use Rattle.roll_cli.specs.Headlines.{started}
-use Rattle.roll_cli.specs.Output.{Texts, duel_game, refused_line, tally_game}
-use Rattle.roll_cli.specs.Plays.{IsPlay, IsScript, Play, play_lines}
-use Rattle.prog_parts.specs.Shown.{duel_text, tally_text}
-use Rattle.roll_cli.specs.declared.command.Command.{Command}
+use Rattle.prog_scripts.specs.Headers.{settings_of}
+use Rattle.prog_replies.specs.Starts.{started}
+use Rattle.prog_replies.specs.Output.{Texts, duel_game, refused_line, tally_game}
+use Rattle.prog_scripts.specs.Plays.{IsPlay, IsScript, Play, play_lines}
+use Rattle.roll_duel.specs.Text.{duel_text}
+use Rattle.roll_game.specs.Shown.{tally_text}
+use Rattle.prog_scripts.specs.declared.command.Command.{Command}
 use Rattle.prog_parts.specs.declared.fault.PlayFault.{PlayFault}
 use Rattle.prog_parts.specs.declared.fault.PlayFault.TheVariants.{Unreadable, NoMemory, Read, Write}
 use Rattle.prog_parts.specs.declared.ending.Ending.{Ending}

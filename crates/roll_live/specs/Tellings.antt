@@ -2,8 +2,8 @@
 use Rattle.std.specs.Prelude.{◌≡◌, ℕ, List, [], ◌∷◌, count_by, map}
 use Rattle.std.specs.List.{flat_map}
 use Rattle.roll_session.specs.Seen.{Seen, Step}
-use Rattle.roll_cli.specs.Output.{Texts}
-use Rattle.roll_cli.specs.declared.command.Command.{Command}
+use Rattle.prog_replies.specs.Output.{Texts}
+use Rattle.prog_scripts.specs.declared.command.Command.{Command}
 use Rattle.roll_live.specs.Told.{Line, IsTold}
 
 -- a command, what it wrote, and the session after it

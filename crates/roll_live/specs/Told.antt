@@ -17,10 +17,10 @@ use Rattle.roll_session.specs.Answered.{IsPlayed, IsReplied}
 use Rattle.roll_session.specs.Calls.{grafting}
 use Rattle.roll_session.specs.Seen.{Seen, Step, core_of, game_of, plain}
 use Rattle.roll_text.specs.Lines.{ended}
-use Rattle.roll_cli.specs.Calls.{narrowed}
-use Rattle.roll_cli.specs.Output.{Texts, is_refused, reply_line}
-use Rattle.roll_cli.specs.declared.command.Command.{Command}
-use Rattle.roll_cli.specs.declared.command.Command.TheVariants.{Local as Gives, Remote as Tells, Disconnect as Leaves, Sync as Syncs, Advance as Advances, Guess, Extend, Claim}
+use Rattle.prog_replies.specs.Calls.{narrowed}
+use Rattle.prog_replies.specs.Output.{Texts, is_refused, reply_line}
+use Rattle.prog_scripts.specs.declared.command.Command.{Command}
+use Rattle.prog_scripts.specs.declared.command.Command.TheVariants.{Local as Gives, Remote as Tells, Disconnect as Leaves, Sync as Syncs, Advance as Advances, Guess, Extend, Claim}
 use Rattle.roll_live.specs.Items.{item_refusal, item_reply}
 use Rattle.roll_live.specs.declared.playing.TheConstants.{AHEAD_LIMIT}
 
@@ -50,6 +50,11 @@ said_line texts game core said = record { text = ended (live_line texts game cor
 -- the item of an `R` line
 abbrev pub item_of : ℕ → ℕ → ℕ → Remote
 item_of p f word = record { player = narrowed p; frame = f; word = word }
+
+-- the items of a command: that of an `R` line
+abbrev pub items_of : Command → List Remote
+items_of (Tells p f word) = item_of p f word ∷ []
+items_of command = []
 
 -- the counts, with others of copies, and of refusals
 abbrev pub guessed_counts : Counts → Counts → Counts

@@ -2,23 +2,28 @@
 ghost use Rattle.std.specs.Prelude.{◌≡◌, ◌≢◌, ◌≤◌, ◌⊎◌, ◌<◌, ◌+◌, ◌^◌, ◌++◌, ℕ, List, Err, IfErr, IfOk, IfSome, OnOk, length, vec_len};
 ghost use Rattle.std.specs.Io.KnownBytes.{Appends};
 ghost use Rattle.roll_frame.specs.Settings.{start_refusal};
-ghost use Rattle.roll_host.specs.Hosted.{places_of};
+ghost use Rattle.roll_host.specs.Hosted.{came_by, issued_of, places_of};
+ghost use Rattle.roll_pool.specs.Crews.{places_in};
+ghost use Rattle.roll_pool.specs.Owners.{collected};
+ghost use Rattle.roll_pool.specs.Settled.{Settles};
 ghost use Rattle.roll_pool.specs.declared.owner.TheConstants.{WORKER_LIMIT as TEAM};
 ghost use Rattle.roll_session.specs.Seen.{Seen};
 ghost use Rattle.roll_text.specs.Streams.{AppendsPart};
 ghost use Rattle.roll_text.specs.declared.streams.TheConstants.{TEXT_LIMIT};
-ghost use Rattle.roll_cli.specs.Faults.{TakesAtMost};
-ghost use Rattle.roll_cli.specs.Plays.{IsPlay, play_of};
+ghost use Rattle.prog_scripts.specs.Faults.{TakesAtMost};
+ghost use Rattle.prog_scripts.specs.Plays.{IsPlay, play_of};
 ghost use Rattle.prog_parts.specs.declared.fault.PlayFault.TheVariants.{NoMemory, Unreadable, Write as CannotWrite};
 ghost use Rattle.roll_live.specs.Headlines.{HasHeadline};
 ghost use Rattle.roll_live.specs.Lives.{IsFarAt, IsFarOf, IsFarUnder, IsOutput, IsUnreadable, Writes, WritesUnder};
 
 use crate::playing::Playing;
-use roll_cli::{Command, PlayFault, Script, Shown, push_not_started, read_script};
+use prog_parts::PlayFault;
+use prog_replies::push_not_started;
+use prog_scripts::{Command, Script, read_script};
 use roll_frame::Settings;
-use roll_game::Game;
+use roll_game::{Game, Shown};
 use roll_host::Host;
-use roll_pool::{Crew, Owner, start_all};
+use roll_pool::{Crew, Outcome, Owner, start_all};
 use roll_session::Session;
 use roll_text::write_all;
 use std::alloc::{AllocFailed, Global};
@@ -148,13 +153,12 @@ where
     let Ok((owner, ends)) = Owner::open(alloc, helpers.len()) else {
         return Err(PlayFault::NoMemory);
     };
-    let Ok(crew) = start_all(*rt, alloc, &owner, ends, helpers) else {
+    let Ok(crew) = start_all(*rt, alloc, ends, helpers) else {
         return Err(PlayFault::NoMemory);
     };
     match Host::with_workers(alloc, session, owner) {
         Ok(host) => play_hosted(rt, out, commands, host, crew),
         Err(AllocFailed { value: (_, owner) }) => {
-            owner.close();
             let (ends, _games) = crew.join(rt);
             let _outcome = owner.settle(ends);
             Err(PlayFault::NoMemory)
@@ -174,7 +178,7 @@ where
     RT: Threads + Wait,
     G: Shown + Drop,
     requires few { length commands.now < 2 ^ 32 }
-    requires crew { crew ≡ places_of host.pool }
+    requires crew { places_in crew ≡ places_of host.pool }
     ensures played { IfOk result (λ refused. (new : Seen) × (written : List ℕ) × HasHeadline G.step G.text_of host.session new commands.now written refused × (out.new.items ≡ out.old.items ++ written)) }
     ensures far { (line : ℕ) → result ≡ Err (Unreadable line) → IsFarAt G.step G.text_of host.session commands.now line }
     ensures fault { IfErr result (λ fault. fault ≢ CannotWrite) }
@@ -186,21 +190,22 @@ where
             let mut playing = Playing { host, sender };
             let played = playing.play_all(rt, out, commands);
             let Playing { host, sender: _ } = playing;
-            end(rt, host, crew);
+            let _outcome = end(rt, host, crew);
             played
         }
         Err(_) => {
-            end(rt, host, crew);
+            let _outcome = end(rt, host, crew);
             Err(PlayFault::NoMemory)
         }
     }
 }
 
 /// Has the workers stop, waits for them, and settles what became of their jobs.
-fn end<RT: Threads, G: Game + Drop>(rt: &RT, host: Host<G>, crew: Crew<G>)
-    requires { crew ≡ places_of host.pool }
+fn end<RT: Threads, G: Game + Drop>(rt: &RT, host: Host<G>, crew: Crew<G>) -> Outcome<G>
+    requires { places_in crew ≡ places_of host.pool }
+    ensures { Settles (issued_of host.pool) (collected (came_by host.pool)) result.late.items result.left.items }
 {
-    host.close();
     let (ends, _games) = crew.join(rt);
-    let (_session, _outcome) = host.settle(ends);
+    let (_session, outcome) = host.settle(ends);
+    outcome
 }

@@ -4,8 +4,10 @@ ghost use Rattle.roll_session.specs.Seen.{core_of, game_of};
 ghost use Rattle.roll_text.specs.Lines.{ended};
 ghost use Rattle.roll_live.specs.Told.{live_line, state_line};
 
-use roll_cli::{PlayFault, Shown, push_named, push_reply};
+use prog_parts::PlayFault;
+use prog_replies::{push_named, push_reply};
 use roll_frame::Reply;
+use roll_game::Shown;
 use roll_session::Session;
 
 /// Writes the line of a reply.

@@ -1,5 +1,6 @@
 //! A script that is being played live.
-ghost use Rattle.std.specs.Prelude.{◌≡◌, ◌≢◌, ◌≤◌, ◌⊎◌, ◌<◌, ◌+◌, ◌^◌, ◌++◌, ℕ, List, Err, IfErr, IfOk, OnOk, length, map, true};
+ghost use Rattle.std.specs.List.{flat_map};
+ghost use Rattle.std.specs.Prelude.{◌≡◌, ◌≢◌, ◌≤◌, ◌⊎◌, ◌<◌, ◌+◌, ◌^◌, ◌++◌, ◌∷◌, [], ℕ, List, Err, IfErr, IfOk, OnOk, length, map, true};
 ghost use Rattle.roll_frame.specs.Events.{CoreEvent};
 ghost use Rattle.roll_branch.specs.Routed.{Routed};
 ghost use Rattle.roll_host.specs.Heard.{AreHeard};
@@ -8,16 +9,18 @@ ghost use Rattle.roll_link.specs.declared.remote.Remote.{Remote as Item};
 ghost use Rattle.roll_session.specs.Answered.{IsPlayed};
 ghost use Rattle.roll_session.specs.Calls.{event_of as event_of_call, grafting};
 ghost use Rattle.roll_session.specs.Seen.{core_of};
-ghost use Rattle.roll_cli.specs.Output.{is_refused as refuses};
+ghost use Rattle.prog_replies.specs.Output.{is_refused as refuses};
 ghost use Rattle.roll_live.specs.Lives.{IsFarAt};
 ghost use Rattle.roll_live.specs.Tellings.{IsLive};
-ghost use Rattle.roll_live.specs.Told.{guessed_counts, Line, IsAsked, IsFar, IsHeard, IsTold};
+ghost use Rattle.roll_live.specs.Told.{guessed_counts, items_of, Line, IsAsked, IsFar, IsHeard, IsTold};
 
 use crate::item::item_reply;
 use crate::output::push_line;
-use roll_cli::{Command, PlayFault, Shown, call, player_number};
+use prog_parts::PlayFault;
+use prog_replies::{call, player_number};
+use prog_scripts::Command;
 use roll_frame::Reply;
-use roll_game::Game;
+use roll_game::{Game, Shown};
 use roll_host::{Host, HostReply, HostRequest};
 use roll_link::{LinkSender, Remote};
 use roll_session::{Call, Request};
@@ -46,6 +49,7 @@ impl<G: Shown> Playing<G> {
         ensures played { IfOk result (λ refused. (written : List ℕ) × IsLive G.step G.text_of self.old.host.session self.new.host.session commands.now written refused × (out.new.items ≡ out.old.items ++ written)) }
         ensures far { (line : ℕ) → result ≡ Err (PlayFault.Unreadable line) → IsFarAt G.step G.text_of self.old.host.session commands.now line }
         ensures fault { IfErr result (λ fault. (fault ≢ PlayFault.Read) × (fault ≢ PlayFault.Write)) }
+        ensures sent { OnOk result (self.new.sender.sent ≡ self.old.sender.sent ++ flat_map items_of commands.now) }
         ensures places { places_of self.new.host.pool ≡ places_of self.old.host.pool }
     {
         let mut refused = 0;
@@ -69,6 +73,7 @@ impl<G: Shown> Playing<G> {
     ) -> Result<bool, PlayFault>
         ensures told { IfOk result (λ refused. (text : List ℕ) × IsTold G.step G.text_of self.old.host.session self.new.host.session command.now (record { text = text; refused = refused }) × (out.new.items ≡ out.old.items ++ text)) }
         ensures fault { IfErr result (λ fault. (fault ≡ PlayFault.NoMemory) ⊎ ((fault ≡ PlayFault.Unreadable line) × IsFar self.old.host.session command.now)) }
+        ensures sent { OnOk result (self.new.sender.sent ≡ self.old.sender.sent ++ items_of command.now) }
         ensures places { places_of self.new.host.pool ≡ places_of self.old.host.pool }
     {
         match command {
@@ -105,6 +110,7 @@ impl<G: Shown> Playing<G> {
 
     /// Makes a call, and writes its reply.
     fn answer(&mut self, out: &mut Vec<u8>, call: Call) -> Result<bool, PlayFault>
+        ensures sender { self.new.sender ≡ self.old.sender }
         ensures told { IfOk result (λ refused. (text : List ℕ) × IsAsked G.step G.text_of self.old.host.session self.new.host.session (event_of_call call) (record { text = text; refused = refused }) × (out.new.items ≡ out.old.items ++ text)) }
         ensures fault { IfErr result (λ fault. fault ≡ PlayFault.NoMemory) }
         ensures places { places_of self.new.host.pool ≡ places_of self.old.host.pool }
@@ -125,6 +131,7 @@ impl<G: Shown> Playing<G> {
         line: u64,
         item: Remote,
     ) -> Result<bool, PlayFault>
+        ensures sent { OnOk result (self.new.sender.sent ≡ self.old.sender.sent ++ item ∷ []) }
         ensures told { IfOk result (λ refused. (text : List ℕ) × IsHeard G.step G.text_of self.old.host.session self.new.host.session item (record { text = text; refused = refused }) × (out.new.items ≡ out.old.items ++ text)) }
         ensures fault { IfErr result (λ fault. (fault ≡ PlayFault.NoMemory) ⊎ ((fault ≡ PlayFault.Unreadable line) × ((core_of self.old.host.session).frame + AHEAD_LIMIT ≤ item.frame))) }
         ensures places { places_of self.new.host.pool ≡ places_of self.old.host.pool }
@@ -143,6 +150,7 @@ impl<G: Shown> Playing<G> {
 
     /// Sends an item, and pumps until something is applied, which nothing else can be. Answers how many items were refused.
     fn apply<RT: Wait>(&mut self, rt: &RT, item: Remote) -> Result<u32, PlayFault>
+        ensures sent { OnOk result (self.new.sender.sent ≡ self.old.sender.sent ++ item ∷ []) }
         ensures heard { IfOk result (λ refused. (items : List Item) × AreHeard G.step self.old.host.session self.new.host.session items refused × (1 ≤ length items)) }
         ensures fault { IfErr result (λ fault. fault ≡ PlayFault.NoMemory) }
         ensures places { places_of self.new.host.pool ≡ places_of self.old.host.pool }
@@ -164,6 +172,7 @@ impl<G: Shown> Playing<G> {
 
     /// Has the workers run a guess. Where it is refused it isn't run, and nothing else is different.
     fn guess(&mut self, player: u8, words: &[u32], until: u32)
+        ensures sender { self.new.sender ≡ self.old.sender }
         ensures session { self.new.host.session ≡ record self.old.host.session { counts = guessed_counts self.old.host.session.counts self.new.host.session.counts } }
         ensures places { places_of self.new.host.pool ≡ places_of self.old.host.pool }
     {
@@ -172,6 +181,7 @@ impl<G: Shown> Playing<G> {
 
     /// Takes in the branches that have come.
     fn absorb(&mut self)
+        ensures sender { self.new.sender ≡ self.old.sender }
         ensures played { (branches : List Routed) × IsPlayed G.step self.old.host.session self.new.host.session (map grafting branches) }
         ensures places { places_of self.new.host.pool ≡ places_of self.old.host.pool }
     {

@@ -1,6 +1,6 @@
 //! Seeded draws, the same for the same seed on every machine.
-ghost use Rattle.std.specs.Prelude.{◌≡◌, ◌<◌, ◌%◌};
-ghost use Rattle.rand_pcg.specs.Pcg.{pcg32};
+ghost use Rattle.std.specs.Prelude.{◌≡◌, ◌<◌};
+ghost use Rattle.roll_match.specs.Drawing.{after_draw, lateness, number_below};
 
 use rand_pcg::Pcg32;
 use rand_pcg::rand_core::utils::NextWord;
@@ -41,9 +41,9 @@ impl Draws {
     /// A number below another.
     pub fn below(&mut self, count: u32) -> u32
         requires { 0 < count }
-        ensures value { result ≡ (pcg32 self.old).0 % count }
+        ensures value { result ≡ number_below self.old count }
         ensures small { result < count }
-        ensures left { self.new ≡ (pcg32 self.old).1 }
+        ensures left { self.new ≡ after_draw self.old }
     {
         self.generator.next_word() % count
     }
@@ -51,7 +51,10 @@ impl Draws {
     /// For how many frames a packet is under way, at most so many; none where it is lost, as so many of a hundred are.
     ///
     /// Both are drawn for each packet, so that what is lost doesn't change how late the others are.
-    pub fn lateness(&mut self, most: u32, lost: u32) -> Option<u32> {
+    pub fn lateness(&mut self, most: u32, lost: u32) -> Option<u32>
+        ensures value { result ≡ lateness self.old most lost }
+        ensures left { self.new ≡ after_draw (after_draw self.old) }
+    {
         let late = self.below(most.saturating_add(1));
         if self.below(100) < lost {
             None

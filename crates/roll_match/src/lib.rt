@@ -1,6 +1,7 @@
 //! Matches of two peers in one process, over a bad line: what their sessions run again, and what guesses save.
 #![tactic(auto)]
 
+mod agreement;
 mod draws;
 mod guessing;
 mod line;

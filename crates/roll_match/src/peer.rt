@@ -1,11 +1,14 @@
 //! One side of a match, with its way to the other.
-ghost use Rattle.std.specs.Prelude.{◌≡◌, ◌+◌, IfOk, OnOk, vec_len};
+ghost use Rattle.std.specs.Prelude.{◌≡◌, ◌+◌, IfOk, OnOk, if◌then◌else◌, is_some, unwrap_or, vec_len};
 ghost use Rattle.roll_session.specs.Seen.{core_of};
+ghost use Rattle.roll_match.specs.Hearing.{heard_by};
 ghost use Rattle.roll_match.specs.Known.{known_of};
+ghost use Rattle.roll_match.specs.Totals.{is_played};
 
 use crate::options::MatchOptions;
-use crate::side::{Side, wrong_claims};
-use crate::turn::{Turn, Went};
+use crate::side::{Side, check_claim};
+use crate::totals::is_played;
+use crate::turn::Turn;
 use crate::way::Way;
 use roll_frame::Refusal;
 use roll_game::Game;
@@ -56,23 +59,17 @@ fn take_turn<G: Game>(
 ) -> Result<Turn, Refusal>
     ensures frame { IfOk result (λ turn. turn.frame ≡ (core_of side.old.session).frame) }
     ensures known { IfOk result (λ turn. turn.known ≡ known_of (core_of side.old.session) side.old.other) }
+    ensures rerun { IfOk result (λ turn. turn.rerun ≡ unwrap_or (heard_by G.step side.old.session side.old.other words.now there) 0) }
+    ensures claims { IfOk result (λ turn. turn.claims ≡ (if is_some (heard_by G.step side.old.session side.old.other words.now there) then 1 else 0) + (if is_played turn.went then 1 else 0)) }
     ensures right { IfOk result (λ turn. turn.wrong ≡ 0) }
 {
     let frame = side.session.frame();
     let known = side.known();
     let synced = side.hear(words, there)?;
     let heard = side.known();
-    let mut claims = 0;
-    let mut wrong = 0;
-    if synced.is_some() {
-        claims += 1;
-        wrong += wrong_claims(alloc, &side.session)?;
-    }
+    let first = check_claim(alloc, &side.session, synced.is_some())?;
     let went = side.play()?;
-    if went == Went::Played {
-        claims += 1;
-        wrong += wrong_claims(alloc, &side.session)?;
-    }
+    let second = check_claim(alloc, &side.session, is_played(went))?;
     let guessed = side.guess(alloc, options, words)?;
     Ok(Turn {
         frame,
@@ -83,7 +80,7 @@ fn take_turn<G: Game>(
         guesses: guessed.guesses,
         added: guessed.added,
         dropped: guessed.dropped,
-        claims,
-        wrong,
+        claims: first.checked + second.checked,
+        wrong: first.wrong + second.wrong,
     })
 }

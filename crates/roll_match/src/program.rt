@@ -1,18 +1,20 @@
 //! A match from its options to what is written of it.
-ghost use Rattle.std.specs.Prelude.{◌≡◌, ◌⊎◌, ◌<◌, ◌≤◌, ◌^◌, IfErr, IfSome, MatchOption, OnOk, vec_len};
+ghost use Rattle.std.specs.Prelude.{◌≡◌, ◌⊎◌, ◌<◌, ◌≤◌, ◌^◌, ◌↔◌, IfErr, IfOk, IfSome, IsTrue, MatchOption, OnOk, vec_len};
+ghost use Rattle.roll_match.specs.Agreement.{Agree, AgreeTo, AreDelivered};
 ghost use Rattle.roll_match.specs.Options.{IsPlayable};
+ghost use Rattle.roll_match.specs.Totals.{totals_of};
 ghost use Rattle.prog_parts.specs.declared.fault.PlayFault.TheVariants.{Write as CannotWrite};
 
+use crate::agreement::{agreed, agrees};
 use crate::options::MatchOptions;
 use crate::playing::{Engines, Match};
 use crate::side::Side;
 use crate::table::{Report, push_report};
 use crate::totals::sum_up;
-use prog_parts::{Ending, GameName, PlayFault, Shown};
+use prog_parts::{Ending, GameName, PlayFault};
 use roll_duel::Duel;
 use roll_frame::Refusal;
-use roll_game::Tally;
-use roll_session::Session;
+use roll_game::{Shown, Tally};
 use roll_text::write_all;
 use std::alloc::Global;
 use std::fmt::Write as _;
@@ -21,6 +23,7 @@ use std::io::Write;
 /// Plays a match, and writes its table and its line. Settings that no session starts with are answered `refused 11` alone.
 pub fn run<W: Write>(alloc: Global, options: &MatchOptions, writer: &mut W) -> Ending
     ensures status { MatchOption result.fault (result.status ≤ 1) (λ fault. result.status ≡ 2) }
+    ensures played { result.status ≡ 0 → IsPlayable options.now }
     ensures untouched { IfSome result.fault (λ fault. (fault ≡ CannotWrite) ⊎ (writer.new ≡ writer.old)) }
 {
     match perform(alloc, options, writer) {
@@ -42,7 +45,8 @@ fn perform<W: Write>(
     options: &MatchOptions,
     writer: &mut W,
 ) -> Result<bool, PlayFault>
-    ensures { IfErr result (λ fault. (fault ≡ CannotWrite) ⊎ (writer.new ≡ writer.old)) }
+    ensures played { IfOk result (λ well. IsTrue well → IsPlayable options.now) }
+    ensures untouched { IfErr result (λ fault. (fault ≡ CannotWrite) ⊎ (writer.new ≡ writer.old)) }
 {
     let mut out = String::new(alloc);
     let well = match play(alloc, options) {
@@ -110,6 +114,11 @@ fn play_out<G: Shown + Drop>(
 fn report<G: Shown>(alloc: Global, both: &mut Match<G>) -> Result<Report, Refusal>
     requires first { vec_len both.old.first.turns < 2 ^ 32 }
     requires second { vec_len both.old.second.turns < 2 ^ 32 }
+    ensures first { IfOk result (λ report. report.first ≡ totals_of both.old.second.side.words.items both.old.first.turns.items) }
+    ensures second { IfOk result (λ report. report.second ≡ totals_of both.old.first.side.words.items both.old.second.turns.items) }
+    ensures agreed { IfOk result (λ report. AgreeTo both.old.first.side.session both.old.second.side.session report.agreed) }
+    ensures agrees { IfOk result (λ report. IsTrue report.agrees ↔ Agree G.step both.old.first.side.session both.old.second.side.session) }
+    ensures delivered { IfOk result (λ report. AreDelivered both.old.first.side.session both.old.second.side.session → IsTrue report.agrees) }
 {
     let first = sum_up(&both.second.side.words, &both.first.turns);
     let second = sum_up(&both.first.side.words, &both.second.turns);
@@ -123,26 +132,6 @@ fn report<G: Shown>(alloc: Global, both: &mut Match<G>) -> Result<Report, Refusa
         agrees,
         state,
     })
-}
-
-/// How many settled rows of both sessions are the same, from frame 0 on.
-fn agreed<G: Shown>(first: &Session<G>, second: &Session<G>) -> usize {
-    let both = first.settled().min(second.settled());
-    for frame in 0..both {
-        if first.settled_row(frame) != second.settled_row(frame) {
-            return frame;
-        }
-    }
-    both
-}
-
-/// Whether as many rows are settled on both sides, all of which are the same, and lead to the same state.
-fn agrees<G: Shown>(first: &Session<G>, second: &Session<G>, agreed: usize) -> bool {
-    first.settled() == agreed
-        && second.settled() == agreed
-        && first
-            .game()
-            .same(first.settled_state(), second.settled_state())
 }
 
 /// The text of a side's settled state.

@@ -1,6 +1,9 @@
 //! What a side does in a simulated frame.
-ghost use Rattle.std.specs.Prelude.{◌≡◌, IfOk};
+ghost use Rattle.std.specs.Prelude.{◌≡◌, ◌≤◌, ◌+◌, ◌-◌, IfOk, OnOk, false, true, if◌then◌else◌, is_none};
 ghost use Rattle.roll_frame.specs.Core.{cost};
+ghost use Rattle.roll_match.specs.Hearing.{heard_by, told};
+ghost use Rattle.roll_match.specs.Totals.{is_played};
+ghost use Rattle.roll_session.specs.Answered.{IsPlayed};
 ghost use Rattle.roll_session.specs.Seen.{core_of, IsLeast};
 
 use crate::guessing::{Guessed, Outlook, guess_all};
@@ -50,7 +53,9 @@ impl<G: Game> Side<G> {
     }
 
     /// Takes the other's words that have come, and syncs where there were any. Answers how many frames the sync ran.
-    pub fn hear(&mut self, words: &[u32], there: u32) -> Result<Option<u32>, Refusal> {
+    pub fn hear(&mut self, words: &[u32], there: u32) -> Result<Option<u32>, Refusal>
+        ensures { IfOk result (λ ran. ran ≡ heard_by G.step self.old.session self.old.other words.now there) }
+    {
         let known = self.known();
         if there <= known {
             return Ok(None);
@@ -61,7 +66,9 @@ impl<G: Game> Side<G> {
     }
 
     /// Gives its word of this frame and goes on to the next, unless it has to wait, or has played its last frame.
-    pub fn play(&mut self) -> Result<Went, Refusal> {
+    pub fn play(&mut self) -> Result<Went, Refusal>
+        ensures { IfOk result (λ went. (core_of self.new.session).frame ≡ (core_of self.old.session).frame + (if is_played went then 1 else 0)) }
+    {
         if self.session.settings().limit <= self.session.frame() {
             return Ok(Went::Ended);
         }
@@ -103,7 +110,10 @@ fn tell<G: Game>(
     words: &[u32],
     from: u32,
     to: u32,
-) -> Result<(), Refusal> {
+) -> Result<(), Refusal>
+    requires { from ≤ to }
+    ensures { OnOk result (IsPlayed G.step session.old session.new (told player words.now from (to - from))) }
+{
     for frame in from..to {
         session.remote_input(player, frame, word_at(words, frame))?;
     }
@@ -123,13 +133,36 @@ fn sync<G: Game>(session: &mut Session<G>) -> Result<u32, Refusal>
     }
 }
 
-/// How many claims of the last roll are wrong: none, of which this is the proof.
-pub fn wrong_claims<G: Game>(alloc: Global, session: &Session<G>) -> Result<u32, Refusal>
-    ensures { IfOk result (λ wrong. wrong ≡ 0) }
+/// What came of the check of claims.
+#[derive(Clone, Copy, Debug, PartialEq, Eq)]
+pub struct Claims {
+    /// How many were checked.
+    pub checked: u32,
+    /// How many of them are wrong.
+    pub wrong: u32,
+}
+
+/// Checks the claim of the last roll where there was one just now. None is wrong, of which this is the proof.
+pub fn check_claim<G: Game>(
+    alloc: Global,
+    session: &Session<G>,
+    rolled: bool,
+) -> Result<Claims, Refusal>
+    ensures checked { IfOk result (λ claims. claims.checked ≡ (if rolled then 1 else 0)) }
+    ensures few { IfOk result (λ claims. claims.checked ≤ 1) }
+    ensures made { OnOk result (rolled ≡ true → is_none (core_of session.now).last ≡ false) }
+    ensures right { IfOk result (λ claims. claims.wrong ≡ 0) }
 {
-    let claim = session.claim(alloc)?;
-    match check(&claim) {
-        Ok(()) => Ok(0),
-        Err(_) => Ok(1),
+    if !rolled {
+        return Ok(Claims {
+            checked: 0,
+            wrong: 0,
+        });
     }
+    let claim = session.claim(alloc)?;
+    let wrong = match check(&claim) {
+        Ok(()) => 0,
+        Err(_) => 1,
+    };
+    Ok(Claims { checked: 1, wrong })
 }

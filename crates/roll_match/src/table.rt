@@ -1,4 +1,6 @@
 //! What is printed of a match.
+ghost use Rattle.std.specs.Prelude.{◌≡◌, ◌↔◌, IsTrue};
+
 use crate::options::{Guesses, MatchOptions};
 use crate::totals::Totals;
 use prog_parts::GameName;
@@ -20,7 +22,9 @@ pub struct Report {
 
 impl Report {
     /// Whether all is well: both sides agree, and no claim is wrong.
-    pub fn is_well(&self) -> bool {
+    pub fn is_well(&self) -> bool
+        ensures { IsTrue result ↔ (IsTrue self.now.agrees × (self.now.first.wrong ≡ 0) × (self.now.second.wrong ≡ 0)) }
+    {
         self.agrees && self.first.wrong == 0 && self.second.wrong == 0
     }
 }

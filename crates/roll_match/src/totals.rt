@@ -58,7 +58,8 @@ pub fn sum_up(words: &[u32], turns: &[Turn]) -> Totals
     }
 }
 
-fn is_played(went: Went) -> bool
+/// Whether a side went on to its next frame.
+pub fn is_played(went: Went) -> bool
     ensures { result ≡ is_played went }
 {
     matches!(went, Went::Played)

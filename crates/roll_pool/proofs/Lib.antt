@@ -3,4 +3,5 @@ pub mod Moves
 pub mod Zipped
 pub mod Issuing
 pub mod Collecting
+pub mod Serving
 pub mod Settling

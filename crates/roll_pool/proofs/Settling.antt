@@ -1,7 +1,7 @@
 -- The turns of a settlement, and its end.
 use Rattle.std.proofs.Common.{◌≡◌, ℕ, zero, suc, ◌+◌, ◌-◌, true, List, [], ◌∷◌, ◌++◌, map, length, drop, sum_by, sym, refl, ap, ◌∙◌, subst, append_assoc, append-nil, length-append, arith}
 use Rattle.std.specs.List.{range_with_len}
-use Rattle.std.proofs.lemmas.List.{map-append, length-map}
+use Rattle.std.proofs.lemmas.List.{drop_at, map-append, length-map}
 use Rattle.std.proofs.lemmas.List.Sums.{sum_by-cons, sum_by-append}
 use Rattle.std.proofs.lemmas.Slice.Zip.{AllZip-long}
 use Rattle.roll_branch.specs.Ends.{Ends}
@@ -13,7 +13,7 @@ use Rattle.roll_pool.specs.Rule.{SameItems, tally, counting_back, working}
 use Rattle.roll_pool.specs.Dones.{AreResults, ticket_of}
 use Rattle.roll_pool.specs.Rings.{DequeId, Inbox}
 use Rattle.roll_pool.specs.Owners.{came_by, collected, rings_of, places_at}
-use Rattle.roll_pool.specs.Settled.{Settles, tickets_of, IsLate, TakenIn}
+use Rattle.roll_pool.specs.Settled.{Settles, tickets_of, late_of, IsLate, TakenIn}
 use Rattle.roll_pool.specs.Workers.{Seated}
 use Rattle.roll_pool.proofs.Moves.{sum_ones}
 use Rattle.roll_pool.proofs.Zipped.{zip_append, zip_parts}
@@ -51,16 +51,16 @@ sum_map f (x ∷ xs) = omega (arith, sum_by-cons f x.ticket (map (λ j. j.ticket
 
 module _ {D : Type 0} where
   -- the next end is at the place of the next ring
-  pub places_step : (d d' : DequeId) (rings : List (Inbox D)) (r : Inbox D) (rs : List (Inbox D)) (ends : List (Seated D)) (e : Seated D) (es : List (Seated D))
-      → map (λ e. e.place) ends ≡ places_at d (rings_of rings) → rings ≡ r ∷ rs → ends ≡ e ∷ es → d' ≡ d → (e.place.deque ≡ d) × (e.place.ring ≡ r.ring) × (map (λ e. e.place) es ≡ places_at d' (rings_of rs))
-  places_step d d' rings r rs ends e es was isr ise same =
-      let all : e.place ∷ map (λ (x : Seated D). x.place) es ≡ record { deque = d; ring = r.ring } ∷ places_at d (rings_of rs) = ap (map (λ (x : Seated D). x.place)) (sym ise) ∙ was ∙ ap (λ l. places_at d (rings_of l)) isr in
-      let one : e.place ≡ record { deque = d; ring = r.ring } = cc in
-      let rest : map (λ (x : Seated D). x.place) es ≡ places_at d (rings_of rs) = cc in
-      (ap (λ p. p.deque) one, ap (λ p. p.ring) one, rest ∙ ap (λ x. places_at x (rings_of rs)) (sym same))
+  pub places_step : (d d' : DequeId) (s : ℕ) (rings : List (Inbox D)) (r : Inbox D) (rs : List (Inbox D)) (ends : List (Seated D)) (e : Seated D) (es : List (Seated D))
+      → map (λ e. e.place) ends ≡ places_at d s (rings_of rings) → rings ≡ r ∷ rs → ends ≡ e ∷ es → d' ≡ d → (e.place.deque ≡ d) × (e.place.ring ≡ r.ring) × (map (λ e. e.place) es ≡ places_at d' s (rings_of rs))
+  places_step d d' s rings r rs ends e es was isr ise same =
+      let all : e.place ∷ map (λ (x : Seated D). x.place) es ≡ record { deque = d; ring = r.ring; signals = s } ∷ places_at d s (rings_of rs) = ap (map (λ (x : Seated D). x.place)) (sym ise) ∙ was ∙ ap (λ l. places_at d s (rings_of l)) isr in
+      let one : e.place ≡ record { deque = d; ring = r.ring; signals = s } = cc in
+      let rest : map (λ (x : Seated D). x.place) es ≡ places_at d s (rings_of rs) = cc in
+      (ap (λ p. p.deque) one, ap (λ p. p.ring) one, rest ∙ ap (λ x. places_at x s (rings_of rs)) (sym same))
 
-  pub no_rings : (d : DequeId) (rings : List (Inbox D)) (ends : List (Seated D)) → map (λ e. e.place) ends ≡ places_at d (rings_of rings) → length ends ≡ 0 → length rings ≡ 0
-  no_rings d rings ends was none = sym (length-map rings (λ r. r.ring)) ∙ sym (length-map (rings_of rings) (λ ring. record { deque = d; ring = ring })) ∙ ap length (sym was) ∙ length-map ends (λ e. e.place) ∙ none
+  pub no_rings : (d : DequeId) (s : ℕ) (rings : List (Inbox D)) (ends : List (Seated D)) → map (λ e. e.place) ends ≡ places_at d s (rings_of rings) → length ends ≡ 0 → length rings ≡ 0
+  no_rings d s rings ends was none = sym (length-map rings (λ r. r.ring)) ∙ sym (length-map (rings_of rings) (λ ring. record { deque = d; ring = ring; signals = s })) ∙ ap length (sym was) ∙ length-map ends (λ e. e.place) ∙ none
 
   pub view_step : (v w : Tally Routed) (rings : List (Inbox D)) (r : Inbox D) (rs : List (Inbox D)) (jobs : List Routed) → rings ≡ r ∷ rs → v ≡ tally true v.issued (length rings) 0 v.jobs → w ≡ counting_back v (working jobs) → w ≡ tally true w.issued (length rs) 0 w.jobs
   view_step v w rings r rs jobs isr isv isw =
@@ -79,6 +79,20 @@ module _ {G S N : Type 0} where
         of_belated = subst (λ (l : List (Done G S N)). AreResults (was.belated ++ parts.1) l) (sym one.grown) (zip_append Ends was.belated parts.1 late one.more was.of_belated parts.4);
         all = λ f. omega (arith, was.all f, sum_by-append f was.come was.belated, sum_by-append f (was.come ++ parts.0) (was.belated ++ parts.1), sum_by-append f was.come parts.0, sum_by-append f was.belated parts.1, sum_by-append f jobs more, ap (sum_by f) joined, ap (sum_by f) parts.2, sum_by-append f parts.0 parts.1);
       }
+
+  -- one end more is taken in: its results that were not collected come next
+  pub late_step : (all late late' : List (Done G S N)) (rings : List (Inbox (Done G S N))) (r : Inbox (Done G S N)) (rs : List (Inbox (Done G S N))) (ends : List (Seated (Done G S N))) (e : Seated (Done G S N)) (es : List (Seated (Done G S N)))
+      → late ++ late_of (came_by rings) ends ≡ all → rings ≡ r ∷ rs → ends ≡ e ∷ es → IsLate r.came e.results late late' → late' ++ late_of (came_by rs) es ≡ all
+  late_step all late late' rings r rs ends e es was isr ise one =
+      let more : drop (length r.came) e.results ≡ one.more = ap (drop (length r.came)) (sym one.all) ∙ drop_at r.came one.more (length r.came) refl in
+      let first : late_of (came_by rings) ends ≡ one.more ++ late_of (came_by rs) es =
+      (λ i. late_of (came_by (isr i)) (ise i)) ∙ ap (λ l. l ++ late_of (came_by rs) es) more in
+      ap (λ l. l ++ late_of (came_by rs) es) one.grown ∙ append_assoc late one.more (late_of (came_by rs) es) ∙ ap (λ l. late ++ l) (sym first) ∙ was
+
+  -- with no ring left, all are there
+  pub all_late : (all late : List (Done G S N)) (rings : List (Inbox (Done G S N))) (ends : List (Seated (Done G S N))) → late ++ late_of (came_by rings) ends ≡ all → length rings ≡ 0 → late ≡ all
+  all_late all late [] ends was none = sym (append-nil late) ∙ was
+  all_late all late (r ∷ rs) ends was none = absurd (omega arith)
 
   number : (j : Routed) (d : Done G S N) → Ends j d → ticket_of d ≡ j.ticket
   number j (Grown b) e = ap (λ (r : Routed). r.ticket) e

@@ -3,6 +3,7 @@ pub mod Dones
 pub mod Rings
 pub mod Workers
 pub mod Works
+pub mod Served
 pub mod Owners
 pub mod Settled
 pub mod Crews

@@ -15,8 +15,9 @@ pub record Pool (D : Type 0) : Type 0 where
   pub came : List (List D)
   pub capacity : ℕ
 
-abbrev pub places_at : DequeId → List Ring → List Place
-places_at deque = map (λ ring. record { deque = deque; ring = ring })
+-- the workers of one deque, who hear the same signals
+abbrev pub places_at : DequeId → ℕ → List Ring → List Place
+places_at deque signals = map (λ ring. record { deque = deque; ring = ring; signals = signals })
 
 module _ {D : Type 0} where
   abbrev pub came_by : List (Inbox D) → List (List D)

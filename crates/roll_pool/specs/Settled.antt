@@ -1,9 +1,10 @@
 -- What becomes of the jobs of a pool.
-use Rattle.std.specs.Prelude.{◌≡◌, ℕ, List, ◌++◌, map}
+use Rattle.std.specs.Prelude.{◌≡◌, ℕ, List, [], ◌∷◌, ◌++◌, map, length, drop}
 use Rattle.roll_branch.specs.Routed.{Routed}
 use Rattle.roll_branch.specs.declared.branch.Done.{Done}
 use Rattle.roll_pool.specs.Dones.{AreResults, ticket_of}
 use Rattle.roll_pool.specs.Rule.{SameItems}
+use Rattle.roll_pool.specs.Workers.{Seated}
 
 module _ {G S N : Type 0} where
   -- the jobs that were issued are, each once, those whose results were collected, those whose results came late, and those that
@@ -18,6 +19,11 @@ module _ {G S N : Type 0} where
   -- the numbers of results and jobs
   abbrev pub tickets_of : List (Done G S N) → List Routed → List ℕ
   tickets_of dones jobs = map ticket_of dones ++ map (λ j. j.ticket) jobs
+
+  -- what each end pushed, but for what was collected from it: end by end, in order
+  abbrev pub late_of : List (List (Done G S N)) → List (Seated (Done G S N)) → List (Done G S N)
+  late_of (came ∷ more) (end ∷ ends) = drop (length came) end.results ++ late_of more ends
+  late_of came ends = []
 
   -- what an end pushed and the owner had not collected is late
   pub record IsLate (came results old new : List (Done G S N)) : Type 0 where

@@ -1,5 +1,5 @@
 -- What a turn of a worker does.
-use Rattle.std.specs.Prelude.{◌≡◌, ◌≤◌, ℕ, [], ◌∷◌, ◌++◌, length}
+use Rattle.std.specs.Prelude.{◌≡◌, ◌≤◌, ℕ, true, [], ◌∷◌, ◌++◌, length}
 use Rattle.roll_branch.specs.Ends.{Ends, IsAsked, is_grown}
 use Rattle.roll_branch.specs.Routed.{Routed}
 use Rattle.roll_branch.specs.declared.branch.Done.{Done}
@@ -24,9 +24,14 @@ module _ {G S N : Type 0} where
     pub same : new ≡ old
     pub counts : after ≡ before
 
+  -- it saw that its pool is closed
+  pub record Stops (old new : Seated (Done G S N)) (before after : Counts) : Type 0 where
+    pub stopped : new ≡ record old { stopped = true }
+    pub counts : after ≡ before
+
   -- what each answer says
   abbrev pub Works : Worked → Seated (Done G S N) → Seated (Done G S N) → Counts → Counts → Type 0
   Works (Did ticket) old new before after = DidOne ticket old new before after
   Works Empty old new before after = DidNone old new before after
   Works RingFull old new before after = DidNone old new before after × (RESULT_PLACES ≤ length old.results)
-  Works Closed old new before after = DidNone old new before after
+  Works Closed old new before after = Stops old new before after

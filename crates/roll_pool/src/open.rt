@@ -1,7 +1,9 @@
 //! A new pool.
+ghost use Rattle.std.specs.Arc.{arc_value};
 ghost use Rattle.std.specs.Prelude.{◌≡◌, ◌≤◌, [], true, map, replicate, vec_len, vec_capacity, IfOk};
 ghost use Rattle.crossbeam_deque.specs.Handles.{worker_view, worker_deque, worker_flavor, worker_index, worker_capacity};
 ghost use Rattle.roll_pool.specs.Owners.{came_by, rings_of, places_at};
+ghost use Rattle.roll_pool.specs.Rings.{signals_at};
 ghost use Rattle.roll_pool.specs.Rule.{counting_out, tally};
 ghost use Rattle.roll_pool.specs.Workers.{fresh};
 
@@ -76,7 +78,7 @@ fn hire_all<G: Game>(
     requires new { worker_view deque.old ≡ tally true [] 0 0 [] }
     ensures same { IfOk result (λ _. (worker_deque deque.new ≡ worker_deque deque.old) × (worker_flavor deque.new ≡ worker_flavor deque.old) × (worker_index deque.new ≡ worker_index deque.old) × (worker_capacity deque.old ≤ worker_capacity deque.new)) }
     ensures view { IfOk result (λ _. worker_view deque.new ≡ tally true [] workers 0 []) }
-    ensures ends { IfOk result (λ hired. hired.1.items ≡ map fresh (places_at (worker_deque deque.new) (rings_of hired.0.items))) }
+    ensures ends { IfOk result (λ hired. hired.1.items ≡ map fresh (places_at (worker_deque deque.new) (signals_at (arc_value signals.now)) (rings_of hired.0.items))) }
     ensures came { IfOk result (λ hired. (came_by hired.0.items ≡ replicate workers []) × (vec_len hired.0 ≡ workers) × (vec_len hired.1 ≡ workers)) }
 {
     let mut rings = Vec::with_capacity(alloc, workers)?;
@@ -98,7 +100,7 @@ fn hire<G: Game>(
     requires { (worker_view deque.old).owns ≡ true }
     ensures same { IfOk result (λ _. (worker_deque deque.new ≡ worker_deque deque.old) × (worker_flavor deque.new ≡ worker_flavor deque.old) × (worker_index deque.new ≡ worker_index deque.old) × (worker_capacity deque.old ≤ worker_capacity deque.new)) }
     ensures view { IfOk result (λ _. worker_view deque.new ≡ counting_out (worker_view deque.old)) }
-    ensures ends { IfOk result (λ ends. (ends.0.came ≡ []) × (ends.1 ≡ record { place = record { deque = worker_deque deque.new; ring = ends.0.ring }; jobs = []; results = [] })) }
+    ensures ends { IfOk result (λ ends. (ends.0.came ≡ []) × (ends.1 ≡ fresh (record { deque = worker_deque deque.new; ring = ends.0.ring; signals = signals_at (arc_value signals.now) }))) }
 {
     let thief = deque.stealer()?;
     let (results, consumer) = RingBuffer::new(alloc, RESULT_PLACES)?;
@@ -108,6 +110,7 @@ fn hire<G: Game>(
         pass: deque.another::<Hand>(),
         results,
         signals,
+        closed: None,
     };
     Ok((Results { consumer }, end))
 }

@@ -35,14 +35,16 @@ pub struct Owner<G: Game> {
 
 /// A clause sees the jobs that were issued, and for each worker its place and what was collected from it.
 impl<G: Game> Model for Owner<G> {
+    ghost use Rattle.std.specs.Arc.{arc_value};
     ghost use Rattle.std.specs.Prelude.{◌≡◌, length, vec_len, vec_capacity};
     ghost use Rattle.crossbeam_deque.specs.Handles.{worker_view, worker_deque, worker_flavor, worker_index, worker_capacity};
     ghost use Rattle.roll_branch.specs.declared.branch.Done.{Done};
     ghost use Rattle.roll_pool.specs.Owners.{Pool, collected as in_all, IsSound, HasRoom, came_by, rings_of, places_at};
+    ghost use Rattle.roll_pool.specs.Rings.{signals_at};
 
     ghost Value = { Pool (Done G G.State G.Snapshot) };
 
-    ghost view = { λ o. record { places = places_at (worker_deque o.deque) (rings_of o.rings.items); issued = (worker_view o.deque).issued; came = came_by o.rings.items; capacity = worker_capacity o.deque } };
+    ghost view = { λ o. record { places = places_at (worker_deque o.deque) (signals_at (arc_value o.signals)) (rings_of o.rings.items); issued = (worker_view o.deque).issued; came = came_by o.rings.items; capacity = worker_capacity o.deque } };
 
     ghost invariant = { λ o. IsSound (worker_view o.deque) (worker_flavor o.deque) (worker_index o.deque) (worker_capacity o.deque) (vec_len o.rings) o.issued o.collected × (o.collected ≡ length (in_all (came_by o.rings.items))) × HasRoom o.late.items (vec_capacity o.late) × HasRoom o.left.items (vec_capacity o.left) };
 }

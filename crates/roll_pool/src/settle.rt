@@ -32,13 +32,14 @@ impl<G: Game> Owner<G> {
     ghost use Rattle.std.specs.List.{range_with_len};
     ghost use Rattle.roll_pool.specs.Owners.{collected};
     ghost use Rattle.roll_pool.specs.Rule.{SameItems};
-    ghost use Rattle.roll_pool.specs.Settled.{Settles, tickets_of};
+    ghost use Rattle.roll_pool.specs.Settled.{Settles, late_of, tickets_of};
 
     /// Ends a pool whose workers have come back, with all their ends in order of worker. It takes no memory.
     pub fn settle(self, ends: Vec<WorkerEnd<G>>) -> Outcome<G>
         requires { map (λ end. end.place) ends.items ≡ self.places }
         ensures counts { (result.issued ≡ length self.issued) × (result.collected ≡ length (collected self.came)) }
         ensures jobs { Settles self.issued (collected self.came) result.late.items result.left.items }
+        ensures late { result.late.items ≡ late_of self.came ends.items }
         ensures left { result.left.items ≡ drop (length (collected self.came) + length result.late.items) self.issued }
         ensures tickets { SameItems (tickets_of (collected self.came ++ result.late.items) result.left.items) (range_with_len 0 result.issued) }
         ensures sum { result.issued ≡ result.collected + vec_len result.late + vec_len result.left }
@@ -48,7 +49,7 @@ impl<G: Game> Owner<G> {
             rings,
             issued,
             collected,
-            signals: _,
+            signals,
             mut late,
             mut left,
         } = self;
@@ -60,6 +61,7 @@ impl<G: Game> Owner<G> {
             take_in(&mut deque, ring, end, &mut late);
         }
         take_back(&mut deque, &mut left);
+        drop(signals);
         Outcome {
             issued,
             collected,
@@ -90,6 +92,7 @@ fn take_in<G: Game>(
         pass,
         mut results,
         signals: _,
+        closed: _,
     } = end;
     let Results { mut consumer } = ring;
     deque.absorb::<Hand>(pass);

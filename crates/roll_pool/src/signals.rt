@@ -1,6 +1,6 @@
 //! What the owner of a pool tells its workers, beside the jobs.
-use std::sync::Wait;
-use std::sync::atomic::{AtomicBool, AtomicU64, Ordering};
+use std::sync::atomic::{AtomicU64, Ordering};
+use std::sync::{OnceLock, Wait};
 
 /// What workers sleep on until it rings.
 #[derive(Drop)]
@@ -41,32 +41,40 @@ impl Bell {
 /// Whether the pool is closed, and what its workers sleep on. The close rings too.
 #[derive(Drop)]
 pub(crate) struct Signals {
-    closed: AtomicBool,
+    closed: OnceLock<()>,
     /// It rings when a job is issued.
     pub jobs: Bell,
     /// It rings when a result is collected.
     pub places: Bell,
 }
 
+/// What shows that a pool was closed: its signals alone make it.
+#[derive(Clone, Copy)]
+pub(crate) struct Closed(());
+
 impl Signals {
     /// The signals of an open pool.
     pub fn new() -> Signals {
         Signals {
-            closed: AtomicBool::new(false),
+            closed: OnceLock::new(),
             jobs: Bell::new(),
             places: Bell::new(),
         }
     }
 
-    /// Closes the pool.
-    pub fn close(&self) {
-        self.closed.store(true, Ordering::SeqCst);
+    /// Closes the pool. In one that is closed it changes nothing.
+    pub fn close(&self) -> Closed {
+        let _ = self.closed.try_set(());
         self.jobs.ring();
         self.places.ring();
+        Closed(())
     }
 
-    /// Whether the pool is closed.
-    pub fn is_closed(&self) -> bool {
-        self.closed.load(Ordering::SeqCst)
+    /// What shows that the pool is closed. None where it isn't.
+    pub fn close_seen(&self) -> Option<Closed> {
+        match self.closed.get() {
+            Some(()) => Some(Closed(())),
+            None => None,
+        }
     }
 }

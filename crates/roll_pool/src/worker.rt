@@ -2,7 +2,7 @@
 ghost use Rattle.std.specs.Prelude.{◌≡◌};
 
 use crate::rule::{Takes, Tally, Thief};
-use crate::signals::Signals;
+use crate::signals::{Closed, Signals};
 use crossbeam_deque::{Pass, Steal};
 use roll_branch::{Done, Job, extend};
 use roll_game::Game;
@@ -22,20 +22,24 @@ pub struct WorkerEnd<G: Game> {
     pub(crate) pass: Pass<Job<G>, Tally<Job<G>>>,
     pub(crate) results: Producer<Done<G>>,
     pub(crate) signals: Arc<Signals, Global>,
+    // What shows that the pool is closed, once this end has seen it.
+    pub(crate) closed: Option<Closed>,
 }
 
-/// A clause sees its place in the pool, the jobs that it took and the results that it pushed.
+/// A clause sees its place in the pool, the jobs that it took and the results that it pushed, and whether it has seen the close.
 impl<G: Game> Model for WorkerEnd<G> {
+    ghost use Rattle.std.specs.Arc.{arc_value};
+    ghost use Rattle.std.specs.Prelude.{is_some};
     ghost use Rattle.crossbeam_deque.specs.Handles.{view as known, IsPassOf, stealer_deque};
     ghost use Rattle.rtrb.specs.Ring.{sent, known_free};
     ghost use Rattle.roll_branch.specs.declared.branch.Done.{Done};
     ghost use Rattle.roll_pool.specs.Rule.{working};
-    ghost use Rattle.roll_pool.specs.Rings.{ring_at};
+    ghost use Rattle.roll_pool.specs.Rings.{ring_at, signals_at};
     ghost use Rattle.roll_pool.specs.Workers.{Seated, IsSound};
 
     ghost Value = { Seated (Done G G.State G.Snapshot) };
 
-    ghost view = { λ e. record { place = record { deque = stealer_deque e.thief; ring = ring_at e.results.end }; jobs = (known e.pass).jobs; results = sent e.results } };
+    ghost view = { λ e. record { place = record { deque = stealer_deque e.thief; ring = ring_at e.results.end; signals = signals_at (arc_value e.signals) }; jobs = (known e.pass).jobs; results = sent e.results; stopped = is_some e.closed } };
 
     ghost invariant = { λ e. IsSound (IsPassOf (stealer_deque e.thief) e.pass) (known e.pass) (sent e.results) (known_free e.results) };
 }
@@ -73,6 +77,7 @@ impl Gate for OpenGate {
 }
 
 impl<G: Game> WorkerEnd<G> {
+    ghost use Rattle.roll_pool.specs.Served.{HasServed};
     ghost use Rattle.roll_pool.specs.Works.{Works};
 
     /// Tries once to take a job, runs it on the game and pushes its result. It waits for nobody and takes no memory.
@@ -80,7 +85,8 @@ impl<G: Game> WorkerEnd<G> {
         ensures place { self.new.place ≡ self.old.place }
         ensures works { Works result self.old self.new (G.call_counts game.old) (G.call_counts game.new) }
     {
-        if self.signals.is_closed() {
+        if let Some(closed) = self.signals.close_seen() {
+            self.closed = Some(closed);
             return Worked::Closed;
         }
         if self.results.is_full() {
@@ -99,7 +105,8 @@ impl<G: Game> WorkerEnd<G> {
     /// Works until the pool is closed. Where it finds no job for a while, it sleeps until one is issued; where its ring is full
     /// for a while, until a result is collected. The close wakes it too.
     pub fn serve<R: Wait>(&mut self, rt: &R, game: &mut G, gate: &impl Gate)
-        ensures { self.new.place ≡ self.old.place }
+        ensures place { self.new.place ≡ self.old.place }
+        ensures served { HasServed (record { end = self.old; counts = G.call_counts game.old }) (record { end = self.new; counts = G.call_counts game.new }) }
     {
         for _ in rt.forever() {
             let jobs = self.signals.jobs.heard();
@@ -115,7 +122,7 @@ impl<G: Game> WorkerEnd<G> {
 
     /// Tries to work, so many times if there is nothing to do. Between two tries it lets other threads run.
     fn try_to_work(&mut self, game: &mut G, gate: &impl Gate) -> Worked
-        ensures { self.new.place ≡ self.old.place }
+        ensures { Works result self.old self.new (G.call_counts game.old) (G.call_counts game.new) }
     {
         for _ in 0..TRIES {
             match self.work_one(game, gate) {

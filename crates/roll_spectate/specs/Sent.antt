@@ -7,6 +7,7 @@ use Rattle.roll_frame.specs.declared.entry.Entry.{Entry}
 use Rattle.roll_frame.specs.declared.settings.Settings.{Settings}
 use Rattle.roll_laws.specs.Sessions.{IsLog}
 use Rattle.roll_session.specs.Standing.{settled_rows}
+use Rattle.roll_spectate.specs.Rings.{Ring}
 use Rattle.roll_spectate.specs.declared.limits.TheConstants.{RING_ROWS}
 
 -- rows are the first of all of these, in order
@@ -19,6 +20,16 @@ pub record IsPushed (settled old new : Rows) : Type 0 where
   pub grown : IsFirstPart old new
   pub first : IsFirstPart old settled → IsFirstPart new settled
   pub all : (length settled ≤ length new) ⊎ (RING_ROWS ≤ length new)
+
+-- a spectator's ring, and the rows that were sent by it
+pub record Fed : Type 0 where
+  pub ring : Ring
+  pub rows : Rows
+
+-- a spectator before and after a push
+pub record IsFed (settled : Rows) (old new : Fed) : Type 0 where
+  pub ring : new.ring ≡ old.ring
+  pub pushed : IsPushed settled old.rows new.rows
 
 -- while a session's log grows, what was a first part of its settled rows stays one
 abbrev pub SentRowsStay : Type 0

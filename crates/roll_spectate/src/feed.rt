@@ -3,7 +3,7 @@ ghost use Rattle.std.specs.Prelude.{◌≡◌, ◌+◌, ◌<◌, [], ◌∷◌, 
 ghost use Rattle.std.specs.List.{AllZip};
 ghost use Rattle.roll_session.specs.Seen.{core_of};
 ghost use Rattle.roll_session.specs.Standing.{settled_rows};
-ghost use Rattle.roll_spectate.specs.Sent.{IsFirstPart, IsPushed};
+ghost use Rattle.roll_spectate.specs.Sent.{IsFed};
 ghost use Rattle.roll_spectate.specs.declared.limits.TheConstants.{SPECTATOR_LIMIT as MOST};
 
 use crate::limits::SPECTATOR_LIMIT;
@@ -23,13 +23,13 @@ pub struct Feed {
     alloc: Global,
 }
 
-/// A clause sees what each spectator was sent, in the order in which they came.
+/// A clause sees each spectator's ring and what it was sent, in the order in which they came.
 impl Model for Feed {
     ghost use Rattle.std.specs.Prelude.{◌≤◌, List, length, vec_capacity};
-    ghost use Rattle.roll_frame.specs.Cells.{Rows};
+    ghost use Rattle.roll_spectate.specs.Sent.{Fed};
     ghost use Rattle.roll_spectate.specs.declared.limits.TheConstants.{SPECTATOR_LIMIT};
 
-    ghost Value = { List Rows };
+    ghost Value = { List Fed };
 
     ghost view = { λ f. f.senders.items };
 
@@ -56,7 +56,7 @@ impl Feed {
     ///
     /// `TooManySpectators` where 32 were added, those who are gone too; else `NoMemory` where the allocator has no room.
     pub fn add(&mut self) -> Result<RowReceiver, Refusal>
-        ensures added { OnOk result (self.new ≡ self.old ++ [] ∷ []) }
+        ensures added { IfOk result (λ receiver. self.new ≡ self.old ++ record { ring = receiver; rows = [] } ∷ []) }
         ensures place { OnOk result (length self.old < MOST) }
         ensures refused { IfErr result (λ why. why ≡ (if nat_le MOST (length self.old) then Refusal.TooManySpectators else Refusal.NoMemory)) }
         ensures unchanged { OnErr result (self.new ≡ self.old) }
@@ -72,8 +72,8 @@ impl Feed {
     /// Sends each spectator its next settled rows, until its ring is full, and says how many it sent in all. It takes no
     /// memory and waits for nobody. The session is to be the one whose rows were sent before.
     pub fn push<G: Game>(&mut self, session: &Session<G>) -> u32
-        ensures pushed { AllZip (IsPushed (settled_rows (core_of session.now))) self.old self.new }
-        ensures count { sum_by length self.new ≡ sum_by length self.old + result }
+        ensures pushed { AllZip (IsFed (settled_rows (core_of session.now))) self.old self.new }
+        ensures count { sum_by (λ spectator. length spectator.rows) self.new ≡ sum_by (λ spectator. length spectator.rows) self.old + result }
     {
         let mut count = 0;
         for sender in self.senders.iter_mut() {

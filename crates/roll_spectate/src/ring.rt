@@ -1,12 +1,11 @@
 //! A spectator's ring of rows.
 ghost use Rattle.std.specs.Prelude.{◌≡◌, ◌⊎◌, ◌<◌, ◌≤◌, ◌+◌, [], ◌∷◌, ◌++◌, length, nat_lt, Some, None, IfOk, IsTrue, IsFalse, if◌then◌else◌};
-ghost use Rattle.rtrb.specs.Ring.{received};
 ghost use Rattle.roll_frame.specs.Core.{settled};
 ghost use Rattle.roll_frame.specs.Timeline.{row_at};
 ghost use Rattle.roll_frame.specs.declared.limits.TheConstants.{FRAME_LIMIT};
 ghost use Rattle.roll_session.specs.Seen.{core_of};
 ghost use Rattle.roll_session.specs.Standing.{settled_rows};
-ghost use Rattle.roll_spectate.specs.Sent.{IsFirstPart, IsPushed};
+ghost use Rattle.roll_spectate.specs.Sent.{IsFirstPart, IsFed, IsPushed};
 ghost use Rattle.roll_spectate.specs.declared.limits.TheConstants.{RING_ROWS as ROWS};
 
 use crate::limits::RING_ROWS;
@@ -35,17 +34,18 @@ pub(crate) struct RowSender {
     count: u32,
 }
 
-/// A clause sees the rows that were sent.
+/// A clause sees the ring, and the rows that were sent.
 impl Model for RowSender {
     ghost use Rattle.std.specs.Prelude.{◌≡◌, ◌≤◌, ◌+◌, length};
     ghost use Rattle.rtrb.specs.Ring.{sent, known_free};
     ghost use Rattle.roll_frame.specs.declared.limits.TheConstants.{FRAME_LIMIT};
-    ghost use Rattle.roll_frame.specs.Cells.{Rows};
+    ghost use Rattle.roll_spectate.specs.Rings.{ring_at};
+    ghost use Rattle.roll_spectate.specs.Sent.{Fed};
     ghost use Rattle.roll_spectate.specs.declared.limits.TheConstants.{RING_ROWS};
 
-    ghost Value = { Rows };
+    ghost Value = { Fed };
 
-    ghost view = { λ s. sent s.producer };
+    ghost view = { λ s. record { ring = ring_at s.producer.end; rows = sent s.producer } };
 
     ghost invariant = { λ s. (s.count ≡ length (sent s.producer)) × (s.count ≤ FRAME_LIMIT) × (RING_ROWS ≤ known_free s.producer + length (sent s.producer)) };
 }
@@ -54,12 +54,24 @@ impl Model for RowSender {
 #[derive(Drop)]
 pub struct RowReceiver {
     pub(crate) consumer: Consumer<Row, Global, FewRows>,
-    ghost fresh: { received consumer ≡ [] },
+}
+
+/// A clause sees which ring it is of.
+impl Model for RowReceiver {
+    ghost use Rattle.std.specs.Prelude.{◌≡◌, []};
+    ghost use Rattle.rtrb.specs.Ring.{received};
+    ghost use Rattle.roll_spectate.specs.Rings.{Ring, ring_at};
+
+    ghost Value = { Ring };
+
+    ghost view = { λ r. ring_at r.consumer.end };
+
+    ghost invariant = { λ r. received r.consumer ≡ [] };
 }
 
 /// A ring for a spectator.
 pub(crate) fn open_ring(alloc: Global) -> Result<(RowSender, RowReceiver), AllocError>
-    ensures { IfOk result (λ ends. ends.0 ≡ []) }
+    ensures { IfOk result (λ ends. ends.0 ≡ record { ring = ends.1; rows = [] }) }
 {
     let (producer, consumer) = RingBuffer::with_protocol::<Global, FewRows>(alloc, RING_ROWS)?;
     let sender = RowSender { producer, count: 0 };
@@ -70,9 +82,9 @@ pub(crate) fn open_ring(alloc: Global) -> Result<(RowSender, RowReceiver), Alloc
 impl RowSender {
     /// Sends the settled rows that were not sent before, until the ring is full, and says how many.
     pub fn push<G: Game>(&mut self, session: &Session<G>) -> u32
-        ensures pushed { IsPushed (settled_rows (core_of session.now)) self.old self.new }
-        ensures count { length self.new ≡ length self.old + result }
-        ensures few { length self.new ≤ FRAME_LIMIT }
+        ensures pushed { IsFed (settled_rows (core_of session.now)) self.old self.new }
+        ensures count { length self.new.rows ≡ length self.old.rows + result }
+        ensures few { length self.new.rows ≤ FRAME_LIMIT }
     {
         session.laws();
         let from = self.count;
@@ -86,16 +98,16 @@ impl RowSender {
 
     /// The first settled row that was not sent. None where all were.
     fn next<G: Game>(&self, session: &Session<G>) -> Option<Row>
-        ensures { result ≡ (if nat_lt (length self.now) (settled (core_of session.now)) then Some (row_at (core_of session.now).players (length self.now)) else None) }
+        ensures { result ≡ (if nat_lt (length self.now.rows) (settled (core_of session.now)) then Some (row_at (core_of session.now).players (length self.now.rows)) else None) }
     {
         session.settled_row(self.count as usize)
     }
 
     /// Sends a row if the ring has a place for it, and says whether it did.
     fn send(&mut self, row: Row) -> bool
-        requires { length self.old < FRAME_LIMIT }
-        ensures sent { IsTrue result → self.new ≡ self.old ++ row ∷ [] }
-        ensures full { IsFalse result → (self.new ≡ self.old) × (ROWS ≤ length self.old) }
+        requires { length self.old.rows < FRAME_LIMIT }
+        ensures sent { IsTrue result → self.new ≡ record self.old { rows = self.old.rows ++ row ∷ [] } }
+        ensures full { IsFalse result → (self.new ≡ self.old) × (ROWS ≤ length self.old.rows) }
     {
         if self.producer.push(row).is_err() {
             return false;

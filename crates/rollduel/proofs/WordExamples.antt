@@ -8,7 +8,7 @@ use Rattle.clap.specs.Takes.{takes}
 use Rattle.clap.specs.declared.error.kind.ErrorKind.TheVariants.{DisplayHelp, DisplayVersion, InvalidSubcommand, InvalidValue, MissingRequiredArgument, UnknownArgument, ValueValidation}
 use Rattle.prog_parts.specs.declared.ending.Ending.{Ending}
 use Rattle.prog_parts.specs.declared.ending.GameName.TheVariants.{Tally, Duel}
-use Rattle.roll_cli.specs.declared.program.Task.TheVariants.{Play, SyncTest, Certify}
+use Rattle.prog_parts.specs.declared.task.Task.TheVariants.{Play, SyncTest, Certify}
 use Rattle.roll_match.specs.declared.options.Guesses.TheVariants.{Off, Turns}
 use Rattle.rollduel.specs.Commands.{Choices, app_with, rollduel_app}
 use Rattle.rollduel.specs.Endings.{EndsRefused}

@@ -6,6 +6,8 @@ use Rattle.clap.specs.declared.error.kind.ErrorKind.TheVariants.{DisplayHelp, Di
 use Rattle.prog_parts.specs.declared.fault.PlayFault.{PlayFault}
 use Rattle.prog_parts.specs.declared.fault.PlayFault.TheVariants.{NoMemory, Read, Write}
 use Rattle.prog_parts.specs.declared.ending.Ending.{Ending}
+use Rattle.roll_match.specs.Options.{IsPlayable}
+use Rattle.roll_match.specs.declared.options.MatchOptions.{MatchOptions}
 
 -- the program ends with a fault
 abbrev pub faulted : PlayFault → Ending
@@ -14,6 +16,10 @@ faulted fault = record { status = 2; fault = Some fault }
 -- 0, 1 or 2, and 2 at a fault
 abbrev pub HasStatus : Ending → Type 0
 HasStatus ending = MatchOption ending.fault (ending.status ≤ 2) (λ fault. ending.status ≡ 2)
+
+-- a match ends well only where it could be played
+abbrev pub EndsMatch : Ending → MatchOptions → Type 0
+EndsMatch ending options = ending.status ≡ 0 → IsPlayable options
 
 -- the status after help, or after a fault of usage
 abbrev pub usage_status : ErrorKind → ℕ

@@ -7,8 +7,8 @@ use Rattle.clap.specs.ValueTests.{is_numeral}
 use Rattle.clap.specs.Walk.{Row, Text, byte_or_zero, first_of}
 use Rattle.prog_parts.specs.declared.ending.GameName.{GameName}
 use Rattle.prog_parts.specs.declared.ending.GameName.TheVariants.{Tally, Duel}
-use Rattle.roll_cli.specs.declared.program.Task.{Task}
-use Rattle.roll_cli.specs.declared.program.Task.TheVariants.{Play, SyncTest, Certify}
+use Rattle.prog_parts.specs.declared.task.Task.{Task}
+use Rattle.prog_parts.specs.declared.task.Task.TheVariants.{Play, SyncTest, Certify}
 use Rattle.roll_live.specs.declared.program.Live.{Live}
 use Rattle.roll_match.specs.declared.options.Guesses.{Guesses}
 use Rattle.roll_match.specs.declared.options.Guesses.TheVariants.{Off, Words, Turns}

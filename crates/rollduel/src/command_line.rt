@@ -12,7 +12,7 @@ use crate::commands::{
     guesses, program_command,
 };
 use clap::{ArgMatches, Error};
-use roll_cli::{GameName, Task};
+use prog_parts::{GameName, Task};
 use roll_live::Live;
 use roll_match::{Guesses, MatchOptions};
 use std::alloc::Global;

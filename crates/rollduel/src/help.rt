@@ -157,6 +157,9 @@ and at last a line of all numbers for scripts: name=value, or name=first,second 
 
 A delay over 8, or a threshold of 0 or over 8, is answered by `refused 11`: no session starts with it.
 
+A match keeps all that it was told: 2 MB for 1,000 frames, but some 41 MB with `--guesses turns`. A log
+that is full, at 16777216 entries, is answered by `refused 114`.
+
 Example:
 
   rollduel match --frames 60 --seed 3 --late 8 --lost 10 --guesses turns
@@ -182,8 +185,8 @@ It prints, and after it the line for scripts:
 
   both sides agree up to frame 60: 666666
 
-Exit status: 0; 1 where the answer is `refused 11`, or the peers differ or a claim is wrong, neither of
-which can be; 2 where memory runs out, or the table can't be written.";
+Exit status: 0; 1 where the answer is `refused 11` or `refused 114`, or the peers differ or a claim is
+wrong, neither of which can be; 2 where memory runs out, or the table can't be written.";
 
 pub const LENGTH: &str = "How many frames each peer plays, up to 1048576";
 

@@ -4,14 +4,14 @@
 #![tactic(auto)]
 
 ghost use Rattle.std.specs.Fn.{FnOnceReturnsAt};
-ghost use Rattle.std.specs.Prelude.{◌≡◌, ◌⊎◌, IfErr, IfOk, IfSome, None, map, string_bytes};
+ghost use Rattle.std.specs.Prelude.{◌≡◌, ◌⊎◌, [], IfErr, IfOk, IfSome, None, map, string_bytes};
 ghost use Rattle.std.specs.Process.{exit_status};
 ghost use Rattle.clap.specs.Faults.{fault_of};
 ghost use Rattle.clap.specs.Kinds.{FailsBy};
 ghost use Rattle.clap.specs.Words.{kind_of};
 ghost use Rattle.prog_parts.specs.declared.fault.PlayFault.TheVariants.{NoMemory, Read as CannotRead, Write as CannotWrite};
 ghost use Rattle.rollduel.specs.Commands.{rollduel_app};
-ghost use Rattle.rollduel.specs.Endings.{HasStatus, EndsOn, EndsOnFile, EndsRefused, IsPrinted};
+ghost use Rattle.rollduel.specs.Endings.{HasStatus, EndsMatch, EndsOn, EndsOnFile, EndsRefused, IsPrinted};
 ghost use Rattle.rollduel.specs.Requests.{IfLive, IfMatch, IfText, asked_by};
 ghost use Rattle.roll_cli.specs.Programs.{Ends};
 ghost use Rattle.roll_live.specs.Lives.{Ends as EndsLive};
@@ -24,7 +24,8 @@ mod work;
 use clap::Error;
 use clap::error::ErrorKind;
 use command_line::Request;
-use roll_cli::{Ending, PlayFault};
+use prog_explain::Notes;
+use prog_parts::{Ending, PlayFault};
 use std::alloc::AllocGlobal;
 use std::io::{Eprint, IsTerminal, Read, Write};
 use std::process::ExitCode;
@@ -34,25 +35,28 @@ use std::thread::Threads;
 use std::{env, fs, io};
 
 fn main(rt: HostRuntime) -> ExitCode {
-    let mut notes = String::new(rt.alloc());
+    let mut notes = Notes::new(rt.alloc());
     let ending = run(&rt, &rt, &mut notes);
     finish(&rt, &ending, &notes)
 }
 
 /// Tells the fault, if there is one, and after it the notes, and answers what the program exits with.
-fn finish<R: Eprint>(rt: &R, ending: &Ending, notes: &str) -> ExitCode
+fn finish<R: Eprint>(rt: &R, ending: &Ending, notes: &Notes) -> ExitCode
     ensures { exit_status result ≡ ending.now.status }
 {
     // Where standard error can't be written either, the status alone tells.
     if let Some(fault) = ending.fault {
         let _ = eprintln!(rt; "rollduel: {fault}");
     }
-    let _ = eprint!(rt; "{notes}");
+    let _ = eprint!(rt; "{}", notes.text);
+    if notes.is_cut {
+        let _ = eprintln!(rt; "rollduel: no memory for more notes");
+    }
     ExitCode::from(ending.status)
 }
 
 /// Does what the words of the command line ask for.
-fn run<R, T>(rt: &R, threads: &T, notes: &mut String) -> Ending
+fn run<R, T>(rt: &R, threads: &T, notes: &mut Notes) -> Ending
 where
     R: Runtime + AllocGlobal,
     R::Reader: IsTerminal,
@@ -66,12 +70,13 @@ where
 }
 
 /// Does what these words ask for, of which the first is the program's name.
-fn run_words<R, T>(rt: &R, threads: &T, words: &[String], notes: &mut String) -> Ending
+fn run_words<R, T>(rt: &R, threads: &T, words: &[String], notes: &mut Notes) -> Ending
 where
     R: Runtime + AllocGlobal,
     R::Reader: IsTerminal,
     T: AllocGlobal + Threads + Wait + Copy + Send + 'static,
     ensures refused { EndsRefused (fault_of rollduel_app (map string_bytes words.now)) result }
+    ensures match_ends { fault_of rollduel_app (map string_bytes words.now) ≡ [] → IfMatch (asked_by (map string_bytes words.now)) (EndsMatch result) }
     ensures status { HasStatus result }
 {
     let opener = |path: &str| fs::open(rt, path);
@@ -105,7 +110,7 @@ fn perform<T, S, N, F, W, O>(
     notice: N,
     opener: O,
     writer: &mut W,
-    notes: &mut String,
+    notes: &mut Notes,
 ) -> Result<Ending, Error>
 where
     T: AllocGlobal + Threads + Wait + Copy + Send + 'static,
@@ -126,7 +131,8 @@ where
     ensures live_file { IfOk result (λ ending. IfLive (asked_by (map string_bytes words.now)) (λ path live. IfSome path (λ path.
         (standard.new ≡ standard.old) × ((opened : _) × FnOnceReturnsAt O.FnOnce opener path opened
         × EndsOnFile W.contents (EndsLive live.game) writer.old writer.new ending F.remaining opened)))) }
-    ensures played { IfOk result (λ ending. IfMatch (asked_by (map string_bytes words.now)) (λ options.
+    ensures match_ends { IfOk result (λ ending. IfMatch (asked_by (map string_bytes words.now)) (EndsMatch ending)) }
+    ensures match_streams { IfOk result (λ ending. IfMatch (asked_by (map string_bytes words.now)) (λ options.
         (standard.new ≡ standard.old) × IfSome ending.fault (λ fault. (fault ≡ CannotWrite) ⊎ (writer.new ≡ writer.old)))) }
     ensures status { IfOk result (λ ending. HasStatus ending) }
     ensures untouched { IfErr result (λ error. (standard.new ≡ standard.old) × (writer.new ≡ writer.old)) }

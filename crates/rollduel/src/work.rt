@@ -7,10 +7,11 @@ ghost use Rattle.rollduel.specs.Endings.{HasStatus, EndsOn, EndsOnFile};
 ghost use Rattle.rollduel.specs.Requests.{path_of};
 
 use crate::command_line::{Input, TextRequest};
-use roll_cli::{Ending, PlayFault};
+use prog_explain::Notes;
+use prog_parts::{Ending, PlayFault};
 use roll_live::Live;
 use std::alloc::{AllocGlobal, Global};
-use std::fmt::Write as _;
+use std::fmt::{Display, Write as _};
 use std::io;
 use std::io::{Read, Write};
 use std::sync::Wait;
@@ -24,7 +25,7 @@ pub fn answer<S: Read, N: FnOnce(), F: Read + Drop, W: Write, O: FnOnce(&str) ->
     notice: N,
     opener: O,
     writer: &mut W,
-    notes: &mut String,
+    notes: &mut Notes,
 ) -> Ending
     requires notice { N.IsAlwaysCallable notice }
     requires opener { O.IsAlwaysCallable opener }
@@ -44,18 +45,23 @@ pub fn answer<S: Read, N: FnOnce(), F: Read + Drop, W: Write, O: FnOnce(&str) ->
             Ok(mut file) => {
                 let ending = work(alloc, asked, &mut file, writer, notes);
                 if asked.explain && ending.fault == Some(PlayFault::Read) {
-                    let _ = writeln!(notes, "{path}: a read failed");
+                    note_of_file(notes, path, "a read failed");
                 }
                 ending
             }
             Err(error) => {
                 if asked.explain {
-                    let _ = writeln!(notes, "{path}: {error}");
+                    note_of_file(notes, path, error);
                 }
                 Ending::from(PlayFault::Read)
             }
         },
     }
+}
+
+/// Notes what is wrong with a file, whose name may hold anything: what a terminal would obey is escaped.
+fn note_of_file(notes: &mut Notes, path: &str, why: impl Display + Drop) {
+    notes.is_cut |= writeln!(notes.text, "{}: {why}", path.escape_debug()).is_err();
 }
 
 /// Does what is asked for with the text that a reader holds.
@@ -64,7 +70,7 @@ fn work<R: Read, W: Write>(
     asked: &TextRequest<'_>,
     reader: &mut R,
     writer: &mut W,
-    notes: &mut String,
+    notes: &mut Notes,
 ) -> Ending
     ensures ends { EndsOn W.contents (Ends asked.now.task) writer.old writer.new result (R.remaining reader.old) }
     ensures status { HasStatus result }

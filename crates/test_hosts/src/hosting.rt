@@ -4,6 +4,8 @@ ghost use Rattle.std.specs.Option.{ForSome};
 ghost use Rattle.roll_host.specs.Hosted.{places_of};
 
 use crate::crew::{Crew, work_at};
+use crate::game::Staged;
+use crate::lists::{ROUND, push_round, put_absorb, put_answers, put_pump, put_ticket};
 use roll_frame::{Event, Refusal, Reply};
 use roll_game::Game;
 use roll_host::Host;
@@ -11,7 +13,8 @@ use roll_link::{LinkSender, Remote};
 use roll_pool::{Outcome, Worked, WorkerEnd};
 use roll_session::{Call, Reached, Session};
 use std::alloc::Global;
-use test_alone::{Answer, Fault, put, put_count, put_long, put_named, put_refused};
+use std::collections::VecDeque;
+use test_alone::{Answer, Fault, put, put_count, put_named, put_refused};
 
 /// Why there is no host.
 #[derive(Drop)]
@@ -185,25 +188,12 @@ impl<G: Game + Drop> Hosting<G> {
 
     /// Pumps, and writes what that did.
     pub fn put_pumped(&mut self, out: &mut Vec<u8>) -> Answer {
-        let did = self.host.pump();
-        put_named(out, b"applied ", did.applied)?;
-        put_named(out, b" refused ", did.refused)?;
-        match did.held {
-            Some(why) => {
-                put(out, b" held ")?;
-                put_refused(out, why)
-            }
-            None => Ok(()),
-        }
+        put_pump(out, self.host.pump())
     }
 
     /// Absorbs, and writes what that did.
     pub fn put_absorbed(&mut self, out: &mut Vec<u8>) -> Answer {
-        let did = self.host.absorb();
-        put_named(out, b"taken ", did.taken)?;
-        put_named(out, b" added ", did.added)?;
-        put_named(out, b" dropped ", did.dropped)?;
-        put_named(out, b" unmade ", did.unmade)
+        put_absorb(out, self.host.absorb())
     }
 
     /// Has a guess run by a worker, and writes its number.
@@ -214,10 +204,29 @@ impl<G: Game + Drop> Hosting<G> {
         words: &[u32],
         until: u32,
     ) -> Answer {
-        match self.host.speculate(player, words, until) {
-            Ok(Some(ticket)) => put_long(out, b"ticket ", ticket),
-            Ok(None) => put(out, b"kept"),
-            Err(why) => put_refused(out, why),
+        put_ticket(out, self.host.speculate(player, words, until))
+    }
+
+    /// Has a round of calls made by one call, and writes each reply, a line each, and how many calls were left where memory ran
+    /// out. The first link is ended by it.
+    pub fn put_round(&mut self, alloc: Global, out: &mut Vec<u8>) -> Answer
+    where
+        G: Staged,
+    {
+        let Some(sender) = self.first.take() else {
+            return Err(Fault::Unreadable);
+        };
+        let Some(finished) = sender.finish() else {
+            return Err(Fault::Unreadable);
+        };
+        let mut requests = VecDeque::new(alloc);
+        let mut replies = Vec::with_capacity(alloc, ROUND)?;
+        push_round(&mut requests, finished)?;
+        let ran = self.host.run(&mut requests, &mut replies);
+        put_answers(out, self.host.session(), &replies)?;
+        match ran {
+            Ok(()) => put(out, b"all done"),
+            Err(_) => put_count(out, b"no memory, left ", requests.len()),
         }
     }
 

@@ -9,6 +9,7 @@ mod crew;
 mod game;
 mod hosting;
 mod jobs;
+mod lists;
 mod plans;
 mod replays;
 mod rows;

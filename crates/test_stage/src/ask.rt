@@ -27,6 +27,7 @@ pub enum Word {
     Pump,
     Collect,
     Absorb,
+    Round,
     Out,
     Close,
     Settle,
@@ -112,13 +113,14 @@ fn number_of(text: &[u8]) -> Result<u32, Fault> {
 }
 
 /// The commands without arguments.
-const WORDS: [(&[u8], Word); 20] = [
+const WORDS: [(&[u8], Word); 21] = [
     (b"host", Word::Host),
     (b"session", Word::Session),
     (b"link", Word::Link),
     (b"pump", Word::Pump),
     (b"collect", Word::Collect),
     (b"absorb", Word::Absorb),
+    (b"round", Word::Round),
     (b"out", Word::Out),
     (b"close", Word::Close),
     (b"settle", Word::Settle),

@@ -80,6 +80,7 @@ impl<G: Staged> Stage<G> {
             Word::Pump => self.hosting()?.put_pumped(out),
             Word::Collect => self.collect(out),
             Word::Absorb => self.hosting()?.put_absorbed(out),
+            Word::Round => self.round(out),
             Word::Out => self.crew()?.put_out(out),
             Word::Close => self.close(out),
             Word::Settle => self.settle(out),
@@ -363,6 +364,11 @@ impl<G: Staged> Stage<G> {
         };
         self.session = Some(hosting.into_session());
         put(out, b"alone")
+    }
+
+    fn round(&mut self, out: &mut Vec<u8>) -> Answer {
+        let alloc = self.alloc;
+        self.hosting()?.put_round(alloc, out)
     }
 
     fn hosting(&mut self) -> Result<&mut Hosting<G>, Fault> {

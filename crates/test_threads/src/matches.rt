@@ -1,6 +1,7 @@
 //! A match of two players whose words come late, and of which workers run each likely one ahead.
 ghost use Rattle.std.specs.Prelude.{◌≡◌, ◌<◌, IfOk};
 ghost use Rattle.roll_host.specs.Hosted.{places_of};
+ghost use Rattle.roll_pool.specs.Crews.{places_in};
 
 use crate::hosts::{Heard, TURNS, TWO, hear, hosted, nanoseconds, open, play};
 use crate::numbers::print_line;
@@ -329,14 +330,13 @@ fn play_linked<'a>(
 fn with_crew<R>(rt: R, alloc: Global, rules: Rules) -> Result<(Host<Slow>, Crew<Slow>), Refusal>
 where
     R: Threads + Wait + Copy + Send + 'static,
-    ensures { IfOk result (λ both. both.1 ≡ places_of both.0.pool) }
+    ensures { IfOk result (λ both. places_in both.1 ≡ places_of both.0.pool) }
 {
     let session = open(alloc, TWO, rules.rounds)?;
     let (owner, crew) = staffed(rt, alloc, rules.workers as usize, rules.rounds)?;
     match Host::with_workers(alloc, session, owner) {
         Ok(host) => Ok((host, crew)),
-        Err(failed) => {
-            failed.value.1.close();
+        Err(_) => {
             let _back = crew.join(&rt);
             Err(Refusal::NoMemory)
         }

@@ -1,5 +1,6 @@
 //! Workers in threads of their own that run jobs ahead.
 ghost use Rattle.std.specs.Prelude.{◌≡◌, map, vec_len, IfOk};
+ghost use Rattle.roll_pool.specs.Crews.{places_in};
 
 use crate::hosts::TURNS;
 use crate::slow::Slow;
@@ -106,15 +107,19 @@ fn collect_until(owner: &mut Owner<Slow>, tickets: &mut Tickets, count: u32)
     }
 }
 
-/// Waits in `taken(0)` until `left(1)` was called.
+/// Waits in `taken(0)` until `left(1)` was called, after `taken(1)`.
 #[derive(Drop)]
 struct Meeting {
+    entered: AtomicBool,
     left: AtomicBool,
     met: AtomicBool,
 }
 
 impl Gate for Meeting {
     fn taken(&self, ticket: u64) {
+        if ticket == 1 {
+            self.entered.store(true, Ordering::SeqCst);
+        }
         if ticket != 0 {
             return;
         }
@@ -129,7 +134,8 @@ impl Gate for Meeting {
 
     fn left(&self, ticket: u64) {
         if ticket == 1 {
-            self.left.store(true, Ordering::SeqCst);
+            let entered = self.entered.load(Ordering::SeqCst);
+            self.left.store(entered, Ordering::SeqCst);
         }
     }
 }
@@ -185,11 +191,12 @@ fn both_worked(
     Ok(back)
 }
 
-/// The worker of job 0 goes on only when the other has done job 1. Both results are collected, and nothing is left.
+/// The worker of job 0 goes on only when the other has taken job 1, and then left it. Both results are collected, and nothing is left.
 pub fn overlap(rt: &impl Threads, alloc: Global) -> Result<bool, Refusal> {
     let (mut owner, ends) = Owner::open(alloc, 2)?;
     issue_all(alloc, &mut owner, 2);
     let gate = Meeting {
+        entered: AtomicBool::new(false),
         left: AtomicBool::new(false),
         met: AtomicBool::new(false),
     };
@@ -232,11 +239,11 @@ pub fn staffed<R>(
 ) -> Result<(Owner<Slow>, Crew<Slow>), Refusal>
 where
     R: Threads + Wait + Copy + Send + 'static,
-    ensures { IfOk result (λ both. both.1 ≡ both.0.places) }
+    ensures { IfOk result (λ both. places_in both.1 ≡ both.0.places) }
 {
     let (owner, ends) = Owner::open(alloc, workers)?;
     let games = games(alloc, ends.len(), rounds)?;
-    let crew = start_all(rt, alloc, &owner, ends, games)?;
+    let crew = start_all(rt, alloc, ends, games)?;
     Ok((owner, crew))
 }
 

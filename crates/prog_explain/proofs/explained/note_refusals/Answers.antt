@@ -1,5 +1,5 @@
-use Rattle.roll_cli.specs.Plays.{play_of}
-use Rattle.roll_cli.proofs.Played.{few_commands}
+use Rattle.prog_scripts.specs.Plays.{play_of}
+use Rattle.prog_scripts.proofs.Few.{few_commands}
 use Rattle.prog_explain.proofs.explained.note_refusals.Goals as goal
 
 pub note_played-requires-clause-few : goal.note_played-requires-clause-few

@@ -11,7 +11,7 @@ use Rattle.roll_frame.specs.declared.refusal.Refusal.{Refusal}
 use Rattle.roll_text.specs.Numbers.{IsWord}
 use Rattle.roll_text.specs.Text.{Reads}
 use Rattle.prog_explain.specs.declared.refusals.TheConstants.{REFUSALS}
-use Rattle.roll_cli.specs.Output.{refused_line}
+use Rattle.prog_replies.specs.Output.{refused_line}
 use Rattle.prog_explain.specs.Refused.{IsListed, refused_reply}
 use Rattle.prog_explain.proofs.refusals.refusal_in.Goals as goal
 

@@ -2,9 +2,9 @@ use Rattle.std.proofs.Common.{◌∙◌, sym}
 use Rattle.std.proofs.lemmas.Option.{IfSome_then}
 use Rattle.std.proofs.lemmas.Result.{IfOk-weaker}
 use Rattle.std.specs.Io.KnownBytes.{Appends}
-use Rattle.roll_cli.specs.Headers.{setup_of}
+use Rattle.prog_scripts.specs.Headers.{setup_of}
 use Rattle.roll_cli.proofs.Headlines.{also_headlined}
-use Rattle.roll_cli.proofs.Outlined.{output_of_outline}
+use Rattle.roll_cli.proofs.PlayedTo.{output_of_outline}
 use Rattle.roll_cli.proofs.engine.play.Goals as goal
 
 pub returns-clause-written : goal.returns-clause-written

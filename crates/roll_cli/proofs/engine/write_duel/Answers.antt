@@ -5,11 +5,11 @@ use Rattle.roll_duel.specs.Bytes.{bytes_of, step}
 use Rattle.roll_frame.specs.Games.{Game}
 use Rattle.roll_frame.specs.declared.refusal.Refusal.TheVariants.{PlayerOutOfRange}
 use Rattle.roll_text.specs.Lines.{ended}
-use Rattle.roll_cli.specs.declared.command.Command.{Command}
-use Rattle.roll_cli.specs.Headers.{setup_of}
-use Rattle.roll_cli.specs.Output.{duel_output, duel_refusals, output, refusals, refused_line}
-use Rattle.roll_cli.specs.Plays.{Play}
-use Rattle.prog_parts.specs.Shown.{duel_text}
+use Rattle.prog_scripts.specs.declared.command.Command.{Command}
+use Rattle.prog_scripts.specs.Headers.{setup_of}
+use Rattle.prog_replies.specs.Output.{duel_output, duel_refusals, output, refusals, refused_line}
+use Rattle.prog_scripts.specs.Plays.{Play}
+use Rattle.roll_duel.specs.Text.{duel_text}
 use Rattle.roll_cli.proofs.engine.write_duel.Goals as goal
 
 pub returns-in_default-clause-cut : goal.returns-in_default-clause-cut

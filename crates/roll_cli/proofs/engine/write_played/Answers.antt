@@ -1,7 +1,7 @@
 use Rattle.std.proofs.Common.{◌∙◌, ◌++◌, ap}
 use Rattle.roll_frame.specs.Games.{Game}
 use Rattle.roll_frame.specs.declared.settings.Settings.{Settings}
-use Rattle.roll_cli.specs.Output.{output_under, refusals_under}
+use Rattle.prog_replies.specs.Output.{output_under, refusals_under}
 use Rattle.roll_cli.proofs.engine.write_played.Goals as goal
 
 pub returns-in_err-write_all-clause-cut : goal.returns-in_err-write_all-clause-cut

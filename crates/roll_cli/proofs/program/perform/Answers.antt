@@ -1,4 +1,4 @@
-use Rattle.roll_cli.specs.declared.program.Task.TheVariants.{Certify}
+use Rattle.prog_parts.specs.declared.task.Task.TheVariants.{Certify}
 use Rattle.roll_cli.proofs.Ended.{ends_in_fault}
 use Rattle.roll_cli.proofs.program.perform.Goals as goal
 

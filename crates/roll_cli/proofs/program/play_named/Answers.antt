@@ -3,8 +3,9 @@ use Rattle.std.proofs.lemmas.Option.{IfSome_then}
 use Rattle.std.specs.Prelude.{IfSome}
 use Rattle.roll_cli.specs.Programs.{IsFault}
 use Rattle.prog_parts.specs.declared.ending.GameName.TheVariants.{Tally, Duel}
-use Rattle.roll_cli.specs.declared.program.Task.TheVariants.{Play}
-use Rattle.roll_cli.proofs.Ended.{ends_in_fault, hands_fault_on}
+use Rattle.prog_parts.specs.declared.task.Task.TheVariants.{Play}
+use Rattle.prog_parts.proofs.HandedOn.{hands_fault_on}
+use Rattle.roll_cli.proofs.Ended.{ends_in_fault}
 use Rattle.roll_cli.proofs.program.play_named.Goals as goal
 use Rattle.roll_cli.proofs.program.play_named.Goals.{in-Tally+in_ok-refused-in-Tally, in-Duel+in_ok-refused-in-Duel}
 

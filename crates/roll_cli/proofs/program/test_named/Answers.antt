@@ -1,5 +1,5 @@
 use Rattle.prog_parts.specs.declared.ending.GameName.TheVariants.{Tally, Duel}
-use Rattle.roll_cli.specs.declared.program.Task.TheVariants.{SyncTest}
+use Rattle.prog_parts.specs.declared.task.Task.TheVariants.{SyncTest}
 use Rattle.roll_cli.proofs.Ended.{ends_in_fault}
 use Rattle.roll_cli.proofs.program.test_named.Goals as goal
 

@@ -1,7 +1,7 @@
 use Rattle.std.proofs.Common.{subst}
 use Rattle.std.proofs.lemmas.Option.{IfSome_then}
 use Rattle.std.proofs.lemmas.Result.{IfOk-weaker}
-use Rattle.roll_cli.specs.RowsFiles.{file_of}
+use Rattle.prog_scripts.specs.RowsFiles.{file_of}
 use Rattle.roll_cli.specs.SyncTests.{IsTold}
 use Rattle.roll_cli.proofs.Tested.{told_of_game}
 use Rattle.roll_cli.proofs.sync_test.synctest.Goals as goal

@@ -1,6 +1,6 @@
 use Rattle.std.proofs.Common.{refl}
 use Rattle.std.proofs.lemmas.Option.{IfSome_then}
-use Rattle.roll_cli.specs.RowsFiles.{file_of}
+use Rattle.prog_scripts.specs.RowsFiles.{file_of}
 use Rattle.roll_cli.proofs.sync_test.synctest_duel.Goals as goal
 
 pub returns-clause-cut : goal.returns-clause-cut

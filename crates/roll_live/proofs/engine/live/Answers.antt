@@ -1,5 +1,5 @@
 use Rattle.std.proofs.lemmas.Option.{IfSome_then}
-use Rattle.roll_cli.specs.Plays.{play_of}
+use Rattle.prog_scripts.specs.Plays.{play_of}
 use Rattle.roll_live.specs.Lives.{IsFarOf}
 use Rattle.roll_live.proofs.Ending.{bad_line}
 use Rattle.roll_live.proofs.engine.live.Goals as goal

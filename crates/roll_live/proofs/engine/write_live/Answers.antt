@@ -2,9 +2,9 @@ use Rattle.std.proofs.Common.{◌≡◌, ◌∙◌, ◌++◌, ap, subst, List, �
 use Rattle.roll_frame.specs.Games.{Game}
 use Rattle.roll_frame.specs.declared.settings.Settings.{Settings}
 use Rattle.roll_text.specs.Streams.{AppendsPart}
-use Rattle.roll_cli.specs.Headers.{settings_of}
-use Rattle.roll_cli.specs.Plays.{play_of}
-use Rattle.roll_cli.specs.declared.command.Command.{Command}
+use Rattle.prog_scripts.specs.Headers.{settings_of}
+use Rattle.prog_scripts.specs.Plays.{play_of}
+use Rattle.prog_scripts.specs.declared.command.Command.{Command}
 use Rattle.roll_live.specs.Lives.{WritesUnder}
 use Rattle.roll_live.proofs.engine.write_live.Goals as goal
 

@@ -4,11 +4,11 @@ use Rattle.std.proofs.lemmas.Option.{IfSome_then}
 use Rattle.roll_frame.specs.Games.{Game}
 use Rattle.roll_game.specs.Tally.{tally_step}
 use Rattle.roll_text.specs.Streams.{AppendsPart}
-use Rattle.roll_cli.specs.Output.{tally_game}
-use Rattle.roll_cli.specs.Plays.{play_of}
-use Rattle.prog_parts.specs.Shown.{tally_text}
+use Rattle.prog_replies.specs.Output.{tally_game}
+use Rattle.prog_scripts.specs.Plays.{play_of}
+use Rattle.roll_game.specs.Shown.{tally_text}
 use Rattle.prog_parts.specs.declared.ending.GameName.TheVariants.{Tally, Duel}
-use Rattle.roll_cli.proofs.Ended.{hands_fault_on}
+use Rattle.prog_parts.proofs.HandedOn.{hands_fault_on}
 use Rattle.roll_live.specs.Lives.{IsFarOf, IsFault, IsOutput, IsUnreadable, Writes}
 use Rattle.roll_live.proofs.Ending.{ends_in_fault, never_cut}
 use Rattle.roll_live.proofs.program.perform.Goals as goal

@@ -6,9 +6,9 @@ use Rattle.roll_duel.specs.Bytes.{bytes_of, step}
 use Rattle.roll_frame.specs.Games.{Game}
 use Rattle.roll_frame.specs.declared.refusal.Refusal.TheVariants.{PlayerOutOfRange}
 use Rattle.roll_text.specs.Lines.{ended}
-use Rattle.roll_cli.specs.Output.{duel_game, refused_line}
-use Rattle.roll_cli.specs.Plays.{play_of}
-use Rattle.prog_parts.specs.Shown.{duel_text}
+use Rattle.prog_replies.specs.Output.{duel_game, refused_line}
+use Rattle.prog_scripts.specs.Plays.{play_of}
+use Rattle.roll_duel.specs.Text.{duel_text}
 use Rattle.roll_live.specs.Lives.{Writes}
 use Rattle.roll_live.proofs.program.write_duel.Goals as goal
 

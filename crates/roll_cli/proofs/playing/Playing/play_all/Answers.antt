@@ -2,9 +2,10 @@ use Rattle.std.proofs.Common.{◌≡◌, ◌∙◌, ◌+◌, ◌≤◌, ap, refl
 use Rattle.std.specs.Prelude.{if◌then◌else◌}
 use Rattle.std.proofs.lemmas.Grind.{common_steps}
 use Rattle.roll_frame.specs.Games.{Value, Game}
-use Rattle.roll_cli.specs.Output.{after_command}
+use Rattle.prog_replies.specs.Output.{after_command}
 use Rattle.roll_cli.specs.Playings.{Played, game_of}
-use Rattle.roll_cli.proofs.Outlined.{not_none_first, played_none, played_more}
+use Rattle.prog_scripts.proofs.Outlined.{not_none_first}
+use Rattle.roll_cli.proofs.PlayedTo.{played_none, played_more}
 use Rattle.roll_cli.proofs.playing.Playing.play_all.Goals as goal
 use Rattle.roll_cli.proofs.playing.Playing.play_all.Goals.{then-branch, else-branch}
 

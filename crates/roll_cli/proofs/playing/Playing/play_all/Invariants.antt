@@ -1,6 +1,6 @@
 use Rattle.std.proofs.Common.{◌≡◌, length}
 use Rattle.roll_cli.specs.Playings.{game_of}
-use Rattle.roll_cli.proofs.Outlined.{IsPlayedTo}
+use Rattle.roll_cli.proofs.PlayedTo.{IsPlayedTo}
 use Rattle.roll_cli.proofs.playing.Playing.play_all.Given as goal
 
 abbrev pub invariant-loop-rest : goal.invariant-loop-rest

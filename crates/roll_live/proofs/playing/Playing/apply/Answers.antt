@@ -1,18 +1,19 @@
-use Rattle.std.proofs.Common.{◌∙◌, ap, arith, refl}
+use Rattle.std.proofs.Common.{◌∙◌, ap, arith, refl, sym}
 use Rattle.roll_host.specs.Hosted.{places_of}
 use Rattle.roll_host.specs.Pumps.{items_of}
 use Rattle.roll_host.proofs.Hearing.{heard_none}
-use Rattle.roll_live.proofs.Played.{heard_later, nothing_heard}
+use Rattle.roll_live.proofs.Played.{heard_later, nothing_heard, succeeded}
 use Rattle.roll_live.proofs.playing.Playing.apply.Goals as goal
 
 pub loop-init : goal.loop-init
-loop-init g c = record { heard = heard_none g.G.Game.step _; places = refl }
+loop-init g c = record { heard = heard_none g.G.Game.step _; sent = ap (λ s. s.sent) (succeeded c.send.result _ (sym c.is_err.ensures.value ∙ c.if-is_err.false) c.send.ensures.sent); places = refl }
 
 pub loop-preserved : goal.loop-preserved
 loop-preserved g c =
     let did = c.pump-did.ensures.pumped in
     record {
       heard = nothing_heard g.G.Game.step _ _ _ (items_of did.turns) _ c.loop.invariant.heard did.heard (omega (arith, did.count, c.if-did-gt0.false));
+      sent = c.loop.invariant.sent;
       places = ap (λ pool. places_of pool) c.pump-did.ensures.pool ∙ c.loop.invariant.places;
     }
 

@@ -1,9 +1,10 @@
-use Rattle.std.proofs.Common.{◌≡◌, ◌∙◌, ◌+◌, ◌++◌, [], ◌∷◌, List, cond, drop, take, ap, refl, sym, subst, arith, append_assoc, length-take}
+use Rattle.std.proofs.Common.{◌≡◌, ◌∙◌, ◌+◌, ◌++◌, [], ◌∷◌, List, cond, drop, take, ap, refl, sym, subst, arith, append_assoc, append-nil, length-take}
 use Rattle.std.proofs.lemmas.List.{take-append-drop, take_more}
-use Rattle.std.proofs.lemmas.Grind.{common_steps}
-use Rattle.roll_cli.specs.declared.command.Command.{Command}
+use Rattle.std.specs.List.{flat_map}
+use Rattle.std.proofs.lemmas.Grind.{common_steps, flat_map-append}
+use Rattle.prog_scripts.specs.declared.command.Command.{Command}
 use Rattle.roll_live.specs.Tellings.{IsLive}
-use Rattle.roll_live.specs.Told.{IsFar}
+use Rattle.roll_live.specs.Told.{IsFar, items_of}
 use Rattle.roll_live.proofs.Ending.{far_here}
 use Rattle.roll_live.proofs.Played.{live_more}
 use Rattle.roll_live.proofs.playing.Playing.play_all.Goals as goal
@@ -29,6 +30,8 @@ loop-command-preserved g c =
             (subst (λ (cs : List Command). IsLive g.G.Game.step g.G.Shown.text_of c.args.self.now.host.session c.play.new.self.host.session cs (now.played.0 ++ told.0) (c.loop-command.refused + cond c.in_ok-play.field-0 1 0)) taken more),
         told.2 ∙ ap (λ w. w ++ told.0) now.played.2 ∙ append_assoc c.args.out.now.items now.played.0 told.0,
       );
+      sent = c.in_ok-play.ensures.sent ∙ ap (λ l. l ++ items_of c.command-item.result) now.sent ∙ append_assoc c.args.self.now.sender.sent (flat_map items_of before) (items_of c.command-item.result)
+          ∙ ap (λ l. c.args.self.now.sender.sent ++ l) (ap (λ l. flat_map items_of before ++ l) (sym (append-nil (items_of c.command-item.result))) ∙ sym (flat_map-append items_of before (c.command-item.result ∷ [])) ∙ ap (flat_map items_of) taken);
       places = c.in_ok-play.ensures.places ∙ now.places;
       line = omega (arith, now.line);
       few = elim c.if-branch.branch [ then-branch w ↦ omega (arith, w.refused-is, now.few) | else-branch w ↦ omega (arith, w.refused-is, now.few) ];

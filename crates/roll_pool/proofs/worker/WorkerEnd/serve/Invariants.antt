@@ -1,5 +1,6 @@
-use Rattle.std.proofs.Common.{◌≡◌}
+use Rattle.roll_pool.specs.Served.{Serves}
 use Rattle.roll_pool.proofs.worker.WorkerEnd.serve.Given as goal
 
 abbrev pub invariant-loop : goal.invariant-loop
-invariant-loop g l = l.self.place ≡ l.initial.self.place
+invariant-loop g l =
+    Serves (record { end = l.initial.self; counts = g.G.RawGame.call_counts l.initial.game }) (record { end = l.self; counts = g.G.RawGame.call_counts l.game })

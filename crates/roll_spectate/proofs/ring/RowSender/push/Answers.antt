@@ -9,24 +9,25 @@ use Rattle.roll_spectate.proofs.ring.RowSender.push.Goals.{in-Some+then-not-send
 
 pub loop-row-init : goal.loop-row-init
 loop-row-init g c =
-    let count : c.self.inside.count ≡ length c.args.self.now = c.self.invariant.0 ∙ ap length c.self.view_is in
-    ((λ first. first), part_itself c.args.self.now, count, omega (arith, count))
+    let count : c.self.inside.count ≡ length c.args.self.now.rows = c.self.invariant.0 ∙ ap (λ f. length f.rows) c.self.view_is in
+    ((λ first. first), part_itself c.args.self.now.rows, count, omega (arith, count), refl)
 
 pub send-requires : goal.send-requires
 send-requires g c =
-    let there = row_read (core_of c.args.session.now).players (settled (core_of c.args.session.now)) (length c.loop-row.self) c.in-Some.row (sym c.in-Some.is ∙ c.next.ensures) in
+    let there = row_read (core_of c.args.session.now).players (settled (core_of c.args.session.now)) (length c.loop-row.self.rows) c.in-Some.row (sym c.in-Some.is ∙ c.next.ensures) in
     omega (arith, there.0, few_settled _ _ _ c.laws.ensures.log)
 
 pub loop-row-preserved : goal.loop-row-preserved
 loop-row-preserved g c =
     let players = (core_of c.args.session.now).players in
-    let there = row_read players (settled (core_of c.args.session.now)) (length c.loop-row.self) c.in-Some.row (sym c.in-Some.is ∙ c.next.ensures) in
-    let sent : c.send.new.self ≡ c.loop-row.self ++ c.in-Some.row ∷ [] = c.if-not-send.ensures.sent refl in
-    let n = one_longer c.loop-row.self c.in-Some.row c.send.new.self sent in (
-      (λ first. next_part players (settled (core_of c.args.session.now)) c.loop-row.self c.in-Some.row c.send.new.self there.0 there.1 sent (c.loop-row.invariant.0 first)),
-      part_more c.args.self.now c.loop-row.self c.in-Some.row c.send.new.self c.loop-row.invariant.1 sent,
+    let there = row_read players (settled (core_of c.args.session.now)) (length c.loop-row.self.rows) c.in-Some.row (sym c.in-Some.is ∙ c.next.ensures) in
+    let sent : c.send.new.self.rows ≡ c.loop-row.self.rows ++ c.in-Some.row ∷ [] = ap (λ f. f.rows) (c.if-not-send.ensures.sent refl) in
+    let n = one_longer c.loop-row.self.rows c.in-Some.row c.send.new.self.rows sent in (
+      (λ first. next_part players (settled (core_of c.args.session.now)) c.loop-row.self.rows c.in-Some.row c.send.new.self.rows there.0 there.1 sent (c.loop-row.invariant.0 first)),
+      part_more c.args.self.now.rows c.loop-row.self.rows c.in-Some.row c.send.new.self.rows c.loop-row.invariant.1 sent,
       c.loop-row.invariant.2,
       omega (arith, c.loop-row.invariant.3, n),
+      ap (λ f. f.ring) (c.if-not-send.ensures.sent refl) ∙ c.loop-row.invariant.4,
     )
 
 pub returns-clause-pushed : goal.returns-clause-pushed
@@ -37,8 +38,8 @@ returns-clause-pushed g c =
     elim c.match-next.branch [
       | in-Some+then-not-send w ↦
           let full = w.if-not-send.ensures.full refl in
-          rw (w.self-is ∙ full.0) (record { grown = inv.1; first = inv.0; all = inr full.1 })
+          rw (w.self-is ∙ full.0) (record { ring = inv.4; pushed = record { grown = inv.1; first = inv.0; all = inr full.1 } })
       | in_default w ↦
-          let low = none_read players at (length c.loop-row.self) (sym w.in_default.is ∙ c.next.ensures) in
-          rw w.self-is (record { grown = inv.1; first = inv.0; all = inl (omega (arith, low, length_timeline players at)) })
+          let low = none_read players at (length c.loop-row.self.rows) (sym w.in_default.is ∙ c.next.ensures) in
+          rw w.self-is (record { ring = inv.4; pushed = record { grown = inv.1; first = inv.0; all = inl (omega (arith, low, length_timeline players at)) } })
     ]

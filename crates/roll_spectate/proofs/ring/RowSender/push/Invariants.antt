@@ -7,8 +7,8 @@ use Rattle.roll_spectate.proofs.ring.RowSender.push.Given as goal
 
 abbrev pub invariant-loop-row : goal.invariant-loop-row
 invariant-loop-row g l =
-    (IsFirstPart l.fn.self (settled_rows (core_of l.session)) → IsFirstPart l.self (settled_rows (core_of l.session)))
-    × IsFirstPart l.fn.self l.self × (l.from ≡ length l.fn.self) × (l.from ≤ length l.self)
+    (IsFirstPart l.fn.self.rows (settled_rows (core_of l.session)) → IsFirstPart l.self.rows (settled_rows (core_of l.session)))
+    × IsFirstPart l.fn.self.rows l.self.rows × (l.from ≡ length l.fn.self.rows) × (l.from ≤ length l.self.rows) × (l.self.ring ≡ l.fn.self.ring)
 
 abbrev pub decreases-loop-row : goal.decreases-loop-row
-decreases-loop-row g l = settled (core_of l.session) - length l.self
+decreases-loop-row g l = settled (core_of l.session) - length l.self.rows

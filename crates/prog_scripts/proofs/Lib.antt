@@ -1,0 +1,10 @@
+pub mod Spelled
+pub mod Headings
+pub mod Unplayed
+pub mod Outlined
+pub mod Few
+pub mod RowsRead
+mod Diagnosed
+mod LinesOf
+mod Rising
+mod Said

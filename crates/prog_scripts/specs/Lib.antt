@@ -1,0 +1,7 @@
+pub mod Commands
+pub mod Headers
+pub mod Plays
+pub mod RowsFiles
+pub mod Faults
+pub mod Diagnoses
+pub mod DiagnosisTexts

@@ -1,6 +1,0 @@
-use Rattle.std.proofs.Common.{◌↔◌, drop}
-use Rattle.roll_cli.specs.Headers.{IsRising}
-use Rattle.roll_cli.proofs.header.is_rising.Given as goal
-
-abbrev pub invariant-loop-n : goal.invariant-loop-n
-invariant-loop-n l = IsRising l.last (drop l.n-index l.numbers) ↔ IsRising 0 l.numbers
