@@ -2,18 +2,15 @@
 #![tactic(auto)]
 
 ghost use Rattle.std.specs.Prelude.{◌≡◌, IfOk, vec_len};
-ghost use Rattle.roll_host.specs.Hosted.{places_of};
-ghost use Rattle.roll_pool.specs.Crews.{places_in};
+ghost use Rattle.fazgrond.specs.Hosted.{places_of};
+ghost use Rattle.fazgrond.specs.Crews.{places_in};
 
 mod network;
 mod side;
 
-use fighter::{Fight, Fighter, State};
+use fazgrond::{Crew, Host, Owner, Refusal, Session, Settings, start_all};
+use game_fighter::{Fight, Fighter, State};
 use network::Network;
-use roll_frame::{Refusal, Settings};
-use roll_host::Host;
-use roll_pool::{Crew, Owner, start_all};
-use roll_session::Session;
 use side::{LAST_FRAME, Side};
 use std::alloc::{AllocError, AllocGlobal, Global};
 use std::process::ExitCode;

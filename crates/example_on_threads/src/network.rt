@@ -1,6 +1,6 @@
 //! The network: a thread of its own hears the other side's words, and sends them on by a link.
 use crate::side::{LAST_FRAME, OTHER, buttons};
-use roll_link::{LinkSender, Remote};
+use fazgrond::{LinkSender, Remote};
 use std::alloc::Global;
 use std::sync::atomic::{AtomicBool, Ordering};
 use std::sync::{Arc, Wait};

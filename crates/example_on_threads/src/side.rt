@@ -1,11 +1,9 @@
 //! This side of the match: its frame loop.
 ghost use Rattle.std.specs.Prelude.{◌≡◌};
-ghost use Rattle.roll_host.specs.Hosted.{places_of};
+ghost use Rattle.fazgrond.specs.Hosted.{places_of};
 
-use fighter::{Fight, State};
-use roll_frame::{Advice, Refusal};
-use roll_host::Host;
-use roll_spectate::{Feed, Spectator};
+use fazgrond::{Advice, Feed, Host, Refusal, Spectator};
+use game_fighter::{Fight, State};
 use std::alloc::Global;
 use std::sync::Wait;
 use std::thread;

@@ -4,11 +4,10 @@
 mod line;
 mod peer;
 
-use fighter::{Fight, Fighter};
+use fazgrond::{Refusal, Session};
+use game_fighter::{Fight, Fighter};
 use line::Line;
 use peer::{LAST_FRAME, Peer, open};
-use roll_frame::Refusal;
-use roll_session::Session;
 use std::alloc::{AllocGlobal, Global};
 use std::io;
 use std::process::ExitCode;

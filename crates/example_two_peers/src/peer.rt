@@ -1,9 +1,8 @@
 //! One side of a match.
 use crate::line::{Line, PACKET_WORDS, Packet};
 use arrayvec::ArrayVec;
-use fighter::Fight;
-use roll_frame::{Advice, Refusal, Settings};
-use roll_session::{Heard, Session};
+use fazgrond::{Advice, Heard, Refusal, Session, Settings};
+use game_fighter::Fight;
 use std::alloc::Global;
 
 /// The last frame of the match.

@@ -1,4 +1,4 @@
-//! What the program does with a text where more is asked for than its answers.
+//! What the program does with a text if more is asked for than its answers.
 ghost use Rattle.std.specs.Prelude.{◌≡◌, ◌≤◌, ◌<◌, ◌⊎◌, ◌+◌, ◌++◌, ◌^◌, ℕ, List, IfErr, IfSome, MatchOption, OnOk, length};
 ghost use Rattle.std.specs.String.{string_bytes};
 ghost use Rattle.roll_text.specs.declared.streams.TheConstants.{TEXT_LIMIT};

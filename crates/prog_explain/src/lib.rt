@@ -1,4 +1,4 @@
-//! What is told of a text where more is asked for than its answers: what is wrong with a line that can't be read, and what
+//! What is told of a text if more is asked for than its answers: what is wrong with a line that can't be read, and what
 //! each refusal means.
 #![tactic(auto)]
 

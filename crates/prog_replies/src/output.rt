@@ -4,8 +4,7 @@ ghost use Rattle.std.specs.Io.KnownBytes.{Appends};
 ghost use Rattle.roll_text.specs.Streams.{AppendsPart};
 ghost use Rattle.prog_parts.specs.declared.fault.PlayFault.TheVariants.{NoMemory, Write as CannotWrite};
 ghost use Rattle.std.specs.Fmt.{decimal};
-ghost use Rattle.roll_frame.specs.Core.{settled as settled_of};
-ghost use Rattle.roll_session.specs.Seen.{core_of, game_of};
+ghost use Rattle.roll_session.specs.Seen.{game_of};
 ghost use Rattle.roll_text.specs.Lines.{ended};
 ghost use Rattle.prog_replies.specs.Output.{claim_text, frame_line, refused_line, reply_line};
 
@@ -17,15 +16,16 @@ use roll_text::{push_number, push_signed, write_all};
 use std::alloc::{AllocError, Global};
 use std::io::Write;
 
-/// Writes the claim of the last roll, or the refusal where there is none, and answers whether it was refused.
+/// Writes the claim of the last roll, or the refusal if there is none, and answers whether it was refused.
 #[inline(never)]
 pub fn push_claim<G: Shown>(
     alloc: Global,
     out: &mut Vec<u8>,
     session: &Session<G>,
 ) -> Result<bool, PlayFault>
-    ensures written { OnOk result (out.new.items ≡ out.old.items ++ claim_text session.now.settings (core_of session.now)) }
-    ensures refused { IfOk result (λ refused. refused ≡ is_none (core_of session.now).last) }
+    ensures written { OnOk result
+        (out.new.items ≡ out.old.items ++ claim_text session.now.settings session.now.core) }
+    ensures refused { IfOk result (λ refused. refused ≡ is_none session.now.core.last) }
     ensures fault { IfErr result (λ fault. fault ≡ PlayFault.NoMemory) }
 {
     match session.claim(alloc) {
@@ -49,7 +49,9 @@ pub fn push_reply<G: Shown>(
     session: &Session<G>,
     reply: Reply,
 ) -> Result<(), PlayFault>
-    ensures written { OnOk result (out.new.items ≡ out.old.items ++ ended (reply_line G.text_of (game_of G.step session.now) (core_of session.now) reply)) }
+    ensures written { OnOk result
+        (out.new.items ≡ out.old.items
+        ++ ended (reply_line G.text_of (game_of G.step session.now) session.now.core reply)) }
     ensures fault { IfErr result (λ fault. fault ≡ PlayFault.NoMemory) }
 {
     match reply {
@@ -67,7 +69,8 @@ pub fn push_reply<G: Shown>(
 
 /// Writes the line of a guess that gave a job, with the job's number and how many rows it has.
 pub fn push_job(out: &mut Vec<u8>, number: u32, rows: u32) -> Result<(), AllocError>
-    ensures { OnOk result (out.new.items ≡ out.old.items ++ ended (codes "job " ++ (decimal number ++ (codes " rows " ++ decimal rows)))) }
+    ensures { OnOk result (out.new.items ≡ out.old.items
+        ++ ended (codes "job " ++ (decimal number ++ (codes " rows " ++ decimal rows)))) }
 {
     push_named(out, b"job ", number)?;
     push_named(out, b" rows ", rows)?;
@@ -77,7 +80,9 @@ pub fn push_job(out: &mut Vec<u8>, number: u32, rows: u32) -> Result<(), AllocEr
 /// Writes what a roll led to, without the line's end.
 #[inline(never)]
 fn push_frame<G: Shown>(out: &mut Vec<u8>, session: &Session<G>) -> Result<(), PlayFault>
-    ensures written { OnOk result (out.new.items ≡ out.old.items ++ frame_line G.text_of (game_of G.step session.now) (core_of session.now)) }
+    ensures written { OnOk result
+        (out.new.items ≡ out.old.items
+        ++ frame_line G.text_of (game_of G.step session.now) session.now.core) }
     ensures fault { IfErr result (λ fault. fault ≡ PlayFault.NoMemory) }
 {
     let Some(plan) = session.last_plan() else {
@@ -89,17 +94,10 @@ fn push_frame<G: Shown>(out: &mut Vec<u8>, session: &Session<G>) -> Result<(), P
     push_named(out, b"frame ", session.frame())?;
     push_named(out, b" from ", plan.from)?;
     push_named(out, b" rerun ", plan.rerun)?;
-    push_named(out, b" settled ", settled(session))?;
+    push_named(out, b" settled ", session.settled())?;
     out.extend_from_slice(b" state ")?;
     session.game().text(state, out)?;
     Ok(())
-}
-
-/// The settled frame, which is never past the frame.
-fn settled<G: Shown>(session: &Session<G>) -> u32
-    ensures { result ≡ settled_of (core_of session.now) }
-{
-    session.settled().min(session.frame() as usize) as u32
 }
 
 /// Writes a refusal, without the line's end.
@@ -128,10 +126,13 @@ pub fn write_not_started<W: Write>(
     writer: &mut W,
     why: Refusal,
 ) -> Result<u32, PlayFault>
-    ensures written { OnOk result (Appends (W.contents writer.old) (W.contents writer.new) (ended (refused_line why))) }
+    ensures written { OnOk result
+        (Appends (W.contents writer.old) (W.contents writer.new) (ended (refused_line why))) }
     ensures refused { IfOk result (λ refused. refused ≡ 1) }
-    ensures cut { result ≡ Err CannotWrite → AppendsPart (W.contents writer.old) (W.contents writer.new) (ended (refused_line why)) }
-    ensures fault { IfErr result (λ fault. (fault ≡ CannotWrite) ⊎ ((fault ≡ NoMemory) × (writer.new ≡ writer.old))) }
+    ensures cut { result ≡ Err CannotWrite
+        → AppendsPart (W.contents writer.old) (W.contents writer.new) (ended (refused_line why)) }
+    ensures fault { IfErr result
+        (λ fault. (fault ≡ CannotWrite) ⊎ ((fault ≡ NoMemory) × (writer.new ≡ writer.old))) }
 {
     let mut out = Vec::new(alloc);
     let refused = push_not_started(&mut out, why)?;

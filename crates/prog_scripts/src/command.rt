@@ -34,7 +34,7 @@ pub enum Command {
     Disconnect {
         player: u32,
     },
-    /// `S`: rolls back where a prediction was wrong.
+    /// `S`: rolls back if a prediction was wrong.
     Sync,
     /// `A`: the next frame.
     Advance,
@@ -64,7 +64,8 @@ impl Command {
     }
 
     fn from_fields(alloc: Global, fields: &[&[u8]]) -> Result<Option<Command>, AllocError>
-        ensures { IfOk result (λ command. Reads IsCommand fields_of (map (λ field. field.now) fields.now) command) }
+        ensures { IfOk result (λ command. Reads IsCommand fields_of
+            (map (λ field. field.now) fields.now) command) }
     {
         match fields {
             [kind] => Ok(alone(kind)),
@@ -76,10 +77,11 @@ impl Command {
     }
 }
 
-/// The command in the first line of a text, and what follows that line. None where no command's line comes first.
+/// The command in the first line of a text, and what follows that line. None if no command's line comes first.
 #[inline(always)]
 pub fn first_command(alloc: Global, text: &[u8]) -> Result<Option<(Command, &[u8])>, AllocError>
-    ensures { IfOk result (λ found. CutsCommand text.now (option_map (λ cut. (cut.0, cut.1.now)) found)) }
+    ensures { IfOk result (λ found. CutsCommand text.now
+        (option_map (λ cut. (cut.0, cut.1.now)) found)) }
 {
     if let Some(found) = frequent(text) {
         Ok(Some(found))
@@ -91,7 +93,8 @@ pub fn first_command(alloc: Global, text: &[u8]) -> Result<Option<(Command, &[u8
 /// As `first_command`, by a look for the line's end.
 #[inline(never)]
 fn any_command(alloc: Global, text: &[u8]) -> Result<Option<(Command, &[u8])>, AllocError>
-    ensures { IfOk result (λ found. CutsCommand text.now (option_map (λ cut. (cut.0, cut.1.now)) found)) }
+    ensures { IfOk result (λ found. CutsCommand text.now
+        (option_map (λ cut. (cut.0, cut.1.now)) found)) }
 {
     let Some((line, after)) = split_line(text) else {
         return Ok(None);
@@ -106,7 +109,8 @@ fn any_command(alloc: Global, text: &[u8]) -> Result<Option<(Command, &[u8])>, A
 /// read from left to right, without a look for the line's end.
 #[inline(always)]
 fn frequent(text: &[u8]) -> Option<(Command, &[u8])>
-    ensures { IfSome result (λ cut. IsCommand cut.0 × (text.now ≡ ended (line_of cut.0) ++ cut.1.now)) }
+    ensures { IfSome result (λ cut. IsCommand cut.0
+        × (text.now ≡ ended (line_of cut.0) ++ cut.1.now)) }
 {
     let Some((kind, rest)) = text.split_first() else {
         return None;
@@ -122,7 +126,8 @@ fn frequent(text: &[u8]) -> Option<(Command, &[u8])>
 
 #[inline(always)]
 fn frequent_local(text: &[u8]) -> Option<(Command, &[u8])>
-    ensures { IfSome result (λ cut. IsCommand cut.0 × (76 ∷ text.now ≡ ended (line_of cut.0) ++ cut.1.now)) }
+    ensures { IfSome result (λ cut. IsCommand cut.0
+        × (76 ∷ text.now ≡ ended (line_of cut.0) ++ cut.1.now)) }
 {
     let Some((player, rest)) = spaced_number(text) else {
         return None;
@@ -135,7 +140,8 @@ fn frequent_local(text: &[u8]) -> Option<(Command, &[u8])>
 
 #[inline(always)]
 fn frequent_remote(text: &[u8]) -> Option<(Command, &[u8])>
-    ensures { IfSome result (λ cut. IsCommand cut.0 × (82 ∷ text.now ≡ ended (line_of cut.0) ++ cut.1.now)) }
+    ensures { IfSome result (λ cut. IsCommand cut.0
+        × (82 ∷ text.now ≡ ended (line_of cut.0) ++ cut.1.now)) }
 {
     let Some((player, rest)) = spaced_number(text) else {
         return None;
@@ -227,7 +233,8 @@ fn with_values(
     frame: &[u8],
     values: &[u8],
 ) -> Result<Option<Command>, AllocError>
-    ensures { IfOk result (λ command. Reads IsCommand fields_of (kind.now ∷ player.now ∷ frame.now ∷ values.now ∷ []) command) }
+    ensures { IfOk result (λ command. Reads IsCommand fields_of
+        (kind.now ∷ player.now ∷ frame.now ∷ values.now ∷ []) command) }
 {
     let Some(player) = number(player) else {
         return Ok(None);
@@ -243,7 +250,8 @@ fn with_values(
 }
 
 fn remote(player: u32, frame: u32, word: &[u8]) -> Option<Command>
-    ensures { Reads IsCommand fields_of (codes "R" ∷ decimal player ∷ decimal frame ∷ word.now ∷ []) result }
+    ensures { Reads IsCommand fields_of
+        (codes "R" ∷ decimal player ∷ decimal frame ∷ word.now ∷ []) result }
 {
     let Some(word) = number(word) else {
         return None;
@@ -261,7 +269,8 @@ fn guess(
     until: u32,
     words: &[u8],
 ) -> Result<Option<Command>, AllocError>
-    ensures { IfOk result (λ command. Reads IsCommand fields_of (codes "G" ∷ decimal player ∷ decimal until ∷ words.now ∷ []) command) }
+    ensures { IfOk result (λ command. Reads IsCommand fields_of
+        (codes "G" ∷ decimal player ∷ decimal until ∷ words.now ∷ []) command) }
 {
     let Some(words) = numbers(alloc, words)? else {
         return Ok(None);

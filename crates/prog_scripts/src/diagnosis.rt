@@ -136,7 +136,7 @@ fn write_length<W: fmt::Write>(
 /// How many bytes of a field are shown.
 const QUOTED_LIMIT: usize = 40;
 
-/// A field as it is shown: in quotes, its front alone where it is long, and what isn't printable ASCII by its number.
+/// A field as it is shown: in quotes, its front alone if it is long, and what isn't printable ASCII by its number.
 #[derive(Clone, Copy)]
 struct Quoted<'a>(&'a [u8]);
 

@@ -15,7 +15,8 @@ use roll_text::{number, split_line};
 pub fn diagnose<'a>(task: Task, text: &'a [u8], number: u64) -> Diagnosis<'a>
     ensures said { IsSaidOf text.now number result }
     ensures task { IsOfTask task result }
-    ensures form { (game : GameName) → task ≡ Task.Play game → number ≢ 1 → result ≡ Diagnosis.Other → IsCommandLine number text.now }
+    ensures form { (game : GameName) → task ≡ Task.Play game → number ≢ 1 → result ≡ Diagnosis.Other
+        → IsCommandLine number text.now }
 {
     let rest = from_line(text, number);
     if rest.is_empty() {
@@ -31,7 +32,8 @@ pub fn diagnose<'a>(task: Task, text: &'a [u8], number: u64) -> Diagnosis<'a>
 fn line_diagnosis<'a>(task: Task, text: &'a [u8], line: &'a [u8], number: u64) -> Diagnosis<'a>
     ensures said { IsTrueOf line.now result }
     ensures task { IsOfTask task result }
-    ensures form { (game : GameName) → task ≡ Task.Play game → number ≢ 1 → result ≡ Diagnosis.Other → IsCommandForm (fields line.now) }
+    ensures form { (game : GameName) → task ≡ Task.Play game → number ≢ 1 → result ≡ Diagnosis.Other
+        → IsCommandForm (fields line.now) }
 {
     if line.last() == Some(&b'\r') {
         return Diagnosis::CarriageReturn;
@@ -77,7 +79,7 @@ fn from_line(text: &[u8], number: u64) -> &[u8]
     rest
 }
 
-/// The number of the line of this number that stands there after a name; 0 where there is none.
+/// The number of the line of this number that stands there after a name; 0 if there is none.
 fn named_at(text: &[u8], at: u64, name: &[u8]) -> u32 {
     match split_line(from_line(text, at)) {
         Some((line, _)) => named_number(line, name, 0, u32::MAX).unwrap_or(0),

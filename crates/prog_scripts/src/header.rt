@@ -40,7 +40,8 @@ pub struct Header {
 impl Header {
     /// The header that a line spells, given without its end.
     pub fn read(alloc: Global, line: &[u8]) -> Result<Option<Header>, AllocError>
-        ensures { IfOk result (λ header. Reads IsSetup header_of line.now (option_map setup_of header)) }
+        ensures { IfOk result (λ header. Reads IsSetup header_of line.now
+            (option_map setup_of header)) }
     {
         let fields = fields(alloc, line, b' ')?;
         let Some(header) = Header::from_fields(alloc, &fields)? else {
@@ -57,8 +58,11 @@ impl Header {
 
     /// The only header that can have these fields. It looks at the values alone.
     fn from_fields(alloc: Global, fields: &[&[u8]]) -> Result<Option<Header>, AllocError>
-        ensures sound { IfOk result (λ header. IfSome header (λ header. IsSetup (setup_of header))) }
-        ensures complete { (setup : Setup) → IsSetup setup → map (λ field. field.now) fields.now ≡ header_fields setup → IfOk result (λ header. option_map setup_of header ≡ Some setup) }
+        ensures sound { IfOk result
+            (λ header. IfSome header (λ header. IsSetup (setup_of header))) }
+        ensures complete { (setup : Setup) → IsSetup setup → map (λ field. field.now) fields.now
+            ≡ header_fields setup → IfOk result
+            (λ header. option_map setup_of header ≡ Some setup) }
     {
         match fields {
             [_, _, _, players, _, local, _, delays, _, threshold] => {
@@ -181,7 +185,8 @@ fn from_values(
     threshold: &[u8],
 ) -> Result<Option<Header>, AllocError>
     ensures sound { IfOk result (λ header. IfSome header (λ header. IsSetup (setup_of header))) }
-    ensures complete { (setup : Setup) → IsSetup setup → version ≡ setup.version → players.now ≡ decimal setup.players → local.now ≡ list_of setup.local
+    ensures complete { (setup : Setup) → IsSetup setup → version ≡ setup.version → players.now
+        ≡ decimal setup.players → local.now ≡ list_of setup.local
         → delays.now ≡ list_of setup.delays → masks.now ≡ list_of setup.masks → threshold.now ≡ decimal setup.threshold
         → IfOk result (λ header. option_map setup_of header ≡ Some setup) }
 {
@@ -218,7 +223,8 @@ fn from_values(
 
 /// The masks that a text spells; an empty one spells none.
 fn read_masks(alloc: Global, text: &[u8]) -> Result<Option<Vec<u32>>, AllocError>
-    ensures { IfOk result (λ masks. Reads (All IsWord) list_of text.now (option_map (λ masks. masks.items) masks)) }
+    ensures { IfOk result (λ masks. Reads (All IsWord) list_of text.now
+        (option_map (λ masks. masks.items) masks)) }
 {
     if text.is_empty() {
         Ok(Some(Vec::new(alloc)))

@@ -45,7 +45,8 @@ impl Item {
 
 /// What is wrong with a line that has to have these fields.
 pub fn fields_fault<'a>(line: &'a [u8], items: &[Item]) -> Option<Diagnosis<'a>>
-    ensures exact { MatchOption result (AllZip IsFit items.now (fields line.now)) (IsFaultOfFields items.now line.now) }
+    ensures exact { MatchOption result (AllZip IsFit items.now (fields line.now))
+        (IsFaultOfFields items.now line.now) }
     ensures said { IfSome result (IsTrueInside line.now) }
 {
     for (field, item) in line.split(|b| *b == b' ').zip(items) {
@@ -63,7 +64,8 @@ pub fn fields_fault<'a>(line: &'a [u8], items: &[Item]) -> Option<Diagnosis<'a>>
 
 /// What is wrong with a path: `-`, or at most 24 rows with a space between each two.
 pub fn path_fault(line: &[u8], players: usize) -> Option<Diagnosis<'_>>
-    ensures exact { MatchOption result (IsPathLine players line.now) (IsFaultOfPath players line.now) }
+    ensures exact { MatchOption result (IsPathLine players line.now)
+        (IsFaultOfPath players line.now) }
     ensures said { IfSome result (IsTrueInside line.now) }
 {
     if line == b"-".as_slice() {
@@ -105,7 +107,8 @@ fn word_fault<'a>(field: &'a [u8], wanted: &'static str) -> Option<Diagnosis<'a>
 }
 
 fn number_fault(field: &[u8], least: u32, most: u32) -> Option<Diagnosis<'_>>
-    ensures { MatchOption result (IsNumberIn least most field.now) (IsFaultOfNumber least most field.now) }
+    ensures { MatchOption result (IsNumberIn least most field.now)
+        (IsFaultOfNumber least most field.now) }
 {
     match number(field) {
         None => Some(no_number(field)),
@@ -124,7 +127,8 @@ fn range_fault<'a>(found: u32, least: u32, most: u32) -> Option<Diagnosis<'a>>
 }
 
 fn list_fault(field: &[u8], least: usize, most: usize) -> Option<Diagnosis<'_>>
-    ensures { MatchOption result (IsFit (Item.List least most) field.now) (IsFaultAs (Item.List least most) field.now) }
+    ensures { MatchOption result (IsFit (Item.List least most) field.now)
+        (IsFaultAs (Item.List least most) field.now) }
 {
     for part in field.split(|b| *b == b',') {
         if let Some(fault) = text_fault(part) {
@@ -154,7 +158,8 @@ fn players_fault(field: &[u8]) -> Option<Diagnosis<'_>>
 }
 
 fn row_fault(field: &[u8], players: usize) -> Option<Diagnosis<'_>>
-    ensures { MatchOption result (IsFit (Item.Row players) field.now) (IsFaultAs (Item.Row players) field.now) }
+    ensures { MatchOption result (IsFit (Item.Row players) field.now)
+        (IsFaultAs (Item.Row players) field.now) }
 {
     for part in field.split(|b| *b == b',') {
         if let Some(fault) = cell_fault(part) {

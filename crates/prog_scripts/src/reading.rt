@@ -31,8 +31,11 @@ impl From<ScriptFault> for PlayFault {
 pub fn read_script<R: Read>(alloc: Global, reader: &mut R) -> Result<Script, PlayFault>
     ensures fits { IfOk result (λ script. IsPlay (play_of script)) }
     ensures few { IfOk result (λ script. length script.commands.items < 2 ^ 32) }
-    ensures spelled { IfOk result (λ script. IfSome (R.remaining reader.old) (λ text. text ≡ text_of_lines (play_lines (play_of script)))) }
-    ensures unreadable { (line : ℕ) → result ≡ Err (Unreadable line) → IfSome (R.remaining reader.old) (IsBadAt IsScript line) }
+    ensures spelled { IfOk result
+        (λ script. IfSome (R.remaining reader.old)
+        (λ text. text ≡ text_of_lines (play_lines (play_of script)))) }
+    ensures unreadable { (line : ℕ) → result ≡ Err (Unreadable line)
+        → IfSome (R.remaining reader.old) (IsBadAt IsScript line) }
     ensures fault { IfErr result (λ fault. fault ≢ CannotWrite) }
     ensures taken { TakesAtMost (TEXT_LIMIT + 1) (R.remaining reader.old) (R.remaining reader.new) }
 {

@@ -23,7 +23,8 @@ impl RowsFile {
     pub fn read(alloc: Global, text: &[u8]) -> Result<RowsFile, ScriptFault>
         ensures fits { IfOk result (λ file. IsRowsFile (file_of file)) }
         ensures spelled { IfOk result (λ file. text.now ≡ text_of (file_lines (file_of file))) }
-        ensures unreadable { (line : ℕ) → result ≡ Err (Unreadable line) → IsUnreadableAt line IsRowsText text.now }
+        ensures unreadable { (line : ℕ) → result ≡ Err (Unreadable line)
+            → IsUnreadableAt line IsRowsText text.now }
     {
         let Some((first, mut rest)) = split_line(text) else {
             return Err(ScriptFault::Unreadable(1));

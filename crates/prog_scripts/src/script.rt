@@ -54,7 +54,8 @@ impl Script {
     pub fn read(alloc: Global, text: &[u8]) -> Result<Script, ScriptFault>
         ensures fits { IfOk result (λ script. IsPlay (play_of script)) }
         ensures spelled { IfOk result (λ script. text.now ≡ text_of (play_lines (play_of script))) }
-        ensures unreadable { (line : ℕ) → result ≡ Err (Unreadable line) → IsUnreadableAt line IsScript text.now }
+        ensures unreadable { (line : ℕ) → result ≡ Err (Unreadable line)
+            → IsUnreadableAt line IsScript text.now }
     {
         let (header, mut rest) = split_header(alloc, text)?;
         let mut commands = Vec::new(alloc);
@@ -75,7 +76,8 @@ impl Script {
 pub fn outline(alloc: Global, text: &[u8]) -> Result<(Header, &[u8]), ScriptFault>
     requires { length text.now ≤ TEXT_LIMIT }
     ensures outlined { IfOk result (λ found. IsOutlined (setup_of found.0) found.1.now text.now) }
-    ensures unreadable { (line : ℕ) → result ≡ Err (Unreadable line) → IsUnreadableAt line IsScript text.now }
+    ensures unreadable { (line : ℕ) → result ≡ Err (Unreadable line)
+        → IsUnreadableAt line IsScript text.now }
 {
     let (header, commands) = split_header(alloc, text)?;
     let mut rest = commands;
@@ -92,8 +94,11 @@ pub fn outline(alloc: Global, text: &[u8]) -> Result<(Header, &[u8]), ScriptFaul
 
 /// The header of a script, and what follows its line.
 fn split_header(alloc: Global, text: &[u8]) -> Result<(Header, &[u8]), ScriptFault>
-    ensures header { IfOk result (λ found. IsSetup (setup_of found.0) × (text.now ≡ ended (header_of (setup_of found.0)) ++ found.1.now)) }
-    ensures unreadable { (line : ℕ) → result ≡ Err (Unreadable line) → IsUnreadableAt line IsScript text.now }
+    ensures header { IfOk result
+        (λ found. IsSetup (setup_of found.0)
+        × (text.now ≡ ended (header_of (setup_of found.0)) ++ found.1.now)) }
+    ensures unreadable { (line : ℕ) → result ≡ Err (Unreadable line)
+        → IsUnreadableAt line IsScript text.now }
 {
     let Some((first, rest)) = split_line(text) else {
         return Err(ScriptFault::Unreadable(1));

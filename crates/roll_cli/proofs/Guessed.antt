@@ -5,21 +5,21 @@ use Rattle.roll_branch.specs.Routed.{Routed}
 use Rattle.roll_frame.specs.declared.refusal.Refusal.{Refusal}
 use Rattle.roll_frame.specs.declared.refusal.Refusal.TheVariants.{NoMemory}
 use Rattle.roll_session.specs.Guessing.{guess_job_of, guess_refusal_of}
-use Rattle.roll_session.specs.Seen.{Seen, Step, core_of}
+use Rattle.roll_session.specs.Seen.{Seen, Step}
 use Rattle.prog_replies.specs.Output.{guess_line, guessed, with_job}
 use Rattle.prog_replies.proofs.Refused.{refused_so}
 use Rattle.roll_cli.specs.Playings.{Played, game_of}
 
 -- a script that is being played, by its session and its jobs
 abbrev pub played_of : Seen → List (Option Routed) → Played
-played_of s jobs = record { settings = s.settings; opening = s.opening; now = record { core = core_of s; jobs = jobs } }
+played_of s jobs = record { settings = s.settings; opening = s.opening; now = record { core = s.core; jobs = jobs } }
 
 module _ (step : Step) (old : Played) (s : Seen) (jobs : List (Option Routed)) (is : played_of s jobs ≡ old) where
   module _ (p : ℕ) (words : List ℕ) (until : ℕ) where
     abbrev Becomes : Result (Option Routed) Refusal → Type 0
     Becomes result = guessed old.settings (game_of step old) old.now.core p words until ≡ result
 
-    by_session : (result : Result (Option Routed) Refusal) → guessed s.settings (game_of step (played_of s jobs)) (core_of s) p words until ≡ result → Becomes result
+    by_session : (result : Result (Option Routed) Refusal) → guessed s.settings (game_of step (played_of s jobs)) s.core p words until ≡ result → Becomes result
     by_session result e = subst (λ (v : Played). guessed v.settings (game_of step v) v.now.core p words until ≡ result) is e
 
     -- a line of a guess, and whether it is refused

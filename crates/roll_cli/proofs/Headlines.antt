@@ -1,5 +1,5 @@
 -- The headline holds of the events of any script.
-use Rattle.std.proofs.Common.{◌≡◌, ◌∙◌, ℕ, List, [], ◌∷◌, ◌++◌, map, refl, ap, subst, Option, Some, None}
+use Rattle.std.proofs.Common.{◌≡◌, ◌∙◌, ℕ, List, [], ◌∷◌, ◌++◌, map, refl, ap, subst, sym, Option, Some, None}
 use Rattle.std.specs.Prelude.{All, option_map, IfSome}
 use Rattle.std.specs.Option.{option_map_or, option_to_list}
 use Rattle.std.proofs.lemmas.List.Elements.{All-head, All-tail}
@@ -16,10 +16,10 @@ use Rattle.roll_session.proofs.Holding.{replay-nil}
 use Rattle.roll_session.proofs.Turns.{IsAsked}
 use Rattle.roll_session.specs.Answered.{IsReplied}
 use Rattle.roll_session.specs.Calls.{grafting}
-use Rattle.roll_session.specs.Seen.{Seen, Step, core_of, game_of}
+use Rattle.roll_session.specs.Seen.{Seen, Step, game_of}
 use Rattle.roll_session.specs.Headline.{AreTurns, IsByTheRules, Turn}
 use Rattle.roll_text.specs.Lines.{ended}
-use Rattle.prog_replies.specs.Starts.{started}
+use Rattle.roll_session.specs.Started.{first_seen}
 use Rattle.roll_cli.specs.Headlines.{events_from, line_of, lines_from, HasHeadline, IsHeadlined, IsHeadlinedDuel, IsHeadlinedOutput}
 use Rattle.prog_replies.specs.Output.{Playing, Texts, after_command, asked_by, duel_game, duel_output, duel_refusals, event_text, first_playing, job_at, output, refusals, reply_line, IsOutput}
 use Rattle.prog_scripts.specs.Headers.{settings_of}
@@ -35,16 +35,16 @@ module _ (texts : Texts) (settings : Settings) (game : Game) where
   texts_of core (event ∷ events) = event_text texts settings game core event ∷ texts_of (after settings game core event) events
 
   -- the lines of turns are those of their events
-  turn_lines : (step : Step) (turns : List Turn) (old new : Seen) (core : Core) → old.settings ≡ settings → game_of step old ≡ game → core_of old ≡ core → AreTurns old turns new → All (IsByTheRules step) turns
+  turn_lines : (step : Step) (turns : List Turn) (old new : Seen) (core : Core) → old.settings ≡ settings → game_of step old ≡ game → old.core ≡ core → AreTurns old turns new → All (IsByTheRules step) turns
       → map (line_of texts game) turns ≡ texts_of core (map (λ (t : Turn). t.event) turns)
   turn_lines step [] old new core es eg ec are rules = refl
   turn_lines step (turn ∷ turns) old new core es eg ec are rules =
       let r : IsReplied step turn.before turn.after turn.event turn.said = All-head (IsByTheRules step) turn turns rules in
       let s : turn.before.settings ≡ settings = ap (λ (t : Seen). t.settings) are.0 ∙ es in
       let g : game_of step turn.before ≡ game = ap (game_of step) are.0 ∙ eg in
-      let c : core_of turn.before ≡ core = ap core_of are.0 ∙ ec in
+      let c : turn.before.core ≡ core = ap (λ (t : Seen). t.core) are.0 ∙ ec in
       let said : turn.said ≡ reply settings game core turn.event = r.said_is ∙ (λ i. reply (s i) (g i) (c i) turn.event) in
-      let next : core_of turn.after ≡ after settings game core turn.event = r.played.core ∙ (λ i. after (s i) (g i) (c i) turn.event) in
+      let next : turn.after.core ≡ after settings game core turn.event = r.played.core ∙ (λ i. after (s i) (g i) (c i) turn.event) in
       let same : turn.after.settings ≡ settings = ap (λ (t : Seen). t.settings) r.played.seen ∙ s in
       let plays : game_of step turn.after ≡ game = ap (game_of step) r.played.seen ∙ g in
       let rest = turn_lines step turns turn.after new (after settings game core turn.event) same plays next are.1 (All-tail (IsByTheRules step) turn turns rules) in
@@ -91,15 +91,15 @@ module _ (settings : Settings) (game : Game) where
 scripts_have_headlines : (texts : Texts) (settings : Settings) (game : Game) (counts : Counts) (commands : List Command) → start_refusal settings ≡ None
     → HasHeadline texts settings game counts commands (events_from settings game (first_playing settings) commands)
 scripts_have_headlines texts settings game counts commands starts =
-    let old : Seen = started settings game.opening counts in
+    let old : Seen = first_seen settings game.opening counts in
     let events : List CoreEvent = events_from settings game (first_playing settings) commands in
     let new : Seen = session_after game.step old events in
-    let h = headline_of game.step events old new (log_first settings game starts) (all_asked settings game (first_playing settings) commands) (played_any game.step old events) in
+    let h = headline_of game.step events old new (record { log = log_first settings game starts; core = sym (replay-nil settings) }) (all_asked settings game (first_playing settings) commands) (played_any game.step old events) in
     record {
       new = new;
       headline = h;
       lines =
-          turn_lines texts settings game game.step h.turns old new (first_core settings) refl refl (replay-nil settings) h.are_turns h.rules
+          turn_lines texts settings game game.step h.turns old new (first_core settings) refl refl refl h.are_turns h.rules
           ∙ ap (texts_of texts settings game (first_core settings)) h.events_are
           ∙ command_lines texts settings game (first_playing settings) commands;
     }

@@ -2,7 +2,6 @@
 use Rattle.std.proofs.Common.{◌≡◌, ℕ, ◌≤◌, ◌<◌, ◌^◌, List, [], ◌∷◌, length, length-append, refl, sym, ap, ◌∙◌, arith, None}
 use Rattle.std.specs.Prelude.{◌≢◌, unwrap_or, Result, Ok, Err, IfOk, OnOk}
 use Rattle.std.proofs.lemmas.List.{length-map}
-use Rattle.roll_frame.specs.Core.{Core}
 use Rattle.roll_frame.specs.Games.{Value, Game}
 use Rattle.roll_frame.specs.Settings.{start_refusal}
 use Rattle.roll_frame.specs.declared.refusal.Refusal.{Refusal}
@@ -10,7 +9,7 @@ use Rattle.roll_frame.specs.declared.refusal.Refusal.TheVariants.{NoMemory}
 use Rattle.roll_frame.specs.declared.settings.Settings.{Settings}
 use Rattle.roll_game.specs.declared.counts.Counts.{Counts}
 use Rattle.roll_session.specs.Seen.{Seen}
-use Rattle.roll_session.proofs.Holding.{replay-nil}
+use Rattle.roll_session.specs.Started.{first_seen}
 use Rattle.roll_text.specs.Lines.{ended, text_of}
 use Rattle.roll_text.specs.declared.streams.TheConstants.{TEXT_LIMIT}
 use Rattle.prog_scripts.specs.declared.command.Command.{Command}
@@ -34,9 +33,9 @@ refusals_started game commands settings starts = sym (rw starts refl)
 abbrev first_of : Settings → Value → Played
 first_of settings x = record { settings = settings; opening = x; now = first_playing settings }
 
-pub first_played : (s : Seen) (settings : Settings) (x : Value) (counts : Counts) → s ≡ record { settings = settings; opening = x; log = []; counts = counts; reserved = 0 } → played_of s [] ≡ first_of settings x
+pub first_played : (s : Seen) (settings : Settings) (x : Value) (counts : Counts) → s ≡ first_seen settings x counts → played_of s [] ≡ first_of settings x
 first_played s settings x counts e =
-    ap (λ (v : Seen). played_of v []) e ∙ ap (λ (core : Core). record (first_of settings x) { now = record { core = core; jobs = [] } }) (replay-nil settings)
+    ap (λ (v : Seen). played_of v []) e
 
 -- what is written of one that doesn't start
 pub written_refused : (texts : Texts) (game : Game) (commands : List Command) (settings : Settings) (why : Refusal) → why ≡ unwrap_or (start_refusal settings) NoMemory → why ≢ NoMemory

@@ -9,14 +9,14 @@ use Rattle.roll_frame.specs.declared.settings.Settings.{Settings}
 use Rattle.roll_game.specs.declared.counts.Counts.{Counts}
 use Rattle.roll_session.specs.Answered.{replies_to}
 use Rattle.roll_session.specs.Headline.{Headline}
-use Rattle.roll_session.specs.Seen.{Seen, core_of}
+use Rattle.roll_session.specs.Seen.{Seen}
 use Rattle.roll_session.specs.Headline.{Turn}
 use Rattle.roll_text.specs.Lines.{ended}
 use Rattle.prog_scripts.specs.Headers.{settings_of}
 use Rattle.prog_replies.specs.Output.{Playing, Texts, after_command, asked_by, event_text}
 use Rattle.prog_replies.specs.Output.{duel_game, duel_output, duel_refusals}
 use Rattle.prog_replies.specs.Output.{first_playing, output, refusals, reply_line, IsOutput}
-use Rattle.prog_replies.specs.Starts.{started}
+use Rattle.roll_session.specs.Started.{first_seen}
 use Rattle.prog_scripts.specs.Plays.{Play}
 use Rattle.roll_duel.specs.Text.{duel_text}
 use Rattle.prog_scripts.specs.declared.command.Command.{Command}
@@ -43,14 +43,14 @@ lines_from texts settings game playing (command ∷ commands) =
 
 -- the line of a turn
 abbrev pub line_of : Texts → Game → Turn → List ℕ
-line_of texts game turn = ended (reply_line texts game (core_of turn.after) turn.said)
+line_of texts game turn = ended (reply_line texts game turn.after.core turn.said)
 
 -- the headline holds of the events of commands, and their lines are those of its turns
 pub record HasHeadline (texts : Texts) (settings : Settings) (game : Game) (counts : Counts)
     (commands : List Command) (events : List CoreEvent) : Type 0 where
   pub new : Seen
-  pub headline : Headline game.step (started settings game.opening counts) new events
-      (replies_to game.step (started settings game.opening counts) events)
+  pub headline : Headline game.step (first_seen settings game.opening counts) new events
+      (replies_to game.step (first_seen settings game.opening counts) events)
   pub lines : map (line_of texts game) headline.turns
       ≡ lines_from texts settings game (first_playing settings) commands
 

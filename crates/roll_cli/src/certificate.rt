@@ -18,7 +18,7 @@ use std::alloc::{AllocError, Global};
 use std::fmt::Write as _;
 use std::io::{Read, Write};
 
-/// Checks the claim whose text a reader holds, and answers whether it is right. One line is written: `yes`, where the
+/// Checks the claim whose text a reader holds, and answers whether it is right. One line is written: `yes`, if the
 /// roll started and ended and how many frames it ran, or `no` and the claim's first flaw.
 ///
 /// At most 1,048,577 bytes are read. Nothing is written unless the whole claim can be read.
@@ -29,7 +29,8 @@ pub fn certify<R: Read, W: Write>(
 ) -> Result<bool, PlayFault>
     ensures written { IfOk result (λ right. IfSome (R.remaining reader.old) (λ text.
         (written : List ℕ) × IsCertified text written right × Appends (W.contents writer.old) (W.contents writer.new) written)) }
-    ensures unreadable { (line : ℕ) → result ≡ Err (Unreadable line) → IfSome (R.remaining reader.old) (IsBadAt IsClaimText line) }
+    ensures unreadable { (line : ℕ) → result ≡ Err (Unreadable line)
+        → IfSome (R.remaining reader.old) (IsBadAt IsClaimText line) }
     ensures cut { result ≡ Err CannotWrite → IfSome (R.remaining reader.old) (λ text.
         (whole : List ℕ) × (right : Bool) × IsCertified text whole right × AppendsPart (W.contents writer.old) (W.contents writer.new) whole) }
     ensures untouched { IfErr result (λ fault. (fault ≡ CannotWrite) ⊎ (writer.new ≡ writer.old)) }
@@ -42,8 +43,10 @@ pub fn certify<R: Read, W: Write>(
 /// The claim whose text a reader holds.
 fn read_claim<R: Read>(alloc: Global, reader: &mut R) -> Result<Claim, PlayFault>
     ensures fits { IfOk result (λ claim. IsSized claim) }
-    ensures spelled { IfOk result (λ claim. IfSome (R.remaining reader.old) (λ text. text ≡ text_of (claim_lines claim))) }
-    ensures unreadable { (line : ℕ) → result ≡ Err (Unreadable line) → IfSome (R.remaining reader.old) (IsBadAt IsClaimText line) }
+    ensures spelled { IfOk result
+        (λ claim. IfSome (R.remaining reader.old) (λ text. text ≡ text_of (claim_lines claim))) }
+    ensures unreadable { (line : ℕ) → result ≡ Err (Unreadable line)
+        → IfSome (R.remaining reader.old) (IsBadAt IsClaimText line) }
     ensures fault { IfErr result (λ fault. fault ≢ CannotWrite) }
     ensures taken { TakesAtMost (TEXT_LIMIT + 1) (R.remaining reader.old) (R.remaining reader.new) }
 {
@@ -66,9 +69,14 @@ fn fault(why: Refusal) -> PlayFault
 
 /// Writes the answer to a claim at once.
 fn write_answer<W: Write>(alloc: Global, writer: &mut W, claim: &Claim) -> Result<bool, PlayFault>
-    ensures written { IfOk result (λ right. (line : List ℕ) × IsAnswer claim.now right line × Appends (W.contents writer.old) (W.contents writer.new) (ended line)) }
-    ensures cut { result ≡ Err CannotWrite → (right : Bool) × (line : List ℕ) × IsAnswer claim.now right line × AppendsPart (W.contents writer.old) (W.contents writer.new) (ended line) }
-    ensures fault { IfErr result (λ fault. (fault ≡ CannotWrite) ⊎ ((fault ≡ NoMemory) × (writer.new ≡ writer.old))) }
+    ensures written { IfOk result
+        (λ right. (line : List ℕ) × IsAnswer claim.now right line
+        × Appends (W.contents writer.old) (W.contents writer.new) (ended line)) }
+    ensures cut { result ≡ Err CannotWrite → (right : Bool) × (line : List ℕ)
+        × IsAnswer claim.now right line
+        × AppendsPart (W.contents writer.old) (W.contents writer.new) (ended line) }
+    ensures fault { IfErr result
+        (λ fault. (fault ≡ CannotWrite) ⊎ ((fault ≡ NoMemory) × (writer.new ≡ writer.old))) }
 {
     let mut out = String::new(alloc);
     let right = push_answer(&mut out, claim)?;
@@ -78,7 +86,8 @@ fn write_answer<W: Write>(alloc: Global, writer: &mut W, claim: &Claim) -> Resul
 
 /// Writes the answer to a claim at the end.
 fn push_answer(out: &mut String, claim: &Claim) -> Result<bool, AllocError>
-    ensures { IfOk result (λ right. (line : List ℕ) × IsAnswer claim.now right line × (string_bytes out.new ≡ string_bytes out.old ++ ended line)) }
+    ensures { IfOk result (λ right. (line : List ℕ) × IsAnswer claim.now right line
+        × (string_bytes out.new ≡ string_bytes out.old ++ ended line)) }
 {
     match check(claim) {
         Ok(()) => {
@@ -94,7 +103,8 @@ fn push_answer(out: &mut String, claim: &Claim) -> Result<bool, AllocError>
 
 fn push_right(out: &mut String, claim: &Claim) -> Result<(), AllocError>
     requires { IsRight claim.now }
-    ensures { OnOk result (string_bytes out.new ≡ string_bytes out.old ++ ended (right_line claim.now)) }
+    ensures { OnOk result (string_bytes out.new ≡ string_bytes out.old
+        ++ ended (right_line claim.now)) }
 {
     let from = u64::from(claim.from);
     let to = u64::from(claim.base) + claim.time.len() as u64;

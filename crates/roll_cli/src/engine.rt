@@ -24,7 +24,7 @@ use roll_text::{read_all, write_all};
 use std::alloc::Global;
 use std::io::{Read, Write};
 
-/// Room is taken at first for replies so many times as long as the commands: where frames are played without guesses, they
+/// Room is taken at first for replies so many times as long as the commands: if frames are played without guesses, they
 /// are four times as long.
 const REPLIES: usize = 5;
 
@@ -46,7 +46,8 @@ pub fn play<G: Shown + Drop, R: Read, W: Write>(
         (written : List ℕ) × IsOutput (output G.text_of (record { opening = G.snapshot_value opening; step = G.step })) (refusals (record { opening = G.snapshot_value opening; step = G.step })) text written refused × Appends (W.contents writer.old) (W.contents writer.new) written)) }
     ensures headline { IfOk result (λ refused. IfSome (R.remaining reader.old) (λ text.
         (written : List ℕ) × IsHeadlinedOutput G.text_of (record { opening = G.snapshot_value opening; step = G.step }) text written refused × Appends (W.contents writer.old) (W.contents writer.new) written)) }
-    ensures unreadable { (line : ℕ) → result ≡ Err (Unreadable line) → IfSome (R.remaining reader.old) (IsBadAt IsScript line) }
+    ensures unreadable { (line : ℕ) → result ≡ Err (Unreadable line)
+        → IfSome (R.remaining reader.old) (IsBadAt IsScript line) }
     ensures cut { result ≡ Err CannotWrite → IfSome (R.remaining reader.old) (λ text.
         (whole : List ℕ) × (refused : ℕ) × IsOutput (output G.text_of (record { opening = G.snapshot_value opening; step = G.step })) (refusals (record { opening = G.snapshot_value opening; step = G.step })) text whole refused × AppendsPart (W.contents writer.old) (W.contents writer.new) whole) }
     ensures untouched { IfErr result (λ fault. (fault ≡ CannotWrite) ⊎ (writer.new ≡ writer.old)) }
@@ -68,7 +69,8 @@ pub fn play_duel<R: Read, W: Write>(
         (written : List ℕ) × IsOutput duel_output duel_refusals text written refused × Appends (W.contents writer.old) (W.contents writer.new) written)) }
     ensures headline { IfOk result (λ refused. IfSome (R.remaining reader.old) (λ text.
         (written : List ℕ) × IsHeadlinedDuel text written refused × Appends (W.contents writer.old) (W.contents writer.new) written)) }
-    ensures unreadable { (line : ℕ) → result ≡ Err (Unreadable line) → IfSome (R.remaining reader.old) (IsBadAt IsScript line) }
+    ensures unreadable { (line : ℕ) → result ≡ Err (Unreadable line)
+        → IfSome (R.remaining reader.old) (IsBadAt IsScript line) }
     ensures cut { result ≡ Err CannotWrite → IfSome (R.remaining reader.old) (λ text.
         (whole : List ℕ) × (refused : ℕ) × IsOutput duel_output duel_refusals text whole refused × AppendsPart (W.contents writer.old) (W.contents writer.new) whole) }
     ensures untouched { IfErr result (λ fault. (fault ≡ CannotWrite) ⊎ (writer.new ≡ writer.old)) }
@@ -98,7 +100,8 @@ fn write_played<G: Shown + Drop, W: Write>(
     ensures cut { result ≡ Err CannotWrite → (whole : List ℕ) × (refused : ℕ)
         × IsOutputAfter (setup_of header.now) (output G.text_of (record { opening = G.snapshot_value opening; step = G.step })) (refusals (record { opening = G.snapshot_value opening; step = G.step })) commands.now whole refused
         × AppendsPart (W.contents writer.old) (W.contents writer.new) whole }
-    ensures fault { IfErr result (λ fault. (fault ≡ CannotWrite) ⊎ ((fault ≡ NoMemory) × (writer.new ≡ writer.old))) }
+    ensures fault { IfErr result
+        (λ fault. (fault ≡ CannotWrite) ⊎ ((fault ≡ NoMemory) × (writer.new ≡ writer.old))) }
 {
     let mut out = Vec::with_capacity(alloc, commands.len().saturating_mul(REPLIES))?;
     let settings = header.settings();
@@ -117,9 +120,15 @@ fn write_duel<W: Write>(
     requires fits { IsSetup (setup_of header.now) }
     requires readable { (list : List Command) × AreCommands commands.now list }
     requires few { length commands.now < 2 ^ 32 }
-    ensures written { IfOk result (λ refused. (written : List ℕ) × IsOutputAfter (setup_of header.now) duel_output duel_refusals commands.now written refused × Appends (W.contents writer.old) (W.contents writer.new) written) }
-    ensures cut { result ≡ Err CannotWrite → (whole : List ℕ) × (refused : ℕ) × IsOutputAfter (setup_of header.now) duel_output duel_refusals commands.now whole refused × AppendsPart (W.contents writer.old) (W.contents writer.new) whole }
-    ensures fault { IfErr result (λ fault. (fault ≡ CannotWrite) ⊎ ((fault ≡ NoMemory) × (writer.new ≡ writer.old))) }
+    ensures written { IfOk result
+        (λ refused. (written : List ℕ)
+        × IsOutputAfter (setup_of header.now) duel_output duel_refusals commands.now written refused
+        × Appends (W.contents writer.old) (W.contents writer.new) written) }
+    ensures cut { result ≡ Err CannotWrite → (whole : List ℕ) × (refused : ℕ)
+        × IsOutputAfter (setup_of header.now) duel_output duel_refusals commands.now whole refused
+        × AppendsPart (W.contents writer.old) (W.contents writer.new) whole }
+    ensures fault { IfErr result
+        (λ fault. (fault ≡ CannotWrite) ⊎ ((fault ≡ NoMemory) × (writer.new ≡ writer.old))) }
 {
     let ships = header.players as u8;
     let (Ok(duel), Ok(helper)) = (Duel::new(alloc, ships), Duel::new(alloc, ships)) else {

@@ -2,7 +2,6 @@
 ghost use Rattle.std.specs.Prelude.{◌≡◌, List, ◌<◌, ◌+◌, ◌^◌, ◌++◌, [], IfErr, IfOk, OnOk, is_err, length, slice_set, None};
 ghost use Rattle.roll_frame.specs.Events.{after, reply};
 ghost use Rattle.roll_session.specs.Calls.{asked};
-ghost use Rattle.roll_session.specs.Seen.{core_of};
 ghost use Rattle.roll_text.specs.Lines.{ended};
 ghost use Rattle.prog_replies.specs.Calls.{call_of, narrowed};
 ghost use Rattle.prog_replies.specs.Output.{after_command, event_text, guess_line, guessed, is_refused as refuses, job_at, refusals_from, refused_by, with_job, written_by, written_from};
@@ -29,23 +28,23 @@ pub struct Playing<G: Game> {
     session: Session<G>,
     /// Runs the jobs.
     helper: G,
-    /// The jobs that guesses gave, in the order of their numbers. None where one was taken.
+    /// The jobs that guesses gave, in the order of their numbers. None if one was taken.
     jobs: Vec<Option<Job<G>>>,
 }
 
 impl<G: Game> Model for Playing<G> {
-    ghost use Rattle.roll_session.specs.Seen.{core_of};
     ghost use Rattle.roll_cli.specs.Playings.{Played};
 
     ghost Value = { Played };
 
-    ghost view = { λ p. record { settings = p.session.settings; opening = p.session.opening; now = record { core = core_of p.session; jobs = p.jobs.items } } };
+    ghost view = { λ p. record { settings = p.session.settings; opening = p.session.opening; now = record { core = p.session.core; jobs = p.jobs.items } } };
 }
 
 impl<G: Shown> Playing<G> {
     /// A session of which nothing was asked for yet, and a second game of its kind, which is to run its jobs.
     pub fn new(alloc: Global, session: Session<G>, helper: G) -> Playing<G>
-        ensures { result ≡ record { settings = session.settings; opening = session.opening; now = record { core = core_of session; jobs = [] } } }
+        ensures { result
+            ≡ record { settings = session.settings; opening = session.opening; now = record { core = session.core; jobs = [] } } }
     {
         Playing {
             session,
@@ -73,7 +72,8 @@ impl<G: Shown> Playing<G> {
     ) -> Result<u32, PlayFault>
         requires readable { (list : List Command) × AreCommands commands.now list }
         requires few { length self.old.now.jobs + length commands.now < 2 ^ 32 }
-        ensures played { IfOk result (λ refused. (list : List Command) × AreCommands commands.now list
+        ensures played { IfOk result
+            (λ refused. (list : List Command) × AreCommands commands.now list
             × (out.new.items ≡ out.old.items ++ written_from G.text_of self.old.settings (game_of G.step self.old) self.old.now list)
             × (refused ≡ refusals_from self.old.settings (game_of G.step self.old) self.old.now list)) }
         ensures fault { IfErr result (λ fault. fault ≡ PlayFault.NoMemory) }
@@ -101,9 +101,18 @@ impl<G: Shown> Playing<G> {
         command: &Command,
     ) -> Result<bool, PlayFault>
         requires { length self.old.now.jobs < 2 ^ 32 }
-        ensures played { OnOk result (self.new ≡ record self.old { now = after_command self.old.settings (game_of G.step self.old) self.old.now command.now }) }
-        ensures written { OnOk result (out.new.items ≡ out.old.items ++ written_by G.text_of self.old.settings (game_of G.step self.old) self.old.now command.now) }
-        ensures refused { IfOk result (λ refused. refused ≡ refused_by self.old.settings (game_of G.step self.old) self.old.now command.now) }
+        ensures played { OnOk result
+            (self.new ≡ record self.old {
+              now = after_command self.old.settings
+                  (game_of G.step self.old) self.old.now command.now;
+            }) }
+        ensures written { OnOk result
+            (out.new.items ≡ out.old.items
+            ++ written_by G.text_of self.old.settings
+            (game_of G.step self.old) self.old.now command.now) }
+        ensures refused { IfOk result
+            (λ refused. refused ≡ refused_by self.old.settings
+            (game_of G.step self.old) self.old.now command.now) }
         ensures fault { IfErr result (λ fault. fault ≡ PlayFault.NoMemory) }
     {
         self.session.laws();
@@ -124,9 +133,20 @@ impl<G: Shown> Playing<G> {
     /// Does what is asked for, writes the reply, and answers whether it was refused.
     #[inline(always)]
     fn answer(&mut self, out: &mut Vec<u8>, request: Request<G>) -> Result<bool, PlayFault>
-        ensures played { OnOk result (self.new ≡ record self.old { now = record self.old.now { core = after self.old.settings (game_of G.step self.old) self.old.now.core (asked request) } }) }
-        ensures written { OnOk result (out.new.items ≡ out.old.items ++ event_text G.text_of self.old.settings (game_of G.step self.old) self.old.now.core (asked request)) }
-        ensures refused { IfOk result (λ refused. refused ≡ refuses (reply self.old.settings (game_of G.step self.old) self.old.now.core (asked request))) }
+        ensures played { OnOk result
+            (self.new ≡ record self.old {
+              now = record self.old.now {
+                core = after self.old.settings
+                    (game_of G.step self.old) self.old.now.core (asked request);
+              };
+            }) }
+        ensures written { OnOk result
+            (out.new.items ≡ out.old.items
+            ++ event_text G.text_of self.old.settings (game_of G.step self.old) self.old.now.core
+            (asked request)) }
+        ensures refused { IfOk result
+            (λ refused. refused ≡ refuses
+            (reply self.old.settings (game_of G.step self.old) self.old.now.core (asked request))) }
         ensures fault { IfErr result (λ fault. fault ≡ PlayFault.NoMemory) }
     {
         let reply = self.session.perform(request)?;
@@ -137,9 +157,18 @@ impl<G: Shown> Playing<G> {
     /// Takes a job, runs it, and asks for its branch to be taken in.
     #[inline(never)]
     fn extend(&mut self, out: &mut Vec<u8>, number: u32) -> Result<bool, PlayFault>
-        ensures played { OnOk result (self.new ≡ record self.old { now = after_command self.old.settings (game_of G.step self.old) self.old.now (Command.Extend number) }) }
-        ensures written { OnOk result (out.new.items ≡ out.old.items ++ written_by G.text_of self.old.settings (game_of G.step self.old) self.old.now (Command.Extend number)) }
-        ensures refused { IfOk result (λ refused. refused ≡ refused_by self.old.settings (game_of G.step self.old) self.old.now (Command.Extend number)) }
+        ensures played { OnOk result
+            (self.new ≡ record self.old {
+              now = after_command self.old.settings
+                  (game_of G.step self.old) self.old.now (Command.Extend number);
+            }) }
+        ensures written { OnOk result
+            (out.new.items ≡ out.old.items
+            ++ written_by G.text_of self.old.settings (game_of G.step self.old) self.old.now
+            (Command.Extend number)) }
+        ensures refused { IfOk result
+            (λ refused. refused ≡ refused_by self.old.settings
+            (game_of G.step self.old) self.old.now (Command.Extend number)) }
         ensures fault { IfErr result (λ fault. fault ≡ PlayFault.NoMemory) }
     {
         let Some(job) = take_job(&mut self.jobs, number as usize) else {
@@ -163,9 +192,17 @@ impl<G: Shown> Playing<G> {
         until: u32,
     ) -> Result<bool, PlayFault>
         requires { length self.old.now.jobs < 2 ^ 32 }
-        ensures played { OnOk result (self.new ≡ record self.old { now = record self.old.now { jobs = with_job self.old.now.jobs (guessed self.old.settings (game_of G.step self.old) self.old.now.core player words.now until) } }) }
-        ensures written { OnOk result (out.new.items ≡ out.old.items ++ ended (guess_line (length self.old.now.jobs) (guessed self.old.settings (game_of G.step self.old) self.old.now.core player words.now until))) }
-        ensures refused { IfOk result (λ refused. refused ≡ is_err (guessed self.old.settings (game_of G.step self.old) self.old.now.core player words.now until)) }
+        ensures played { OnOk result
+            (self.new ≡ record self.old { now = record self.old.now { jobs = with_job self.old.now.jobs (guessed self.old.settings (game_of G.step self.old) self.old.now.core player words.now until) } }) }
+        ensures written { OnOk result
+            (out.new.items ≡ out.old.items
+            ++ ended (guess_line (length self.old.now.jobs)
+            (guessed self.old.settings
+            (game_of G.step self.old) self.old.now.core player words.now until))) }
+        ensures refused { IfOk result
+            (λ refused. refused ≡ is_err
+            (guessed self.old.settings
+            (game_of G.step self.old) self.old.now.core player words.now until)) }
         ensures fault { IfErr result (λ fault. fault ≡ PlayFault.NoMemory) }
     {
         match self.session.guess(alloc, player, words, until) {

@@ -23,9 +23,11 @@ use std::io::{Read, Write};
 ///
 /// At most 1,048,577 bytes are read. Nothing is written unless the whole text can be read.
 pub fn run<R: Read, W: Write>(alloc: Global, task: Task, reader: &mut R, writer: &mut W) -> Ending
-    ensures ends { IfSome (R.remaining reader.old) (λ text. Ends task text (W.contents writer.old) (W.contents writer.new) result) }
+    ensures ends { IfSome (R.remaining reader.old)
+        (λ text. Ends task text (W.contents writer.old) (W.contents writer.new) result) }
     ensures status { MatchOption result.fault (result.status ≤ 1) (λ fault. result.status ≡ 2) }
-    ensures untouched { IfSome result.fault (λ fault. (fault ≡ CannotWrite) ⊎ (writer.new ≡ writer.old)) }
+    ensures untouched { IfSome result.fault
+        (λ fault. (fault ≡ CannotWrite) ⊎ (writer.new ≡ writer.old)) }
     ensures taken { TakesAtMost (TEXT_LIMIT + 1) (R.remaining reader.old) (R.remaining reader.new) }
 {
     match perform(alloc, task, reader, writer) {
@@ -50,7 +52,9 @@ fn perform<R: Read, W: Write>(
 ) -> Result<bool, PlayFault>
     ensures done { IfOk result (λ well. IfSome (R.remaining reader.old) (λ text.
         (written : List ℕ) × IsDone task text written well × Appends (W.contents writer.old) (W.contents writer.new) written)) }
-    ensures fault { IfErr result (λ fault. IfSome (R.remaining reader.old) (λ text. IsFault task text (W.contents writer.old) (W.contents writer.new) fault)) }
+    ensures fault { IfErr result
+        (λ fault. IfSome (R.remaining reader.old)
+        (λ text. IsFault task text (W.contents writer.old) (W.contents writer.new) fault)) }
     ensures untouched { IfErr result (λ fault. (fault ≡ CannotWrite) ⊎ (writer.new ≡ writer.old)) }
     ensures taken { TakesAtMost (TEXT_LIMIT + 1) (R.remaining reader.old) (R.remaining reader.new) }
 {
@@ -70,7 +74,9 @@ fn play_named<R: Read, W: Write>(
 ) -> Result<bool, PlayFault>
     ensures done { IfOk result (λ well. IfSome (R.remaining reader.old) (λ text.
         (written : List ℕ) × IsDone (Play game) text written well × Appends (W.contents writer.old) (W.contents writer.new) written)) }
-    ensures fault { IfErr result (λ fault. IfSome (R.remaining reader.old) (λ text. IsFault (Play game) text (W.contents writer.old) (W.contents writer.new) fault)) }
+    ensures fault { IfErr result
+        (λ fault. IfSome (R.remaining reader.old)
+        (λ text. IsFault (Play game) text (W.contents writer.old) (W.contents writer.new) fault)) }
     ensures untouched { IfErr result (λ fault. (fault ≡ CannotWrite) ⊎ (writer.new ≡ writer.old)) }
     ensures taken { TakesAtMost (TEXT_LIMIT + 1) (R.remaining reader.old) (R.remaining reader.new) }
 {
@@ -91,7 +97,10 @@ fn test_named<R: Read, W: Write>(
 ) -> Result<bool, PlayFault>
     ensures done { IfOk result (λ well. IfSome (R.remaining reader.old) (λ text.
         (written : List ℕ) × IsDone (SyncTest game frames) text written well × Appends (W.contents writer.old) (W.contents writer.new) written)) }
-    ensures fault { IfErr result (λ fault. IfSome (R.remaining reader.old) (λ text. IsFault (SyncTest game frames) text (W.contents writer.old) (W.contents writer.new) fault)) }
+    ensures fault { IfErr result
+        (λ fault. IfSome (R.remaining reader.old)
+        (λ text. IsFault (SyncTest game frames) text (W.contents writer.old)
+        (W.contents writer.new) fault)) }
     ensures untouched { IfErr result (λ fault. (fault ≡ CannotWrite) ⊎ (writer.new ≡ writer.old)) }
     ensures taken { TakesAtMost (TEXT_LIMIT + 1) (R.remaining reader.old) (R.remaining reader.new) }
 {
@@ -108,7 +117,8 @@ fn play_tally<R: Read, W: Write>(
 ) -> Result<u32, PlayFault>
     ensures written { IfOk result (λ refused. IfSome (R.remaining reader.old) (λ text.
         (written : List ℕ) × IsOutput (output tally_text tally_game) (refusals tally_game) text written refused × Appends (W.contents writer.old) (W.contents writer.new) written)) }
-    ensures unreadable { (line : ℕ) → result ≡ Err (Unreadable line) → IfSome (R.remaining reader.old) (IsBadAt IsScript line) }
+    ensures unreadable { (line : ℕ) → result ≡ Err (Unreadable line)
+        → IfSome (R.remaining reader.old) (IsBadAt IsScript line) }
     ensures cut { result ≡ Err CannotWrite → IfSome (R.remaining reader.old) (λ text.
         (whole : List ℕ) × (refused : ℕ) × IsOutput (output tally_text tally_game) (refusals tally_game) text whole refused × AppendsPart (W.contents writer.old) (W.contents writer.new) whole) }
     ensures untouched { IfErr result (λ fault. (fault ≡ CannotWrite) ⊎ (writer.new ≡ writer.old)) }

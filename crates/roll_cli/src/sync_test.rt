@@ -38,7 +38,8 @@ pub fn synctest<G: RawGame + Drop, R: Read, W: Write>(
     ensures written { IfOk result (λ well. IfSome (R.remaining reader.old) (λ text.
         (written : List ℕ) × IsTested G.ran (G.snapshot_value opening) frames text written well × Appends (W.contents writer.old) (W.contents writer.new) written)) }
     ensures game { NeverDiverges G.ran → IfOk result (λ well. well ≡ is_startable frames) }
-    ensures unreadable { (line : ℕ) → result ≡ Err (Unreadable line) → IfSome (R.remaining reader.old) (IsBadAt IsRowsText line) }
+    ensures unreadable { (line : ℕ) → result ≡ Err (Unreadable line)
+        → IfSome (R.remaining reader.old) (IsBadAt IsRowsText line) }
     ensures cut { result ≡ Err CannotWrite → IfSome (R.remaining reader.old) (λ text.
         (whole : List ℕ) × (well : Bool) × IsTested G.ran (G.snapshot_value opening) frames text whole well × AppendsPart (W.contents writer.old) (W.contents writer.new) whole) }
     ensures untouched { IfErr result (λ fault. (fault ≡ CannotWrite) ⊎ (writer.new ≡ writer.old)) }
@@ -57,7 +58,8 @@ pub fn synctest_tally<R: Read, W: Write>(
 ) -> Result<bool, PlayFault>
     ensures written { IfOk result (λ well. IfSome (R.remaining reader.old) (λ text.
         (written : List ℕ) × IsTallySynced frames text written well × Appends (W.contents writer.old) (W.contents writer.new) written)) }
-    ensures unreadable { (line : ℕ) → result ≡ Err (Unreadable line) → IfSome (R.remaining reader.old) (IsBadAt IsRowsText line) }
+    ensures unreadable { (line : ℕ) → result ≡ Err (Unreadable line)
+        → IfSome (R.remaining reader.old) (IsBadAt IsRowsText line) }
     ensures cut { result ≡ Err CannotWrite → IfSome (R.remaining reader.old) (λ text.
         (whole : List ℕ) × (well : Bool) × IsTallySynced frames text whole well × AppendsPart (W.contents writer.old) (W.contents writer.new) whole) }
     ensures untouched { IfErr result (λ fault. (fault ≡ CannotWrite) ⊎ (writer.new ≡ writer.old)) }
@@ -84,7 +86,8 @@ pub fn synctest_duel<R: Read, W: Write>(
 ) -> Result<bool, PlayFault>
     ensures written { IfOk result (λ well. IfSome (R.remaining reader.old) (λ text.
         (written : List ℕ) × IsDuelSynced frames text written well × Appends (W.contents writer.old) (W.contents writer.new) written)) }
-    ensures unreadable { (line : ℕ) → result ≡ Err (Unreadable line) → IfSome (R.remaining reader.old) (IsBadAt IsRowsText line) }
+    ensures unreadable { (line : ℕ) → result ≡ Err (Unreadable line)
+        → IfSome (R.remaining reader.old) (IsBadAt IsRowsText line) }
     ensures cut { result ≡ Err CannotWrite → IfSome (R.remaining reader.old) (λ text.
         (whole : List ℕ) × (well : Bool) × IsDuelSynced frames text whole well × AppendsPart (W.contents writer.old) (W.contents writer.new) whole) }
     ensures untouched { IfErr result (λ fault. (fault ≡ CannotWrite) ⊎ (writer.new ≡ writer.old)) }
@@ -102,10 +105,15 @@ fn write_duel_test<W: Write>(
     frames: u32,
 ) -> Result<bool, PlayFault>
     requires { IsRowsFile (file_of file.now) }
-    ensures written { OnOk result (Appends (W.contents writer.old) (W.contents writer.new) (duel_sync_output frames (file_of file.now))) }
+    ensures written { OnOk result
+        (Appends (W.contents writer.old) (W.contents writer.new)
+        (duel_sync_output frames (file_of file.now))) }
     ensures well { IfOk result (λ well. well ≡ is_duel_startable frames (file_of file.now)) }
-    ensures cut { result ≡ Err CannotWrite → AppendsPart (W.contents writer.old) (W.contents writer.new) (duel_sync_output frames (file_of file.now)) }
-    ensures fault { IfErr result (λ fault. (fault ≡ CannotWrite) ⊎ ((fault ≡ NoMemory) × (writer.new ≡ writer.old))) }
+    ensures cut { result ≡ Err CannotWrite
+        → AppendsPart (W.contents writer.old) (W.contents writer.new)
+        (duel_sync_output frames (file_of file.now)) }
+    ensures fault { IfErr result
+        (λ fault. (fault ≡ CannotWrite) ⊎ ((fault ≡ NoMemory) × (writer.new ≡ writer.old))) }
 {
     never_diverges::<Duel>();
     let Ok(duel) = Duel::new(alloc, file.players) else {
@@ -119,8 +127,11 @@ fn write_duel_test<W: Write>(
 /// The rows that a reader holds.
 fn read_rows<R: Read>(alloc: Global, reader: &mut R) -> Result<RowsFile, PlayFault>
     ensures fits { IfOk result (λ file. IsRowsFile (file_of file)) }
-    ensures spelled { IfOk result (λ file. IfSome (R.remaining reader.old) (λ text. text ≡ text_of (file_lines (file_of file)))) }
-    ensures unreadable { (line : ℕ) → result ≡ Err (Unreadable line) → IfSome (R.remaining reader.old) (IsBadAt IsRowsText line) }
+    ensures spelled { IfOk result
+        (λ file. IfSome (R.remaining reader.old)
+        (λ text. text ≡ text_of (file_lines (file_of file)))) }
+    ensures unreadable { (line : ℕ) → result ≡ Err (Unreadable line)
+        → IfSome (R.remaining reader.old) (IsBadAt IsRowsText line) }
     ensures fault { IfErr result (λ fault. fault ≢ CannotWrite) }
     ensures taken { TakesAtMost (TEXT_LIMIT + 1) (R.remaining reader.old) (R.remaining reader.new) }
 {
@@ -138,9 +149,15 @@ fn write_test<G: RawGame + Drop, W: Write>(
     opening: G::Snapshot,
     frames: u32,
 ) -> Result<bool, PlayFault>
-    ensures written { IfOk result (λ well. (written : List ℕ) × IsTold G.ran (G.snapshot_value opening) frames rows.now written well × Appends (W.contents writer.old) (W.contents writer.new) written) }
-    ensures cut { result ≡ Err CannotWrite → (whole : List ℕ) × (well : Bool) × IsTold G.ran (G.snapshot_value opening) frames rows.now whole well × AppendsPart (W.contents writer.old) (W.contents writer.new) whole }
-    ensures fault { IfErr result (λ fault. (fault ≡ CannotWrite) ⊎ ((fault ≡ NoMemory) × (writer.new ≡ writer.old))) }
+    ensures written { IfOk result
+        (λ well. (written : List ℕ)
+        × IsTold G.ran (G.snapshot_value opening) frames rows.now written well
+        × Appends (W.contents writer.old) (W.contents writer.new) written) }
+    ensures cut { result ≡ Err CannotWrite → (whole : List ℕ) × (well : Bool)
+        × IsTold G.ran (G.snapshot_value opening) frames rows.now whole well
+        × AppendsPart (W.contents writer.old) (W.contents writer.new) whole }
+    ensures fault { IfErr result
+        (λ fault. (fault ≡ CannotWrite) ⊎ ((fault ≡ NoMemory) × (writer.new ≡ writer.old))) }
 {
     let mut out = Vec::new(alloc);
     let well = push_test(alloc, &mut out, rows, game, opening, frames)?;
@@ -157,7 +174,10 @@ fn push_test<G: RawGame + Drop>(
     opening: G::Snapshot,
     frames: u32,
 ) -> Result<bool, PlayFault>
-    ensures told { IfOk result (λ well. (written : List ℕ) × IsTold G.ran (G.snapshot_value opening) frames rows.now written well × (out.new.items ≡ out.old.items ++ written)) }
+    ensures told { IfOk result
+        (λ well. (written : List ℕ)
+        × IsTold G.ran (G.snapshot_value opening) frames rows.now written well
+        × (out.new.items ≡ out.old.items ++ written)) }
     ensures fault { IfErr result (λ fault. fault ≡ NoMemory) }
 {
     match SyncTest::new(alloc, game, opening, frames) {
@@ -178,7 +198,10 @@ fn push_verdicts<G: RawGame + Drop>(
     requires some { 1 ≤ test.frames }
     requires fresh { test.verified ≡ 0 }
     requires none { test.rows ≡ [] }
-    ensures said { IfOk result (λ well. (verdicts : List VerdictSaid) × AreSaid G.ran test.second test.frames rows.now verdicts well × (out.new.items ≡ out.old.items ++ text_of (map verdict_line verdicts))) }
+    ensures said { IfOk result
+        (λ well. (verdicts : List VerdictSaid)
+        × AreSaid G.ran test.second test.frames rows.now verdicts well
+        × (out.new.items ≡ out.old.items ++ text_of (map verdict_line verdicts))) }
     ensures fault { IfErr result (λ fault. fault ≡ NoMemory) }
 {
     let mut test = test;

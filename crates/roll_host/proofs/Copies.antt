@@ -1,7 +1,8 @@
 -- A session but for some of its game's counts, of which no event changes any, and for what is reserved.
 use Rattle.std.proofs.Common.{◌≡◌, ◌∙◌, ℕ, zero, suc, ◌+◌, ◌-◌, List, [], ◌∷◌, ◌++◌, length, Bool, true, false, cond, refl, ap, sym, arith}
+use Rattle.std.specs.Prelude.{fold}
 use Rattle.roll_frame.specs.Core.{Core, cost}
-use Rattle.roll_frame.specs.Events.{CoreEvent, after, is_accepted, log_from}
+use Rattle.roll_frame.specs.Events.{CoreEvent, after, applied, is_accepted, log_from}
 use Rattle.roll_frame.specs.Games.{Game}
 use Rattle.roll_frame.specs.declared.entry.Entry.{Entry}
 use Rattle.roll_frame.specs.declared.entry.Entry.TheVariants.{Local, Remote, Disconnect, Sync, Advance, Graft, Partial}
@@ -10,7 +11,7 @@ use Rattle.roll_game.specs.Counts.{counted, rolled, stepped}
 use Rattle.roll_game.specs.declared.counts.Call.TheVariants.{Save, Advance as Turn, Load}
 use Rattle.roll_game.specs.declared.counts.Counts.{Counts}
 use Rattle.roll_session.specs.Answered.{counts_by, counts_from, IsPlayed}
-use Rattle.roll_session.specs.Seen.{Seen, Step, core_of, game_of}
+use Rattle.roll_session.specs.Seen.{Seen, Step, game_of}
 use Rattle.roll_host.specs.Requests.{bare}
 
 -- what changes none of the counts that a rollback changes
@@ -51,10 +52,10 @@ module _ (f : Counts → Counts) (is : IsAside f) where
   -- so events make of it what they make of the session itself
   pub played_aside : (step : Step) (old new : Seen) (events : List CoreEvent) → IsPlayed step old new events → IsPlayed step (aside f old) (aside f new) events
   played_aside step old new events p =
-      let log : List Entry = log_from old.settings (game_of step old) (core_of old) events in
+      let log : List Entry = log_from old.settings (game_of step old) old.core events in
       let none : 0 ≡ 0 - length log = omega arith in
       record {
-        seen = ap (aside f) p.seen ∙ (λ i. record old { log = old.log ++ log; counts = sym (from_aside old.settings (game_of step old) (core_of old) events old.counts) i; reserved = none i });
+        seen = ap (aside f) p.seen ∙ (λ i. record old { core = fold applied old.core log; log = old.log ++ log; counts = sym (from_aside old.settings (game_of step old) old.core events old.counts) i; reserved = none i });
         core = p.core;
       }
 

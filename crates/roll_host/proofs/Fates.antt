@@ -24,7 +24,7 @@ use Rattle.roll_pool.specs.Owners.{IsCollected}
 use Rattle.roll_session.proofs.Runs.{played_more, played_none}
 use Rattle.roll_session.specs.Answered.{IsAnswered, IsPlayed, IsReplied}
 use Rattle.roll_session.specs.Calls.{grafting}
-use Rattle.roll_session.specs.Seen.{Seen, Step, core_of, game_of}
+use Rattle.roll_session.specs.Seen.{Seen, Step, game_of}
 use Rattle.roll_host.specs.Absorbs.{added_by, dropped_by, events_by, events_of_all, is_memory, unmade_by, AreCollected, AreFates, Fated, IsAbsorbed, IsFate}
 use Rattle.roll_host.specs.declared.absorb.Absorbed.{Absorbed}
 use Rattle.roll_host.specs.declared.absorb.Fate.{Fate}
@@ -34,20 +34,20 @@ use Rattle.roll_host.specs.declared.limits.TheConstants.{TURN_LIMIT}
 module _ (step : Step) (old new : Seen) (branch : Routed) where
   -- a graft adds 24 states at most, since it ends no further than that
   pub graft_few : (count : ℕ) → IsReplied step old new (grafting branch) (Grafted count) → count ≤ PATH_LIMIT
-  graft_few count r = go (refusal old.settings (game_of step old) (core_of old) (grafting branch)) refl r.said_is
+  graft_few count r = go (refusal old.settings (game_of step old) old.core (grafting branch)) refl r.said_is
     where
       paths : ℕ
-      paths = length (new_paths (core_of old) (branch_of branch.route))
+      paths = length (new_paths old.core (branch_of branch.route))
 
       tests : List (Bool × Refusal)
-      tests = tests_of old.settings (game_of step old) (core_of old) branch.from (grafting branch).entry ++ (nat_le old.settings.log (core_of old).logged, LogFull) ∷ []
+      tests = tests_of old.settings (game_of step old) old.core branch.from (grafting branch).entry ++ (nat_le old.settings.log old.core.logged, LogFull) ∷ []
 
       few : AllFail tests → paths ≤ PATH_LIMIT
       few h =
-          let far = ltb-false (settled (core_of old) + PATH_LIMIT) (length (whole_of (core_of old) (branch_of branch.route))) h.1.1.0 in
-          let whole = whole_of (core_of old) (branch_of branch.route) in
-          let from = anchor_length (core_of old) (branch_of branch.route) in
-          let new_one : Rows → Bool = λ path. is_possible (core_of old).players path && not (contains (kept (core_of old)) path) in
+          let far = ltb-false (settled old.core + PATH_LIMIT) (length (whole_of old.core (branch_of branch.route))) h.1.1.0 in
+          let whole = whole_of old.core (branch_of branch.route) in
+          let from = anchor_length old.core (branch_of branch.route) in
+          let new_one : Rows → Bool = λ path. is_possible old.core.players path && not (contains (kept old.core) path) in
           omega (
             arith,
             far,
@@ -56,7 +56,7 @@ module _ (step : Step) (old new : Seen) (branch : Routed) where
             length_prefixes whole from (length whole - from),
           )
 
-      go : (o : Option Refusal) → refusal old.settings (game_of step old) (core_of old) (grafting branch) ≡ o → Grafted count ≡ option_map_or Refused o (Grafted paths) → count ≤ PATH_LIMIT
+      go : (o : Option Refusal) → refusal old.settings (game_of step old) old.core (grafting branch) ≡ o → Grafted count ≡ option_map_or Refused o (Grafted paths) → count ≤ PATH_LIMIT
       go (Some why) e said = absurd (cc said)
       go None e said = let is : count ≡ paths = cc said in rw is (few (all_fail tests e))
 
@@ -68,10 +68,10 @@ module _ (step : Step) (old new : Seen) (branch : Routed) where
   -- one that is refused changes nothing
   dropped_same : (why : Refusal) → IsAnswered step old new (grafting branch) (Refused why) → new ≡ old
   dropped_same why (inl r) =
-      let no : is_accepted old.settings (game_of step old) (core_of old) (grafting branch) ≡ false = go (refusal old.settings (game_of step old) (core_of old) (grafting branch)) r.said_is in
+      let no : is_accepted old.settings (game_of step old) old.core (grafting branch) ≡ false = go (refusal old.settings (game_of step old) old.core (grafting branch)) r.said_is in
       rw no at r.played.seen ∙ sym (played_none step old).seen
     where
-      go : (o : Option Refusal) → Refused why ≡ option_map_or Refused o (Grafted (length (new_paths (core_of old) (branch_of branch.route)))) → is_none o ≡ false
+      go : (o : Option Refusal) → Refused why ≡ option_map_or Refused o (Grafted (length (new_paths old.core (branch_of branch.route)))) → is_none o ≡ false
       go (Some first) e = refl
       go None e = absurd (cc e)
   dropped_same why (inr h) = elim h.1.left [ inl same ↦ same.0 | inr cut ↦ absurd cut ]

@@ -1,9 +1,8 @@
 -- The headline of a host's session.
 use Rattle.std.proofs.Common.{◌≡◌, List, [], ◌∷◌, subst}
 use Rattle.roll_branch.specs.declared.branch.Done.{Done}
-use Rattle.roll_laws.specs.Sessions.{IsLog}
 use Rattle.roll_session.proofs.Headlines.{headline_of, AreAsked}
-use Rattle.roll_session.specs.Seen.{Step, game_of}
+use Rattle.roll_session.specs.Seen.{FollowsLog, Step}
 use Rattle.roll_host.proofs.Standing.{asked-append, done_stands}
 use Rattle.roll_host.specs.Headline.{EndsShort, IsHeadlineTo}
 use Rattle.roll_host.specs.Hosted.{Hosted}
@@ -17,12 +16,12 @@ module _ {G S N : Type 0} where
   exchanges_asked step old new (first ∷ more) h =
       asked-append first.events (all_events more) (done_stands step old first.after first.request first.reply first.events h.0).asked (exchanges_asked step first.after new more h.1)
 
-  module _ (step : Step) (old : Hosted (Done G S N)) (l : IsLog old.session.settings (game_of step old.session) old.session.log) (requests : List (HostRequest G S N)) (first all : List HostReply) where
+  module _ (step : Step) (old : Hosted (Done G S N)) (l : FollowsLog step old.session) (requests : List (HostRequest G S N)) (first all : List HostReply) where
     pub headline_to : (new : Hosted (Done G S N)) (left rest : List (HostRequest G S N)) → IsDoneTo step old new requests rest first all → rest ≡ left → IsHeadlineTo step old new requests left first all
     headline_to new left rest done same =
         subst (λ (rs : List (HostRequest G S N)). IsHeadlineTo step old new requests rs first all) same (record {
           done = done;
-          headline = headline_of step (all_events done.exchanges) (bare old.session) (bare new.session) l (exchanges_asked step old new done.exchanges done.are_exchanges) done.played;
+          headline = headline_of step (all_events done.exchanges) (bare old.session) (bare new.session) (record { log = l.log; core = l.core }) (exchanges_asked step old new done.exchanges done.are_exchanges) done.played;
         })
 
     pub headline_short : (before new : Hosted (Done G S N)) (request : HostRequest G S N) (left rest : List (HostRequest G S N)) → IsDoneTo step old before requests rest first all → rest ≡ request ∷ left → IsShortOf step before new request

@@ -16,7 +16,7 @@ use Rattle.roll_link.specs.declared.remote.Remote.{Remote}
 use Rattle.roll_session.proofs.Runs.{played_more, played_none}
 use Rattle.roll_session.specs.Answered.{replies_to, IsAnswered, IsReplied}
 use Rattle.roll_session.specs.Calls.{heard_reply}
-use Rattle.roll_session.specs.Seen.{Seen, Step, core_of, game_of}
+use Rattle.roll_session.specs.Seen.{Seen, Step, game_of}
 use Rattle.roll_host.specs.Heard.{can_wait, event_of, events_of, is_refused, is_to_wait, AreHeard, IsHeldFor}
 
 counted : (p : Reply → Bool) (said : Reply) (n : ℕ) → cond (p said) 1 0 ≡ n → count_by p (said ∷ []) ≡ n
@@ -46,7 +46,7 @@ module _ (step : Step) where
   -- a refused word changes nothing
   refused_same : (old new : Seen) (item : Remote) (why : Refusal) → IsAnswered step old new (event_of item) (Refused why) → new ≡ old
   refused_same old new item why (inl r) =
-      let no : is_accepted old.settings (game_of step old) (core_of old) (event_of item) ≡ false = go (is_repeat (core_of old) (event_of item).entry) (refusal old.settings (game_of step old) (core_of old) (event_of item)) r.said_is in
+      let no : is_accepted old.settings (game_of step old) old.core (event_of item) ≡ false = go (is_repeat old.core (event_of item).entry) (refusal old.settings (game_of step old) old.core (event_of item)) r.said_is in
       rw no at r.played.seen ∙ sym (played_none step old).seen
     where
       go : (b : Bool) (o : Option Refusal) → Refused why ≡ cond b Repeated (option_map_or Refused o Taken) → (not b && is_none o) ≡ false
@@ -70,7 +70,7 @@ module _ (step : Step) where
       let settings : mid.settings ≡ old.settings = ap (λ (s : Seen). s.settings) a.played.seen in
       let opening : mid.opening ≡ old.opening = ap (λ (s : Seen). s.opening) a.played.seen in
       let all : replies_to step old (events_of (xs ++ ys)) ≡ replies_to step old (events_of xs) ++ replies_to step mid (events_of ys) =
-      rw (map-append, a.played.core, settings, opening) (replies_from-append old.settings (game_of step old) (core_of old) (events_of xs) (events_of ys)) in
+      rw (map-append, a.played.core, settings, opening) (replies_from-append old.settings (game_of step old) old.core (events_of xs) (events_of ys)) in
       record {
         played = rw map-append (played_more step old mid new (events_of xs) (events_of ys) a.played b.played);
         refusals = omega (arith, a.refusals, b.refusals, ap (λ (rs : List Reply). count_by is_refused rs) all, sum_by-append (λ (x : Reply). cond (is_refused x) 1 0) (replies_to step old (events_of xs)) (replies_to step mid (events_of ys)));

@@ -7,7 +7,8 @@ use Rattle.roll_link.specs.Linked.{Linked, Sending, left}
 use Rattle.roll_link.specs.Rings.{Ring}
 use Rattle.roll_pool.specs.Owners.{Pool}
 use Rattle.roll_pool.specs.Rings.{Place}
-use Rattle.roll_session.specs.Seen.{Seen, core_of}
+use Rattle.roll_session.specs.Changes.{FitsLog}
+use Rattle.roll_session.specs.Seen.{Seen}
 use Rattle.roll_host.specs.declared.limits.TheConstants.{LINK_LIMIT}
 
 pub record Hosted (D : Type 0) : Type 0 where
@@ -35,10 +36,6 @@ pub record EndsLink {D : Type 0} (old new : Hosted D) (place : ℕ) (finished : 
   pub sent : finished.sent ≡ after.applied ++ left after
   pub count_is : count ≡ length (left after)
 
--- there is room in the log for so many events more
-abbrev pub FitsLog : Seen → ℕ → Type 0
-FitsLog s events = (core_of s).logged + events ≤ s.settings.log
-
 module _ {D : Type 0} where
   -- a link more, by which nothing was sent; it is refused where there are 4
   abbrev pub AddsLink : Hosted D → Hosted D → Result Sending Refusal → Type 0
@@ -50,7 +47,7 @@ module _ {D : Type 0} where
   abbrev pub ReservesLog : {X : Type 0} → Hosted D → Hosted D → ℕ → Result X Refusal → Type 0
   ReservesLog old new events (Ok done) =
       (new ≡ record old { session = record old.session { reserved = max old.session.reserved events } }) × FitsLog old.session events
-  ReservesLog old new events (Err why) = (new ≡ old) × (why ≡ LogFull) × (old.session.settings.log < (core_of old.session).logged + events)
+  ReservesLog old new events (Err why) = (new ≡ old) × (why ≡ LogFull) × (old.session.settings.log < old.session.core.logged + events)
 
   -- the workers' places, and the jobs that were issued
   abbrev pub places_of : Option (Pool D) → List Place

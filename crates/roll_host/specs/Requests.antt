@@ -7,11 +7,12 @@ use Rattle.roll_frame.specs.declared.refusal.Refusal.TheVariants.{NoMemory}
 use Rattle.roll_link.specs.Rings.{Ring}
 use Rattle.roll_session.specs.Answered.{IsPlayed, IsReplied, IsShort}
 use Rattle.roll_session.specs.Calls.{asked}
+use Rattle.roll_session.specs.Changes.{FitsLog}
 use Rattle.roll_session.specs.Seen.{Seen, Step}
 use Rattle.roll_host.specs.Absorbs.{events_of_all, IsAbsorbed}
 use Rattle.roll_host.specs.Guesses.{Speculates}
 use Rattle.roll_host.specs.Heard.{events_of}
-use Rattle.roll_host.specs.Hosted.{came_by, with_came, AddsLink, EndsLink, FitsLog, Hosted, ReservesLog}
+use Rattle.roll_host.specs.Hosted.{came_by, with_came, AddsLink, EndsLink, Hosted, ReservesLog}
 use Rattle.roll_host.specs.Pumps.{items_of, IsPumped}
 use Rattle.roll_host.specs.declared.request.HostReply.{HostReply}
 use Rattle.roll_host.specs.declared.request.HostReply.TheVariants.{Session as Says, Pumped as HasPumped, Absorbed as HasAbsorbed, Speculated as HasSpeculated, LinkAdded, LinkEnded, LogReserved, Closed}

@@ -39,9 +39,11 @@ impl Absorbed {
     /// One result more.
     fn count(&mut self, fate: Fate)
         requires few { self.old.taken < MOST }
-        requires within { (self.old.dropped ≤ self.old.taken) × (self.old.unmade ≤ self.old.taken) × (self.old.added ≤ LONGEST * self.old.taken) }
+        requires within { (self.old.dropped ≤ self.old.taken) × (self.old.unmade ≤ self.old.taken)
+            × (self.old.added ≤ LONGEST * self.old.taken) }
         requires added { added_by fate ≤ LONGEST }
-        ensures { self.new ≡ record { taken = self.old.taken + 1; added = self.old.added + added_by fate; dropped = self.old.dropped + dropped_by fate; unmade = self.old.unmade + unmade_by fate } }
+        ensures { self.new
+            ≡ record { taken = self.old.taken + 1; added = self.old.added + added_by fate; dropped = self.old.dropped + dropped_by fate; unmade = self.old.unmade + unmade_by fate } }
     {
         self.taken += 1;
         match fate {
@@ -53,7 +55,7 @@ impl Absorbed {
 }
 
 /// Takes in one result.
-fn take_in<G: Game>(session: &mut Session<G>, done: Done<G>) -> Fate
+fn graft_result<G: Game>(session: &mut Session<G>, done: Done<G>) -> Fate
     ensures fate { IsFate G.step session.old session.new done result }
     ensures few { added_by result ≤ LONGEST }
 {
@@ -76,7 +78,7 @@ pub(crate) fn absorb_results<G: Game>(session: &mut Session<G>, owner: &mut Owne
         let Some(done) = owner.collect() else {
             break;
         };
-        absorbed.count(take_in(session, done));
+        absorbed.count(graft_result(session, done));
     }
     absorbed
 }

@@ -1,9 +1,10 @@
 //! A session, its links and its workers.
-ghost use Rattle.std.specs.Prelude.{◌≡◌, ◌+◌, ◌<◌, ◌≤◌, [], ◌∷◌, ◌++◌, drop, length, map, max, nat_le, nat_lt, option_map, slice_get, None, Some, if◌then◌else◌, IfNone, IfOk, IfErr, OnOk, OnErr};
-ghost use Rattle.roll_session.specs.Answered.{replied, IsAnswered, IsReplied, IsShort};
-ghost use Rattle.roll_session.specs.Calls.{asked, event_of};
-ghost use Rattle.roll_session.specs.Seen.{core_of, IsLeast};
-ghost use Rattle.roll_session.specs.declared.event.Call.TheVariants.{Local as LocalCall, Disconnect as DisconnectCall, Sync as SyncCall, Advance as AdvanceCall};
+ghost use Rattle.std.specs.Prelude.{◌≡◌, ◌+◌, ◌<◌, ◌≤◌, [], ◌∷◌, ◌++◌, drop, length, map, max, nat_le, option_map, slice_get, None, Some, if◌then◌else◌, IfNone, IfOk, IfErr, OnOk, OnErr};
+ghost use Rattle.roll_frame.specs.Timeline.{row_at};
+ghost use Rattle.roll_session.specs.Answered.{IsReplied, IsShort};
+ghost use Rattle.roll_session.specs.Calls.{asked};
+ghost use Rattle.roll_session.specs.Changes.{advance_refusal, after_advance, after_disconnect, after_local, after_sync, disconnect_refusal, local_refusal, reached_by, reserve_refusal, sync_refusal, FitsLog, IsRefused, IsRollRefused, IsWhy};
+ghost use Rattle.roll_session.specs.Seen.{IsLeast};
 ghost use Rattle.roll_host.specs.Absorbs.{IsAbsorbed};
 ghost use Rattle.roll_host.specs.Guesses.{Speculates};
 ghost use Rattle.roll_host.specs.Hosted.{came_by, issued_of, new_link, places_of, rings_of, with_came, EndsLink};
@@ -25,7 +26,7 @@ use roll_session::{Reached, Request, Session};
 use std::alloc::{AllocFailed, Global};
 use std::marker::Model;
 
-/// A session whose remote words come by links, and whose guesses are run by workers where it has some. It waits for no other
+/// A session whose remote words come by links, and whose guesses are run by workers if it has some. It waits for no other
 /// thread.
 #[derive(Drop)]
 pub struct Host<G: Game> {
@@ -50,9 +51,14 @@ impl<G: Game> Model for Host<G> {
 }
 
 impl<G: Game> Host<G> {
-    /// A host with no link, room for 4, and no workers. Where the allocator has no room, the session is handed back.
+    /// A host with no link, room for 4, and no workers.
+    ///
+    /// # Errors
+    ///
+    /// If the allocator has no room, the session is handed back.
     pub fn new(alloc: Global, session: Session<G>) -> Result<Host<G>, AllocFailed<Session<G>>>
-        ensures host { IfOk result (λ host. host ≡ record { session = session; links = []; pool = None }) }
+        ensures host { IfOk result
+            (λ host. host ≡ record { session = session; links = []; pool = None }) }
         ensures back { IfErr result (λ failed. failed.value ≡ session) }
     {
         match Vec::with_capacity(alloc, LINK_LIMIT) {
@@ -66,14 +72,18 @@ impl<G: Game> Host<G> {
         }
     }
 
-    /// A host with the workers of a pool, with no link, and room for 4. Where the allocator has no room, the session and the
-    /// pool's owner are handed back.
+    /// A host with the workers of a pool, with no link, and room for 4.
+    ///
+    /// # Errors
+    ///
+    /// If the allocator has no room, the session and the pool's owner are handed back.
     pub fn with_workers(
         alloc: Global,
         session: Session<G>,
         owner: Owner<G>,
     ) -> Result<Host<G>, AllocFailed<(Session<G>, Owner<G>)>>
-        ensures host { IfOk result (λ host. host ≡ record { session = session; links = []; pool = Some owner }) }
+        ensures host { IfOk result
+            (λ host. host ≡ record { session = session; links = []; pool = Some owner }) }
         ensures back { IfErr result (λ failed. failed.value ≡ (session, owner)) }
     {
         match Host::new(alloc, session) {
@@ -91,12 +101,14 @@ impl<G: Game> Host<G> {
     ///
     /// # Errors
     ///
-    /// `InvalidRequest` where there are 4, else `NoMemory` where the allocator has no room.
+    /// `InvalidRequest` if there are 4, else `NoMemory` if the allocator has no room.
     pub fn add_link(&mut self) -> Result<LinkSender, Refusal>
-        ensures added { IfOk result (λ sender. self.new ≡ record self.old { links = self.old.links ++ new_link sender.ring ∷ [] }) }
+        ensures added { IfOk result (λ sender. self.new
+            ≡ record self.old { links = self.old.links ++ new_link sender.ring ∷ [] }) }
         ensures sender { IfOk result (λ sender. sender.sent ≡ []) }
         ensures place { OnOk result (length self.old.links < LINKS) }
-        ensures refused { IfErr result (λ why. why ≡ (if nat_le LINKS (length self.old.links) then Refusal.InvalidRequest else Refusal.NoMemory)) }
+        ensures refused { IfErr result (λ why. why ≡ (if nat_le LINKS (length self.old.links)
+            then Refusal.InvalidRequest else Refusal.NoMemory)) }
         ensures unchanged { OnErr result (self.new ≡ self.old) }
     {
         if self.links.len() >= LINK_LIMIT {
@@ -111,7 +123,8 @@ impl<G: Game> Host<G> {
     /// refused for good counts as applied; one that is refused as `QueueFull`, `LogFull` or `NoMemory` is held, its link
     /// stops, and the next pump tries it first.
     pub fn pump(&mut self) -> Pumped
-        ensures pumped { IsPumped G.step self.old.session self.old.links self.new.session self.new.links result }
+        ensures pumped { IsPumped G.step self.old.session self.old.links
+            self.new.session self.new.links result }
         ensures rings { rings_of self.new.links ≡ rings_of self.old.links }
         ensures pool { self.new.pool ≡ self.old.pool }
     {
@@ -121,10 +134,15 @@ impl<G: Game> Host<G> {
     /// Collects what the workers have run, at most 64 results, and grafts each branch among them, in the order in which they
     /// are collected. A branch that is refused is dropped, also where it is for want of memory.
     pub fn absorb(&mut self) -> Absorbed
-        ensures absorbed { IsAbsorbed G.step self.old.session (came_by self.old.pool) self.new.session (came_by self.new.pool) result }
-        ensures rest { self.new ≡ record self.old { session = self.new.session; pool = option_map (with_came (came_by self.new.pool)) self.old.pool } }
+        ensures absorbed { IsAbsorbed G.step self.old.session (came_by self.old.pool)
+            self.new.session (came_by self.new.pool) result }
+        ensures rest { self.new ≡ record self.old {
+          session = self.new.session;
+          pool = option_map (with_came (came_by self.new.pool)) self.old.pool;
+        } }
         ensures places { places_of self.new.pool ≡ places_of self.old.pool }
-        ensures alone { IfNone self.old.pool ((self.new ≡ self.old) × (result ≡ record { taken = 0; added = 0; dropped = 0; unmade = 0 })) }
+        ensures alone { IfNone self.old.pool ((self.new ≡ self.old)
+            × (result ≡ record { taken = 0; added = 0; dropped = 0; unmade = 0 })) }
     {
         match &mut self.pool {
             Some(owner) => absorb_results(&mut self.session, owner),
@@ -133,11 +151,11 @@ impl<G: Game> Host<G> {
     }
 
     /// Hands the job of a guess to the workers: if this player gave these words next, up to a frame. The number of the job,
-    /// or `None` where all that it would run is kept already.
+    /// or `None` if all that it would run is kept already.
     ///
     /// # Errors
     ///
-    /// `Full` where 64 jobs are out, or where there are no workers; else those of `Session::guess`; else those of
+    /// `Full` if 64 jobs are out, or if there are no workers; else those of `Session::guess`; else those of
     /// `Owner::issue`, and the job is dropped.
     pub fn speculate(
         &mut self,
@@ -186,7 +204,11 @@ impl<G: Game> Host<G> {
     ///
     /// Those of `Session::add_local_input`.
     pub fn add_local_input(&mut self, player: u8, word: u32) -> Result<(), Refusal>
-        ensures answered { IsAnswered G.step self.old.session self.new.session (event_of (LocalCall player word)) (replied (λ done. Reply.Done) result) }
+        ensures accepted { OnOk result (local_refusal self.old.session player ≡ None) }
+        ensures taken { OnOk result
+            (self.new.session ≡ after_local self.old.session player word) }
+        ensures refused { IfErr result (IsRefused (local_refusal self.old.session player)
+            self.old.session self.new.session) }
         ensures rest { self.new ≡ record self.old { session = self.new.session } }
     {
         self.session.add_local_input(player, word)
@@ -198,34 +220,47 @@ impl<G: Game> Host<G> {
     ///
     /// Those of `Session::disconnect_player`.
     pub fn disconnect_player(&mut self, player: u8) -> Result<Event, Refusal>
-        ensures answered { IsAnswered G.step self.old.session self.new.session (event_of (DisconnectCall player)) (replied (λ event. Reply.Disconnected player) result) }
+        ensures accepted { OnOk result (disconnect_refusal self.old.session player ≡ None) }
+        ensures taken { OnOk result
+            (self.new.session ≡ after_disconnect self.old.session player) }
         ensures event { IfOk result (λ event. event ≡ Event.DisconnectedFromPeer player) }
+        ensures refused { IfErr result (IsRefused (disconnect_refusal self.old.session player)
+            self.old.session self.new.session) }
         ensures rest { self.new ≡ record self.old { session = self.new.session } }
     {
         self.session.disconnect_player(player)
     }
 
-    /// The row of this frame. Rolls back where a prediction was wrong.
+    /// The row of this frame. Rolls back if a prediction was wrong.
     ///
     /// # Errors
     ///
     /// Those of `Session::synchronize_input`.
     pub fn synchronize_input(&mut self) -> Result<Row, Refusal>
-        ensures answered { IsAnswered G.step self.old.session self.new.session (event_of SyncCall) (replied (λ row. Reply.Synchronized row) result) }
-        ensures least { IsLeast (core_of self.old.session) (core_of self.old.session).frame }
+        ensures accepted { OnOk result (sync_refusal self.old.session ≡ None) }
+        ensures row { IfOk result (λ row. row
+            ≡ row_at self.old.session.core.players self.old.session.core.frame) }
+        ensures rolled { OnOk result (self.new.session ≡ after_sync self.old.session) }
+        ensures least { IsLeast self.old.session.core self.old.session.core.frame }
+        ensures refused { IfErr result (IsRollRefused (sync_refusal self.old.session)
+            self.old.session self.new.session self.old.session.core.frame) }
         ensures rest { self.new ≡ record self.old { session = self.new.session } }
     {
         self.session.synchronize_input()
     }
 
-    /// The next frame. Rolls back where a prediction was wrong.
+    /// Goes on to the next frame. Rolls back first if a prediction was wrong.
     ///
     /// # Errors
     ///
     /// Those of `Session::advance_frame`.
     pub fn advance_frame(&mut self) -> Result<Reached, Refusal>
-        ensures answered { IsAnswered G.step self.old.session self.new.session (event_of AdvanceCall) (replied (λ reached. Reply.Reached reached.frame reached.from reached.rerun) result) }
-        ensures least { IsLeast (core_of self.old.session) ((core_of self.old.session).frame + 1) }
+        ensures accepted { OnOk result (advance_refusal self.old.session ≡ None) }
+        ensures reached { IfOk result (λ reached. reached ≡ reached_by self.old.session.core) }
+        ensures rolled { OnOk result (self.new.session ≡ after_advance self.old.session) }
+        ensures least { IsLeast self.old.session.core (self.old.session.core.frame + 1) }
+        ensures refused { IfErr result (IsRollRefused (advance_refusal self.old.session)
+            self.old.session self.new.session (self.old.session.core.frame + 1)) }
         ensures rest { self.new ≡ record self.old { session = self.new.session } }
     {
         self.session.advance_frame()
@@ -238,10 +273,13 @@ impl<G: Game> Host<G> {
     ///
     /// Those of `Session::reserve_log`.
     pub fn reserve_log(&mut self, events: u32) -> Result<(), Refusal>
-        ensures fits { OnOk result ((core_of self.old.session).logged + events ≤ self.old.session.settings.log) }
-        ensures reserved { OnOk result (self.new ≡ record self.old { session = record self.old.session { reserved = max self.old.session.reserved events } }) }
-        ensures refused { IfErr result (λ why. why ≡ (if nat_lt self.old.session.settings.log ((core_of self.old.session).logged + events) then Refusal.LogFull else Refusal.NoMemory)) }
-        ensures short { OnErr result ((core_of self.old.session).logged + events ≤ self.old.session.settings.log → self.old.session.reserved < events) }
+        ensures fits { OnOk result (FitsLog self.old.session events) }
+        ensures reserved { OnOk result (self.new ≡ record self.old {
+          session = record self.old.session { reserved = max self.old.session.reserved events };
+        }) }
+        ensures refused { IfErr result (IsWhy (reserve_refusal self.old.session events)) }
+        ensures short { OnErr result (FitsLog self.old.session events
+            → self.old.session.reserved < events) }
         ensures unchanged { OnErr result (self.new ≡ self.old) }
     {
         self.session.reserve_log(events)
@@ -249,8 +287,10 @@ impl<G: Game> Host<G> {
 
     /// Does what the session is asked for.
     pub(crate) fn ask(&mut self, request: Request<G>) -> Result<Reply, NoMemory>
-        ensures replied { IfOk result (λ said. IsReplied G.step self.old.session self.new.session (asked request) said) }
-        ensures short { OnErr result (IsShort G.step self.old.session self.new.session (asked request)) }
+        ensures replied { IfOk result
+            (λ said. IsReplied G.step self.old.session self.new.session (asked request) said) }
+        ensures short { OnErr result
+            (IsShort G.step self.old.session self.new.session (asked request)) }
         ensures rest { self.new ≡ record self.old { session = self.new.session } }
     {
         self.session.perform(request)
@@ -268,10 +308,15 @@ impl<G: Game> Host<G> {
     pub fn settle(self, ends: Vec<WorkerEnd<G>>) -> (Session<G>, Outcome<G>)
         requires { map (λ end. end.place) ends.items ≡ places_of self.pool }
         ensures session { result.0 ≡ self.session }
-        ensures counts { (result.1.issued ≡ length (issued_of self.pool)) × (result.1.collected ≡ length (collected (came_by self.pool))) }
-        ensures jobs { Settles (issued_of self.pool) (collected (came_by self.pool)) result.1.late.items result.1.left.items }
-        ensures left { result.1.left.items ≡ drop (length (collected (came_by self.pool)) + length result.1.late.items) (issued_of self.pool) }
-        ensures tickets { SameItems (tickets_of (collected (came_by self.pool) ++ result.1.late.items) result.1.left.items) (range_with_len 0 result.1.issued) }
+        ensures counts { (result.1.issued ≡ length (issued_of self.pool))
+            × (result.1.collected ≡ length (collected (came_by self.pool))) }
+        ensures jobs { Settles (issued_of self.pool) (collected (came_by self.pool))
+            result.1.late.items result.1.left.items }
+        ensures left { result.1.left.items ≡ drop
+            (length (collected (came_by self.pool)) + length result.1.late.items) (issued_of self.pool) }
+        ensures tickets { SameItems
+            (tickets_of (collected (came_by self.pool) ++ result.1.late.items) result.1.left.items)
+            (range_with_len 0 result.1.issued) }
     {
         let Host {
             session,

@@ -46,7 +46,8 @@ fn can_wait(why: Refusal) -> bool
 
 /// Makes one item an event, and says how often it was refused, or why it is to be held.
 fn hear<G: Game>(session: &mut Session<G>, item: Remote) -> Result<u32, Refusal>
-    ensures heard { IfOk result (λ refused. AreHeard G.step session.old session.new (item ∷ []) refused) }
+    ensures heard { IfOk result
+        (λ refused. AreHeard G.step session.old session.new (item ∷ []) refused) }
     ensures few { IfOk result (λ refused. refused ≤ 1) }
     ensures held { IfErr result (IsHeldFor G.step session.new item) }
     ensures unchanged { OnErr result (session.new ≡ session.old) }

@@ -11,8 +11,11 @@ use roll_game::{Game, NoMemory};
 use std::collections::VecDeque;
 
 impl<G: Game> Host<G> {
-    /// Does what is asked for, and answers its reply. A refusal is a reply like any other; only want of memory is an error,
-    /// but a pump then holds an item, and an absorb drops a branch.
+    /// Does what is asked for, and answers its reply. A refusal is a reply like any other.
+    ///
+    /// # Errors
+    ///
+    /// `NoMemory` alone. A pump and an absorb never end so: a pump holds the item, and an absorb drops the branch.
     pub fn perform(&mut self, request: HostRequest<G>) -> Result<HostReply, NoMemory>
         requires { EndsOwn (rings_of self.old.links) request }
         ensures done { IfOk result (λ reply. IsDone G.step self.old self.new request reply) }
@@ -56,8 +59,11 @@ impl<G: Game> Host<G> {
         }
     }
 
-    /// Does in turn what a queue asks for, and adds the replies to a list that has room for them. It ends early only for
-    /// want of memory: what came before that was done, and what comes after it is left in the queue.
+    /// Does in turn what a queue asks for, and adds the replies to a list that has room for them.
+    ///
+    /// # Errors
+    ///
+    /// `NoMemory` alone: what came before was done, and what comes after it is left in the queue.
     pub fn run(
         &mut self,
         requests: &mut VecDeque<HostRequest<G>>,
@@ -67,9 +73,11 @@ impl<G: Game> Host<G> {
         requires ends { All (EndsOwn (rings_of self.old.links)) requests.old.items }
         ensures headline { IsHeadline (is_ok result) G.step self.old self.new requests.old.items
             requests.new.items replies.old.items replies.new.items }
-        ensures done { OnOk result (IsDoneTo G.step self.old self.new requests.old.items [] replies.old.items replies.new.items) }
+        ensures done { OnOk result (IsDoneTo G.step self.old self.new
+            requests.old.items [] replies.old.items replies.new.items) }
         ensures empty { OnOk result (requests.new.items ≡ []) }
-        ensures left { OnErr result (IsEndedEarly G.step self.old self.new requests.old.items requests.new.items replies.old.items replies.new.items) }
+        ensures left { OnErr result (IsEndedEarly G.step self.old self.new
+            requests.old.items requests.new.items replies.old.items replies.new.items) }
         ensures rings { rings_of self.new.links ≡ fold rings_after (rings_of self.old.links)
             (drop (length replies.old.items) replies.new.items) }
         ensures places { places_of self.new.pool ≡ places_of self.old.pool }

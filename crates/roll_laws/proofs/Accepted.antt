@@ -2,10 +2,10 @@
 use Rattle.std.proofs.Common.{◌≡◌, ℕ, zero, suc, ◌-◌, List, [], ◌∷◌, ◌++◌, refl, ap, sym, ◌∙◌, Bool, true, false, subst, inl, inr, map, set, Option, Some, None}
 use Rattle.std.specs.Prelude.{◌⊎◌, not, slice_get, slice_set, ◌==◌, nat_le, is_none, if◌then◌else◌}
 use Rattle.std.specs.Option.{option_map_or}
-use Rattle.std.proofs.lemmas.Bool.{false≢true, cases_Bool, and_parts}
+use Rattle.std.proofs.lemmas.Bool.{false≢true, cases_Bool, and_parts, not-false}
 use Rattle.std.proofs.lemmas.List.{append-nil}
 use Rattle.roll_frame.specs.Core.{Core}
-use Rattle.roll_frame.specs.Events.{CoreEvent, tests_of, refusal, is_repeat, is_accepted, applied, after}
+use Rattle.roll_frame.specs.Events.{CoreEvent, tests_of, refusal, is_repeat, is_accepted, applied, after, played_from}
 use Rattle.roll_frame.specs.Games.{Game}
 use Rattle.roll_frame.specs.Inputs.{player_at, of_player, changed, with_words, with_given, with_gone, with_none_given}
 use Rattle.roll_frame.specs.Timeline.{Player}
@@ -50,12 +50,17 @@ after_log settings game core event = go (cases_Bool (is_accepted settings game c
     go (inr e) = inl (ap (λ b. if b then applied core event.entry else core) e, e)
     go (inl e) = inr (accepted_passes settings game core event e, after_accepted settings game core event e, e)
 
-pub after_either : (settings : Settings) (game : Game) (core : Core) (event : CoreEvent) → (after settings game core event ≡ core) ⊎ (AllFail (tests_of settings game core event.value event.entry) × (after settings game core event ≡ applied core event.entry))
-after_either settings game core event = go (after_log settings game core event)
+-- what each accepted event keeps is kept by any events
+pub events_keep : (settings : Settings) (game : Game) (P : Core → Type 0)
+    → ((core : Core) (event : CoreEvent) → Accepted settings game core event → P core → P (applied core event.entry))
+    → (core : Core) (events : List CoreEvent) → P core → P (played_from settings game core events)
+events_keep settings game P step core [] h = h
+events_keep settings game P step core (event ∷ events) h =
+    events_keep settings game P step (after settings game core event) events (go (after_log settings game core event))
   where
-    go : Outcome settings game core event → (after settings game core event ≡ core) ⊎ (AllFail (tests_of settings game core event.value event.entry) × (after settings game core event ≡ applied core event.entry))
-    go (inl h) = inl h.0
-    go (inr h) = inr (h.0.0, h.1)
+    go : Outcome settings game core event → P (after settings game core event)
+    go (inl a) = subst P (sym a.0) h
+    go (inr a) = subst P (sym a.1) (step core event a.0 h)
 
 -- a fact of each player
 abbrev pub Each : (Player → Type 0) → List Player → Type 0
@@ -94,22 +99,33 @@ at_place ps p x e = go (p == 0) refl
     go true f = let no : None ≡ Some x = rw f at e in absurd (cc no)
     go false f = rw f at e
 
+-- what a test finds is a player
+pub found : (test : Player → Bool) (players : List Player) (p : ℕ) → not (of_player test players p) ≡ false
+    → (x : Player) × (player_at players p ≡ Some x) × (test x ≡ true)
+found test players p h = go (player_at players p) (not-false (of_player test players p) h)
+  where
+    go : (o : Option Player) → option_map_or test o false ≡ true → (x : Player) × (o ≡ Some x) × (test x ≡ true)
+    go None e = absurd (false≢true e)
+    go (Some x) e = (x, refl, e)
+
 pub of_player_is : (test : Player → Bool) (ps : List Player) (p : ℕ) (x : Player) (b : Bool) → player_at ps p ≡ Some x → of_player test ps p ≡ b → test x ≡ b
 of_player_is test ps p x b e h = ap (λ o. option_map_or test o false) (sym e) ∙ h
 
-pub changed_later : (change : Player → Player) (ps : List Player) (p : ℕ) → ((x : Player) → player_at ps p ≡ Some x → Later x (change x)) → AllLater ps (changed change ps p)
-changed_later change ps p f = go (player_at ps p) refl
-  where
-    go : (o : Option Player) → player_at ps p ≡ o → AllLater ps (option_map_or (λ player. slice_set ps (p - 1) (change player)) o ps)
-    go None e = all_later_same ps
-    go (Some x) e = later_set ps (p - 1) x (change x) (at_place ps p x e) (f x e)
+-- the change of a player is a write at its place
+pub changed_is : (change : Player → Player) (ps : List Player) (p : ℕ) (x : Player) → player_at ps p ≡ Some x
+    → changed change ps p ≡ set ps (p - 1) (change x)
+changed_is change ps p x e =
+    ap (λ o. option_map_or (λ player. slice_set ps (p - 1) (change player)) o ps) e
 
-pub changed_each : (P : Player → Type 0) (change : Player → Player) (ps : List Player) (p : ℕ) → ((x : Player) → player_at ps p ≡ Some x → P x → P (change x)) → Each P ps → Each P (changed change ps p)
-changed_each P change ps p f h = go (player_at ps p) refl
-  where
-    go : (o : Option Player) → player_at ps p ≡ o → Each P (option_map_or (λ player. slice_set ps (p - 1) (change player)) o ps)
-    go None e = h
-    go (Some x) e = each_set P ps (p - 1) (change x) (f x e (each_at P ps (p - 1) x (at_place ps p x e) h)) h
+pub changed_later : (change : Player → Player) (ps : List Player) (p : ℕ) (x : Player) → player_at ps p ≡ Some x
+    → Later x (change x) → AllLater ps (changed change ps p)
+changed_later change ps p x e l =
+    subst (AllLater ps) (sym (changed_is change ps p x e)) (later_set ps (p - 1) x (change x) (at_place ps p x e) l)
+
+pub changed_each : (P : Player → Type 0) (change : Player → Player) (ps : List Player) (p : ℕ) (x : Player)
+    → player_at ps p ≡ Some x → (P x → P (change x)) → Each P ps → Each P (changed change ps p)
+changed_each P change ps p x e f h =
+    subst (Each P) (sym (changed_is change ps p x e)) (each_set P ps (p - 1) (change x) (f (each_at P ps (p - 1) x (at_place ps p x e) h)) h)
 
 pub later_with_words : (words : List ℕ) (x : Player) → x.gone ≡ false → Later x (with_words words x)
 later_with_words words x g = record { same_local = refl; same_mask = refl; more = words; words = refl; gone = λ h. absurd (false≢true (sym g ∙ h)) }

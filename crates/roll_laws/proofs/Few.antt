@@ -1,29 +1,26 @@
 -- How many paths are kept: of those that don't begin the timeline up to the next frame no more than branches may fill.
 use Rattle.std.proofs.Common.{None, ◌≡◌, ℕ, zero, suc, ◌+◌, ◌-◌, ◌<◌, ◌≤◌, List, [], ◌∷◌, ◌++◌, length, take, refl, ap, sym, ◌∙◌, Bool, true, false, arith, subst, inl, inr, min, length-take, length-append}
-use Rattle.std.specs.Prelude.{◌⊎◌, not, filter, nat_le, nat_lt, ◌&&◌, ◌||◌, ◌==◌}
-use Rattle.std.proofs.lemmas.Bool.{false≢true, cases_lt, not-false, not-true, and_parts, and_from, and_cases, or_cases, leb-true, le-leb, ltb-false, eqb-true, not_from_false, false_from_ne_true}
-use Rattle.std.proofs.lemmas.List.{append-nil}
+use Rattle.std.specs.Prelude.{◌⊎◌, not, filter, nat_le, nat_lt, ◌&&◌}
+use Rattle.std.proofs.lemmas.Bool.{false≢true, cases_lt, not-true, and_parts, and_from, and_cases, leb-true, le-leb, ltb-false, not_from_false, false_from_ne_true}
 use Rattle.std.proofs.lemmas.List.Elements.{filter-append}
 use Rattle.roll_frame.specs.Cells.{rows_eq, Rows}
 use Rattle.roll_frame.specs.Impls.Equal.{rows_eq-Decides}
 use Rattle.roll_frame.specs.Core.{Core, first_core, is_possible, settled, kept, is_live, depth, cost, rolled_paths}
-use Rattle.roll_frame.specs.Events.{CoreEvent, all_given, tests_of, applied, after, played_from, played, branch_of}
-use Rattle.roll_frame.specs.Games.{Game, Value}
+use Rattle.roll_frame.specs.Events.{CoreEvent, added_by, applied, played_from, played}
+use Rattle.roll_frame.specs.Games.{Game}
 use Rattle.roll_frame.specs.Grafts.{Branch, whole_of, anchor_length, new_paths}
 use Rattle.roll_frame.specs.Paths.{prefixes, begins_with, contains}
 use Rattle.roll_frame.specs.Settings.{open_to_branches, start_refusal}
 use Rattle.roll_frame.specs.Timeline.{Player, timeline, front}
-use Rattle.roll_frame.specs.declared.entry.Entry.{Entry}
 use Rattle.roll_frame.specs.declared.settings.Settings.{Settings}
 use Rattle.roll_frame.proofs.Timelines.{length_timeline}
-use Rattle.roll_frame.proofs.Refused.{AllFail}
 use Rattle.roll_laws.specs.Laws.{FewAreKept, RollsFit, SavedOnce}
-use Rattle.roll_frame.specs.declared.entry.Entry.TheVariants.{Local, Remote, Disconnect, Sync, Advance, Graft, Partial}
 use Rattle.roll_laws.proofs.Known.{fits, possible_from_fits, OnTime}
 use Rattle.roll_laws.proofs.Ahead.{fits_before}
 use Rattle.roll_laws.proofs.Saved.{In, in_has, in_either, take_timeline, on_time_is, time_begins, begins_on_time}
 use Rattle.roll_laws.proofs.Fronts.{depth_at_least, depth_is, settled_is, Onward, settled_onward}
-use Rattle.roll_laws.proofs.Accepted.{after_either}
+use Rattle.roll_laws.proofs.Accepted.{events_keep}
+use Rattle.roll_laws.proofs.Effects.{is_full, Adds, rolls, grafts, effect_of}
 use Rattle.roll_laws.proofs.Prefixes.{in_prefixes, in_filter, filter_in}
 use Rattle.roll_laws.proofs.Counting.{filter_le, filter_short, filter_none, filter_parts, Distinct, distinct_append, distinct_filter, distinct_prefixes, distinct_short}
 use Rattle.roll_laws.proofs.Starts.{starts_are_small, few_kept}
@@ -65,14 +62,6 @@ far_before old new q o f e =
     (not_from_false (begins_with (timeline old.players (old.frame + 1)) q)
     (false_from_ne_true (begins_with (timeline old.players (old.frame + 1)) q)
     (λ b. false≢true (sym p.1 ∙ begins_later old new q o (live_parts (settled new) new.players q p.0).1 b))))
-
--- no path is made
-few_same : (settings : Settings) (old new : Core) → Few settings old → Onward old new → settled old ≤ settled new → new.ever ≡ old.ever → Few settings new
-few_same settings old new few o f e =
-    record {
-      distinct = subst Distinct (sym e) few.distinct;
-      far = subst (λ (ps : List Rows). length (filter (is_far new) ps) ≤ open_to_branches settings.profile) (sym e) (omega (arith, few.far, filter_le (is_far new) (is_far old) old.ever (λ q i h. far_before old new q o f h)));
-    }
 
 number_append : (p : Rows → Bool) (xs ys : List Rows) → length (filter p (xs ++ ys)) ≡ length (filter p xs) + length (filter p ys)
 number_append p xs ys = ap length (filter-append p xs ys) ∙ length-append (filter p xs) (filter p ys)
@@ -131,7 +120,7 @@ grafted_new core branch q i h =
     false≢true (sym (not-true (contains (kept core) q) b.1) ∙ here)
 
 few_grafted : (settings : Settings) (old new : Core) (branch : Branch) → Few settings old → Onward old new → settled old ≤ settled new
-    → (nat_lt 0 (length (new_paths old branch)) && nat_lt (open_to_branches settings.profile) (length (kept old) + length (new_paths old branch))) ≡ false
+    → is_full settings old branch ≡ false
     → new.ever ≡ old.ever ++ new_paths old branch → Few settings new
 few_grafted settings old new branch few o f t e =
     record {
@@ -159,37 +148,22 @@ few_grafted settings old new branch few o f t e =
       filter_le (is_far new) (is_live (settled old) old.players) old.ever (λ q i h. live_before old new q o f (far_parts new q h).0),
     )
 
-few_step : (settings : Settings) (game : Game) (core : Core) (from : Value) (entry : Entry) → Sound settings core → Few settings core → AllFail (tests_of settings game core from entry) → Onward core (applied core entry) → settled core ≤ settled (applied core entry) → Few settings (applied core entry)
-few_step settings game core from (Local p word) s few h o f = few_same settings core (applied core (Local p word)) few o f (append-nil core.ever)
-few_step settings game core from (Remote p n word) s few h o f = few_same settings core (applied core (Remote p n word)) few o f (append-nil core.ever)
-few_step settings game core from (Disconnect p) s few h o f = few_same settings core (applied core (Disconnect p)) few o f (append-nil core.ever)
-few_step settings game core from Sync s few h o f = few_rolled settings core (applied core Sync) core.frame (cost core core.frame) few o f (omega arith) (omega arith) refl
-few_step settings game core from Advance s few h o f = few_rolled settings core (applied core Advance) (core.frame + 1) (cost core (core.frame + 1)) few o f (omega arith) (omega arith) refl
-few_step settings game core from (Graft ticket route) s few h o f = few_grafted settings core (applied core (Graft ticket route)) (branch_of route) few o f h.1.1.1.1.1.1.1.0 refl
-few_step settings game core from (Partial to made) s few h o f =
-    let can = and_parts (to == core.frame || (to == core.frame + 1 && all_given core.players)) (nat_le made (cost core to)) (not-false _ h.0) in
-    few_rolled settings core (applied core (Partial to made)) to made few o f (near (or_cases (to == core.frame) (to == core.frame + 1 && all_given core.players) can.0)) (leb-true made (cost core to) can.1) refl
-  where
-    near : ((to == core.frame) ≡ true) ⊎ ((to == core.frame + 1 && all_given core.players) ≡ true) → to ≤ core.frame + 1
-    near (inl e) = omega (arith, eqb-true to core.frame e)
-    near (inr e) = omega (arith, eqb-true to (core.frame + 1) (and_parts (to == core.frame + 1) (all_given core.players) e).0)
+few_added : (settings : Settings) (core new : Core) (more : List Rows) → Few settings core → Onward core new → settled core ≤ settled new
+    → new.ever ≡ core.ever ++ more → Adds settings core more → Few settings new
+few_added settings core new more few o f e (rolls to made high cheap) = few_rolled settings core new to made few o f high cheap e
+few_added settings core new more few o f e (grafts branch short anchored room) = few_grafted settings core new branch few o f room e
 
 abbrev Both : Settings → Core → Type 0
 Both settings core = Sound settings core × Few settings core
 
-few_any : (settings : Settings) (game : Game) (core : Core) (event : CoreEvent) → Both settings core → Both settings (after settings game core event)
-few_any settings game core event b = go (after_either settings game core event)
-  where
-    go : (after settings game core event ≡ core) ⊎ (AllFail (tests_of settings game core event.value event.entry) × (after settings game core event ≡ applied core event.entry)) → Both settings (after settings game core event)
-    go (inl e) = subst (Both settings) (sym e) b
-    go (inr h) =
-        let good = step settings game core event.value event.entry b.0 h.0 in
-        let f : settled core ≤ settled (applied core event.entry) = settled_onward core (applied core event.entry) good.0 b.0.root (staying _ good.1.stays good.1.has_local) in
-        subst (Both settings) (sym h.1) (good.1, few_step settings game core event.value event.entry b.0 b.1 h.0 good.0 f)
-
 few_steps : (settings : Settings) (game : Game) (core : Core) (events : List CoreEvent) → Both settings core → Both settings (played_from settings game core events)
-few_steps settings game core [] b = b
-few_steps settings game core (event ∷ events) b = few_steps settings game (after settings game core event) events (few_any settings game core event b)
+few_steps settings game =
+    events_keep settings game (Both settings)
+    (λ core event a b.
+    let good = step settings game core event.value event.entry b.0 a.0 in
+    let f : settled core ≤ settled (applied core event.entry) = settled_onward core (applied core event.entry) good.0 b.0.root (staying _ good.1.stays good.1.has_local) in
+    let e = effect_of settings game core event.value event.entry a.0 in
+    (good.1, few_added settings core (applied core event.entry) (added_by core event.entry) b.1 good.0 f refl e.adds))
 
 -- k paths of the timeline, from one of n rows on
 starts : List Player → ℕ → ℕ → List Rows

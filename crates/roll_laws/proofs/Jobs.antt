@@ -20,7 +20,7 @@ use Rattle.std.specs.Int.{is_in_range}
 use Rattle.roll_laws.proofs.Ahead.{AllLater}
 use Rattle.roll_laws.proofs.Saved.{In, has_in, in_has, longest_at_least, longest_is, take_timeline}
 use Rattle.roll_laws.proofs.Fronts.{settled_is, timeline_stays}
-use Rattle.roll_laws.proofs.Accepted.{of_player_is, changed_later, later_with_words}
+use Rattle.roll_laws.proofs.Accepted.{found, of_player_is, changed_later, later_with_words}
 use Rattle.roll_laws.proofs.Sound.{Sound, sound_played}
 use Rattle.roll_laws.proofs.KeptPaths.{kept_settled, settled_kept}
 
@@ -84,7 +84,8 @@ guess_range core until h =
 -- the players of a guess are later
 pub guess_later : (core : Core) (p until limit : ℕ) (words : List ℕ) → AllFail (guess_tests limit core p words until) → AllLater core.players (changed (with_words words) core.players p)
 guess_later core p until limit words h =
-    changed_later (with_words words) core.players p (λ x e. later_with_words words x (of_player_is (λ player. player.gone) core.players p x false e h.1.0))
+    let it = found (λ player. true) core.players p h.0 in
+    changed_later (with_words words) core.players p it.0 it.1 (later_with_words words it.0 (of_player_is (λ player. player.gone) core.players p it.0 false it.1 h.1.0))
 
 pub guess_begins : (settings : Settings) (core : Core) (p until : ℕ) (words : List ℕ) → Sound settings core → AllFail (guess_tests settings.limit core p words until)
     → take (settled core) (guessed_time core.players p words until) ≡ timeline core.players (settled core)

@@ -4,6 +4,7 @@ pub mod Appended
 pub mod Bounds
 pub mod Counting
 pub mod Delayed
+pub mod Effects
 pub mod Entries
 pub mod Fair
 pub mod Few

@@ -1,23 +1,21 @@
 -- Each roll of a session is fair, so its claim is right.
-use Rattle.std.proofs.Common.{◌≡◌, ℕ, suc, ◌+◌, ◌<◌, ◌≤◌, List, [], ◌∷◌, length, refl, ap, sym, ◌∙◌, false, arith, inl, inr, Some, None, subst}
-use Rattle.std.specs.Prelude.{nat_le}
+use Rattle.std.proofs.Common.{◌≡◌, ℕ, suc, ◌+◌, ◌≤◌, List, [], ◌∷◌, length, refl, ap, sym, ◌∙◌, arith, Option, Some, None, subst}
 use Rattle.std.proofs.lemmas.Bool.{leb-false}
 use Rattle.roll_frame.specs.Cells.{Rows}
 use Rattle.roll_frame.specs.Core.{Roll, Core, first_core, settled, kept, depth}
-use Rattle.roll_frame.specs.Events.{CoreEvent, played, applied, after, played_from}
+use Rattle.roll_frame.specs.Events.{CoreEvent, played, applied, played_from}
 use Rattle.roll_frame.specs.Games.{Game}
 use Rattle.roll_frame.specs.Settings.{start_refusal}
 use Rattle.roll_frame.specs.Timeline.{Player, timeline}
-use Rattle.roll_frame.specs.declared.entry.Entry.{Entry}
 use Rattle.roll_frame.specs.declared.row.Cell.{Cell}
 use Rattle.roll_frame.specs.declared.settings.Settings.{Settings}
 use Rattle.roll_frame.proofs.Timelines.{length_timeline}
 use Rattle.roll_laws.specs.Laws.{Always, ClaimsAreRight, ClaimsNameLeast}
-use Rattle.roll_frame.specs.declared.entry.Entry.TheVariants.{Local, Remote, Disconnect, Sync, Advance, Graft, Partial}
 use Rattle.roll_laws.proofs.Known.{RowFits, Fits, fits, on_time_fits}
 use Rattle.roll_laws.proofs.Saved.{In, has_in, in_has, take_timeline, timeline_on_time}
 use Rattle.roll_laws.proofs.Fronts.{depth_is, depth_at_least, settled_is, settled_onward}
-use Rattle.roll_laws.proofs.Accepted.{Outcome, after_log}
+use Rattle.roll_laws.proofs.Accepted.{events_keep}
+use Rattle.roll_laws.proofs.Effects.{Shows, keeps, reaches, cuts_short, effect_of}
 use Rattle.roll_laws.proofs.Starts.{starts_are_small, few_players, small_threshold}
 use Rattle.roll_laws.proofs.Sound.{Sound, step, staying, first_sound}
 use Rattle.roll_laws.proofs.KeptPaths.{live, kept_settled, start_kept}
@@ -74,43 +72,32 @@ same_roll a b e = cc
 no_roll : (a : Roll) → None ≡ Some a → ⊥
 no_roll a e = cc
 
-pub fine_rolls : (settings : Settings) (core : Core) (entry : Entry) → Fine settings core → Small settings core → (roll : Roll) → (applied core entry).last ≡ Some roll → IsFair settings.players roll
-fine_rolls settings core (Local p word) f small roll e = f.rolls roll e
-fine_rolls settings core (Remote p n word) f small roll e = f.rolls roll e
-fine_rolls settings core (Disconnect p) f small roll e = f.rolls roll e
-fine_rolls settings core Sync f small roll e =
-    subst (IsFair settings.players) (same_roll (roll_of core core.frame) roll e)
-    (subst (λ (n : ℕ). IsFair n (roll_of core core.frame)) f.players (roll_fair settings core core.frame f.sound f.bounded small (omega arith) (omega arith)))
-fine_rolls settings core Advance f small roll e =
-    subst (IsFair settings.players) (same_roll (roll_of core (core.frame + 1)) roll e)
-    (subst (λ (n : ℕ). IsFair n (roll_of core (core.frame + 1))) f.players (roll_fair settings core (core.frame + 1) f.sound f.bounded small (omega arith) (omega arith)))
-fine_rolls settings core (Graft ticket route) f small roll e = f.rolls roll e
-fine_rolls settings core (Partial to made) f small roll e = absurd (no_roll roll e)
-
-fine_any : (settings : Settings) (game : Game) (core : Core) (event : CoreEvent) → start_refusal settings ≡ None → Fine settings core → Fine settings (after settings game core event)
-fine_any settings game core event h f = go (after_log settings game core event)
-  where
-    go : Outcome settings game core event → Fine settings (after settings game core event)
-    go (inl a) = subst (Fine settings) (sym a.0) f
-    go (inr a) =
-        let good = step settings game core event.value event.entry f.sound a.0.0 in
-        let up : settled core ≤ settled (applied core event.entry) = settled_onward core (applied core event.entry) good.0 f.sound.root (staying _ good.1.stays good.1.has_local) in
-        let small = starts_are_small settings h in
-        let few : settings.players ≤ 8 = few_players settings h in
-        let near : settings.threshold ≤ 15 = small_threshold settings h in
-        subst (Fine settings) (sym a.1) (record {
-          sound = good.1;
-          bounded = bounded_step settings game core event.value event.entry near f.sound f.bounded a.0.0 (room a.0.1) up;
-          players = as_many core.players (applied core event.entry).players good.0.players ∙ f.players;
-          rolls = fine_rolls settings core event.entry f (omega (arith, f.players, small.some_players), omega (arith, f.players), near, omega (arith, small.few_frames));
-        })
-      where
-        room : nat_le settings.log core.logged ≡ false → core.logged < settings.log
-        room e = leb-false settings.log core.logged e
+fine_roll : (settings : Settings) (core : Core) (shown : Option Rows) (last : Option Roll) → Fine settings core → Small settings core → Shows core shown last
+    → (roll : Roll) → last ≡ Some roll → IsFair settings.players roll
+fine_roll settings core shown last f small keeps roll e = f.rolls roll e
+fine_roll settings core shown last f small (reaches to low high) roll e =
+    subst (IsFair settings.players) (same_roll (roll_of core to) roll e)
+    (subst (λ (n : ℕ). IsFair n (roll_of core to)) f.players (roll_fair settings core to f.sound f.bounded small low high))
+fine_roll settings core shown last f small cuts_short roll e = absurd (no_roll roll e)
 
 fine_steps : (settings : Settings) (game : Game) (core : Core) (events : List CoreEvent) → start_refusal settings ≡ None → Fine settings core → Fine settings (played_from settings game core events)
-fine_steps settings game core [] h f = f
-fine_steps settings game core (event ∷ events) h f = fine_steps settings game (after settings game core event) events h (fine_any settings game core event h f)
+fine_steps settings game core events h =
+    let small = starts_are_small settings h in
+    let few : settings.players ≤ 8 = few_players settings h in
+    let near : settings.threshold ≤ 15 = small_threshold settings h in
+    events_keep settings game (Fine settings)
+    (λ old event a f.
+    let new : Core = applied old event.entry in
+    let good = step settings game old event.value event.entry f.sound a.0 in
+    let up : settled old ≤ settled new = settled_onward old new good.0 f.sound.root (staying _ good.1.stays good.1.has_local) in
+    let sizes : Small settings old = (omega (arith, f.players, small.some_players), omega (arith, f.players), near, omega (arith, small.few_frames)) in
+    record {
+      sound = good.1;
+      bounded = bounded_step settings game old event.value event.entry near f.sound f.bounded a.0 (leb-false settings.log old.logged a.1) up;
+      players = as_many old.players new.players good.0.players ∙ f.players;
+      rolls = fine_roll settings old new.shown new.last f sizes (effect_of settings game old event.value event.entry a.0).shows;
+    })
+    core events
 
 fine_played : (settings : Settings) (game : Game) (events : List CoreEvent) → start_refusal settings ≡ None → Fine settings (played settings game events)
 fine_played settings game events h =

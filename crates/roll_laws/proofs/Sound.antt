@@ -1,36 +1,32 @@
 -- What holds of every core that events lead to.
-use Rattle.std.proofs.Common.{◌≡◌, ℕ, zero, suc, ◌+◌, ◌-◌, ◌<◌, ◌≤◌, List, [], ◌∷◌, ◌++◌, length, refl, ap, sym, ◌∙◌, Bool, true, false, arith, take, subst, inl, inr, map, min, None}
-use Rattle.std.specs.Prelude.{◌⊎◌, not, ◌&&◌, ◌||◌}
+use Rattle.std.proofs.Common.{◌≡◌, ℕ, zero, suc, ◌+◌, ◌-◌, ◌<◌, ◌≤◌, List, [], ◌∷◌, ◌++◌, length, refl, ap, sym, ◌∙◌, Bool, true, false, arith, take, subst, inl, inr, map, min, Option, None}
+use Rattle.std.specs.Prelude.{◌⊎◌, not, ◌&&◌}
 use Rattle.std.specs.List.{list_any}
-use Rattle.std.proofs.lemmas.Bool.{false≢true, cases_Bool, cases_lt, not-false, not-true, not_from_false, and_parts, and_from, or_cases, leb-false}
-use Rattle.std.proofs.lemmas.List.{append-nil}
+use Rattle.std.proofs.lemmas.Bool.{false≢true, cases_Bool, cases_lt, not-false, not-true, not_from_false, and_parts, and_from, or_cases, or_parts}
 use Rattle.roll_frame.specs.Cells.{Rows}
-use Rattle.roll_frame.specs.Core.{Core, first_core, is_possible, settled, kept, is_live, depth, cost, rolled_paths}
-use Rattle.roll_frame.specs.Events.{CoreEvent, all_given, tests_of, applied, after, played_from, played, branch_of}
+use Rattle.roll_frame.specs.Core.{Roll, Core, first_core, is_possible, settled, kept, is_live, depth, cost, rolled_paths}
+use Rattle.roll_frame.specs.Events.{CoreEvent, all_given, tests_of, added_by, applied, after, played_from, played}
 use Rattle.roll_frame.specs.Games.{Game, Value}
 use Rattle.roll_frame.specs.Grafts.{Branch, whole_of, anchor_length, anchor, new_paths}
-use Rattle.roll_frame.specs.Inputs.{changed, with_words, with_given, with_gone, with_none_given}
+use Rattle.roll_frame.specs.Inputs.{changed, with_none_given}
 use Rattle.roll_frame.specs.Paths.{prefixes, contains}
 use Rattle.roll_frame.specs.Settings.{first_player, first_players, start_tests, start_refusal, is_local, places}
 use Rattle.roll_frame.specs.Timeline.{Player, front, timeline}
 use Rattle.roll_frame.specs.declared.entry.Entry.{Entry}
 use Rattle.roll_frame.specs.declared.settings.Settings.{Settings}
-use Rattle.roll_frame.specs.declared.entry.Entry.TheVariants.{Local, Remote, Disconnect, Sync, Advance, Graft, Partial}
 use Rattle.roll_frame.proofs.Timelines.{timeline_none_given}
 use Rattle.roll_frame.proofs.Refused.{AllFail, all_fail}
 use Rattle.roll_laws.proofs.Known.{Fits, fits, possible_from_fits}
 use Rattle.roll_laws.proofs.Ahead.{AllLater, all_later_same}
 use Rattle.roll_laws.proofs.Saved.{In, in_left, in_right, has_in, take_timeline}
 use Rattle.roll_laws.proofs.Fronts.{HasStaying, front_later, depth_is, depth_at_least, Onward, onward_same, onward_trans, settled_onward}
-use Rattle.roll_laws.proofs.Accepted.{after_either, Each, each_weaker, each_at, at_place, of_player_is, changed_later, changed_each, later_with_words, later_with_given, later_with_gone, later_none_given}
+use Rattle.roll_laws.proofs.Accepted.{events_keep, Each, each_weaker, each_at, at_place, changed_later, changed_each, later_none_given}
+use Rattle.roll_laws.proofs.Effects.{Stays, Moves, rests, changes, begins, Adds, rolls, grafts, effect_of, told_by}
 use Rattle.roll_laws.proofs.Prefixes.{in_prefixes, prefixes_in, in_filter, filter_in, Closed, closed_more, take_below}
 
 abbrev pub HasLocal : List Player → Type 0
 HasLocal [] = ⊥
 HasLocal (p ∷ ps) = (p.local ≡ true) ⊎ HasLocal ps
-
-abbrev pub Stays : Player → Type 0
-Stays p = p.local ≡ true → p.gone ≡ false
 
 -- where a local player has given its word, the frame is below the threshold
 abbrev pub Paced : Settings → Core → Player → Type 0
@@ -56,41 +52,34 @@ staying [] s h = absurd h
 staying (p ∷ ps) s (inl e) = inl (s.0 e)
 staying (p ∷ ps) s (inr h) = inr (staying ps s.1 h)
 
--- an event that leaves the frame
-sound_onward : (settings : Settings) (old new : Core) → Sound settings old → Onward old new → Each Stays new.players → Closed new.ever → new.frame ≡ old.frame → Each (Paced settings old) new.players → Sound settings new
-sound_onward settings old new s o stays closed same given =
-    let has : HasLocal new.players = has_local_later old.players new.players o.players s.has_local in
-    let stay : HasStaying new.players = staying new.players stays has in
-    let up : front old.players ≤ front new.players = front_later old.players new.players o.players stay in
-    record {
-      stays = stays;
-      has_local = has;
-      root = o.ever [] s.root;
-      closed = closed;
-      pace = omega (arith, s.pace);
-      given = each_weaker (Paced settings old) (Paced settings new) new.players (λ p f g. let below : old.frame < front old.players + settings.threshold = f g in omega arith) given;
-      lag = omega (arith, s.lag, settled_onward old new o s.root stay);
-    }
-
 abbrev pub Good : Settings → Core → Core → Type 0
 Good settings old new = Onward old new × Sound settings new
 
-players_good : (settings : Settings) (core : Core) (entry : Entry) (news : List Player) → Sound settings core
-    → AllLater core.players news → Each Stays news → Each (Paced settings core) news
-    → Good settings core (record core { players = news; ever = core.ever ++ []; logged = core.logged + 1 })
-players_good settings core entry news s l stays given =
-    let new : Core = record core { players = news; ever = core.ever ++ []; logged = core.logged + 1 } in
-    let o : Onward core new = record { players = l; ever = λ q h. in_left q core.ever [] h; frame = omega arith } in
-    (o, sound_onward settings core new s o stays (subst Closed (sym (append-nil core.ever)) s.closed) refl given)
+-- the core with these players, at this frame, and with these paths added
+abbrev moved : Core → List Player → ℕ → List Rows → Option Rows → Option Roll → Core
+moved core players frame more shown last = record { players = players; frame = frame; ever = core.ever ++ more; shown = shown; last = last; logged = core.logged + 1 }
 
-ever_good : (settings : Settings) (core new : Core) (more : List Rows) → Sound settings core → new.players ≡ core.players → new.frame ≡ core.frame → new.ever ≡ core.ever ++ more → Closed (core.ever ++ more) → Good settings core new
-ever_good settings core new more s p f e closed =
-    let o : Onward core new = record {
-      players = subst (AllLater core.players) (sym p) (all_later_same core.players);
-      ever = λ q h. subst (In q) (sym e) (in_left q core.ever more h);
-      frame = omega (arith, f);
-    } in
-    (o, sound_onward settings core new s o (subst (Each Stays) (sym p) s.stays) (subst Closed (sym e) closed) f (subst (Each (Paced settings core)) (sym p) s.given))
+-- an event that leaves the frame
+frame_good : (settings : Settings) (core : Core) (players : List Player) (more : List Rows) (shown : Option Rows) (last : Option Roll)
+    → Sound settings core → Closed (core.ever ++ more) → AllLater core.players players → Each Stays players → Each (Paced settings core) players
+    → Good settings core (moved core players core.frame more shown last)
+frame_good settings core players more shown last s closed later stays given =
+    let new : Core = moved core players core.frame more shown last in
+    let o : Onward core new = record { players = later; ever = λ q h. in_left q core.ever more h; frame = omega arith } in
+    let has : HasLocal players = has_local_later core.players players later s.has_local in
+    let stay : HasStaying players = staying players stays has in
+    let up : front core.players ≤ front players = front_later core.players players later stay in (
+      o,
+      record {
+        stays = stays;
+        has_local = has;
+        root = in_left [] core.ever more s.root;
+        closed = closed;
+        pace = omega (arith, s.pace);
+        given = each_weaker (Paced settings core) (Paced settings new) players (λ p f g. let below : core.frame < front core.players + settings.threshold = f g in omega arith) given;
+        lag = omega (arith, s.lag, settled_onward core new o s.root stay);
+      },
+    )
 
 -- the paths that a roll adds are the timeline's, from where it starts on
 pub rolled_closed : (core : Core) (m j : ℕ) → In [] core.ever → Closed core.ever → Closed (core.ever ++ rolled_paths core m j)
@@ -144,22 +133,20 @@ grafted_closed core branch closed kept_one =
             (filter_in (λ q. is_possible core.players q && not (contains (kept core) q)) (take j (whole_of core branch)) (prefixes (whole_of core branch) (anchor_length core branch) (length (whole_of core branch) - anchor_length core branch)) i
             (and_from (is_possible core.players (take j (whole_of core branch))) (not (contains (kept core) (take j (whole_of core branch)))) o (not_from_false (contains (kept core) (take j (whole_of core branch))) k)))
 
-given_local : (settings : Settings) (core : Core) → HasLocal core.players → all_given core.players ≡ true → Each (Paced settings core) core.players → core.frame < front core.players + settings.threshold
-given_local settings core has all given = go core.players has (not-true (list_any (λ player. player.local && not player.given) core.players) all) given
+-- what holds if any player's word was given, where each local player has given its word
+pub local_given : (P : Type 0) (ps : List Player) → HasLocal ps → all_given ps ≡ true
+    → Each (λ p. p.given ≡ true → P) ps → P
+local_given P ps has all given = go ps has (not-true (list_any (λ player. player.local && not player.given) ps) all) given
   where
-    go : (ps : List Player) → HasLocal ps → list_any (λ player. player.local && not player.given) ps ≡ false → Each (Paced settings core) ps → core.frame < front core.players + settings.threshold
+    go : (ps : List Player) → HasLocal ps → list_any (λ player. player.local && not player.given) ps ≡ false → Each (λ p. p.given ≡ true → P) ps → P
     go [] h a g = absurd h
-    go (p ∷ ps) (inl e) a g = g.0 (has_given p.local p.given (list_any (λ player. player.local && not player.given) ps) e a)
+    go (p ∷ ps) (inl e) a g = g.0 (has_given p.local p.given e (or_parts (p.local && not p.given) _ a).0)
       where
-        has_given : (l v : Bool) (r : Bool) → l ≡ true → ((l && not v) || r) ≡ false → v ≡ true
-        has_given true true r x y = refl
-        has_given true false r x y = absurd (false≢true (sym y))
-        has_given false v r x y = absurd (false≢true x)
-    go (p ∷ ps) (inr h) a g = go ps h (rest (p.local && not p.given) (list_any (λ player. player.local && not player.given) ps) a) g.1
-      where
-        rest : (x y : Bool) → (x || y) ≡ false → y ≡ false
-        rest true y e = absurd (false≢true (sym e))
-        rest false y e = e
+        has_given : (l v : Bool) → l ≡ true → (l && not v) ≡ false → v ≡ true
+        has_given true true x y = refl
+        has_given true false x y = absurd (false≢true (sym y))
+        has_given false v x y = absurd (false≢true x)
+    go (p ∷ ps) (inr h) a g = go ps h (or_parts (p.local && not p.given) _ a).1 g.1
 
 pub none_given : (P : Player → Type 0) (ps : List Player) → ((p : Player) → P (with_none_given p)) → Each P (map with_none_given ps)
 none_given P [] f = tt
@@ -169,72 +156,69 @@ none_given_stays : (ps : List Player) → Each Stays ps → Each Stays (map with
 none_given_stays [] h = tt
 none_given_stays (p ∷ ps) h = (h.0, none_given_stays ps h.1)
 
-advance_good : (settings : Settings) (core : Core) → Sound settings core → all_given core.players ≡ true → Good settings core (applied core Advance)
-advance_good settings core s all =
-    let new : Core = applied core Advance in
+-- an event by which the next frame begins
+next_good : (settings : Settings) (core : Core) (shown : Option Rows) (last : Option Roll) → Sound settings core → all_given core.players ≡ true
+    → Good settings core (moved core (map with_none_given core.players) (core.frame + 1) (rolled_paths core (core.frame + 1) (cost core (core.frame + 1))) shown last)
+next_good settings core shown last s all =
+    let more : List Rows = rolled_paths core (core.frame + 1) (cost core (core.frame + 1)) in
+    let new : Core = moved core (map with_none_given core.players) (core.frame + 1) more shown last in
     let l : AllLater core.players new.players = later_none_given core.players in
     let stays : Each Stays new.players = none_given_stays core.players s.stays in
     let has : HasLocal new.players = has_local_later core.players new.players l s.has_local in
     let up : front core.players ≤ front new.players = front_later core.players new.players l (staying new.players stays has) in
-    let closed : Closed new.ever = rolled_closed core (core.frame + 1) (cost core (core.frame + 1)) s.root s.closed in
-    let below : core.frame < front core.players + settings.threshold = given_local settings core s.has_local all s.given in
+    let below : core.frame < front core.players + settings.threshold = local_given _ core.players s.has_local all s.given in
     let end : ℕ = min (front new.players) (core.frame + 1) in
     let saved : In (timeline new.players end) new.ever =
     subst (λ (q : Rows). In q new.ever) (sym (timeline_none_given core.players end)) (rolled_in core (core.frame + 1) end s.root s.closed (omega arith)) in
     let least : end ≤ settled new = depth_at_least new end end (omega arith) saved in (
-      record { players = l; ever = λ q h. in_left q core.ever (rolled_paths core (core.frame + 1) (cost core (core.frame + 1))) h; frame = omega arith },
+      record { players = l; ever = λ q h. in_left q core.ever more h; frame = omega arith },
       record {
         stays = stays;
         has_local = has;
-        root = in_left [] core.ever (rolled_paths core (core.frame + 1) (cost core (core.frame + 1))) s.root;
-        closed = closed;
+        root = in_left [] core.ever more s.root;
+        closed = rolled_closed core (core.frame + 1) (cost core (core.frame + 1)) s.root s.closed;
         pace = omega arith;
         given = none_given (Paced settings new) core.players (λ p e. absurd (false≢true e));
         lag = omega arith;
       },
     )
 
+added_closed : (settings : Settings) (core : Core) (more : List Rows) → Sound settings core → Adds settings core more → Closed (core.ever ++ more)
+added_closed settings core more s (rolls to made high few) = rolled_closed core to made s.root s.closed
+added_closed settings core more s (grafts branch short anchored room) = grafted_closed core branch s.closed anchored
+
+moved_good : (settings : Settings) (core : Core) (players : List Player) (frame : ℕ) (more : List Rows) (told : Option (ℕ × ℕ))
+    (shown : Option Rows) (last : Option Roll) → Sound settings core → Closed (core.ever ++ more)
+    → Moves settings core players frame more told → Good settings core (moved core players frame more shown last)
+moved_good settings core players frame more told shown last s closed (rests added) =
+    frame_good settings core core.players more shown last s closed (all_later_same core.players) s.stays s.given
+moved_good settings core players frame more told shown last s closed (changes change p x word e words plays) =
+    let stays : Stays x = each_at Stays core.players (p - 1) x (at_place core.players p x e) s.stays in
+    frame_good settings core (changed change core.players p) [] shown last s closed
+    (changed_later change core.players p x e (plays.later stays))
+    (changed_each Stays change core.players p x e plays.stays s.stays)
+    (changed_each (Paced settings core) change core.players p x e
+    (λ given g. elim (plays.given g) [ inl before ↦ given before | inr now ↦ now.0 ]) s.given)
+moved_good settings core players frame more told shown last s closed (begins all) = next_good settings core shown last s all
+
 -- each accepted event leads to a core that is sound and later
 pub step : (settings : Settings) (game : Game) (core : Core) (from : Value) (entry : Entry) → Sound settings core → AllFail (tests_of settings game core from entry) → Good settings core (applied core entry)
-step settings game core from (Local p word) s h =
-    let local = not-false _ h.0 in
-    let below : core.frame < front core.players + settings.threshold = leb-false (front core.players + settings.threshold) core.frame h.1.1.0 in
-    players_good settings core (Local p word) (changed (with_given word) core.players p) s
-    (changed_later (with_given word) core.players p (λ x e. later_with_given word x (each_at Stays core.players (p - 1) x (at_place core.players p x e) s.stays (of_player_is (λ player. player.local) core.players p x true e local))))
-    (changed_each Stays (with_given word) core.players p (λ x e k. k) s.stays)
-    (changed_each (Paced settings core) (with_given word) core.players p (λ x e k g. below) s.given)
-step settings game core from (Remote p f word) s h =
-    players_good settings core (Remote p f word) (changed (with_words (word ∷ [])) core.players p) s
-    (changed_later (with_words (word ∷ [])) core.players p (λ x e. later_with_words (word ∷ []) x (of_player_is (λ player. player.gone) core.players p x false e h.1.0)))
-    (changed_each Stays (with_words (word ∷ [])) core.players p (λ x e k. k) s.stays)
-    (changed_each (Paced settings core) (with_words (word ∷ [])) core.players p (λ x e k. k) s.given)
-step settings game core from (Disconnect p) s h =
-    let remote = not-false _ h.0 in
-    players_good settings core (Disconnect p) (changed with_gone core.players p) s
-    (changed_later with_gone core.players p (λ x e. later_with_gone x))
-    (changed_each Stays with_gone core.players p (λ x e k l. absurd (false≢true (sym (not-true x.local (of_player_is (λ player. not player.local) core.players p x true e remote)) ∙ l))) s.stays)
-    (changed_each (Paced settings core) with_gone core.players p (λ x e k. k) s.given)
-step settings game core from Sync s h =
-    ever_good settings core (applied core Sync) (rolled_paths core core.frame (cost core core.frame)) s refl refl refl (rolled_closed core core.frame (cost core core.frame) s.root s.closed)
-step settings game core from Advance s h = advance_good settings core s (not-false _ h.0)
-step settings game core from (Graft ticket route) s h =
-    ever_good settings core (applied core (Graft ticket route)) (new_paths core (branch_of route)) s refl refl refl (grafted_closed core (branch_of route) s.closed (not-false _ h.1.1.1.1.1.0))
-step settings game core from (Partial to made) s h =
-    ever_good settings core (applied core (Partial to made)) (rolled_paths core to made) s refl refl refl (rolled_closed core to made s.root s.closed)
-
-pub step_any : (settings : Settings) (game : Game) (core : Core) (event : CoreEvent) → Sound settings core → Good settings core (after settings game core event)
-step_any settings game core event s = go (after_either settings game core event)
-  where
-    go : (after settings game core event ≡ core) ⊎ (AllFail (tests_of settings game core event.value event.entry) × (after settings game core event ≡ applied core event.entry)) → Good settings core (after settings game core event)
-    go (inl e) = subst (Good settings core) (sym e) (onward_same core, s)
-    go (inr h) = subst (Good settings core) (sym h.1) (step settings game core event.value event.entry s h.0)
+step settings game core from entry s h =
+    let new : Core = applied core entry in
+    let e = effect_of settings game core from entry h in
+    moved_good settings core new.players new.frame (added_by core entry) (told_by entry) new.shown new.last s
+    (added_closed settings core (added_by core entry) s e.adds) e.moves
 
 pub steps : (settings : Settings) (game : Game) (core : Core) (events : List CoreEvent) → Sound settings core → Good settings core (played_from settings game core events)
-steps settings game core [] s = (onward_same core, s)
-steps settings game core (event ∷ events) s =
-    let one = step_any settings game core event s in
-    let rest = steps settings game (after settings game core event) events one.1 in
-    (onward_trans core (after settings game core event) (played_from settings game (after settings game core event) events) one.0 rest.0, rest.1)
+steps settings game core events s =
+    events_keep settings game (Good settings core)
+    (λ old event a good.
+    let more = step settings game old event.value event.entry good.1 a.0 in
+    (onward_trans core old (applied old event.entry) good.0 more.0, more.1))
+    core events (onward_same core, s)
+
+pub step_any : (settings : Settings) (game : Game) (core : Core) (event : CoreEvent) → Sound settings core → Good settings core (after settings game core event)
+step_any settings game core event = steps settings game core (event ∷ [])
 
 first_stays : (settings : Settings) (ps : List ℕ) → Each Stays (map (first_player settings) ps)
 first_stays settings [] = tt

@@ -16,7 +16,7 @@ pub const LINK_ROOM: usize = 64;
 #[derive(Drop)]
 pub struct Link {
     consumer: Consumer<Remote>,
-    /// The last item that was popped, where the owner gave it back.
+    /// The last item that was popped, if the owner gave it back.
     held: Option<Remote>,
     /// Whether the sender has finished, and all that it sent is known.
     ended: bool,
@@ -41,7 +41,9 @@ impl Link {
     /// Both ends of a link by which nothing was sent.
     pub fn open(alloc: Global) -> Result<(LinkSender, Link), AllocError>
         ensures sender { IfOk result (λ ends. ends.0 ≡ record { ring = ends.1.ring; sent = [] }) }
-        ensures link { IfOk result (λ ends. ends.1 ≡ record { ring = ends.1.ring; applied = []; held = None; known = []; ended = false }) }
+        ensures link { IfOk result
+            (λ ends. ends.1
+            ≡ record { ring = ends.1.ring; applied = []; held = None; known = []; ended = false }) }
     {
         let (producer, consumer) = RingBuffer::new(alloc, LINK_ROOM)?;
         let link = Link {
@@ -53,11 +55,17 @@ impl Link {
     }
 
     /// The next item: the one that was given back, or else the next in the ring. It counts as applied, unless it is given
-    /// back. None where the ring is empty.
+    /// back. None if the ring is empty.
     pub fn next(&mut self) -> Option<Remote>
-        ensures same { self.new ≡ record self.old { applied = self.old.applied ++ option_to_list result; held = None; known = self.new.known } }
+        ensures same { self.new ≡ record self.old {
+          applied = self.old.applied
+              ++ option_to_list result;
+          held = None;
+          known = self.new.known;
+        } }
         ensures next { Begins (left self.old) (option_to_list result ++ left self.new) }
-        ensures all { self.old.ended ≡ true → option_to_list result ++ left self.new ≡ left self.old }
+        ensures all { self.old.ended ≡ true → option_to_list result ++ left self.new
+            ≡ left self.old }
         ensures none { IfNone result (left self.new ≡ []) }
     {
         if let Some(item) = self.held.take() {
@@ -76,7 +84,8 @@ impl Link {
     pub fn hold(&mut self, item: Remote)
         requires none { self.old.held ≡ None }
         requires last { self.old.applied ≡ but_last self.old.applied ++ item ∷ [] }
-        ensures { self.new ≡ record self.old { applied = but_last self.old.applied; held = Some item } }
+        ensures { self.new
+            ≡ record self.old { applied = but_last self.old.applied; held = Some item } }
     {
         self.held = Some(item);
     }

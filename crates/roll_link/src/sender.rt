@@ -66,10 +66,12 @@ impl LinkSender {
     ///
     /// # Errors
     ///
-    /// `Full` where the ring has no place, with the item: later there may be one. The first 64 items have a place.
+    /// `Full` if the ring has no place, with the item: later there may be one. The first 64 items have a place.
     pub fn send(&mut self, item: Remote) -> Result<(), SendFault>
-        ensures sent { OnOk result (self.new ≡ record self.old { sent = self.old.sent ++ item ∷ [] }) }
-        ensures refused { IfErr result (λ fault. fault ≡ record { why = Refusal.Full; item = item }) }
+        ensures sent { OnOk result
+            (self.new ≡ record self.old { sent = self.old.sent ++ item ∷ [] }) }
+        ensures refused { IfErr result
+            (λ fault. fault ≡ record { why = Refusal.Full; item = item }) }
         ensures unchanged { OnErr result (self.new ≡ self.old) }
         ensures room { length self.old.sent < ROOM → IsOk result }
     {
@@ -80,7 +82,7 @@ impl LinkSender {
         Ok(())
     }
 
-    /// Ends the link. None where the owner let go of the link before.
+    /// Ends the link. None if the owner let go of the link before.
     pub fn finish(self) -> Option<Finished>
         ensures { IfSome result (λ finished. finished ≡ self) }
     {

@@ -18,7 +18,7 @@ use Rattle.prog_parts.specs.declared.fault.PlayFault.{PlayFault}
 use Rattle.prog_parts.specs.declared.fault.PlayFault.TheVariants.{Unreadable, NoMemory, Read, Write}
 use Rattle.prog_parts.specs.declared.ending.GameName.{GameName}
 use Rattle.prog_replies.proofs.Refused.{refused_so}
-use Rattle.prog_replies.specs.Starts.{started}
+use Rattle.roll_session.specs.Started.{first_seen}
 use Rattle.roll_live.specs.Lives.{FarOf, IsFault, IsOutput, IsUnreadable, WritesOf, WritesUnder}
 
 -- a fault that is handed on names a line only where it is that of a line too far ahead
@@ -37,8 +37,8 @@ not_started texts game settings commands why out new (Err fault) e w h = tt
 not_started texts game settings commands why out new (Ok n) e w h = (ended (refused_line why), rw (refused_so (start_refusal settings) why e h.1) (refl, h.0), w)
 
 -- a session that has just started, with the counts that it has
-pub started_so : (s : Seen) (settings : Settings) (opening : Value) (counts : Counts) → s ≡ record { settings = settings; opening = opening; log = []; counts = counts; reserved = 0 } → s ≡ started settings opening s.counts
-started_so s settings opening counts e = e ∙ ap (started settings opening) (sym (ap (λ (x : Seen). x.counts) e))
+pub started_so : (s : Seen) (settings : Settings) (opening : Value) (counts : Counts) → s ≡ first_seen settings opening counts → s ≡ first_seen settings opening s.counts
+started_so s settings opening counts e = e ∙ ap (first_seen settings opening) (sym (ap (λ (x : Seen). x.counts) e))
 
 -- a line that isn't one of a script can't be read
 pub bad_line : {X Y : Type 0} (r : Result X PlayFault) (answer : Result Y PlayFault) (fault : PlayFault) (known : Option (List ℕ)) (Far : Play → ℕ → Type 0) → r ≡ Err fault → IsErrAnd answer (λ other. other ≡ fault)

@@ -8,11 +8,10 @@ use Rattle.roll_host.specs.Guesses.{with_copy, Speculates}
 use Rattle.roll_host.specs.Hosted.{Hosted}
 use Rattle.roll_host.proofs.Copies.{played_aside}
 use Rattle.roll_host.proofs.Standing.{asked-append, grafts_asked, heard_asked}
-use Rattle.roll_laws.specs.Sessions.{IsLog}
 use Rattle.roll_session.proofs.Headlines.{headline_of, AreAsked}
 use Rattle.roll_session.proofs.Runs.{played_more, played_none}
 use Rattle.roll_session.specs.Answered.{IsPlayed}
-use Rattle.roll_session.specs.Seen.{Seen, Step, game_of, plain}
+use Rattle.roll_session.specs.Seen.{FollowsLog, Seen, Step, plain}
 use Rattle.prog_replies.specs.Calls.{narrowed}
 use Rattle.prog_replies.specs.Output.{Texts}
 use Rattle.prog_scripts.specs.declared.command.Command.{Command}
@@ -86,7 +85,7 @@ module _ (step : Step) (texts : Texts) where
         asked = asked-append events others one.asked rest.asked;
       }
 
-  pub live_headline : (old new : Seen) (commands : List Command) (written : List ℕ) (refused : ℕ) → IsLog old.settings (game_of step old) old.log → IsLive step texts old new commands written refused → HasHeadline step texts old new commands written refused
+  pub live_headline : (old new : Seen) (commands : List Command) (written : List ℕ) (refused : ℕ) → FollowsLog step old → IsLive step texts old new commands written refused → HasHeadline step texts old new commands written refused
   live_headline old new commands written refused logged live =
       let all = all_stood old live.tellings new live.are_told in
-      record { live = live; headline = headline_of step (all_events step texts old live.tellings new live.are_told) (but_guesses old) (but_guesses new) logged all.asked all.played }
+      record { live = live; headline = headline_of step (all_events step texts old live.tellings new live.are_told) (but_guesses old) (but_guesses new) (record { log = logged.log; core = logged.core }) all.asked all.played }

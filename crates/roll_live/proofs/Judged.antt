@@ -28,7 +28,7 @@ use Rattle.roll_laws.proofs.Glue.{log_played}
 use Rattle.roll_laws.specs.Sessions.{IsLog}
 use Rattle.roll_link.specs.declared.remote.Remote.{Remote}
 use Rattle.roll_session.proofs.Runs.{played_none}
-use Rattle.roll_session.specs.Seen.{Seen, Step, core_of, game_of}
+use Rattle.roll_session.specs.Seen.{Seen, Step, game_of}
 use Rattle.roll_live.specs.Items.{is_leaving, item_refusal, item_reply, refusal_of, words_of}
 use Rattle.roll_live.proofs.Logged.{grown, Grown}
 
@@ -144,9 +144,9 @@ counted_one p said n h = omega (arith, h)
 
 -- where one item was applied, what is told of it by the log is its reply
 pub replied_so : (step : Step) (old new : Seen) (item : Remote) (refused : ℕ) (why : Refusal) → AreHeard step old new (item ∷ []) refused
-    → ((w : Refusal) → reply new.settings (game_of step new) (core_of new) (event_of item) ≡ Refused w → can_wait w ≡ false → why ≡ w)
-    → item_reply (nat_lt (length old.log) (length new.log)) refused why ≡ reply old.settings (game_of step old) (core_of old) (event_of item)
-replied_so step old new item refused why heard known = go (is_repeat (core_of old) event.entry) (refusal old.settings game (core_of old) event) refl refl
+    → ((w : Refusal) → reply new.settings (game_of step new) new.core (event_of item) ≡ Refused w → can_wait w ≡ false → why ≡ w)
+    → item_reply (nat_lt (length old.log) (length new.log)) refused why ≡ reply old.settings (game_of step old) old.core (event_of item)
+replied_so step old new item refused why heard known = go (is_repeat old.core event.entry) (refusal old.settings game old.core event) refl refl
   where
     game : Game
     game = game_of step old
@@ -155,16 +155,16 @@ replied_so step old new item refused why heard known = go (is_repeat (core_of ol
     event = event_of item
 
     said : Reply
-    said = reply old.settings game (core_of old) event
+    said = reply old.settings game old.core event
 
-    log : (b : Bool) → is_accepted old.settings game (core_of old) event ≡ b → length new.log ≡ length old.log + (if b then 1 else 0)
+    log : (b : Bool) → is_accepted old.settings game old.core event ≡ b → length new.log ≡ length old.log + (if b then 1 else 0)
     log b a = ap (λ (s : Seen). length s.log) heard.played.seen ∙ (length-append old.log _ ∙ ap (λ n. length old.log + n) (rw a (one b)))
       where
         one : (b : Bool) → length (if b then event.entry ∷ [] else []) ≡ (if b then 1 else 0)
         one true = refl
         one false = refl
 
-    same : is_accepted old.settings game (core_of old) event ≡ false → nat_lt (length old.log) (length new.log) ≡ false
+    same : is_accepted old.settings game old.core event ≡ false → nat_lt (length old.log) (length new.log) ≡ false
     same a = let l = log false a in lt-leb (suc (length old.log)) (length new.log) (omega arith)
 
     count : refused ≡ cond (is_refused said) 1 0
@@ -173,10 +173,10 @@ replied_so step old new item refused why heard known = go (is_repeat (core_of ol
     waits : ◌≡◌ {A = ℕ} (cond (is_to_wait said) 1 0) 0
     waits = sym (counted_one is_to_wait said 0 (sym heard.none_waits))
 
-    core_same : is_accepted old.settings game (core_of old) event ≡ false → reply new.settings (game_of step new) (core_of new) event ≡ said
-    core_same a = let is : new ≡ old = rw a at heard.played.seen ∙ sym (played_none step old).seen in ap (λ (s : Seen). reply s.settings (game_of step s) (core_of s) event) is
+    core_same : is_accepted old.settings game old.core event ≡ false → reply new.settings (game_of step new) new.core event ≡ said
+    core_same a = let is : new ≡ old = rw a at heard.played.seen ∙ sym (played_none step old).seen in ap (λ (s : Seen). reply s.settings (game_of step s) s.core event) is
 
-    go : (again : Bool) (o : Option Refusal) → is_repeat (core_of old) event.entry ≡ again → refusal old.settings game (core_of old) event ≡ o
+    go : (again : Bool) (o : Option Refusal) → is_repeat old.core event.entry ≡ again → refusal old.settings game old.core event ≡ o
         → item_reply (nat_lt (length old.log) (length new.log)) refused why ≡ said
     go true o r e =
         let is : said ≡ Repeated = rw r refl in
@@ -189,7 +189,7 @@ replied_so step old new item refused why heard known = go (is_repeat (core_of ol
         rw (more, is) refl
     go false (Some w) r e =
         let is : said ≡ Refused w = rw (r, e) refl in
-        let not_accepted : is_accepted old.settings game (core_of old) event ≡ false = rw (r, e) refl in
+        let not_accepted : is_accepted old.settings game old.core event ≡ false = rw (r, e) refl in
         let one : refused ≡ 1 = count ∙ ap (λ (x : Reply). cond (is_refused x) 1 0) is in
         let stays : can_wait w ≡ false = go_on (can_wait w) (ap (λ (x : Reply). cond (is_to_wait x) 1 0) (sym is) ∙ waits) in
         let so : why ≡ w = known w (core_same not_accepted ∙ is) stays in

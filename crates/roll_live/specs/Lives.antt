@@ -11,7 +11,7 @@ use Rattle.roll_session.specs.Seen.{Seen, Step}
 use Rattle.roll_text.specs.Lines.{ended, text_of}
 use Rattle.roll_text.specs.Streams.{AppendsPart, IsBadAt}
 use Rattle.prog_scripts.specs.Headers.{settings_of}
-use Rattle.prog_replies.specs.Starts.{started}
+use Rattle.roll_session.specs.Started.{first_seen}
 use Rattle.prog_replies.specs.Output.{Texts, duel_game, refused_line, tally_game}
 use Rattle.prog_scripts.specs.Plays.{IsPlay, IsScript, Play, play_lines}
 use Rattle.roll_duel.specs.Text.{duel_text}
@@ -45,12 +45,12 @@ module _ (texts : Texts) (game : Game) where
   -- doesn't start
   abbrev pub WritesUnder : Settings → List Command → List ℕ → ℕ → Type 0
   WritesUnder settings commands written refused =
-      MatchOption (start_refusal settings) ((counts : Counts) × (new : Seen) × HasHeadline game.step texts (started settings game.opening counts) new commands written refused)
+      MatchOption (start_refusal settings) ((counts : Counts) × (new : Seen) × HasHeadline game.step texts (first_seen settings game.opening counts) new commands written refused)
       (λ why. (written ≡ ended (refused_line why)) × (refused ≡ 1))
 
   -- the command in this line of a session is too far ahead
   abbrev pub IsFarUnder : Settings → List Command → ℕ → Type 0
-  IsFarUnder settings commands line = (counts : Counts) × IsFarAt game.step texts (started settings game.opening counts) commands line
+  IsFarUnder settings commands line = (counts : Counts) × IsFarAt game.step texts (first_seen settings game.opening counts) commands line
 
   abbrev pub Writes : Play → List ℕ → ℕ → Type 0
   Writes play written refused = WritesUnder (settings_of play.setup) play.commands written refused

@@ -15,7 +15,7 @@ use Rattle.roll_host.specs.Heard.{event_of, AreHeard}
 use Rattle.roll_link.specs.declared.remote.Remote.{Remote}
 use Rattle.roll_session.specs.Answered.{IsPlayed, IsReplied}
 use Rattle.roll_session.specs.Calls.{grafting}
-use Rattle.roll_session.specs.Seen.{Seen, Step, core_of, game_of, plain}
+use Rattle.roll_session.specs.Seen.{Seen, Step, game_of, plain}
 use Rattle.roll_text.specs.Lines.{ended}
 use Rattle.prog_replies.specs.Calls.{narrowed}
 use Rattle.prog_replies.specs.Output.{Texts, is_refused, reply_line}
@@ -65,20 +65,20 @@ module _ (step : Step) (texts : Texts) where
   pub record IsAsked (old new : Seen) (event : CoreEvent) (line : Line) : Type 0 where
     pub said : Reply
     pub replied : IsReplied step old new event said
-    pub line_is : line ≡ said_line texts (game_of step new) (core_of new) said
+    pub line_is : line ≡ said_line texts (game_of step new) new.core said
 
   -- an item was sent, and a pump applied what had come. The reply is told by the log; where nothing else had come, it is what
   -- the session replies to the item
   pub record IsHeard (old new : Seen) (item : Remote) (line : Line) : Type 0 where
-    pub near : item.frame < (core_of old).frame + AHEAD_LIMIT
+    pub near : item.frame < old.core.frame + AHEAD_LIMIT
     pub items : List Remote
     pub refused : ℕ
     pub heard : AreHeard step old new items refused
     pub some : 1 ≤ length items
     pub said : Reply
     pub said_is : said ≡ item_reply (nat_lt (length old.log) (length new.log)) refused (item_refusal new.settings new.log item)
-    pub same : items ≡ item ∷ [] → said ≡ reply old.settings (game_of step old) (core_of old) (event_of item)
-    pub line_is : line ≡ said_line texts (game_of step new) (core_of new) said
+    pub same : items ≡ item ∷ [] → said ≡ reply old.settings (game_of step old) old.core (event_of item)
+    pub line_is : line ≡ said_line texts (game_of step new) new.core said
 
   -- each command: a guess has the game copied, if anything; `B` takes branches in, whichever have come
   abbrev pub IsTold : Seen → Seen → Command → Line → Type 0
@@ -93,5 +93,5 @@ module _ (step : Step) (texts : Texts) where
 
 -- a command that ends the run as unreadable: an `R` line whose frame is too far ahead
 abbrev pub IsFar : Seen → Command → Type 0
-IsFar s (Tells p f word) = (core_of s).frame + AHEAD_LIMIT ≤ f
+IsFar s (Tells p f word) = s.core.frame + AHEAD_LIMIT ≤ f
 IsFar s command = ⊥

@@ -58,7 +58,10 @@ where
     requires { (1 ≤ vec_len helpers) × (vec_len helpers ≤ TEAM) }
     ensures written { IfOk result (λ refused. IfSome (R.remaining reader.old) (λ text.
         (written : List ℕ) × IsOutput (Writes G.text_of (record { opening = G.snapshot_value opening; step = G.step })) text written refused × Appends (W.contents writer.old) (W.contents writer.new) written)) }
-    ensures unreadable { (line : ℕ) → result ≡ Err (Unreadable line) → IfSome (R.remaining reader.old) (λ text. IsUnreadable (IsFarOf G.text_of (record { opening = G.snapshot_value opening; step = G.step })) text line) }
+    ensures unreadable { (line : ℕ) → result ≡ Err (Unreadable line)
+        → IfSome (R.remaining reader.old)
+        (λ text. IsUnreadable (IsFarOf G.text_of
+        (record { opening = G.snapshot_value opening; step = G.step })) text line) }
     ensures cut { result ≡ Err CannotWrite → IfSome (R.remaining reader.old) (λ text.
         (whole : List ℕ) × (refused : ℕ) × IsOutput (Writes G.text_of (record { opening = G.snapshot_value opening; step = G.step })) text whole refused × AppendsPart (W.contents writer.old) (W.contents writer.new) whole) }
     ensures untouched { IfErr result (λ fault. (fault ≡ CannotWrite) ⊎ (writer.new ≡ writer.old)) }
@@ -87,9 +90,18 @@ where
     requires fits { IsPlay (play_of script.now) }
     requires few { length script.now.commands.items < 2 ^ 32 }
     requires workers { (1 ≤ vec_len helpers) × (vec_len helpers ≤ TEAM) }
-    ensures written { IfOk result (λ refused. (written : List ℕ) × Writes G.text_of (record { opening = G.snapshot_value opening; step = G.step }) (play_of script.now) written refused × Appends (W.contents writer.old) (W.contents writer.new) written) }
-    ensures far { (line : ℕ) → result ≡ Err (Unreadable line) → IsFarOf G.text_of (record { opening = G.snapshot_value opening; step = G.step }) (play_of script.now) line }
-    ensures cut { result ≡ Err CannotWrite → (whole : List ℕ) × (refused : ℕ) × Writes G.text_of (record { opening = G.snapshot_value opening; step = G.step }) (play_of script.now) whole refused × AppendsPart (W.contents writer.old) (W.contents writer.new) whole }
+    ensures written { IfOk result
+        (λ refused. (written : List ℕ)
+        × Writes G.text_of (record { opening = G.snapshot_value opening; step = G.step })
+        (play_of script.now) written refused
+        × Appends (W.contents writer.old) (W.contents writer.new) written) }
+    ensures far { (line : ℕ) → result ≡ Err (Unreadable line)
+        → IsFarOf G.text_of (record { opening = G.snapshot_value opening; step = G.step })
+        (play_of script.now) line }
+    ensures cut { result ≡ Err CannotWrite → (whole : List ℕ) × (refused : ℕ)
+        × Writes G.text_of (record { opening = G.snapshot_value opening; step = G.step })
+        (play_of script.now) whole refused
+        × AppendsPart (W.contents writer.old) (W.contents writer.new) whole }
     ensures untouched { IfErr result (λ fault. (fault ≡ CannotWrite) ⊎ (writer.new ≡ writer.old)) }
 {
     let mut out = Vec::new(alloc);
@@ -120,8 +132,13 @@ where
     G::Snapshot: Send + 'static,
     requires few { length commands.now < 2 ^ 32 }
     requires workers { (1 ≤ vec_len helpers) × (vec_len helpers ≤ TEAM) }
-    ensures written { IfOk result (λ refused. (written : List ℕ) × WritesUnder G.text_of (record { opening = G.snapshot_value opening; step = G.step }) settings commands.now written refused × (out.new.items ≡ out.old.items ++ written)) }
-    ensures far { (line : ℕ) → result ≡ Err (Unreadable line) → IsFarUnder G.text_of (record { opening = G.snapshot_value opening; step = G.step }) settings commands.now line }
+    ensures written { IfOk result
+        (λ refused. (written : List ℕ)
+        × WritesUnder G.text_of
+        (record { opening = G.snapshot_value opening; step = G.step }) settings commands.now written refused × (out.new.items ≡ out.old.items ++ written)) }
+    ensures far { (line : ℕ) → result ≡ Err (Unreadable line)
+        → IsFarUnder G.text_of
+        (record { opening = G.snapshot_value opening; step = G.step }) settings commands.now line }
     ensures fault { IfErr result (λ fault. fault ≢ CannotWrite) }
 {
     match Session::start(alloc, game, opening, settings) {
@@ -146,8 +163,12 @@ where
     G::Snapshot: Send + 'static,
     requires few { length commands.now < 2 ^ 32 }
     requires workers { (1 ≤ vec_len helpers) × (vec_len helpers ≤ TEAM) }
-    ensures played { IfOk result (λ refused. (new : Seen) × (written : List ℕ) × HasHeadline G.step G.text_of session new commands.now written refused × (out.new.items ≡ out.old.items ++ written)) }
-    ensures far { (line : ℕ) → result ≡ Err (Unreadable line) → IsFarAt G.step G.text_of session commands.now line }
+    ensures played { IfOk result
+        (λ refused. (new : Seen) × (written : List ℕ)
+        × HasHeadline G.step G.text_of session new commands.now written refused
+        × (out.new.items ≡ out.old.items ++ written)) }
+    ensures far { (line : ℕ) → result ≡ Err (Unreadable line)
+        → IsFarAt G.step G.text_of session commands.now line }
     ensures fault { IfErr result (λ fault. fault ≢ CannotWrite) }
 {
     let Ok((owner, ends)) = Owner::open(alloc, helpers.len()) else {
@@ -179,8 +200,12 @@ where
     G: Shown + Drop,
     requires few { length commands.now < 2 ^ 32 }
     requires crew { places_in crew ≡ places_of host.pool }
-    ensures played { IfOk result (λ refused. (new : Seen) × (written : List ℕ) × HasHeadline G.step G.text_of host.session new commands.now written refused × (out.new.items ≡ out.old.items ++ written)) }
-    ensures far { (line : ℕ) → result ≡ Err (Unreadable line) → IsFarAt G.step G.text_of host.session commands.now line }
+    ensures played { IfOk result
+        (λ refused. (new : Seen) × (written : List ℕ)
+        × HasHeadline G.step G.text_of host.session new commands.now written refused
+        × (out.new.items ≡ out.old.items ++ written)) }
+    ensures far { (line : ℕ) → result ≡ Err (Unreadable line)
+        → IsFarAt G.step G.text_of host.session commands.now line }
     ensures fault { IfErr result (λ fault. fault ≢ CannotWrite) }
 {
     let mut host = host;
@@ -203,7 +228,8 @@ where
 /// Has the workers stop, waits for them, and settles what became of their jobs.
 fn end<RT: Threads, G: Game + Drop>(rt: &RT, host: Host<G>, crew: Crew<G>) -> Outcome<G>
     requires { places_in crew ≡ places_of host.pool }
-    ensures { Settles (issued_of host.pool) (collected (came_by host.pool)) result.late.items result.left.items }
+    ensures { Settles (issued_of host.pool)
+        (collected (came_by host.pool)) result.late.items result.left.items }
 {
     let (ends, _games) = crew.join(rt);
     let (_session, outcome) = host.settle(ends);

@@ -3,7 +3,7 @@ ghost use Rattle.std.specs.Prelude.{◌≡◌, [], ◌∷◌, false, length, nat
 ghost use Rattle.roll_frame.specs.Events.{reply};
 ghost use Rattle.roll_frame.specs.Inputs.{player_at};
 ghost use Rattle.roll_host.specs.Heard.{can_wait, event_of, AreHeard};
-ghost use Rattle.roll_session.specs.Seen.{Seen, core_of, game_of};
+ghost use Rattle.roll_session.specs.Seen.{Seen, game_of};
 ghost use Rattle.roll_live.specs.Items.{refusal_of};
 ghost use Rattle.roll_live.specs.Items.{item_refusal as refusal_by_log, item_reply as reply_by_log};
 
@@ -17,7 +17,9 @@ use roll_session::Session;
 /// missing, or else another word was confirmed.
 pub fn item_refusal<G: Game>(session: &Session<G>, item: Remote) -> Refusal
     ensures log { result ≡ refusal_by_log session.now.settings session.now.log item }
-    ensures same { (why : Refusal) → reply session.now.settings (game_of G.step session.now) (core_of session.now) (event_of item) ≡ Reply.Refused why → can_wait why ≡ false → result ≡ why }
+    ensures same { (why : Refusal)
+        → reply session.now.settings (game_of G.step session.now) session.now.core (event_of item)
+        ≡ Reply.Refused why → can_wait why ≡ false → result ≡ why }
 {
     session.laws();
     player_refusal(session, item.player, item.frame)
@@ -25,7 +27,7 @@ pub fn item_refusal<G: Game>(session: &Session<G>, item: Remote) -> Refusal
 
 /// Why a player's word of a frame is refused for good.
 fn player_refusal<G: Game>(session: &Session<G>, player: u8, frame: u32) -> Refusal
-    ensures { result ≡ refusal_of (player_at (core_of session.now).players player) frame }
+    ensures { result ≡ refusal_of (player_at session.now.core.players player) frame }
 {
     let Some(count) = session.confirmed(player) else {
         return Refusal::InvalidPlayer;
@@ -46,11 +48,14 @@ fn player_refusal<G: Game>(session: &Session<G>, player: u8, frame: u32) -> Refu
     }
 }
 
-/// The reply to an item that was applied, where the log had so many entries before, and so many of the items that a pump applied
+/// The reply to an item that was applied, when the log had so many entries before, and so many of the items that a pump applied
 /// were refused.
 pub fn item_reply<G: Game>(session: &Session<G>, logged: usize, refused: u32, item: Remote) -> Reply
-    ensures log { result ≡ reply_by_log (nat_lt logged (length session.now.log)) refused (refusal_by_log session.now.settings session.now.log item) }
-    ensures same { (old : Seen) → length old.log ≡ logged → AreHeard G.step old session.now (item ∷ []) refused → result ≡ reply old.settings (game_of G.step old) (core_of old) (event_of item) }
+    ensures log { result ≡ reply_by_log (nat_lt logged (length session.now.log)) refused
+        (refusal_by_log session.now.settings session.now.log item) }
+    ensures same { (old : Seen) → length old.log ≡ logged
+        → AreHeard G.step old session.now (item ∷ []) refused → result
+        ≡ reply old.settings (game_of G.step old) old.core (event_of item) }
 {
     if session.log().len() > logged {
         Reply::Taken

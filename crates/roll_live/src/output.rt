@@ -1,6 +1,6 @@
 //! What is written of a session that is played live.
 ghost use Rattle.std.specs.Prelude.{◌≡◌, ◌++◌, IfErr, OnOk};
-ghost use Rattle.roll_session.specs.Seen.{core_of, game_of};
+ghost use Rattle.roll_session.specs.Seen.{game_of};
 ghost use Rattle.roll_text.specs.Lines.{ended};
 ghost use Rattle.roll_live.specs.Told.{live_line, state_line};
 
@@ -16,7 +16,9 @@ pub fn push_line<G: Shown>(
     session: &Session<G>,
     reply: Reply,
 ) -> Result<(), PlayFault>
-    ensures written { OnOk result (out.new.items ≡ out.old.items ++ ended (live_line G.text_of (game_of G.step session.now) (core_of session.now) reply)) }
+    ensures written { OnOk result
+        (out.new.items ≡ out.old.items
+        ++ ended (live_line G.text_of (game_of G.step session.now) session.now.core reply)) }
     ensures fault { IfErr result (λ fault. fault ≡ PlayFault.NoMemory) }
 {
     match reply {
@@ -31,7 +33,9 @@ pub fn push_line<G: Shown>(
 
 /// Writes the frame and the state, without the line's end.
 fn push_state<G: Shown>(out: &mut Vec<u8>, session: &Session<G>) -> Result<(), PlayFault>
-    ensures written { OnOk result (out.new.items ≡ out.old.items ++ state_line G.text_of (game_of G.step session.now) (core_of session.now)) }
+    ensures written { OnOk result
+        (out.new.items ≡ out.old.items
+        ++ state_line G.text_of (game_of G.step session.now) session.now.core) }
     ensures fault { IfErr result (λ fault. fault ≡ PlayFault.NoMemory) }
 {
     let Some(state) = session.current() else {

@@ -8,7 +8,6 @@ ghost use Rattle.roll_host.specs.Hosted.{places_of};
 ghost use Rattle.roll_link.specs.declared.remote.Remote.{Remote as Item};
 ghost use Rattle.roll_session.specs.Answered.{IsPlayed};
 ghost use Rattle.roll_session.specs.Calls.{event_of as event_of_call, grafting};
-ghost use Rattle.roll_session.specs.Seen.{core_of};
 ghost use Rattle.prog_replies.specs.Output.{is_refused as refuses};
 ghost use Rattle.roll_live.specs.Lives.{IsFarAt};
 ghost use Rattle.roll_live.specs.Tellings.{IsLive};
@@ -46,10 +45,15 @@ impl<G: Shown> Playing<G> {
         commands: &[Command],
     ) -> Result<u32, PlayFault>
         requires { length commands.now < 2 ^ 32 }
-        ensures played { IfOk result (λ refused. (written : List ℕ) × IsLive G.step G.text_of self.old.host.session self.new.host.session commands.now written refused × (out.new.items ≡ out.old.items ++ written)) }
-        ensures far { (line : ℕ) → result ≡ Err (PlayFault.Unreadable line) → IsFarAt G.step G.text_of self.old.host.session commands.now line }
-        ensures fault { IfErr result (λ fault. (fault ≢ PlayFault.Read) × (fault ≢ PlayFault.Write)) }
-        ensures sent { OnOk result (self.new.sender.sent ≡ self.old.sender.sent ++ flat_map items_of commands.now) }
+        ensures played { IfOk result
+            (λ refused. (written : List ℕ)
+            × IsLive G.step G.text_of self.old.host.session self.new.host.session commands.now written refused × (out.new.items ≡ out.old.items ++ written)) }
+        ensures far { (line : ℕ) → result ≡ Err (PlayFault.Unreadable line)
+            → IsFarAt G.step G.text_of self.old.host.session commands.now line }
+        ensures fault { IfErr result
+            (λ fault. (fault ≢ PlayFault.Read) × (fault ≢ PlayFault.Write)) }
+        ensures sent { OnOk result
+            (self.new.sender.sent ≡ self.old.sender.sent ++ flat_map items_of commands.now) }
         ensures places { places_of self.new.host.pool ≡ places_of self.old.host.pool }
     {
         let mut refused = 0;
@@ -71,9 +75,15 @@ impl<G: Shown> Playing<G> {
         line: u64,
         command: &Command,
     ) -> Result<bool, PlayFault>
-        ensures told { IfOk result (λ refused. (text : List ℕ) × IsTold G.step G.text_of self.old.host.session self.new.host.session command.now (record { text = text; refused = refused }) × (out.new.items ≡ out.old.items ++ text)) }
-        ensures fault { IfErr result (λ fault. (fault ≡ PlayFault.NoMemory) ⊎ ((fault ≡ PlayFault.Unreadable line) × IsFar self.old.host.session command.now)) }
-        ensures sent { OnOk result (self.new.sender.sent ≡ self.old.sender.sent ++ items_of command.now) }
+        ensures told { IfOk result
+            (λ refused. (text : List ℕ)
+            × IsTold G.step G.text_of self.old.host.session self.new.host.session command.now
+            (record { text = text; refused = refused }) × (out.new.items ≡ out.old.items ++ text)) }
+        ensures fault { IfErr result
+            (λ fault. (fault ≡ PlayFault.NoMemory)
+            ⊎ ((fault ≡ PlayFault.Unreadable line) × IsFar self.old.host.session command.now)) }
+        ensures sent { OnOk result
+            (self.new.sender.sent ≡ self.old.sender.sent ++ items_of command.now) }
         ensures places { places_of self.new.host.pool ≡ places_of self.old.host.pool }
     {
         match command {
@@ -111,7 +121,11 @@ impl<G: Shown> Playing<G> {
     /// Makes a call, and writes its reply.
     fn answer(&mut self, out: &mut Vec<u8>, call: Call) -> Result<bool, PlayFault>
         ensures sender { self.new.sender ≡ self.old.sender }
-        ensures told { IfOk result (λ refused. (text : List ℕ) × IsAsked G.step G.text_of self.old.host.session self.new.host.session (event_of_call call) (record { text = text; refused = refused }) × (out.new.items ≡ out.old.items ++ text)) }
+        ensures told { IfOk result
+            (λ refused. (text : List ℕ)
+            × IsAsked G.step G.text_of self.old.host.session self.new.host.session
+            (event_of_call call) (record { text = text; refused = refused })
+            × (out.new.items ≡ out.old.items ++ text)) }
         ensures fault { IfErr result (λ fault. fault ≡ PlayFault.NoMemory) }
         ensures places { places_of self.new.host.pool ≡ places_of self.old.host.pool }
     {
@@ -132,8 +146,14 @@ impl<G: Shown> Playing<G> {
         item: Remote,
     ) -> Result<bool, PlayFault>
         ensures sent { OnOk result (self.new.sender.sent ≡ self.old.sender.sent ++ item ∷ []) }
-        ensures told { IfOk result (λ refused. (text : List ℕ) × IsHeard G.step G.text_of self.old.host.session self.new.host.session item (record { text = text; refused = refused }) × (out.new.items ≡ out.old.items ++ text)) }
-        ensures fault { IfErr result (λ fault. (fault ≡ PlayFault.NoMemory) ⊎ ((fault ≡ PlayFault.Unreadable line) × ((core_of self.old.host.session).frame + AHEAD_LIMIT ≤ item.frame))) }
+        ensures told { IfOk result
+            (λ refused. (text : List ℕ)
+            × IsHeard G.step G.text_of self.old.host.session self.new.host.session item
+            (record { text = text; refused = refused }) × (out.new.items ≡ out.old.items ++ text)) }
+        ensures fault { IfErr result
+            (λ fault. (fault ≡ PlayFault.NoMemory)
+            ⊎ ((fault ≡ PlayFault.Unreadable line)
+            × (self.old.host.session.core.frame + AHEAD_LIMIT ≤ item.frame))) }
         ensures places { places_of self.new.host.pool ≡ places_of self.old.host.pool }
     {
         let frame = self.host.session().frame();
@@ -151,7 +171,10 @@ impl<G: Shown> Playing<G> {
     /// Sends an item, and pumps until something is applied, which nothing else can be. Answers how many items were refused.
     fn apply<RT: Wait>(&mut self, rt: &RT, item: Remote) -> Result<u32, PlayFault>
         ensures sent { OnOk result (self.new.sender.sent ≡ self.old.sender.sent ++ item ∷ []) }
-        ensures heard { IfOk result (λ refused. (items : List Item) × AreHeard G.step self.old.host.session self.new.host.session items refused × (1 ≤ length items)) }
+        ensures heard { IfOk result
+            (λ refused. (items : List Item)
+            × AreHeard G.step self.old.host.session self.new.host.session items refused
+            × (1 ≤ length items)) }
         ensures fault { IfErr result (λ fault. fault ≡ PlayFault.NoMemory) }
         ensures places { places_of self.new.host.pool ≡ places_of self.old.host.pool }
     {
@@ -173,7 +196,8 @@ impl<G: Shown> Playing<G> {
     /// Has the workers run a guess. Where it is refused it isn't run, and nothing else is different.
     fn guess(&mut self, player: u8, words: &[u32], until: u32)
         ensures sender { self.new.sender ≡ self.old.sender }
-        ensures session { self.new.host.session ≡ record self.old.host.session { counts = guessed_counts self.old.host.session.counts self.new.host.session.counts } }
+        ensures session { self.new.host.session
+            ≡ record self.old.host.session { counts = guessed_counts self.old.host.session.counts self.new.host.session.counts } }
         ensures places { places_of self.new.host.pool ≡ places_of self.old.host.pool }
     {
         let _ = self.host.speculate(player, words, until);
@@ -182,7 +206,8 @@ impl<G: Shown> Playing<G> {
     /// Takes in the branches that have come.
     fn absorb(&mut self)
         ensures sender { self.new.sender ≡ self.old.sender }
-        ensures played { (branches : List Routed) × IsPlayed G.step self.old.host.session self.new.host.session (map grafting branches) }
+        ensures played { (branches : List Routed)
+            × IsPlayed G.step self.old.host.session self.new.host.session (map grafting branches) }
         ensures places { places_of self.new.host.pool ≡ places_of self.old.host.pool }
     {
         self.host.absorb();

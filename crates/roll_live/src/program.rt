@@ -40,9 +40,11 @@ where
     R: Read,
     W: Write,
     requires { (1 ≤ asked.workers) × (asked.workers ≤ TEAM) }
-    ensures ends { IfSome (R.remaining reader.old) (λ text. Ends asked.game text (W.contents writer.old) (W.contents writer.new) result) }
+    ensures ends { IfSome (R.remaining reader.old)
+        (λ text. Ends asked.game text (W.contents writer.old) (W.contents writer.new) result) }
     ensures status { MatchOption result.fault (result.status ≤ 1) (λ fault. result.status ≡ 2) }
-    ensures untouched { IfSome result.fault (λ fault. (fault ≡ CannotWrite) ⊎ (writer.new ≡ writer.old)) }
+    ensures untouched { IfSome result.fault
+        (λ fault. (fault ≡ CannotWrite) ⊎ (writer.new ≡ writer.old)) }
     ensures taken { TakesAtMost (TEXT_LIMIT + 1) (R.remaining reader.old) (R.remaining reader.new) }
 {
     match perform(alloc, rt, asked, reader, writer) {
@@ -73,7 +75,9 @@ where
     requires { (1 ≤ asked.workers) × (asked.workers ≤ TEAM) }
     ensures written { IfOk result (λ refused. IfSome (R.remaining reader.old) (λ text.
         (written : List ℕ) × IsOutput (WritesOf asked.game) text written refused × Appends (W.contents writer.old) (W.contents writer.new) written)) }
-    ensures fault { IfErr result (λ fault. IfSome (R.remaining reader.old) (λ text. IsFault asked.game text (W.contents writer.old) (W.contents writer.new) fault)) }
+    ensures fault { IfErr result
+        (λ fault. IfSome (R.remaining reader.old)
+        (λ text. IsFault asked.game text (W.contents writer.old) (W.contents writer.new) fault)) }
     ensures untouched { IfErr result (λ fault. (fault ≡ CannotWrite) ⊎ (writer.new ≡ writer.old)) }
     ensures taken { TakesAtMost (TEXT_LIMIT + 1) (R.remaining reader.old) (R.remaining reader.new) }
 {
@@ -112,9 +116,14 @@ where
     requires fits { IsPlay (play_of script.now) }
     requires few { length script.now.commands.items < 2 ^ 32 }
     requires workers { (1 ≤ workers) × (workers ≤ TEAM) }
-    ensures written { IfOk result (λ refused. (written : List ℕ) × DuelWrites (play_of script.now) written refused × Appends (W.contents writer.old) (W.contents writer.new) written) }
-    ensures far { (line : ℕ) → result ≡ Err (Unreadable line) → FarOf DuelName (play_of script.now) line }
-    ensures cut { result ≡ Err CannotWrite → (whole : List ℕ) × (refused : ℕ) × DuelWrites (play_of script.now) whole refused × AppendsPart (W.contents writer.old) (W.contents writer.new) whole }
+    ensures written { IfOk result
+        (λ refused. (written : List ℕ) × DuelWrites (play_of script.now) written refused
+        × Appends (W.contents writer.old) (W.contents writer.new) written) }
+    ensures far { (line : ℕ) → result ≡ Err (Unreadable line)
+        → FarOf DuelName (play_of script.now) line }
+    ensures cut { result ≡ Err CannotWrite → (whole : List ℕ) × (refused : ℕ)
+        × DuelWrites (play_of script.now) whole refused
+        × AppendsPart (W.contents writer.old) (W.contents writer.new) whole }
     ensures untouched { IfErr result (λ fault. (fault ≡ CannotWrite) ⊎ (writer.new ≡ writer.old)) }
 {
     let ships = script.header.players as u8;

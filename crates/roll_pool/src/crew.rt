@@ -38,7 +38,8 @@ impl<G: Game + Drop> Post<G> {
         G: Send + 'static,
         G::State: Send + 'static,
         G::Snapshot: Send + 'static,
-        ensures post { IfOk result (λ post. post ≡ record { end = end; counts = G.call_counts game }) }
+        ensures post { IfOk result
+            (λ post. post ≡ record { end = end; counts = G.call_counts game }) }
         ensures refused { IfErr result (λ why. why ≡ Refusal.NoMemory) }
     {
         let signals = Arc::try_clone(&end.signals)?;
@@ -97,7 +98,8 @@ impl<G: Game + Drop> Crew<G> {
         G: Send + 'static,
         G::State: Send + 'static,
         G::Snapshot: Send + 'static,
-        ensures hired { OnOk result (self.new ≡ self.old ++ record { end = end; counts = G.call_counts game } ∷ []) }
+        ensures hired { OnOk result
+            (self.new ≡ self.old ++ record { end = end; counts = G.call_counts game } ∷ []) }
         ensures refused { IfErr result (λ why. why ≡ Refusal.NoMemory) }
     {
         self.posts.reserve(1)?;
@@ -113,7 +115,8 @@ impl<G: Game + Drop> Crew<G> {
     pub fn join<R: Threads>(self, rt: &R) -> (Vec<WorkerEnd<G>>, Vec<G>)
         ensures ends { map (λ end. end.place) result.0.items ≡ places_in self }
         ensures games { vec_len result.1 ≡ length self }
-        ensures served { AreBack self result.0.items (map (λ game. G.call_counts game) result.1.items) }
+        ensures served { AreBack self result.0.items
+            (map (λ game. G.call_counts game) result.1.items) }
     {
         let Crew {
             posts,

@@ -49,7 +49,8 @@ impl<G: Game + Drop> Handle<G> {
         G: Send + 'static,
         G::State: Send + 'static,
         G::Snapshot: Send + 'static,
-        ensures handle { IfOk result (λ handle. handle ≡ record { end = end; counts = G.call_counts game }) }
+        ensures handle { IfOk result
+            (λ handle. handle ≡ record { end = end; counts = G.call_counts game }) }
         ensures refused { IfErr result (λ why. why ≡ Refusal.NoMemory) }
     {
         let promise = HandsBack {
@@ -60,7 +61,8 @@ impl<G: Game + Drop> Handle<G> {
             &rt,
             promise,
             move || -> (WorkerEnd<G>, G)
-                ensures { HasServed (record { end = end; counts = G.call_counts game }) (record { end = result.0; counts = G.call_counts result.1 }) }
+                ensures { HasServed (record { end = end; counts = G.call_counts game })
+                    (record { end = result.0; counts = G.call_counts result.1 }) }
             {
                 let mut end = end;
                 let mut game = game;

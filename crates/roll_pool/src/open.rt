@@ -28,14 +28,17 @@ impl<G: Game> Owner<G> {
     ///
     /// # Errors
     ///
-    /// `InvalidRequest` where the number is not 1 to 4; else `NoMemory` where the allocator has no room.
+    /// `InvalidRequest` if the number is not 1 to 4; else `NoMemory` if the allocator has no room.
     pub fn open(alloc: Global, workers: usize) -> Result<(Owner<G>, Vec<WorkerEnd<G>>), Refusal>
         ensures places { IfOk result (λ pool. map (λ end. end.place) pool.1.items ≡ pool.0.places) }
         ensures ends { IfOk result (λ pool. pool.1.items ≡ map fresh pool.0.places) }
-        ensures team { IfOk result (λ pool. (length pool.0.places ≡ workers) × (pool.0.came ≡ replicate workers [])) }
+        ensures team { IfOk result
+            (λ pool. (length pool.0.places ≡ workers) × (pool.0.came ≡ replicate workers [])) }
         ensures new { IfOk result (λ pool. pool.0.issued ≡ []) }
         ensures capacity { IfOk result (λ pool. MOST ≤ pool.0.capacity) }
-        ensures refused { IfErr result (λ why. why ≡ (if nat_eq workers 0 || nat_lt TEAM workers then Refusal.InvalidRequest else Refusal.NoMemory)) }
+        ensures refused { IfErr result
+            (λ why. why ≡
+            (if nat_eq workers 0 || nat_lt TEAM workers then Refusal.InvalidRequest else Refusal.NoMemory)) }
         ensures range { OnOk result ((1 ≤ workers) × (workers ≤ TEAM)) }
     {
         if workers == 0 || workers > WORKER_LIMIT {
@@ -76,10 +79,19 @@ fn hire_all<G: Game>(
     workers: usize,
 ) -> Result<(Vec<Results<G>>, Vec<WorkerEnd<G>>), AllocError>
     requires new { worker_view deque.old ≡ tally true [] 0 0 [] }
-    ensures same { IfOk result (λ _. (worker_deque deque.new ≡ worker_deque deque.old) × (worker_flavor deque.new ≡ worker_flavor deque.old) × (worker_index deque.new ≡ worker_index deque.old) × (worker_capacity deque.old ≤ worker_capacity deque.new)) }
+    ensures same { IfOk result
+        (λ _. (worker_deque deque.new ≡ worker_deque deque.old)
+        × (worker_flavor deque.new ≡ worker_flavor deque.old)
+        × (worker_index deque.new ≡ worker_index deque.old)
+        × (worker_capacity deque.old ≤ worker_capacity deque.new)) }
     ensures view { IfOk result (λ _. worker_view deque.new ≡ tally true [] workers 0 []) }
-    ensures ends { IfOk result (λ hired. hired.1.items ≡ map fresh (places_at (worker_deque deque.new) (signals_at (arc_value signals.now)) (rings_of hired.0.items))) }
-    ensures came { IfOk result (λ hired. (came_by hired.0.items ≡ replicate workers []) × (vec_len hired.0 ≡ workers) × (vec_len hired.1 ≡ workers)) }
+    ensures ends { IfOk result
+        (λ hired. hired.1.items ≡ map fresh
+        (places_at (worker_deque deque.new) (signals_at (arc_value signals.now))
+        (rings_of hired.0.items))) }
+    ensures came { IfOk result
+        (λ hired. (came_by hired.0.items ≡ replicate workers []) × (vec_len hired.0 ≡ workers)
+        × (vec_len hired.1 ≡ workers)) }
 {
     let mut rings = Vec::with_capacity(alloc, workers)?;
     let mut ends = Vec::with_capacity(alloc, workers)?;
@@ -98,9 +110,21 @@ fn hire<G: Game>(
     signals: &Arc<Signals, Global>,
 ) -> Result<(Results<G>, WorkerEnd<G>), AllocError>
     requires { (worker_view deque.old).owns ≡ true }
-    ensures same { IfOk result (λ _. (worker_deque deque.new ≡ worker_deque deque.old) × (worker_flavor deque.new ≡ worker_flavor deque.old) × (worker_index deque.new ≡ worker_index deque.old) × (worker_capacity deque.old ≤ worker_capacity deque.new)) }
+    ensures same { IfOk result
+        (λ _. (worker_deque deque.new ≡ worker_deque deque.old)
+        × (worker_flavor deque.new ≡ worker_flavor deque.old)
+        × (worker_index deque.new ≡ worker_index deque.old)
+        × (worker_capacity deque.old ≤ worker_capacity deque.new)) }
     ensures view { IfOk result (λ _. worker_view deque.new ≡ counting_out (worker_view deque.old)) }
-    ensures ends { IfOk result (λ ends. (ends.0.came ≡ []) × (ends.1 ≡ fresh (record { deque = worker_deque deque.new; ring = ends.0.ring; signals = signals_at (arc_value signals.now) }))) }
+    ensures ends { IfOk result
+        (λ ends. (ends.0.came ≡ [])
+        × (ends.1 ≡ fresh
+        (record {
+          deque = worker_deque deque.new;
+          ring = ends.0.ring;
+          signals = signals_at
+              (arc_value signals.now);
+        }))) }
 {
     let thief = deque.stealer()?;
     let (results, consumer) = RingBuffer::new(alloc, RESULT_PLACES)?;

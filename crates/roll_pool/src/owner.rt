@@ -65,17 +65,23 @@ impl<G: Game> Owner<G> {
     ///
     /// # Errors
     ///
-    /// `Full` where 64 jobs are out; else `QueueRefused` where 2^62 jobs were issued, or where the queue needs to grow and has
+    /// `Full` if 64 jobs are out; else `QueueRefused` if 2^62 jobs were issued, or if the queue needs to grow and has
     /// no memory for it, which isn't asked of it for its first jobs, as many as its capacity. The job is handed back as it was.
     pub fn issue(&mut self, job: Job<G>) -> Result<u64, IssueFault<G>>
         ensures ticket { IfOk result (λ ticket. ticket ≡ length self.old.issued) }
-        ensures issued { IfOk result (λ ticket. self.new.issued ≡ self.old.issued ++ record job { ticket = ticket } ∷ []) }
+        ensures issued { IfOk result
+            (λ ticket. self.new.issued ≡ self.old.issued ++ record job { ticket = ticket } ∷ []) }
         ensures room { OnOk result (out_of self.old + 1 ≤ MOST) }
-        ensures refused { IfErr result (λ fault. fault.why ≡ (if nat_le MOST (out_of self.old) then Refusal.Full else Refusal.QueueRefused)) }
-        ensures queue { IfErr result (λ fault. fault.why ≡ Refusal.QueueRefused → (2 ^ 62 ≤ length self.old.issued) ⊎ (self.old.capacity ≤ length self.old.issued)) }
+        ensures refused { IfErr result
+            (λ fault. fault.why ≡ (if nat_le MOST
+            (out_of self.old) then Refusal.Full else Refusal.QueueRefused)) }
+        ensures queue { IfErr result
+            (λ fault. fault.why ≡ Refusal.QueueRefused → (2 ^ 62 ≤ length self.old.issued)
+            ⊎ (self.old.capacity ≤ length self.old.issued)) }
         ensures back { IfErr result (λ fault. fault.job ≡ job) }
         ensures unchanged { OnErr result (self.new.issued ≡ self.old.issued) }
-        ensures same { (self.new.places ≡ self.old.places) × (self.new.came ≡ self.old.came) × (self.old.capacity ≤ self.new.capacity) }
+        ensures same { (self.new.places ≡ self.old.places) × (self.new.came ≡ self.old.came)
+            × (self.old.capacity ≤ self.new.capacity) }
     {
         if self.out() >= JOBS_OUT {
             return Err(IssueFault {
@@ -100,7 +106,7 @@ impl<G: Game> Owner<G> {
         Ok(ticket)
     }
 
-    /// The next result of the first worker, in order, that has one. `None` where no result is seen.
+    /// The next result of the first worker, in order, that has one. `None` if no result is seen.
     pub fn collect(&mut self) -> Option<Done<G>>
         ensures some { IfSome result (λ done. IsCollected self.old.came self.new.came done) }
         ensures none { IfNone result (self.new ≡ self.old) }
@@ -143,8 +149,12 @@ impl<G: Game> Owner<G> {
 /// The next result of one worker.
 fn pop_at<G: Game>(rings: &mut Vec<Results<G>>, place: usize) -> Option<Done<G>>
     requires { place < vec_len rings.old }
-    ensures same { (rings_of rings.new.items ≡ rings_of rings.old.items) × (vec_len rings.new ≡ vec_len rings.old) }
-    ensures some { IfSome result (λ done. came_by rings.new.items ≡ set (came_by rings.old.items) place (get_or (came_by rings.old.items) place [] ++ done ∷ [])) }
+    ensures same { (rings_of rings.new.items ≡ rings_of rings.old.items)
+        × (vec_len rings.new ≡ vec_len rings.old) }
+    ensures some { IfSome result
+        (λ done. came_by rings.new.items
+        ≡ set (came_by rings.old.items) place
+        (get_or (came_by rings.old.items) place [] ++ done ∷ [])) }
     ensures none { IfNone result (rings.new.items ≡ rings.old.items) }
 {
     let ring = &mut rings[place];

@@ -36,7 +36,8 @@ impl<G: Game> Results<G> {
     /// The next result, if one is seen.
     pub fn pop(&mut self) -> Option<Done<G>>
         ensures ring { self.new.ring ≡ self.old.ring }
-        ensures some { IfSome result (λ done. self.new ≡ record self.old { came = self.old.came ++ done ∷ [] }) }
+        ensures some { IfSome result
+            (λ done. self.new ≡ record self.old { came = self.old.came ++ done ∷ [] }) }
         ensures none { IfNone result (self.new ≡ self.old) }
     {
         match self.consumer.pop() {

@@ -37,11 +37,16 @@ impl<G: Game> Owner<G> {
     /// Ends a pool whose workers have come back, with all their ends in order of worker. It takes no memory.
     pub fn settle(self, ends: Vec<WorkerEnd<G>>) -> Outcome<G>
         requires { map (λ end. end.place) ends.items ≡ self.places }
-        ensures counts { (result.issued ≡ length self.issued) × (result.collected ≡ length (collected self.came)) }
-        ensures jobs { Settles self.issued (collected self.came) result.late.items result.left.items }
+        ensures counts { (result.issued ≡ length self.issued)
+            × (result.collected ≡ length (collected self.came)) }
+        ensures jobs { Settles self.issued
+            (collected self.came) result.late.items result.left.items }
         ensures late { result.late.items ≡ late_of self.came ends.items }
-        ensures left { result.left.items ≡ drop (length (collected self.came) + length result.late.items) self.issued }
-        ensures tickets { SameItems (tickets_of (collected self.came ++ result.late.items) result.left.items) (range_with_len 0 result.issued) }
+        ensures left { result.left.items
+            ≡ drop (length (collected self.came) + length result.late.items) self.issued }
+        ensures tickets { SameItems
+            (tickets_of (collected self.came ++ result.late.items) result.left.items)
+            (range_with_len 0 result.issued) }
         ensures sum { result.issued ≡ result.collected + vec_len result.late + vec_len result.left }
     {
         let Owner {
@@ -58,7 +63,7 @@ impl<G: Game> Owner<G> {
             let Some(ring) = in_order.next() else {
                 unreachable!()
             };
-            take_in(&mut deque, ring, end, &mut late);
+            take_pass(&mut deque, ring, end, &mut late);
         }
         take_back(&mut deque, &mut left);
         drop(signals);
@@ -72,7 +77,7 @@ impl<G: Game> Owner<G> {
 }
 
 /// Takes in a worker's pass, and the results that were not collected.
-fn take_in<G: Game>(
+fn take_pass<G: Game>(
     deque: &mut Deque<G>,
     ring: Results<G>,
     end: WorkerEnd<G>,
@@ -81,9 +86,12 @@ fn take_in<G: Game>(
     requires of_pool { (end.place.deque ≡ worker_deque deque.old) × (end.place.ring ≡ ring.ring) }
     requires owns { (worker_view deque.old).owns ≡ true }
     requires room { vec_len late.old + RESULT_PLACES ≤ vec_capacity late.old }
-    ensures deque { (worker_deque deque.new ≡ worker_deque deque.old) × (worker_flavor deque.new ≡ worker_flavor deque.old) }
-    ensures view { worker_view deque.new ≡ counting_back (worker_view deque.old) (working end.jobs) }
-    ensures room { (vec_len late.new ≤ vec_len late.old + RESULT_PLACES) × (vec_capacity late.new ≡ vec_capacity late.old) }
+    ensures deque { (worker_deque deque.new ≡ worker_deque deque.old)
+        × (worker_flavor deque.new ≡ worker_flavor deque.old) }
+    ensures view { worker_view deque.new
+        ≡ counting_back (worker_view deque.old) (working end.jobs) }
+    ensures room { (vec_len late.new ≤ vec_len late.old + RESULT_PLACES)
+        × (vec_capacity late.new ≡ vec_capacity late.old) }
     ensures told { AreResults end.jobs end.results }
     ensures late { IsLate ring.came end.results late.old.items late.new.items }
 {
@@ -104,10 +112,15 @@ fn take_in<G: Game>(
 
 /// Takes back the jobs that nobody took.
 fn take_back<G: Game>(deque: &mut Deque<G>, left: &mut Vec<Job<G>>)
-    requires owner { ((worker_view deque.old).owns ≡ true) × ((worker_view deque.old).others ≡ 0) × (worker_flavor deque.old ≡ 0) }
-    requires room { (length (worker_view deque.old).issued ≤ length (worker_view deque.old).jobs + JOBS_OUT) × (left.old.items ≡ []) × (JOBS_OUT ≤ vec_capacity left.old) }
-    ensures all { SameItems ((worker_view deque.old).jobs ++ left.new.items) (worker_view deque.old).issued }
-    ensures left { left.new.items ≡ drop (length (worker_view deque.old).jobs) (worker_view deque.old).issued }
+    requires owner { ((worker_view deque.old).owns ≡ true) × ((worker_view deque.old).others ≡ 0)
+        × (worker_flavor deque.old ≡ 0) }
+    requires room { (length (worker_view deque.old).issued
+        ≤ length (worker_view deque.old).jobs + JOBS_OUT) × (left.old.items ≡ [])
+        × (JOBS_OUT ≤ vec_capacity left.old) }
+    ensures all { SameItems ((worker_view deque.old).jobs ++ left.new.items)
+        (worker_view deque.old).issued }
+    ensures left { left.new.items
+        ≡ drop (length (worker_view deque.old).jobs) (worker_view deque.old).issued }
 {
     while let Some(job) = deque.pop_as::<TakesBack>() {
         left.push_reserved(job);

@@ -70,7 +70,7 @@ impl Signals {
         Closed(())
     }
 
-    /// What shows that the pool is closed. None where it isn't.
+    /// What shows that the pool is closed. None if it isn't.
     pub fn close_seen(&self) -> Option<Closed> {
         match self.closed.get() {
             Some(()) => Some(Closed(())),

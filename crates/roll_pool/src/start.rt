@@ -14,7 +14,7 @@ use std::thread::Threads;
 ///
 /// # Errors
 ///
-/// `NoMemory` where the allocator has no room, or where a thread can't be started: the pool is closed then, and the workers
+/// `NoMemory` if the allocator has no room, or if a thread can't be started: the pool is closed then, and the workers
 /// that were started are joined. All ends and games are dropped, so the owner can't be settled, and results that it hasn't
 /// collected are lost with it.
 pub fn start_all<R, G>(
@@ -30,7 +30,9 @@ where
     G::Snapshot: Send + 'static,
     requires { vec_len games ≡ vec_len ends }
     ensures ends { IfOk result (λ crew. map (λ member. member.end) crew ≡ ends.items) }
-    ensures games { IfOk result (λ crew. map (λ member. member.counts) crew ≡ map (λ game. G.call_counts game) games.items) }
+    ensures games { IfOk result
+        (λ crew. map (λ member. member.counts) crew
+        ≡ map (λ game. G.call_counts game) games.items) }
     ensures places { IfOk result (λ crew. places_in crew ≡ map (λ end. end.place) ends.items) }
     ensures refused { IfErr result (λ why. why ≡ Refusal.NoMemory) }
 {

@@ -83,7 +83,8 @@ impl<G: Game> WorkerEnd<G> {
     /// Tries once to take a job, runs it on the game and pushes its result. It waits for nobody and takes no memory.
     pub fn work_one(&mut self, game: &mut G, gate: &impl Gate) -> Worked
         ensures place { self.new.place ≡ self.old.place }
-        ensures works { Works result self.old self.new (G.call_counts game.old) (G.call_counts game.new) }
+        ensures works { Works result self.old self.new (G.call_counts game.old)
+            (G.call_counts game.new) }
     {
         if let Some(closed) = self.signals.close_seen() {
             self.closed = Some(closed);
@@ -102,11 +103,12 @@ impl<G: Game> WorkerEnd<G> {
         Worked::Did(ticket)
     }
 
-    /// Works until the pool is closed. Where it finds no job for a while, it sleeps until one is issued; where its ring is full
+    /// Works until the pool is closed. If it finds no job for a while, it sleeps until one is issued; if its ring is full
     /// for a while, until a result is collected. The close wakes it too.
     pub fn serve<R: Wait>(&mut self, rt: &R, game: &mut G, gate: &impl Gate)
         ensures place { self.new.place ≡ self.old.place }
-        ensures served { HasServed (record { end = self.old; counts = G.call_counts game.old }) (record { end = self.new; counts = G.call_counts game.new }) }
+        ensures served { HasServed (record { end = self.old; counts = G.call_counts game.old })
+            (record { end = self.new; counts = G.call_counts game.new }) }
     {
         for _ in rt.forever() {
             let jobs = self.signals.jobs.heard();

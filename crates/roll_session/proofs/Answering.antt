@@ -2,24 +2,23 @@
 use Rattle.std.proofs.Common.{◌≡◌, ◌∙◌, ℕ, ◌+◌, ◌-◌, [], ◌∷◌, length, Bool, cond, refl, sym, ap, subst, arith, false, true, inl, inr, Some, None, Ok, Err, Option, Result}
 use Rattle.std.specs.Prelude.{◌≢◌, max, nat_le, IfErr, IfOk, OnErr, OnOk, if◌then◌else◌}
 use Rattle.std.specs.Option.{option_map_or}
-use Rattle.roll_branch.specs.Routed.{Routed}
-use Rattle.roll_frame.specs.Events.{CoreEvent, answer, branch_of, is_repeat, refusal, tests_of}
-use Rattle.roll_frame.specs.Grafts.{new_paths}
+use Rattle.roll_frame.specs.Events.{CoreEvent, answer, is_repeat, tests_of}
 use Rattle.roll_frame.specs.Refusals.{first_refusal}
 use Rattle.roll_frame.specs.declared.entry.Entry.{Entry}
-use Rattle.roll_frame.specs.declared.entry.Entry.TheVariants.{Local, Remote, Disconnect, Graft, Partial}
+use Rattle.roll_frame.specs.declared.entry.Entry.TheVariants.{Local, Remote, Disconnect, Partial}
 use Rattle.roll_frame.specs.declared.refusal.Refusal.{Refusal}
 use Rattle.roll_frame.specs.declared.refusal.Refusal.TheVariants.{Conflict, FrameLimit, Gap, InputTwice, InvalidPlayer, LocalInputMissing, LogFull, NoMemory, PlayerDisconnected, PredictionThreshold, QueueFull}
 use Rattle.roll_frame.specs.declared.reply.Reply.{Reply}
-use Rattle.roll_frame.specs.declared.reply.Reply.TheVariants.{Grafted as GraftedThere, Refused, Repeated}
+use Rattle.roll_frame.specs.declared.reply.Reply.TheVariants.{Refused, Repeated}
 use Rattle.roll_inputs.specs.declared.heard.Heard.{Heard}
 use Rattle.roll_inputs.specs.declared.heard.Heard.TheVariants.{Taken as HeardNow, Repeated as HeardBefore}
 use Rattle.roll_game.specs.declared.counts.Counts.{Counts}
 use Rattle.roll_session.proofs.Holding.{first_refusal-some}
 use Rattle.roll_session.proofs.Runs.{replied_accepted, replied_refused, replied_repeated}
-use Rattle.roll_session.specs.Answered.{counts_by, replied, with_entries, IsAnswered, IsCutShort, IsPartial, IsReplied, IsShort}
-use Rattle.roll_session.specs.Calls.{entry_of, event_of, grafting, input_reply, judged, IsAdmitted, IsAllowed, IsInput, IsRollTo}
-use Rattle.roll_session.specs.Seen.{Step, Seen, core_of, game_of, plain, refusal_of}
+use Rattle.roll_session.specs.Answered.{counts_by, replied, with_entries, IsAnswered, IsCutShort, IsReplied, IsShort}
+use Rattle.roll_session.specs.Changes.{IsPartial}
+use Rattle.roll_session.specs.Calls.{entry_of, event_of, input_reply, judged, IsAdmitted, IsAllowed, IsInput, IsRollTo}
+use Rattle.roll_session.specs.Seen.{Step, Seen, game_of, plain, refusal_of}
 use Rattle.roll_session.specs.declared.event.Call.{Call}
 use Rattle.roll_session.specs.declared.event.Call.TheVariants.{Local as LocalCall, Remote as RemoteCall, Disconnect as DisconnectCall, Sync as SyncCall, Advance as AdvanceCall}
 
@@ -31,11 +30,11 @@ judged_word (Ok heard) false test is fine tested fresh = ap Ok is ∙ ap (judged
 judged_word (Err why) again test is fine tested fresh = ap (judged false) (sym tested) ∙ ap (λ b. judged b test) (sym fresh)
 
 -- a call that is judged against
-pub refused_replied : (step : Step) (old : Seen) (call : Call) (why : Refusal) → Err why ≡ judged (is_repeat (core_of old) (entry_of call)) (first_refusal (tests_of old.settings (game_of step old) (core_of old) [] (entry_of call)))
+pub refused_replied : (step : Step) (old : Seen) (call : Call) (why : Refusal) → Err why ≡ judged (is_repeat old.core (entry_of call)) (first_refusal (tests_of old.settings (game_of step old) old.core [] (entry_of call)))
     → IsReplied step old old (event_of call) (Refused why)
 refused_replied step old call why e =
     let said = against _ _ e in
-    replied_refused step old (event_of call) why said.0 (first_refusal-some (tests_of old.settings (game_of step old) (core_of old) [] (entry_of call)) _ why said.1)
+    replied_refused step old (event_of call) why said.0 (first_refusal-some (tests_of old.settings (game_of step old) old.core [] (entry_of call)) _ why said.1)
   where
     against : (again : Bool) (test : Option Refusal) → Err why ≡ judged again test → (again ≡ false) × (test ≡ Some why)
     against true test e = absurd (cc e)
@@ -47,8 +46,8 @@ other_first : (b : Bool) (why : Refusal) (rest : Option Refusal) → (why ≡ No
 other_first true why rest one more e = one (cc e)
 other_first false why rest one more e = more e
 
-full : (s : Seen) → cond (nat_le s.settings.log (core_of s).logged) (Some LogFull) None ≡ Some NoMemory → ⊥
-full s = other_first (nat_le s.settings.log (core_of s).logged) LogFull None (λ e. cc e) (λ e. cc e)
+full : (s : Seen) → cond (nat_le s.settings.log s.core.logged) (Some LogFull) None ≡ Some NoMemory → ⊥
+full s = other_first (nat_le s.settings.log s.core.logged) LogFull None (λ e. cc e) (λ e. cc e)
 
 never_memory : (step : Step) (s : Seen) (call : Call) → refusal_of step s (entry_of call) ≡ Some NoMemory → ⊥
 never_memory step s (LocalCall p word) = other_first _ InvalidPlayer _ (λ e. cc e) (other_first _ InputTwice _ (λ e. cc e) (other_first _ PredictionThreshold _ (λ e. cc e) (other_first _ FrameLimit _ (λ e. cc e) (full s))))
@@ -58,7 +57,7 @@ never_memory step s SyncCall = full s
 never_memory step s AdvanceCall = other_first _ LocalInputMissing _ (λ e. cc e) (full s)
 
 -- nor is what a call gives
-gives_other : (s : Seen) (call : Call) → answer (core_of s) (entry_of call) ≡ Refused NoMemory → ⊥
+gives_other : (s : Seen) (call : Call) → answer s.core (entry_of call) ≡ Refused NoMemory → ⊥
 gives_other s (LocalCall p word) e = cc e
 gives_other s (RemoteCall p f word) e = cc e
 gives_other s (DisconnectCall p) e = cc e
@@ -68,9 +67,9 @@ gives_other s AdvanceCall e = cc e
 -- so what is answered for want of memory isn't the rules' reply
 pub short_of : (step : Step) (old new : Seen) (call : Call) → IsAnswered step old new (event_of call) (Refused NoMemory) → IsShort step old new (event_of call)
 short_of step old new call (inr h) = h.1
-short_of step old new call (inl h) = absurd (go (is_repeat (core_of old) (entry_of call)) (refusal_of step old (entry_of call)) (never_memory step old call) h.said_is)
+short_of step old new call (inl h) = absurd (go (is_repeat old.core (entry_of call)) (refusal_of step old (entry_of call)) (never_memory step old call) h.said_is)
   where
-    go : (b : Bool) (o : Option Refusal) → (o ≡ Some NoMemory → ⊥) → Refused NoMemory ≡ cond b Repeated (option_map_or Refused o (answer (core_of old) (entry_of call))) → ⊥
+    go : (b : Bool) (o : Option Refusal) → (o ≡ Some NoMemory → ⊥) → Refused NoMemory ≡ cond b Repeated (option_map_or Refused o (answer old.core (entry_of call))) → ⊥
     go true o never e = cc e
     go false None never e = gives_other old call (sym e)
     go false (Some why) never e = never (ap Some (cc e))
@@ -101,7 +100,7 @@ taken_replied step old mid new call input a h =
 pub repeated_replied : (step : Step) (old new : Seen) (call : Call) → IsAdmitted step old new call HeardBefore → IsReplied step old new (event_of call) (input_reply call HeardBefore)
 repeated_replied step old new call a = subst (λ (s : Seen). IsReplied step old s (event_of call) (input_reply call HeardBefore)) (sym a.1) (go call a.0)
   where
-    go : (c : Call) → is_repeat (core_of old) (entry_of c) ≡ true → IsReplied step old old (event_of c) (input_reply c HeardBefore)
+    go : (c : Call) → is_repeat old.core (entry_of c) ≡ true → IsReplied step old old (event_of c) (input_reply c HeardBefore)
     go (RemoteCall p f word) e = replied_repeated step old (plain (Remote p f word)) e
     go (LocalCall p word) e = absurd (cc e)
     go (DisconnectCall p) e = absurd (cc e)
@@ -109,35 +108,28 @@ repeated_replied step old new call a = subst (λ (s : Seen). IsReplied step old 
     go AdvanceCall e = absurd (cc e)
 
 -- a roll that was let in
-pub rolled_answered : (step : Step) (old mid new : Seen) (call : Call) (to : ℕ) (heard : Heard) (result : Result ℕ Refusal) → IsRollTo (core_of old) call to → IsAdmitted step old mid call heard
-    → OnOk result (new ≡ with_entries mid (entry_of call ∷ []) (counts_by (core_of mid) (entry_of call) mid.counts)) → OnErr result (IsPartial mid new to) → IfErr result (λ why. why ≡ NoMemory)
-    → IsAnswered step old new (event_of call) (replied (λ from. answer (core_of old) (entry_of call)) result)
+pub rolled_answered : (step : Step) (old mid new : Seen) (call : Call) (to : ℕ) (heard : Heard) (result : Result ℕ Refusal) → IsRollTo old.core call to → IsAdmitted step old mid call heard
+    → OnOk result (new ≡ with_entries mid (entry_of call ∷ []) (counts_by mid.core (entry_of call) mid.counts)) → OnErr result (IsPartial mid new to) → IfErr result (λ why. why ≡ NoMemory)
+    → IsAnswered step old new (event_of call) (replied (λ from. answer old.core (entry_of call)) result)
 rolled_answered step old mid new call to HeardBefore result is_to a entered cut why = absurd (go call is_to a.0)
   where
-    go : (c : Call) → IsRollTo (core_of old) c to → is_repeat (core_of old) (entry_of c) ≡ true → ⊥
+    go : (c : Call) → IsRollTo old.core c to → is_repeat old.core (entry_of c) ≡ true → ⊥
     go SyncCall i e = cc e
     go AdvanceCall i e = cc e
     go (LocalCall p word) i e = i
     go (RemoteCall p f word) i e = i
     go (DisconnectCall p) i e = i
 rolled_answered step old mid new call to HeardNow (Ok from) is_to a entered cut why =
-    inl (replied_accepted step old (event_of call) new a.0.new a.0.accepted (entered ∙ ap (λ (m : Seen). with_entries m (entry_of call ∷ []) (counts_by (core_of m) (entry_of call) m.counts)) a.1 ∙ reserved_goes old (entry_of call) (counts_by (core_of old) (entry_of call) old.counts)))
+    inl (replied_accepted step old (event_of call) new a.0.new a.0.accepted (entered ∙ ap (λ (m : Seen). with_entries m (entry_of call ∷ []) (counts_by m.core (entry_of call) m.counts)) a.1 ∙ reserved_goes old (entry_of call) (counts_by old.core (entry_of call) old.counts)))
 rolled_answered step old mid new call to HeardNow (Err said) is_to a entered cut why =
     inr (ap Refused why, record { accepted = rw (a.0.new, a.0.accepted) refl; left = inr (go call is_to (subst (λ (m : Seen). IsPartial m new to) a.1 cut)) })
   where
     again : (n : ℕ) → IsPartial (record old { reserved = max old.reserved 1 }) new n → IsPartial old new n
     again n h = record { made = h.made; few = h.few; seen = h.seen ∙ reserved_goes old (Partial n h.made) new.counts; counts = h.counts }
 
-    go : (c : Call) → IsRollTo (core_of old) c to → IsPartial (record old { reserved = max old.reserved 1 }) new to → IsCutShort old new (entry_of c)
-    go SyncCall i h = again (core_of old).frame (subst (IsPartial (record old { reserved = max old.reserved 1 }) new) i h)
-    go AdvanceCall i h = again ((core_of old).frame + 1) (subst (IsPartial (record old { reserved = max old.reserved 1 }) new) i h)
+    go : (c : Call) → IsRollTo old.core c to → IsPartial (record old { reserved = max old.reserved 1 }) new to → IsCutShort old new (entry_of c)
+    go SyncCall i h = again old.core.frame (subst (IsPartial (record old { reserved = max old.reserved 1 }) new) i h)
+    go AdvanceCall i h = again (old.core.frame + 1) (subst (IsPartial (record old { reserved = max old.reserved 1 }) new) i h)
     go (LocalCall p word) i h = absurd i
     go (RemoteCall p f word) i h = absurd i
     go (DisconnectCall p) i h = absurd i
-
--- a branch that isn't refused, and is taken in
-pub grafted_replied : (step : Step) (old mid new : Seen) (branch : Routed) (added : ℕ) → refusal old.settings (game_of step old) (core_of old) (grafting branch) ≡ None → mid ≡ record old { reserved = max old.reserved 1 }
-    → new ≡ with_entries mid (Graft branch.ticket branch.route ∷ []) mid.counts → added ≡ length (new_paths (core_of mid) (branch_of branch.route)) → IsReplied step old new (grafting branch) (GraftedThere added)
-grafted_replied step old mid new branch added fine reserved entered count =
-    subst (λ n. IsReplied step old new (grafting branch) (GraftedThere n)) (sym (count ∙ ap (λ (m : Seen). length (new_paths (core_of m) (branch_of branch.route))) reserved))
-    (replied_accepted step old (grafting branch) new refl fine (entered ∙ ap (λ (m : Seen). with_entries m (Graft branch.ticket branch.route ∷ []) m.counts) reserved ∙ reserved_goes old (Graft branch.ticket branch.route) old.counts))

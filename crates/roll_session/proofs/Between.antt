@@ -1,7 +1,6 @@
 -- The saved states between an entry and what settles after it.
 use Rattle.std.proofs.Common.{◌≡◌, ℕ, ◌+◌, ◌-◌, ◌≤◌, List, [], ◌∷◌, ◌++◌, length, refl, ap, sym, subst, ◌∙◌, arith, Bool, true, false, eqb, drop, map, min, Some}
-use Rattle.std.specs.List.{list_all}
-use Rattle.std.specs.Prelude.{All, filter, not, slice_get, slice_index_or, slice_set}
+use Rattle.std.specs.Prelude.{All, filter, slice_get, slice_index_or, slice_set}
 use Rattle.std.proofs.lemmas.Bool.Decides.{nat_tests}
 use Rattle.std.proofs.lemmas.List.{append-nil, append_assoc, take-append-drop}
 use Rattle.std.proofs.lemmas.List.Elements.{All-filter, All-map, filter_passes}
@@ -9,27 +8,24 @@ use Rattle.roll_frame.specs.Cells.{Rows}
 use Rattle.roll_frame.specs.Core.{Core, cost, depth, is_possible, kept, rolled_paths, settled}
 use Rattle.roll_frame.specs.Events.{CoreEvent, added_by, applied, is_accepted, replay}
 use Rattle.roll_frame.specs.Games.{Game, Value}
-use Rattle.roll_frame.specs.Inputs.{changed, with_given, with_gone, with_none_given, with_words}
+use Rattle.roll_frame.specs.Inputs.{changed, with_none_given}
 use Rattle.roll_frame.specs.Paths.{begins_with, longest, prefixes, run}
 use Rattle.roll_frame.specs.Timeline.{Player, front, timeline}
 use Rattle.roll_frame.specs.declared.entry.Entry.{Entry}
-use Rattle.roll_frame.specs.declared.entry.Entry.TheVariants.{Local, Remote, Disconnect, Sync, Advance, Partial}
+use Rattle.roll_frame.specs.declared.entry.Entry.TheVariants.{Sync, Advance, Partial}
 use Rattle.roll_frame.specs.declared.row.Cell.{Cell}
-use Rattle.roll_frame.specs.declared.row.Cell.TheVariants.{Word, Gone}
 use Rattle.roll_frame.specs.declared.settings.Settings.{Settings}
 use Rattle.roll_inputs.specs.Boards.{Inputs, count_of, with_player}
-use Rattle.roll_tree.specs.SavedStates.{Saved, has_other, later, paths_of}
-use Rattle.roll_laws.specs.Laws.{has_no_other}
+use Rattle.roll_tree.specs.SavedStates.{Saved, later, paths_of}
 use Rattle.roll_laws.specs.Sessions.{IsLog}
 use Rattle.roll_frame.proofs.Beginnings.{begins_is}
 use Rattle.roll_frame.proofs.Timelines.{timeline_none_given}
 use Rattle.roll_session.specs.Held.{IsKept, inputs_of}
-use Rattle.roll_session.specs.Saves.{Standing, rows_to, settled_by, settling, with_gone_only, without_other}
+use Rattle.roll_session.specs.Saves.{Standing, rows_to, settled_by, settling}
 use Rattle.roll_session.specs.Standing.{from_start, rows_from, settled_rows}
-use Rattle.roll_session.proofs.Cuts.{leaving_cut, word_cut}
 use Rattle.roll_session.proofs.Filters.{filter_same, filter_states}
 use Rattle.roll_session.proofs.Grows.{grown, start_is, all_possible, possible_none_given}
-use Rattle.roll_session.proofs.Playing.{IsPlaying}
+use Rattle.roll_session.proofs.Playing.{IsPlaying, count_is, count_reached}
 use Rattle.roll_session.proofs.Rows.{length-rows_from, settled-rows_from}
 use Rattle.roll_session.proofs.Settles.{Settles, newly, settles}
 
@@ -47,93 +43,36 @@ changed_is change players place player e =
     let y : place + 1 - 1 ≡ place = omega arith in
     rw (z, y, e) refl
 
-count_at : (players : List Player) (place : ℕ) (player : Player) → slice_get players place ≡ Some player → count_of players (place + 1) ≡ length player.words
-count_at players place player e =
-    let z : eqb (place + 1) 0 ≡ false = grind (arith, nat_tests) in
-    let y : place + 1 - 1 ≡ place = omega arith in
-    rw (z, y, e) refl
-
 module _ {N : Type 0} (value : N → Value) (step : Value → List Cell → Value) (opening : Value) (settings : Settings) (core : Core) where
-  -- a player changed, and the paths that it rules out are gone
-  between_change : (entry : Entry) (players : List Player) (test : Rows → Bool) (st st' : Standing N)
-      → IsKept value step opening settings core st
-      → (applied core entry).players ≡ players → (applied core entry).frame ≡ core.frame → added_by core entry ≡ []
-      → st'.inputs ≡ record st.inputs { players = players }
-      → st'.tree.states ≡ filter (λ s. test s.path) st.tree.states
-      → timeline players (settled core) ≡ settled_rows core
-      → from_start (settled_rows core) (filter test (paths_of st.tree)) ≡ filter (is_possible players) (kept core)
-      → IsBetween value step opening settings core entry st'
-  between_change entry players test st st' k is_players is_frame is_added inputs states rows cut =
-      record {
-        inputs = inputs ∙ rw (is_players, is_frame) (ap (λ (i : Inputs). record i { players = players }) k.inputs);
-        rows = rw is_players rows;
-        paths = rw (is_players, is_added) (rw (rows) (ap (from_start (settled_rows core)) (ap (map (λ (s : Saved N). s.path)) states ∙ filter_states test st.tree.states) ∙ cut ∙ ap (filter (is_possible players)) (sym (append-nil (kept core)))));
-        values = rw is_players (rw rows (rw states (All-filter (λ s. test s.path) (λ s. value s.snapshot ≡ run step opening (settled_rows core ++ s.path)) st.tree.states k.values)));
-      }
+  -- once a player who is there is changed, the test leaves, of the saved states' paths, those that are possible. It is given the
+  -- player's number, and how many of its words are past the settled frame
+  abbrev Leaves : (Player → Player) → (ℕ → ℕ → Rows → Bool) → List Rows → Type 0
+  Leaves change test paths = (place : ℕ) (player : Player) → slice_get core.players place ≡ Some player → player.gone ≡ false → settled core ≤ length player.words
+      → from_start (settled_rows core) (filter (test (place + 1) (length player.words - settled core)) paths) ≡ filter (is_possible (slice_set core.players place (change player))) (kept core)
 
-  -- a word of a player who is there
-  between_word : (entry : Entry) (change : Player → Player) (p word : ℕ) (st st' : Standing N)
-      → ((player : Player) → (change player).words ≡ player.words ++ word ∷ []) → ((player : Player) → (change player).gone ≡ player.gone)
+  -- a player who is there is changed, and the paths that this rules out are gone
+  pub between_input : (entry : Entry) (change : Player → Player) (p : ℕ) (test : ℕ → ℕ → Rows → Bool) (st st' : Standing N)
       → (applied core entry).players ≡ changed change core.players p → (applied core entry).frame ≡ core.frame → added_by core entry ≡ []
-      → IsKept value step opening settings core st → IsPlaying st.inputs.players p → st.inputs.settled ≤ count_of st.inputs.players p
-      → st'.inputs ≡ with_player change st.inputs p
-      → st'.tree.states ≡ without_other st.inputs p (Word word) st.tree.states
-      → timeline st'.inputs.players st.inputs.settled ≡ timeline st.inputs.players st.inputs.settled
+      → IsKept value step opening settings core st → IsPlaying core.players p → All (λ (q : Player). q.gone ≡ false → settled core ≤ length q.words) core.players
+      → Leaves change test (paths_of st.tree)
+      → st'.inputs ≡ with_player change (inputs_of settings core) p
+      → st'.tree.states ≡ filter (λ s. test p (count_of core.players p - settled core) s.path) st.tree.states
+      → timeline st'.inputs.players (settled core) ≡ settled_rows core
       → IsBetween value step opening settings core entry st'
-  between_word entry change p word st st' words gone is_players is_frame is_added k is low inputs states rows =
-      let ip : st.inputs.players ≡ core.players = ap (λ (i : Inputs). i.players) k.inputs in
-      let is_settled : st.inputs.settled ≡ settled core = ap (λ (i : Inputs). i.settled) k.inputs in
-      let at : slice_get core.players is.place ≡ Some is.player = ap (λ ps. slice_get ps is.place) (sym ip) ∙ is.is_there in
-      let count : count_of st.inputs.players p ≡ length is.player.words = ap (count_of st.inputs.players) is.number ∙ count_at st.inputs.players is.place is.player is.is_there in
-      let changed_to : changed change st.inputs.players p ≡ slice_set core.players is.place (change is.player) = ap (λ ps. changed change ps p) ip ∙ ap (changed change core.players) is.number ∙ changed_is change core.players is.place is.player at in
-      let changed_too : changed change core.players p ≡ slice_set core.players is.place (change is.player) = ap (changed change core.players) is.number ∙ changed_is change core.players is.place is.player at in
-      let low_too : settled core ≤ length is.player.words = rw (count, is_settled) at low in
-      let cut = word_cut core is.place is.player (change is.player) word (paths_of st.tree) k.kept_is at is.here (words is.player) (gone is.player ∙ is.here) low_too in
-      between_change entry (slice_set core.players is.place (change is.player)) (λ q. not (has_other (is.place + 1) (length is.player.words - settled core) (Word word) q)) st st' k
-      (is_players ∙ changed_too) is_frame is_added
-      (inputs ∙ ap (λ ps. record st.inputs { players = ps }) changed_to)
-      (states ∙ rw (sym count, sym is_settled, sym is.number) refl)
-      (ap (λ ps. timeline ps (settled core)) (sym (ap (λ (i : Inputs). i.players) inputs ∙ changed_to)) ∙ ap (timeline st'.inputs.players) (sym is_settled) ∙ rows ∙ rw (ip, is_settled) refl)
-      cut
-
-  -- a local word
-  pub between_local : (p word : ℕ) (st st' : Standing N) → IsKept value step opening settings core st → IsPlaying st.inputs.players p → st.inputs.settled ≤ count_of st.inputs.players p
-      → st'.inputs ≡ with_player (with_given word) st.inputs p
-      → st'.tree.states ≡ without_other st.inputs p (Word word) st.tree.states
-      → timeline st'.inputs.players st.inputs.settled ≡ timeline st.inputs.players st.inputs.settled
-      → IsBetween value step opening settings core (Local p word) st'
-  between_local p word st st' = between_word (Local p word) (with_given word) p word st st' (λ player. refl) (λ player. refl) refl refl refl
-
-  -- a remote word
-  pub between_remote : (p f word : ℕ) (st st' : Standing N) → IsKept value step opening settings core st → IsPlaying st.inputs.players p → st.inputs.settled ≤ count_of st.inputs.players p
-      → st'.inputs ≡ with_player (with_words (word ∷ [])) st.inputs p
-      → st'.tree.states ≡ without_other st.inputs p (Word word) st.tree.states
-      → timeline st'.inputs.players st.inputs.settled ≡ timeline st.inputs.players st.inputs.settled
-      → IsBetween value step opening settings core (Remote p f word) st'
-  between_remote p f word st st' = between_word (Remote p f word) (with_words (word ∷ [])) p word st st' (λ player. refl) (λ player. refl) refl refl refl
-
-  -- a player who leaves
-  pub between_leaving : (p : ℕ) (st st' : Standing N) → IsKept value step opening settings core st → IsPlaying st.inputs.players p → st.inputs.settled ≤ count_of st.inputs.players p
-      → st'.inputs ≡ with_player with_gone st.inputs p
-      → st'.tree.states ≡ with_gone_only st.inputs p st.tree.states
-      → timeline st'.inputs.players st.inputs.settled ≡ timeline st.inputs.players st.inputs.settled
-      → IsBetween value step opening settings core (Disconnect p) st'
-  between_leaving p st st' k is low inputs states rows =
-      let ip : st.inputs.players ≡ core.players = ap (λ (i : Inputs). i.players) k.inputs in
-      let is_settled : st.inputs.settled ≡ settled core = ap (λ (i : Inputs). i.settled) k.inputs in
-      let at : slice_get core.players is.place ≡ Some is.player = ap (λ ps. slice_get ps is.place) (sym ip) ∙ is.is_there in
-      let count : count_of st.inputs.players p ≡ length is.player.words = ap (count_of st.inputs.players) is.number ∙ count_at st.inputs.players is.place is.player is.is_there in
-      let changed_to : changed with_gone st.inputs.players p ≡ slice_set core.players is.place (with_gone is.player) = ap (λ ps. changed with_gone ps p) ip ∙ ap (changed with_gone core.players) is.number ∙ changed_is with_gone core.players is.place is.player at in
-      let changed_too : changed with_gone core.players p ≡ slice_set core.players is.place (with_gone is.player) = ap (changed with_gone core.players) is.number ∙ changed_is with_gone core.players is.place is.player at in
-      let low_too : settled core ≤ length is.player.words = rw (count, is_settled) at low in
-      let back : p - 1 ≡ is.place = omega (arith, is.number) in
-      let cut = leaving_cut core is.place is.player (with_gone is.player) (paths_of st.tree) k.kept_is at is.here refl refl low_too in
-      between_change (Disconnect p) (slice_set core.players is.place (with_gone is.player)) (λ q. list_all (has_no_other is.place Gone) (drop (length is.player.words - settled core) q)) st st' k
-      changed_too refl refl
-      (inputs ∙ ap (λ ps. record st.inputs { players = ps }) changed_to)
-      (states ∙ rw (sym count, sym is_settled, sym back) refl)
-      (ap (λ ps. timeline ps (settled core)) (sym (ap (λ (i : Inputs). i.players) inputs ∙ changed_to)) ∙ ap (timeline st'.inputs.players) (sym is_settled) ∙ rows ∙ rw (ip, is_settled) refl)
-      cut
+  between_input entry change p test st st' is_players is_frame is_added k is ahead cuts inputs states rows =
+      let count : count_of core.players p ≡ length is.player.words = count_is (inputs_of settings core) p is in
+      let later : List Player = changed change core.players p in
+      let now : later ≡ slice_set core.players is.place (change is.player) = ap (changed change core.players) is.number ∙ changed_is change core.players is.place is.player is.is_there in
+      let left : Rows → Bool = test p (count_of core.players p - settled core) in
+      let cut : from_start (settled_rows core) (filter left (paths_of st.tree)) ≡ filter (is_possible later) (kept core) =
+      rw (now, count, is.number) (cuts is.place is.player is.is_there is.here (rw count at (count_reached (inputs_of settings core) p is ahead))) in
+      let same : timeline later (settled core) ≡ settled_rows core = ap (λ (i : Inputs). timeline i.players (settled core)) (sym inputs) ∙ rows in
+      record {
+        inputs = inputs ∙ rw (is_players, is_frame) refl;
+        rows = rw is_players same;
+        paths = rw (is_players, is_added, same) (ap (from_start (settled_rows core)) (ap (map (λ (s : Saved N). s.path)) states ∙ filter_states left st.tree.states) ∙ cut ∙ ap (filter (is_possible later)) (sym (append-nil (kept core))));
+        values = rw (is_players, same, states) (All-filter (λ s. left s.path) (λ s. value s.snapshot ≡ run step opening (settled_rows core ++ s.path)) st.tree.states k.values);
+      }
 
 module _ {N : Type 0} (value : N → Value) (step : Value → List Cell → Value) (opening : Value) (settings : Settings) (game : Game) (log : List Entry) (is_log : IsLog settings game log) where
   -- what is held after the first j states of a roll, all of it possible

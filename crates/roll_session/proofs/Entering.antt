@@ -7,9 +7,9 @@ use Rattle.roll_frame.specs.Core.{Core, cost, depth}
 use Rattle.roll_frame.specs.Events.{all_given, applied, can_be_partial, is_accepted, is_repeat, refusal, replay, tests_of}
 use Rattle.roll_frame.specs.Games.{Game, Value}
 use Rattle.roll_frame.specs.Paths.{run}
-use Rattle.roll_frame.specs.Timeline.{Player, front, timeline}
+use Rattle.roll_frame.specs.Timeline.{front, timeline}
 use Rattle.roll_frame.specs.declared.entry.Entry.{Entry}
-use Rattle.roll_frame.specs.declared.entry.Entry.TheVariants.{Local, Remote, Disconnect, Sync, Advance, Graft, Partial}
+use Rattle.roll_frame.specs.declared.entry.Entry.TheVariants.{Sync, Advance, Partial}
 use Rattle.roll_frame.specs.Claims.{AreRowsOf}
 use Rattle.roll_frame.specs.declared.limits.TheConstants.{TREE_LIMIT}
 use Rattle.roll_tree.specs.SavedStates.{paths_of}
@@ -25,14 +25,14 @@ use Rattle.roll_session.specs.Answered.{counts_by}
 use Rattle.roll_session.specs.Calls.{entry_of, event_of, IsInput, IsRollTo}
 use Rattle.roll_session.specs.declared.event.Call.{Call}
 use Rattle.roll_session.specs.declared.room.Room.{Room}
-use Rattle.roll_session.specs.declared.event.Call.TheVariants.{Local as LocalCall, Remote as RemoteCall, Disconnect as DisconnectCall, Sync as SyncCall, Advance as AdvanceCall}
+use Rattle.roll_session.specs.declared.event.Call.TheVariants.{Sync as SyncCall, Advance as AdvanceCall}
 use Rattle.roll_session.specs.Held.{HasRoom, IsSession, Shows, planned_of}
 use Rattle.roll_session.specs.Logs.{Filed}
-use Rattle.roll_session.specs.Saves.{HaveValues, Standing, rows_to, settled_by, settling, stepped_inputs, taken_inputs, taken_states, way_to}
+use Rattle.roll_session.specs.Saves.{HaveValues, Standing, rows_to, settled_by, settling, stepped_inputs, taken_inputs, deepest_toward}
 use Rattle.roll_session.specs.Seen.{Step, plain}
 use Rattle.roll_session.specs.Standing.{made_from}
 use Rattle.roll_session.proofs.Between.{IsBetween, can_settle}
-use Rattle.roll_session.proofs.Holding.{accepted, can_be_partial_advance, can_be_partial_sync, leaving_between, local_between, partial_accepted, remote_between, first_refusal-front}
+use Rattle.roll_session.proofs.Holding.{accepted, can_be_partial_advance, can_be_partial_sync, partial_accepted, first_refusal-front}
 use Rattle.roll_session.proofs.Rolled.{Added, between_after_advance, between_after_partial, between_after_sync, cost_is, depth_is, frame_is, near, paths_fit, roll_fits, roll_plan, session_event, shown_value, time_fits}
 
 -- an event later there is room for one less
@@ -47,32 +47,20 @@ room_next cut h some entered promised there frame same inputs more =
       rows = omega (arith, h.promised, h.rows, some, frames, frame, same, more, there);
     }
 
--- no input changes the frame, and a roll takes it one further at most
+-- no input changes the frame, and a roll takes it one further at most. (The case named first makes the others compute)
 pub taken_frame : (inputs : Inputs) (entry : Entry) → (taken_inputs inputs entry).frame ≤ inputs.frame + 1
-taken_frame inputs (Local p word) = omega arith
-taken_frame inputs (Remote p f word) = omega arith
-taken_frame inputs (Disconnect p) = omega arith
 taken_frame inputs Sync = omega arith
-taken_frame inputs Advance = omega arith
-taken_frame inputs (Graft ticket route) = omega arith
-taken_frame inputs (Partial to made) = omega arith
+taken_frame inputs entry = omega arith
 
 pub stepped_frame : (inputs : Inputs) (entry : Entry) → (stepped_inputs inputs entry).frame ≤ inputs.frame + 1
 stepped_frame inputs Advance = omega arith
-stepped_frame inputs (Local p word) = omega arith
-stepped_frame inputs (Remote p f word) = omega arith
-stepped_frame inputs (Disconnect p) = omega arith
-stepped_frame inputs Sync = omega arith
-stepped_frame inputs (Graft ticket route) = omega arith
-stepped_frame inputs (Partial to made) = omega arith
+stepped_frame inputs entry = omega arith
 
 -- what is so of a roll to the current frame and of one to the next is so of each call that rolls
 roll_cases : (P : Call → Type 0) (core : Core) (call : Call) (to : ℕ) → IsRollTo core call to → (to ≡ core.frame → P SyncCall) → (to ≡ core.frame + 1 → P AdvanceCall) → P call
 roll_cases P core SyncCall to e sync advance = sync e
 roll_cases P core AdvanceCall to e sync advance = advance e
-roll_cases P core (LocalCall p word) to e sync advance = absurd e
-roll_cases P core (RemoteCall p f word) to e sync advance = absurd e
-roll_cases P core (DisconnectCall p) to e sync advance = absurd e
+roll_cases P core call to e sync advance = absurd e
 
 module _ {S N : Type 0} {state_value : S → Value} {snapshot_value : N → Value} {step : Step} {opening : Value} {settings : Settings} {log : List Entry} {saves : Standing N} {planner : Planned} {current : Option S} (s : IsSession state_value snapshot_value step opening settings log saves planner current) where
   abbrev game : Game
@@ -90,17 +78,6 @@ module _ {S N : Type 0} {state_value : S → Value} {snapshot_value : N → Valu
     pub inputs : after.inputs ≡ record cut.inputs { settled = cut.inputs.settled + settling cut }
     pub states : after.tree.states ≡ settled_by cut (settling cut)
 
-  -- a player's input that is taken
-  pub taken : (call : Call) → IsInput call → refusal settings game core (event_of call) ≡ None → (cut : Standing N)
-      → All (λ (q : Player). q.local ≡ true → q.gone ≡ false) saves.inputs.players → All (λ (q : Player). q.gone ≡ false → saves.inputs.settled ≤ length q.words) saves.inputs.players
-      → cut.inputs ≡ taken_inputs saves.inputs (entry_of call) → cut.tree.states ≡ taken_states saves.inputs (entry_of call) saves.tree.states → timeline cut.inputs.players saves.inputs.settled ≡ timeline saves.inputs.players saves.inputs.settled
-      → Between (entry_of call) cut
-  taken (LocalCall p word) i fine cut stays ahead = local_between s p word cut stays ahead fine
-  taken (RemoteCall p f word) i fine cut stays ahead = remote_between s p f word cut ahead fine
-  taken (DisconnectCall p) i fine cut stays ahead = leaving_between s p cut ahead fine
-  taken SyncCall i fine cut stays ahead = absurd i
-  taken AdvanceCall i fine cut stays ahead = absurd i
-
   -- then what can be settled may be
   pub settles : (entry : Entry) → is_repeat core entry ≡ false → refusal settings game core (plain entry) ≡ None → (cut : Standing N) → Between entry cut → cut.inputs.settled ≤ front cut.inputs.players
   settles entry new fine cut between = can_settle snapshot_value step opening settings game log s.is_log (plain entry) (accepted settings game core (plain entry) new fine) cut between
@@ -109,21 +86,12 @@ module _ {S N : Type 0} {state_value : S → Value} {snapshot_value : N → Valu
   pub taken_session : (call : Call) → IsInput call → is_repeat core (entry_of call) ≡ false → refusal settings game core (event_of call) ≡ None → (cut after : Standing N) → Between (entry_of call) cut → IsSettled cut after
       → IsSession state_value snapshot_value step opening settings (log ++ entry_of call ∷ []) after planner current
   taken_session call input new fine cut after between settled =
-      session_event s (event_of call) cut after planner current (accepted settings game core (event_of call) new fine) between settled.inputs settled.states (rw (shown call input) s.shows) (rw (last call input) s.plan)
+      session_event s (event_of call) cut after planner current (accepted settings game core (event_of call) new fine) between settled.inputs settled.states (rw (shown call input).0 s.shows) (rw (shown call input).1 s.plan)
     where
-      shown : (e : Call) → IsInput e → (applied core (entry_of e)).shown ≡ core.shown
-      shown (LocalCall p word) i = refl
-      shown (RemoteCall p f word) i = refl
-      shown (DisconnectCall p) i = refl
+      shown : (e : Call) → IsInput e → ((applied core (entry_of e)).shown ≡ core.shown) × ((applied core (entry_of e)).last ≡ core.last)
       shown SyncCall i = absurd i
       shown AdvanceCall i = absurd i
-
-      last : (e : Call) → IsInput e → (applied core (entry_of e)).last ≡ core.last
-      last (LocalCall p word) i = refl
-      last (RemoteCall p f word) i = refl
-      last (DisconnectCall p) i = refl
-      last SyncCall i = absurd i
-      last AdvanceCall i = absurd i
+      shown e i = (refl, refl)
 
   -- the frame is near the settled one
   pub is_close : saves.inputs.frame ≤ saves.inputs.settled + saves.inputs.threshold
@@ -137,7 +105,7 @@ module _ {S N : Type 0} {state_value : S → Value} {snapshot_value : N → Valu
   abbrev HasAdded : ℕ → ℕ → Standing N → Type 0
   HasAdded to made after = Added s to made after
 
-  rolled_by : (call : Call) (to : ℕ) → IsRollTo core call to → (after cut : Standing N) → HasAdded to (to - saves.inputs.settled - way_to saves to) after → cut.inputs ≡ stepped_inputs after.inputs (entry_of call) → cut.tree ≡ after.tree → Between (entry_of call) cut
+  rolled_by : (call : Call) (to : ℕ) → IsRollTo core call to → (after cut : Standing N) → HasAdded to (to - saves.inputs.settled - deepest_toward saves to) after → cut.inputs ≡ stepped_inputs after.inputs (entry_of call) → cut.tree ≡ after.tree → Between (entry_of call) cut
   rolled_by call to is_to after cut a inputs tree =
       let here = frame_is s in
       roll_cases (λ (e : Call). cut.inputs ≡ stepped_inputs after.inputs (entry_of e) → Between (entry_of e) cut) core call to is_to
@@ -193,7 +161,7 @@ module _ {S N : Type 0} {state_value : S → Value} {snapshot_value : N → Valu
     high : to ≤ core.frame + 1
     high = (is_near call to is_to).1
 
-    pub states_fit : length saves.tree.states + (to - saves.inputs.settled - way_to saves to) ≤ TREE_LIMIT
+    pub states_fit : length saves.tree.states + (to - saves.inputs.settled - deepest_toward saves to) ≤ TREE_LIMIT
     states_fit = roll_fits s to low high
 
     pub rows_fit : AreRowsOf planner.players (rows_to saves.inputs to)
@@ -202,13 +170,13 @@ module _ {S N : Type 0} {state_value : S → Value} {snapshot_value : N → Valu
     pub widths_fit : All (AreRowsOf planner.players) (paths_of saves.tree)
     widths_fit = paths_fit s to low high
 
-    pub starts : saves.inputs.settled + way_to saves to ≡ depth core to
+    pub starts : saves.inputs.settled + deepest_toward saves to ≡ depth core to
     starts = depth_is s to low
 
-    pub costs : to - saves.inputs.settled - way_to saves to ≡ cost core to
+    pub costs : to - saves.inputs.settled - deepest_toward saves to ≡ cost core to
     costs = cost_is s to low
 
-    pub counts_are : (old : Counts) → rolled (to - saves.inputs.settled - way_to saves to) old ≡ counts_by core (entry_of call) old
+    pub counts_are : (old : Counts) → rolled (to - saves.inputs.settled - deepest_toward saves to) old ≡ counts_by core (entry_of call) old
     counts_are old = ap (λ (n : ℕ). rolled n old) costs ∙ counted_by call to is_to old
 
     module _ (fine : refusal settings game core (event_of call) ≡ None) where
@@ -216,10 +184,10 @@ module _ {S N : Type 0} {state_value : S → Value} {snapshot_value : N → Valu
       not_repeat = roll_cases (λ (e : Call). is_repeat core (entry_of e) ≡ false) core call to is_to (λ e. refl) (λ e. refl)
 
       -- a roll that was made, and stepped on from
-      pub rolled_settles : (after cut : Standing N) → HasAdded to (to - saves.inputs.settled - way_to saves to) after → cut.inputs ≡ stepped_inputs after.inputs (entry_of call) → cut.tree ≡ after.tree → cut.inputs.settled ≤ front cut.inputs.players
+      pub rolled_settles : (after cut : Standing N) → HasAdded to (to - saves.inputs.settled - deepest_toward saves to) after → cut.inputs ≡ stepped_inputs after.inputs (entry_of call) → cut.tree ≡ after.tree → cut.inputs.settled ≤ front cut.inputs.players
       rolled_settles after cut a inputs tree = settles (entry_of call) not_repeat fine cut (rolled_by call to is_to after cut a inputs tree)
 
-      pub rolled_next : (after cut settled : Standing N) (planned : Planned) (state : S) → HasAdded to (to - saves.inputs.settled - way_to saves to) after → cut.inputs ≡ stepped_inputs after.inputs (entry_of call) → cut.tree ≡ after.tree → IsSettled cut settled
+      pub rolled_next : (after cut settled : Standing N) (planned : Planned) (state : S) → HasAdded to (to - saves.inputs.settled - deepest_toward saves to) after → cut.inputs ≡ stepped_inputs after.inputs (entry_of call) → cut.tree ≡ after.tree → IsSettled cut settled
           → ((x : Value) → HaveValues snapshot_value step x (timeline saves.inputs.players saves.inputs.settled) saves.tree.states → state_value state ≡ run step x (timeline saves.inputs.players to))
           → saves.tree.base ≡ saves.inputs.settled → planned ≡ record planner { last = Some (made_of saves.tree (rows_to saves.inputs to)) } → IsSession state_value snapshot_value step opening settings (log ++ entry_of call ∷ []) settled planned (Some state)
       rolled_next after cut settled planned state a inputs tree now value base plan =
@@ -228,7 +196,7 @@ module _ {S N : Type 0} {state_value : S → Value} {snapshot_value : N → Valu
           (planned_by call to is_to planned (plan ∙ roll_plan s to low high base))
 
       -- a roll that the game refused after so many states
-      module _ (made : ℕ) (few : made ≤ to - saves.inputs.settled - way_to saves to) where
+      module _ (made : ℕ) (few : made ≤ to - saves.inputs.settled - deepest_toward saves to) where
         pub few_made : made ≤ cost core to
         few_made = omega (arith, few, costs)
 

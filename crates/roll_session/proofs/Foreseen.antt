@@ -15,7 +15,7 @@ use Rattle.roll_inputs.proofs.Players.{changed_at, is_at}
 use Rattle.roll_laws.proofs.Known.{cell_confirmed, cell_predicted}
 use Rattle.roll_laws.proofs.Predicted.{masked_twice, word_of_cell}
 use Rattle.roll_inputs.proofs.Words.{last_word-push}
-use Rattle.roll_session.specs.Saves.{is_told}
+use Rattle.roll_session.specs.Saves.{has_word}
 use Rattle.roll_session.specs.Standing.{rows_from}
 use Rattle.roll_session.proofs.Playing.{IsPlaying, count_is}
 use Rattle.roll_session.proofs.Retold.{player_next, row_from, slice_get-map}
@@ -87,7 +87,7 @@ foreseen_rows change players p base n x word e h right =
 
 -- rows that have the word, or end before it, stay
 pub told_stays : (inputs : Inputs) (change : Player → Player) (p n word : ℕ) (it : IsPlaying inputs.players p) → HasGiven it.player (change it.player) word → inputs.settled ≤ length it.player.words
-    → is_told (rows_from inputs.players inputs.settled n) (count_of inputs.players p - inputs.settled) (p - 1) word ≡ true
+    → has_word (rows_from inputs.players inputs.settled n) (count_of inputs.players p - inputs.settled) (p - 1) word ≡ true
     → rows_from (changed change inputs.players p) inputs.settled n ≡ rows_from inputs.players inputs.settled n
 told_stays inputs change p n word it h low told = go (cases_lt place n)
   where
@@ -100,7 +100,7 @@ told_stays inputs change p n word it h low told = go (cases_lt place n)
     index : p - 1 ≡ it.place
     index = omega (arith, it.number)
 
-    has : is_told (rows_from inputs.players inputs.settled n) place it.place word ≡ true
+    has : has_word (rows_from inputs.players inputs.settled n) place it.place word ≡ true
     has = rw (count_is inputs p it, index) at told
 
     end : inputs.settled + place ≡ length it.player.words

@@ -165,7 +165,7 @@ module _ {N : Type 0} (settings : Settings) (core : Core) (sound : Sound setting
 pub session_guessed : {S N : Type 0} {state_value : S → Value} {snapshot_value : N → Value} {step : Step} {opening : Value} {settings : Settings} {log : List Entry} {saves : Standing N} {planner : Planned} {current : Option S} → IsSession state_value snapshot_value step opening settings log saves planner current
     → (p until : ℕ) (words : List ℕ) (rows : Rows) (counts : Counts) (reserved : ℕ) (result : Result (Option Routed) Refusal) → guess_refusal saves.inputs p words until ≡ None → rows ≡ guessed_rows saves.inputs p words until
     → IfOk result (λ job. (x : Value) → HaveValues snapshot_value step x (timeline saves.inputs.players saves.inputs.settled) saves.tree.states → job ≡ job_along step x saves rows)
-    → IfOk result (λ job. job ≡ guess_job_of step (record { settings = settings; opening = opening; log = log; counts = counts; reserved = reserved }) p words until)
+    → IfOk result (λ job. job ≡ guess_job_of step (record { settings = settings; opening = opening; core = replay settings log; log = log; counts = counts; reserved = reserved }) p words until)
 session_guessed s p until words rows counts reserved (Err why) fine same made = tt
 session_guessed {snapshot_value = snapshot_value} {step = step} {opening = opening} {settings = settings} {log = log} {saves = saves} s p until words rows counts reserved (Ok job) fine same made =
     let game : Game = record { opening = opening; step = step } in

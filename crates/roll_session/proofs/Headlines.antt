@@ -12,24 +12,23 @@ use Rattle.roll_frame.specs.Games.{Game}
 use Rattle.roll_frame.specs.declared.entry.Entry.{Entry}
 use Rattle.roll_frame.specs.declared.entry.Entry.TheVariants.{Local, Remote, Disconnect, Sync, Advance, Graft, Partial}
 use Rattle.roll_frame.specs.declared.reply.Reply.{Reply}
-use Rattle.roll_laws.specs.Sessions.{IsLog}
-use Rattle.roll_laws.proofs.Glue.{log_more}
 use Rattle.roll_session.specs.Answered.{counts_by, counts_from, replies_to, with_entries, IsPlayed, IsReplied, IsShort}
 use Rattle.roll_session.specs.Calls.{asked, entry_of, is_call}
-use Rattle.roll_session.specs.Headline.{EndsShort, Headline, IsByTheRules, IsCertified, LosesNothing, RunsFewest, ShowsSerialRun, TakesOnce, Turn}
-use Rattle.roll_session.specs.Requests.{all_asked, IsDoneTo}
-use Rattle.roll_session.specs.Seen.{Seen, Step, core_of, game_of, plain}
+use Rattle.roll_session.specs.Headline.{Headline, IsByTheRules, IsCertified, LosesNothing, RunsFewest, ShowsSerialRun, TakesOnce, Turn}
+use Rattle.roll_session.specs.Requests.{all_asked, EndsShort, IsDoneTo}
+use Rattle.roll_session.specs.Seen.{FollowsLog, Seen, Step, game_of, plain}
 use Rattle.roll_session.specs.declared.event.Call.{Call}
 use Rattle.roll_session.specs.declared.event.Call.TheVariants.{Local as LocalCall, Remote as RemoteCall, Disconnect as DisconnectCall, Sync as SyncCall, Advance as AdvanceCall}
 use Rattle.roll_session.specs.declared.event.Request.{Request}
 use Rattle.roll_session.specs.declared.event.Request.TheVariants.{Call as Makes, Graft as Grafts}
-use Rattle.roll_session.proofs.Runs.{played_more, played_none, played_not, played_one}
+use Rattle.roll_session.proofs.Following.{follows_more}
+use Rattle.roll_session.proofs.Runs.{none_added, played_more, played_none, played_not, played_one}
 use Rattle.roll_session.proofs.Turns.{turn_is, turn_of, IsAsked, IsTurn}
 
 -- the session after any events
 abbrev pub session_after : Step → Seen → List CoreEvent → Seen
 session_after step s events =
-    with_entries s (log_from s.settings (game_of step s) (core_of s) events) (counts_from s.settings (game_of step s) (core_of s) events s.counts)
+    with_entries s (log_from s.settings (game_of step s) s.core events) (counts_from s.settings (game_of step s) s.core events s.counts)
 
 -- each of these events is asked for
 abbrev pub AreAsked : List CoreEvent → Type 0
@@ -38,13 +37,13 @@ AreAsked (event ∷ events) = IsAsked event.entry × AreAsked events
 
 module _ (step : Step) where
   pub played_event : (s : Seen) (event : CoreEvent) → IsPlayed step s (session_after step s (event ∷ [])) (event ∷ [])
-  played_event s event = go (is_accepted s.settings (game_of step s) (core_of s) event) refl
+  played_event s event = go (is_accepted s.settings (game_of step s) s.core event) refl
     where
       there : (new : Seen) → IsPlayed step s new (event ∷ []) → IsPlayed step s (session_after step s (event ∷ [])) (event ∷ [])
       there new p = subst (λ (n : Seen). IsPlayed step s n (event ∷ [])) p.seen p
 
-      go : (b : Bool) → is_accepted s.settings (game_of step s) (core_of s) event ≡ b → IsPlayed step s (session_after step s (event ∷ [])) (event ∷ [])
-      go true e = there (with_entries s (event.entry ∷ []) (counts_by (core_of s) event.entry s.counts)) (played_one step s (with_entries s (event.entry ∷ []) (counts_by (core_of s) event.entry s.counts)) event e refl)
+      go : (b : Bool) → is_accepted s.settings (game_of step s) s.core event ≡ b → IsPlayed step s (session_after step s (event ∷ [])) (event ∷ [])
+      go true e = there (with_entries s (event.entry ∷ []) (counts_by s.core event.entry s.counts)) (played_one step s (with_entries s (event.entry ∷ []) (counts_by s.core event.entry s.counts)) event e refl)
       go false e = there s (played_not step s event e)
 
   first_then : (s : Seen) (event : CoreEvent) (events : List CoreEvent) → IsPlayed step (session_after step s (event ∷ [])) (session_after step (session_after step s (event ∷ [])) events) events
@@ -66,13 +65,14 @@ module _ (step : Step) where
       let mid : Seen = session_after step s (event ∷ []) in
       subst (λ (n : Seen). IsPlayed step mid n events) ((first_then s event events (played_any mid events)).seen ∙ sym p.seen) (played_any mid events)
 
-  -- the log stays one that events leave
-  log_after : (s : Seen) (event : CoreEvent) → IsLog s.settings (game_of step s) s.log → IsLog s.settings (game_of step s) (session_after step s (event ∷ [])).log
-  log_after s event l = go (is_accepted s.settings (game_of step s) (core_of s) event) refl
+  -- the session still follows its log
+  follows_after : (s : Seen) (event : CoreEvent) → FollowsLog step s → FollowsLog step (session_after step s (event ∷ []))
+  follows_after s event f = go (is_accepted s.settings (game_of step s) s.core event) refl
     where
-      go : (b : Bool) → is_accepted s.settings (game_of step s) (core_of s) event ≡ b → IsLog s.settings (game_of step s) (s.log ++ cond b (event.entry ∷ []) [])
-      go true e = log_more s.settings (game_of step s) s.log event l e
-      go false e = subst (IsLog s.settings (game_of step s)) (sym (append-nil s.log)) l
+      go : (b : Bool) → is_accepted s.settings (game_of step s) s.core event ≡ b
+          → FollowsLog step (with_entries s (cond b (event.entry ∷ []) []) (cond b (counts_by s.core event.entry s.counts) s.counts))
+      go true e = follows_more step s f event (counts_by s.core event.entry s.counts) e
+      go false e = subst (FollowsLog step) (none_added s) f
 
   headline_none : (s new : Seen) → new ≡ s → Headline step s new [] []
   headline_none s new e = record {
@@ -106,17 +106,17 @@ module _ (step : Step) where
       }
 
   -- the headline holds of any events that are asked for
-  pub headline_of : (events : List CoreEvent) (old new : Seen) → IsLog old.settings (game_of step old) old.log → AreAsked events → IsPlayed step old new events → Headline step old new events (replies_to step old events)
+  pub headline_of : (events : List CoreEvent) (old new : Seen) → FollowsLog step old → AreAsked events → IsPlayed step old new events → Headline step old new events (replies_to step old events)
   headline_of [] old new l asked p = headline_none old new (p.seen ∙ sym (played_none step old).seen)
   headline_of (event ∷ events) old new l asked p =
       let game : Game = game_of step old in
       let mid : Seen = session_after step old (event ∷ []) in
-      let said : Reply = reply old.settings game (core_of old) event in
+      let said : Reply = reply old.settings game old.core event in
       let played : IsPlayed step old mid (event ∷ []) = played_event old event in
       let replied : IsReplied step old mid event said = record { said_is = refl; played = played } in
-      let rest = headline_of events mid new (log_after old event l) asked.1 (rest_played old new event events p) in
-      let core : core_of mid ≡ after old.settings game (core_of old) event = played.core in
-      headline_first old mid new event said events (replies_from old.settings game (after old.settings game (core_of old) event) events) replied
+      let rest = headline_of events mid new (follows_after old event l) asked.1 (rest_played old new event events p) in
+      let core : mid.core ≡ after old.settings game old.core event = played.core in
+      headline_first old mid new event said events (replies_from old.settings game (after old.settings game old.core event) events) replied
       (turn_is step old mid event said l asked.0 replied)
       (subst (λ (c : Core). Headline step mid new events (replies_from old.settings game c events)) core rest)
 
@@ -150,7 +150,7 @@ all_are_asked {G = G} {S = S} {N = N} (request ∷ requests) = (one request, all
     one (Makes call) = called call
     one (Grafts branch) = tt
 
-module _ {G S N : Type 0} (step : Step) (old new : Seen) (requests left : List (Request G S N)) (first all : List Reply) (l : IsLog old.settings (game_of step old) old.log) where
+module _ {G S N : Type 0} (step : Step) (old new : Seen) (requests left : List (Request G S N)) (first all : List Reply) (l : FollowsLog step old) where
   -- of requests that were all done
   pub headline_done : IsDoneTo step old new requests left first all → left ≡ [] → Headline step old new (all_asked requests) (drop (length first) all)
   headline_done to none =

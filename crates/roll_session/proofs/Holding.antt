@@ -1,16 +1,18 @@
 -- What the fields keep, from event to event.
-use Rattle.std.proofs.Common.{◌≡◌, ℕ, ◌+◌, ◌≤◌, List, [], ◌∷◌, ◌++◌, length, refl, ap, sym, ◌∙◌, subst, arith, Option, Some, None, map, eqb, false, true, Bool, cond}
-use Rattle.roll_frame.specs.Inputs.{disconnect_tests, local_tests, remote_tests, with_given, with_gone, with_words}
+use Rattle.std.proofs.Common.{◌≡◌, ℕ, ◌+◌, ◌-◌, ◌≤◌, List, [], ◌∷◌, ◌++◌, length, refl, ap, sym, ◌∙◌, subst, arith, Option, Some, None, map, eqb, false, true, Bool, cond}
+use Rattle.roll_frame.specs.Inputs.{with_given, with_gone, with_words}
 use Rattle.roll_frame.specs.declared.entry.Entry.TheVariants.{Disconnect, Local, Remote}
-use Rattle.roll_frame.specs.declared.refusal.Refusal.TheVariants.{LogFull}
-use Rattle.roll_frame.specs.declared.row.Cell.TheVariants.{Word}
-use Rattle.roll_inputs.specs.Boards.{Inputs, disconnect_refusal, local_refusal, remote_refusal, with_player}
+use Rattle.roll_frame.specs.declared.row.Cell.TheVariants.{Gone, Word}
+use Rattle.roll_inputs.specs.Boards.{Inputs}
+use Rattle.roll_laws.specs.Laws.{has_no_other}
 use Rattle.roll_frame.proofs.Timelines.{length_timeline}
-use Rattle.roll_session.proofs.Between.{between_leaving, between_local, between_remote}
-use Rattle.roll_session.proofs.Playing.{count_reached, leaving_plays, local_plays, remote_plays}
-use Rattle.roll_session.specs.Saves.{with_gone_only, without_other}
-use Rattle.std.specs.Prelude.{◌==◌, All, Result, Ok, Err, IfOk, IfSome, IsSomeAnd, drop, option_map}
-use Rattle.std.specs.List.{AllByRecursion, find}
+use Rattle.roll_session.specs.Calls.{entry_of, event_of, IsInput}
+use Rattle.roll_session.specs.declared.event.Call.{Call}
+use Rattle.roll_session.specs.declared.event.Call.TheVariants.{Local as LocalCall, Remote as RemoteCall, Disconnect as DisconnectCall}
+use Rattle.roll_session.proofs.Cuts.{leaving_cut, word_cut}
+use Rattle.roll_session.proofs.Playing.{leaving_plays, local_plays, remote_plays}
+use Rattle.std.specs.Prelude.{◌==◌, All, Result, Ok, Err, IfOk, IfSome, IsSomeAnd, drop, not, option_map}
+use Rattle.std.specs.List.{AllByRecursion, find, list_all}
 use Rattle.std.proofs.lemmas.List.Elements.{recursion_from_All}
 use Rattle.std.proofs.Math.Seq.{drop-append_seam}
 use Rattle.roll_frame.specs.declared.claim.Claim.{Claim}
@@ -26,7 +28,7 @@ use Rattle.roll_plan.specs.declared.plan.Plan.{Plan}
 use Rattle.roll_tree.specs.SavedStates.{SavedStates, state_named, path_of}
 use Rattle.roll_session.specs.Planned.{IsPlanOfRoll}
 use Rattle.roll_session.specs.Standing.{from_start, made_from, settled_rows}
-use Rattle.roll_session.proofs.Between.{IsBetween}
+use Rattle.roll_session.proofs.Between.{IsBetween, between_input}
 use Rattle.roll_session.proofs.Planning.{plan_is, seen_claim}
 use Rattle.std.specs.Prelude.{nat_le, ◌==◌}
 use Rattle.std.proofs.lemmas.Bool.{le-leb}
@@ -35,7 +37,7 @@ use Rattle.std.proofs.lemmas.List.Elements.{All-cons, All-nil}
 use Rattle.std.proofs.lemmas.List.{append-nil}
 use Rattle.roll_frame.specs.Cells.{Rows}
 use Rattle.roll_frame.specs.Core.{Core, first_core, cost, settled, IsPlan}
-use Rattle.roll_frame.specs.Events.{CoreEvent, replay, applied, refusal, is_repeat, is_accepted, can_be_partial, all_given}
+use Rattle.roll_frame.specs.Events.{CoreEvent, replay, applied, refusal, is_repeat, is_accepted, can_be_partial, all_given, tests_of}
 use Rattle.roll_frame.specs.Games.{Game}
 use Rattle.roll_frame.specs.Paths.{run}
 use Rattle.roll_frame.specs.Refusals.{first_refusal}
@@ -53,10 +55,10 @@ use Rattle.roll_laws.proofs.Least.{rolls_are_least}
 use Rattle.roll_laws.proofs.Logs.{log_is_counted}
 use Rattle.roll_inputs.specs.Boards.{first_inputs}
 use Rattle.roll_plan.specs.Plans.{Planned}
-use Rattle.roll_tree.specs.SavedStates.{Saved, paths_of}
-use Rattle.roll_session.specs.Saves.{Standing}
+use Rattle.roll_tree.specs.SavedStates.{Saved, has_other, paths_of}
+use Rattle.roll_session.specs.Saves.{Standing, taken_inputs, taken_states}
 use Rattle.roll_session.specs.Seen.{Step, plain, IsLeast}
-use Rattle.roll_session.specs.Held.{Shows, IsKept, IsSession, IsSmall, planned_of}
+use Rattle.roll_session.specs.Held.{Shows, IsKept, IsSession, IsSmall, inputs_of, planned_of}
 
 pub replay-nil : (settings : Settings) → replay settings [] ≡ first_core settings
 unfolding replay
@@ -179,45 +181,39 @@ module _ {S N : Type 0} (state_value : S → List ℕ) (snapshot_value : N → L
       }
 
 module _ {S N : Type 0} {state_value : S → List ℕ} {snapshot_value : N → List ℕ} {step : Step} {opening : List ℕ} {settings : Settings} {log : List Entry} {saves : Standing N} {planner : Planned} {current : Option S} (s : IsSession state_value snapshot_value step opening settings log saves planner current) where
-  local_tested : (p : ℕ) → local_refusal saves.inputs p ≡ first_refusal (local_tests (replay settings log).players (replay settings log).frame settings.threshold settings.limit p)
-  local_tested p = ap (λ (i : Inputs). local_refusal i p) s.kept.inputs
+  -- a player's input that is taken
+  pub taken : (call : Call) → IsInput call → refusal settings (record { opening = opening; step = step }) (replay settings log) (event_of call) ≡ None → (cut : Standing N)
+      → All (λ (q : Player). q.local ≡ true → q.gone ≡ false) saves.inputs.players → All (λ (q : Player). q.gone ≡ false → saves.inputs.settled ≤ length q.words) saves.inputs.players
+      → cut.inputs ≡ taken_inputs saves.inputs (entry_of call) → cut.tree.states ≡ taken_states saves.inputs (entry_of call) saves.tree.states → timeline cut.inputs.players saves.inputs.settled ≡ timeline saves.inputs.players saves.inputs.settled
+      → IsBetween snapshot_value step opening settings (replay settings log) (entry_of call) cut
+  taken call input fine cut stays ahead inputs states rows =
+      by_call call input (first_refusal-front (tests_of settings (record { opening = opening; step = step }) core [] (entry_of call)) _ fine) (rw s.kept.inputs at inputs) (rw s.kept.inputs at states)
+    where
+      core : Core
+      core = replay settings log
 
-  -- a local word that is taken
-  pub local_between : (p word : ℕ) (cut : Standing N) → All (λ (q : Player). q.local ≡ true → q.gone ≡ false) saves.inputs.players → All (λ (q : Player). q.gone ≡ false → saves.inputs.settled ≤ length q.words) saves.inputs.players
-      → refusal settings (record { opening = opening; step = step }) (replay settings log) (plain (Local p word)) ≡ None
-      → cut.inputs ≡ with_player (with_given word) saves.inputs p → cut.tree.states ≡ without_other saves.inputs p (Word word) saves.tree.states → timeline cut.inputs.players saves.inputs.settled ≡ timeline saves.inputs.players saves.inputs.settled
-      → IsBetween snapshot_value step opening settings (replay settings log) (Local p word) cut
-  local_between p word cut stays ahead fine inputs states rows =
-      let core = replay settings log in
-      let free = local_tested p ∙ first_refusal-front (local_tests core.players core.frame settings.threshold settings.limit p) ((nat_le settings.log core.logged, LogFull) ∷ []) fine in
-      let it = local_plays saves.inputs p stays free in
-      between_local snapshot_value step opening settings core p word saves cut s.kept it (count_reached saves.inputs p it ahead) inputs states rows
+      now : Inputs
+      now = inputs_of settings core
 
-  -- a remote word's tests
-  pub remote_free : (p f word : ℕ) → refusal settings (record { opening = opening; step = step }) (replay settings log) (plain (Remote p f word)) ≡ None → remote_refusal saves.inputs p f ≡ None
-  remote_free p f word fine =
-      let core = replay settings log in
-      ap (λ (i : Inputs). remote_refusal i p f) s.kept.inputs ∙ first_refusal-front (remote_tests core.players (settled core) p f) ((nat_le settings.log core.logged, LogFull) ∷ []) fine
-
-  -- a remote word that is taken
-  pub remote_between : (p f word : ℕ) (cut : Standing N) → All (λ (q : Player). q.gone ≡ false → saves.inputs.settled ≤ length q.words) saves.inputs.players
-      → refusal settings (record { opening = opening; step = step }) (replay settings log) (plain (Remote p f word)) ≡ None
-      → cut.inputs ≡ with_player (with_words (word ∷ [])) saves.inputs p → cut.tree.states ≡ without_other saves.inputs p (Word word) saves.tree.states → timeline cut.inputs.players saves.inputs.settled ≡ timeline saves.inputs.players saves.inputs.settled
-      → IsBetween snapshot_value step opening settings (replay settings log) (Remote p f word) cut
-  remote_between p f word cut ahead fine inputs states rows =
-      let it = remote_plays saves.inputs p f (remote_free p f word fine) in
-      between_remote snapshot_value step opening settings (replay settings log) p f word saves cut s.kept it (count_reached saves.inputs p it ahead) inputs states rows
-
-  -- a player who leaves
-  pub leaving_between : (p : ℕ) (cut : Standing N) → All (λ (q : Player). q.gone ≡ false → saves.inputs.settled ≤ length q.words) saves.inputs.players
-      → refusal settings (record { opening = opening; step = step }) (replay settings log) (plain (Disconnect p)) ≡ None
-      → cut.inputs ≡ with_player with_gone saves.inputs p → cut.tree.states ≡ with_gone_only saves.inputs p saves.tree.states → timeline cut.inputs.players saves.inputs.settled ≡ timeline saves.inputs.players saves.inputs.settled
-      → IsBetween snapshot_value step opening settings (replay settings log) (Disconnect p) cut
-  leaving_between p cut ahead fine inputs states rows =
-      let core = replay settings log in
-      let free = ap (λ (i : Inputs). disconnect_refusal i p) s.kept.inputs ∙ first_refusal-front (disconnect_tests core.players p) ((nat_le settings.log core.logged, LogFull) ∷ []) fine in
-      let it = leaving_plays saves.inputs p free in
-      between_leaving snapshot_value step opening settings core p saves cut s.kept it (count_reached saves.inputs p it ahead) inputs states rows
+      by_call : (e : Call) → IsInput e → first_refusal (tests_of settings (record { opening = opening; step = step }) core [] (entry_of e)) ≡ None
+          → cut.inputs ≡ taken_inputs now (entry_of e) → cut.tree.states ≡ taken_states now (entry_of e) saves.tree.states
+          → IsBetween snapshot_value step opening settings core (entry_of e) cut
+      by_call (LocalCall p word) i free inputs states =
+          between_input snapshot_value step opening settings core (Local p word) (with_given word) p (λ n from q. not (has_other n from (Word word) q)) saves cut refl refl refl s.kept
+          (local_plays now p (rw s.kept.inputs at stays) free) (rw s.kept.inputs at ahead)
+          (λ place player at here low. word_cut core place player (with_given word player) word (paths_of saves.tree) s.kept.kept_is at here refl here low)
+          inputs states (rw s.kept.inputs at rows)
+      by_call (RemoteCall p f word) i free inputs states =
+          between_input snapshot_value step opening settings core (Remote p f word) (with_words (word ∷ [])) p (λ n from q. not (has_other n from (Word word) q)) saves cut refl refl refl s.kept
+          (remote_plays now p f free) (rw s.kept.inputs at ahead)
+          (λ place player at here low. word_cut core place player (with_words (word ∷ []) player) word (paths_of saves.tree) s.kept.kept_is at here refl here low)
+          inputs states (rw s.kept.inputs at rows)
+      by_call (DisconnectCall p) i free inputs states =
+          between_input snapshot_value step opening settings core (Disconnect p) with_gone p (λ n from q. list_all (has_no_other (n - 1) Gone) (drop from q)) saves cut refl refl refl s.kept
+          (leaving_plays now p free) (rw s.kept.inputs at ahead)
+          (λ place player at here low. let back : place + 1 - 1 ≡ place = omega arith in rw back (leaving_cut core place player (with_gone player) (paths_of saves.tree) s.kept.kept_is at here refl refl low))
+          inputs states (rw s.kept.inputs at rows)
+      by_call e i free inputs states = absurd i
 
   fair : (roll : Roll) → (replay settings log).last ≡ Some roll → IsFair settings.players roll
   fair = always_holds (λ st core. (roll : Roll) → core.last ≡ Some roll → IsFair st.players roll) last_is_fair settings (record { opening = opening; step = step }) log s.is_log

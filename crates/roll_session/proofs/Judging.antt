@@ -38,7 +38,7 @@ use Rattle.roll_laws.proofs.Sound.{Sound, sound_played}
 use Rattle.roll_plan.specs.Plans.{Planned}
 use Rattle.roll_tree.specs.SavedStates.{SavedStates, paths_of}
 use Rattle.roll_session.specs.Calls.{grafting}
-use Rattle.roll_session.specs.Grafting.{ahead_of, anchor_of, count_new, end_of, branch_tests, has_no_room, is_same_there, kept_to, lead_of, place_tests, possible_to, start_of as start_to}
+use Rattle.roll_session.specs.Grafting.{ahead_of, anchor_of, count_new, end_of, branch_tests, has_no_room, is_same_there, kept_to, rows_of_route, place_tests, possible_to, start_of as start_to}
 use Rattle.roll_session.specs.Held.{IsSession, inputs_of}
 use Rattle.roll_session.specs.Saves.{HaveValues, Standing}
 use Rattle.roll_session.specs.Seen.{Step}
@@ -73,11 +73,11 @@ module _ {N : Type 0} (settings : Settings) (core : Core) (sound : Sound setting
   w = whole_of core (branch_of route)
 
   -- the whole, by the path's base
-  whole_is : w ≡ timeline core.players route.path.base ++ lead_of route
+  whole_is : w ≡ timeline core.players route.path.base ++ rows_of_route route
   whole_is = append_assoc (timeline core.players route.path.base) route.path.rows.items route.rows.items
 
   pub long_whole : length w ≡ end_of route
-  long_whole = omega (arith, ap length whole_is, length-append (timeline core.players route.path.base) (lead_of route), length_timeline core.players route.path.base)
+  long_whole = omega (arith, ap length whole_is, length-append (timeline core.players route.path.base) (rows_of_route route), length_timeline core.players route.path.base)
 
   pub long_start : length (start_of core (branch_of route)) ≡ start_to route
   long_start = omega (arith, length-append (timeline core.players route.path.base) route.path.rows.items, length_timeline core.players route.path.base)
@@ -86,7 +86,7 @@ module _ {N : Type 0} (settings : Settings) (core : Core) (sound : Sound setting
   anchor_is = ap (λ n. max n (settled core)) long_start
 
   pub possible_is : possible_end core (branch_of route) ≡ possible_to (inputs_of settings core) route
-  possible_is = ap (possible_rows 0 core.players) whole_is ∙ possible_over route.path.base core.players (lead_of route)
+  possible_is = ap (possible_rows 0 core.players) whole_is ∙ possible_over route.path.base core.players (rows_of_route route)
 
   module _ (base : route.path.base ≤ settled core) (reached : settled core < end_of route) where
     -- the anchor is no longer than the whole
@@ -117,7 +117,7 @@ module _ {N : Type 0} (settings : Settings) (core : Core) (sound : Sound setting
       rest_is =
           let T = timeline core.players route.path.base in
           let place : settled core ≡ length T + (settled core - route.path.base) = omega (arith, length_timeline core.players route.path.base, base) in
-          ap (drop (settled core)) whole_is ∙ ap (λ n. drop n (T ++ lead_of route)) place ∙ drop-append-add T (lead_of route) (settled core - route.path.base)
+          ap (drop (settled core)) whole_is ∙ ap (λ n. drop n (T ++ rows_of_route route)) place ∙ drop-append-add T (rows_of_route route) (settled core - route.path.base)
 
       pub whole_split : w ≡ settled_rows core ++ ahead_of (inputs_of settings core) route
       whole_split = sym (take-append-drop (settled core) w) ∙ ap (λ (q : Rows). q ++ drop (settled core) w) settled_begin ∙ ap (λ (q : Rows). settled_rows core ++ q) rest_is
@@ -208,7 +208,7 @@ module _ {N : Type 0} (settings : Settings) (core : Core) (sound : Sound setting
     judged =
         agree (nat_lt (settled core) route.path.base) (nat_lt (settled core) route.path.base) Stranger (drop 1 theirs) (drop 1 ours) refl
         (λ b1.
-        agree (not (are_rows_of (length core.players) (lead_of route))) (not (are_rows_of (length core.players) (lead_of route))) Stranger (drop 2 theirs) (drop 2 ours) refl
+        agree (not (are_rows_of (length core.players) (rows_of_route route))) (not (are_rows_of (length core.players) (rows_of_route route))) Stranger (drop 2 theirs) (drop 2 ours) refl
         (λ b2.
         agree (nat_lt (settled core + PATH_LIMIT) (length w)) (nat_lt (settled core + PATH_LIMIT) (end_of route)) TooFar (drop 3 theirs) (drop 3 ours) (ap (nat_lt (settled core + PATH_LIMIT)) long_whole)
         (λ b3.

@@ -1,5 +1,5 @@
 pub mod Grafting
-pub mod Hanging
+pub mod NewStates
 pub mod Guessing
 pub mod Judging
 pub mod Placed
@@ -28,3 +28,5 @@ pub mod Words
 pub mod Turns
 pub mod Headlines
 pub mod Shown
+pub mod Following
+pub mod Changes

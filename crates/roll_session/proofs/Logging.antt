@@ -11,7 +11,7 @@ use Rattle.roll_frame.specs.declared.entry.Entry.TheVariants.{Graft, Sync}
 use Rattle.roll_session.specs.Logs.{IsWithin, entry_in}
 use Rattle.roll_session.specs.declared.log.Origin.{Origin}
 use Rattle.roll_session.specs.declared.log.Slot.{Slot}
-use Rattle.roll_session.specs.declared.log.Slot.TheVariants.{Local, Remote, Disconnect, Sync as SyncSlot, Advance, Graft as GraftSlot, Partial}
+use Rattle.roll_session.specs.declared.log.Slot.TheVariants.{Graft as GraftSlot}
 
 -- the entry of a graft of this origin, if there is one
 abbrev graft_of : Option Origin → Entry
@@ -29,12 +29,7 @@ added grafts more =
 -- so does what a slot tells
 same_entry : (grafts : List Origin) (more : Origin) (slot : Slot) → IsWithin (length grafts) slot → entry_in (grafts ++ more ∷ []) slot ≡ entry_in grafts slot
 same_entry grafts more (GraftSlot place) there = ap graft_of (kept grafts more place there)
-same_entry grafts more (Local player word) there = refl
-same_entry grafts more (Remote player frame word) there = refl
-same_entry grafts more (Disconnect player) there = refl
-same_entry grafts more SyncSlot there = refl
-same_entry grafts more Advance there = refl
-same_entry grafts more (Partial to made) there = refl
+same_entry grafts more slot there = refl
 
 same_entries : (grafts : List Origin) (more : Origin) (slots : List Slot) → All (IsWithin (length grafts)) slots → map (entry_in (grafts ++ more ∷ [])) slots ≡ map (entry_in grafts) slots
 same_entries grafts more [] there = refl

@@ -1,13 +1,13 @@
 -- A log's entries, made anew as calls.
 use Rattle.std.proofs.Common.{◌≡◌, ◌∙◌, ℕ, zero, suc, List, [], ◌∷◌, ◌++◌, map, take, Bool, cond, true, false, Option, Some, None, refl, ap, sym, subst}
-use Rattle.std.specs.Prelude.{◌&&◌, slice_get}
+use Rattle.std.specs.Prelude.{◌&&◌, fold, slice_get}
 use Rattle.std.specs.List.{list_all}
 use Rattle.std.specs.Option.{option_map_or}
 use Rattle.std.proofs.lemmas.Bool.{and_parts, false≢true}
 use Rattle.std.proofs.lemmas.List.{map-append}
 use Rattle.std.proofs.lemmas.List.Folds.{list_all-append}
 use Rattle.roll_frame.specs.Core.{Core}
-use Rattle.roll_frame.specs.Events.{answer, is_accepted, is_repeat, log_from, replay}
+use Rattle.roll_frame.specs.Events.{answer, applied, is_accepted, is_repeat, log_from, replay}
 use Rattle.roll_frame.specs.Games.{Game, Value}
 use Rattle.roll_frame.specs.declared.entry.Entry.{Entry}
 use Rattle.roll_frame.specs.declared.entry.Entry.TheVariants.{Local, Remote, Disconnect, Sync, Advance, Graft, Partial}
@@ -21,11 +21,12 @@ use Rattle.roll_laws.proofs.Entries.{entries_were_accepted}
 use Rattle.roll_session.specs.Answered.{IsPlayed, IsReplied}
 use Rattle.roll_session.specs.Calls.{entry_of, event_of, is_call}
 use Rattle.roll_session.specs.Replaying.{AreLogged, IsReplayed, IsStopped, IsWantOfMemory, Stops}
-use Rattle.roll_session.specs.Seen.{Step, Seen, core_of, game_of, plain, refusal_of}
+use Rattle.roll_session.specs.Seen.{FollowsLog, Step, Seen, game_of, plain, refusal_of}
 use Rattle.roll_session.specs.declared.event.Call.{Call}
 use Rattle.roll_session.specs.declared.event.Call.TheVariants.{Local as LocalCall, Remote as RemoteCall, Disconnect as DisconnectCall, Sync as SyncCall, Advance as AdvanceCall}
 use Rattle.roll_session.specs.declared.event.ReplayFault.{ReplayFault}
 use Rattle.roll_session.specs.declared.event.ReplayFault.TheVariants.{NotACall, Repeated as RepeatedAt, Refused as RefusedAt, NoMemory}
+use Rattle.roll_session.proofs.Following.{replay-append}
 use Rattle.roll_session.proofs.Runs.{none_added, played_more, played_none}
 
 pub replayed_none : (step : Step) (s : Seen) → IsReplayed step s s []
@@ -36,10 +37,10 @@ replayed_more step old mid new entries more a b =
     let settings : mid.settings ≡ old.settings = ap (λ (s : Seen). s.settings) a.played.seen in
     let opening : mid.opening ≡ old.opening = ap (λ (s : Seen). s.opening) a.played.seen in
     let events : map plain (entries ++ more) ≡ map plain entries ++ map plain more = map-append plain entries more in
-    let rest : log_from mid.settings (game_of step mid) (core_of mid) (map plain more) ≡ more = b.all in
+    let rest : log_from mid.settings (game_of step mid) mid.core (map plain more) ≡ more = b.all in
     record {
       played = subst (IsPlayed step old new) (sym events) (played_more step old mid new (map plain entries) (map plain more) a.played b.played);
-      all = ap (log_from old.settings (game_of step old) (core_of old)) events ∙ log_from-append old.settings (game_of step old) (core_of old) (map plain entries) (map plain more)
+      all = ap (log_from old.settings (game_of step old) old.core) events ∙ log_from-append old.settings (game_of step old) old.core (map plain entries) (map plain more)
           ∙ (λ i. a.all i ++ (rw (a.played.core, settings, opening) at rest) i);
       calls = list_all-append is_call entries more ∙ (λ i. a.calls i && b.calls i);
     }
@@ -61,34 +62,34 @@ entry_calls AdvanceCall = refl
 
 module _ (step : Step) (old new : Seen) (call : Call) where
   said_by : Bool → Option Refusal → Reply
-  said_by again test = cond again Repeated (option_map_or Refused test (answer (core_of old) (entry_of call)))
+  said_by again test = cond again Repeated (option_map_or Refused test (answer old.core (entry_of call)))
 
-  same_where_not : IsPlayed step old new (event_of call ∷ []) → is_accepted old.settings (game_of step old) (core_of old) (event_of call) ≡ false → new ≡ old
+  same_where_not : IsPlayed step old new (event_of call ∷ []) → is_accepted old.settings (game_of step old) old.core (event_of call) ≡ false → new ≡ old
   same_where_not p e = (rw e at p.seen) ∙ sym (none_added old)
 
   -- what a reply tells of the call
-  pub was_repeated : IsReplied step old new (event_of call) Repeated → (is_repeat (core_of old) (entry_of call) ≡ true) × (new ≡ old)
-  was_repeated r = go (is_repeat (core_of old) (entry_of call)) (refusal_of step old (entry_of call)) refl refl r.said_is
+  pub was_repeated : IsReplied step old new (event_of call) Repeated → (is_repeat old.core (entry_of call) ≡ true) × (new ≡ old)
+  was_repeated r = go (is_repeat old.core (entry_of call)) (refusal_of step old (entry_of call)) refl refl r.said_is
     where
-      go : (b : Bool) (o : Option Refusal) → is_repeat (core_of old) (entry_of call) ≡ b → refusal_of step old (entry_of call) ≡ o → Repeated ≡ cond b Repeated (option_map_or Refused o (answer (core_of old) (entry_of call))) → (is_repeat (core_of old) (entry_of call) ≡ true) × (new ≡ old)
+      go : (b : Bool) (o : Option Refusal) → is_repeat old.core (entry_of call) ≡ b → refusal_of step old (entry_of call) ≡ o → Repeated ≡ cond b Repeated (option_map_or Refused o (answer old.core (entry_of call))) → (is_repeat old.core (entry_of call) ≡ true) × (new ≡ old)
       go true o e f h = (e, same_where_not r.played (rw e refl))
-      go false None e f h = absurd ((plain_answer (core_of old) call InvalidRequest).0 (sym h))
+      go false None e f h = absurd ((plain_answer old.core call InvalidRequest).0 (sym h))
       go false (Some why) e f h = absurd (cc h)
 
-  pub was_refused : (why : Refusal) → IsReplied step old new (event_of call) (Refused why) → (is_repeat (core_of old) (entry_of call) ≡ false) × (refusal_of step old (entry_of call) ≡ Some why) × (new ≡ old)
-  was_refused why r = go (is_repeat (core_of old) (entry_of call)) (refusal_of step old (entry_of call)) refl refl r.said_is
+  pub was_refused : (why : Refusal) → IsReplied step old new (event_of call) (Refused why) → (is_repeat old.core (entry_of call) ≡ false) × (refusal_of step old (entry_of call) ≡ Some why) × (new ≡ old)
+  was_refused why r = go (is_repeat old.core (entry_of call)) (refusal_of step old (entry_of call)) refl refl r.said_is
     where
-      go : (b : Bool) (o : Option Refusal) → is_repeat (core_of old) (entry_of call) ≡ b → refusal_of step old (entry_of call) ≡ o → Refused why ≡ cond b Repeated (option_map_or Refused o (answer (core_of old) (entry_of call)))
-          → (is_repeat (core_of old) (entry_of call) ≡ false) × (refusal_of step old (entry_of call) ≡ Some why) × (new ≡ old)
+      go : (b : Bool) (o : Option Refusal) → is_repeat old.core (entry_of call) ≡ b → refusal_of step old (entry_of call) ≡ o → Refused why ≡ cond b Repeated (option_map_or Refused o (answer old.core (entry_of call)))
+          → (is_repeat old.core (entry_of call) ≡ false) × (refusal_of step old (entry_of call) ≡ Some why) × (new ≡ old)
       go true o e f h = absurd (cc h)
-      go false None e f h = absurd ((plain_answer (core_of old) call why).1 (sym h))
+      go false None e f h = absurd ((plain_answer old.core call why).1 (sym h))
       go false (Some other) e f h = let same : why ≡ other = cc h in (e, f ∙ ap Some (sym same), same_where_not r.played (rw (e, f) refl))
 
   pub was_made : (said : Reply) → IsReplied step old new (event_of call) said → (said ≡ Repeated → ⊥) → ((why : Refusal) → said ≡ Refused why → ⊥) → IsReplayed step old new (entry_of call ∷ [])
-  was_made said r never none = record { played = r.played; all = go (is_repeat (core_of old) (entry_of call)) (refusal_of step old (entry_of call)) refl refl r.said_is; calls = rw (entry_calls call) refl }
+  was_made said r never none = record { played = r.played; all = go (is_repeat old.core (entry_of call)) (refusal_of step old (entry_of call)) refl refl r.said_is; calls = rw (entry_calls call) refl }
     where
-      go : (b : Bool) (o : Option Refusal) → is_repeat (core_of old) (entry_of call) ≡ b → refusal_of step old (entry_of call) ≡ o → said ≡ cond b Repeated (option_map_or Refused o (answer (core_of old) (entry_of call)))
-          → log_from old.settings (game_of step old) (core_of old) (event_of call ∷ []) ≡ entry_of call ∷ []
+      go : (b : Bool) (o : Option Refusal) → is_repeat old.core (entry_of call) ≡ b → refusal_of step old (entry_of call) ≡ o → said ≡ cond b Repeated (option_map_or Refused o (answer old.core (entry_of call)))
+          → log_from old.settings (game_of step old) old.core (event_of call ∷ []) ≡ entry_of call ∷ []
       go true o e f h = absurd (never h)
       go false None e f h = rw (e, f) refl
       go false (Some why) e f h = absurd (none why h)
@@ -109,21 +110,25 @@ call_at (x ∷ xs) zero entry h e = let same : x ≡ entry = cc e in subst (λ (
 call_at (x ∷ xs) (suc place) entry h e = call_at xs place entry (and_parts (is_call x) (list_all is_call xs) h).1 e
 
 -- a log of calls that a session left is refused nowhere by a session at its start
-pub own_log : (step : Step) (old new : Seen) (log : List Entry) (fault : ReplayFault) → old.log ≡ [] → AreLogged old.settings log → IsStopped step old new log fault → IsWantOfMemory fault
-own_log step old new log fault fresh logged stopped = go fault stopped.stops
+pub own_log : (step : Step) (old new : Seen) (log : List Entry) (fault : ReplayFault) → FollowsLog step old → old.log ≡ [] → AreLogged old.settings log → IsStopped step old new log fault → IsWantOfMemory fault
+own_log step old new log fault follows fresh logged stopped = go fault stopped.stops
   where
     call : is_call stopped.entry ≡ true
     call = call_at log stopped.place stopped.entry logged.calls stopped.there
 
-    accepted : is_accepted stopped.before.settings (game_of step stopped.before) (core_of stopped.before) (plain stopped.entry) ≡ true
+    accepted : is_accepted stopped.before.settings (game_of step stopped.before) stopped.before.core (plain stopped.entry) ≡ true
     accepted =
         let s : Settings = old.settings in
         let was = entries_were_accepted s logged.game logged.left.events stopped.place stopped.entry (subst (λ (l : List Entry). slice_get l stopped.place ≡ Some stopped.entry) logged.left.left stopped.there) in
         let first : is_accepted s logged.game (replay s (take stopped.place log)) (record { entry = stopped.entry; value = was.0 }) ≡ true =
         subst (λ (l : List Entry). is_accepted s logged.game (replay s (take stopped.place l)) (record { entry = stopped.entry; value = was.0 }) ≡ true) (sym logged.left.left) was.1 in
         let settings : stopped.before.settings ≡ s = ap (λ (m : Seen). m.settings) stopped.done.played.seen in
-        let entries : stopped.before.log ≡ take stopped.place log = ap (λ (m : Seen). m.log) stopped.done.played.seen ∙ ap (λ (l : List Entry). old.log ++ l) stopped.done.all ∙ ap (λ (l : List Entry). l ++ take stopped.place log) fresh in
-        rw (settings, entries) (accepted_plain s logged.game (game_of step stopped.before) (replay s (take stopped.place log)) stopped.entry was.0 call first)
+        let core : stopped.before.core ≡ replay s (take stopped.place log) =
+        ap (λ (m : Seen). m.core) stopped.done.played.seen
+        ∙ (λ i. fold applied (follows.core i) (stopped.done.all i))
+        ∙ replay-append s old.log (take stopped.place log)
+        ∙ ap (λ (l : List Entry). replay s (l ++ take stopped.place log)) fresh in
+        rw (settings, core) (accepted_plain s logged.game (game_of step stopped.before) (replay s (take stopped.place log)) stopped.entry was.0 call first)
 
     go : (f : ReplayFault) → Stops step stopped.before new stopped.entry stopped.place f → IsWantOfMemory f
     go (NoMemory at) s = tt

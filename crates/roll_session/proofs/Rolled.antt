@@ -23,7 +23,7 @@ use Rattle.roll_laws.proofs.Rolls.{next_is_fair, roll_of}
 use Rattle.roll_plan.specs.Plans.{Planned, made_of}
 use Rattle.roll_tree.specs.SavedStates.{paths_of}
 use Rattle.roll_session.specs.Held.{IsSession, Shows, planned_of}
-use Rattle.roll_session.specs.Saves.{HaveValues, Standing, rows_to, settled_by, settling, way_to}
+use Rattle.roll_session.specs.Saves.{HaveValues, Standing, rows_to, settled_by, settling, deepest_toward}
 use Rattle.roll_session.specs.Seen.{Step}
 use Rattle.roll_session.specs.Standing.{made_from, rows_from, settled_rows}
 use Rattle.roll_session.proofs.Between.{IsBetween, between_advance, between_partial, between_sync, settled_kept}
@@ -39,15 +39,15 @@ module _ {S N : Type 0} {state_value : S → Value} {snapshot_value : N → Valu
   frame_is = ap (λ (i : Inputs). i.frame) s.kept.inputs
 
   -- how far the saved states reach on the timeline's way
-  pub depth_is : (m : ℕ) → (replay settings log).frame ≤ m → saves.inputs.settled + way_to saves m ≡ depth (replay settings log) m
+  pub depth_is : (m : ℕ) → (replay settings log).frame ≤ m → saves.inputs.settled + deepest_toward saves m ≡ depth (replay settings log) m
   depth_is m low = rw s.kept.inputs (sym (start_is settings (record { opening = opening; step = step }) log s.is_log (paths_of saves.tree) s.kept.kept_is m low))
 
   -- how many states a roll adds
-  pub cost_is : (m : ℕ) → (replay settings log).frame ≤ m → m - saves.inputs.settled - way_to saves m ≡ cost (replay settings log) m
+  pub cost_is : (m : ℕ) → (replay settings log).frame ≤ m → m - saves.inputs.settled - deepest_toward saves m ≡ cost (replay settings log) m
   cost_is m low = let d = depth_is m low in omega (arith, d)
 
   -- they fit the tree
-  pub roll_fits : (m : ℕ) → (replay settings log).frame ≤ m → m ≤ (replay settings log).frame + 1 → length saves.tree.states + (m - saves.inputs.settled - way_to saves m) ≤ TREE_LIMIT
+  pub roll_fits : (m : ℕ) → (replay settings log).frame ≤ m → m ≤ (replay settings log).frame + 1 → length saves.tree.states + (m - saves.inputs.settled - deepest_toward saves m) ≤ TREE_LIMIT
   roll_fits m low high =
       let fit = always_holds (λ st c. (n : ℕ) → c.frame ≤ n → n ≤ c.frame + 1 → length (kept c) + cost c n ≤ TREE_LIMIT) (λ st g es h n l u. (rolls_fit st g es h n l u).1) settings (record { opening = opening; step = step }) log s.is_log m low high in
       let many : length saves.tree.states ≡ length (kept (replay settings log)) = sym (length-map saves.tree.states (λ u. u.path)) ∙ (sym (length-map (paths_of saves.tree) (λ (q : Rows). settled_rows (replay settings log) ++ q)) ∙ ap (λ (ps : List Rows). length ps) s.kept.kept_is) in
@@ -77,7 +77,7 @@ module _ {S N : Type 0} {state_value : S → Value} {snapshot_value : N → Valu
   -- what a roll did to the saved states: it added this many
   pub record Added (m made : ℕ) (after : Standing N) : Type 0 where
     pub inputs : after.inputs ≡ saves.inputs
-    pub paths : paths_of after.tree ≡ paths_of saves.tree ++ prefixes (rows_to saves.inputs m) (way_to saves m) made
+    pub paths : paths_of after.tree ≡ paths_of saves.tree ++ prefixes (rows_to saves.inputs m) (deepest_toward saves m) made
     pub values : (x : Value) → HaveValues snapshot_value step x (timeline saves.inputs.players saves.inputs.settled) saves.tree.states → HaveValues snapshot_value step x (timeline saves.inputs.players saves.inputs.settled) after.tree.states
 
   values_there : HaveValues snapshot_value step opening (timeline saves.inputs.players saves.inputs.settled) saves.tree.states
@@ -86,20 +86,20 @@ module _ {S N : Type 0} {state_value : S → Value} {snapshot_value : N → Valu
   added_values : (m made : ℕ) (after : Standing N) → Added m made after → HaveValues snapshot_value step opening (settled_rows (replay settings log)) after.tree.states
   added_values m made after a = rw s.kept.inputs at (a.values opening values_there)
 
-  pub between_after_sync : (m : ℕ) (after : Standing N) → m ≡ saves.inputs.frame → Added m (m - saves.inputs.settled - way_to saves m) after → IsBetween snapshot_value step opening settings (replay settings log) Sync after
+  pub between_after_sync : (m : ℕ) (after : Standing N) → m ≡ saves.inputs.frame → Added m (m - saves.inputs.settled - deepest_toward saves m) after → IsBetween snapshot_value step opening settings (replay settings log) Sync after
   between_after_sync m after e a =
       between_sync snapshot_value step opening settings (record { opening = opening; step = step }) log s.is_log saves after s.kept a.inputs
-      (subst (λ b. paths_of after.tree ≡ paths_of saves.tree ++ prefixes (rows_to saves.inputs (replay settings log).frame) (way_to saves (replay settings log).frame) ((replay settings log).frame - b - way_to saves (replay settings log).frame)) settled_is
-      (subst (λ n. paths_of after.tree ≡ paths_of saves.tree ++ prefixes (rows_to saves.inputs n) (way_to saves n) (n - saves.inputs.settled - way_to saves n)) (e ∙ frame_is) a.paths))
-      (added_values m (m - saves.inputs.settled - way_to saves m) after a)
+      (subst (λ b. paths_of after.tree ≡ paths_of saves.tree ++ prefixes (rows_to saves.inputs (replay settings log).frame) (deepest_toward saves (replay settings log).frame) ((replay settings log).frame - b - deepest_toward saves (replay settings log).frame)) settled_is
+      (subst (λ n. paths_of after.tree ≡ paths_of saves.tree ++ prefixes (rows_to saves.inputs n) (deepest_toward saves n) (n - saves.inputs.settled - deepest_toward saves n)) (e ∙ frame_is) a.paths))
+      (added_values m (m - saves.inputs.settled - deepest_toward saves m) after a)
 
-  pub between_after_advance : (m : ℕ) (after next : Standing N) → m ≡ saves.inputs.frame + 1 → Added m (m - saves.inputs.settled - way_to saves m) after
+  pub between_after_advance : (m : ℕ) (after next : Standing N) → m ≡ saves.inputs.frame + 1 → Added m (m - saves.inputs.settled - deepest_toward saves m) after
       → next.inputs ≡ record after.inputs { frame = after.inputs.frame + 1; players = map with_none_given after.inputs.players } → next.tree ≡ after.tree → IsBetween snapshot_value step opening settings (replay settings log) Advance next
   between_after_advance m after next e a inputs tree =
       between_advance snapshot_value step opening settings (record { opening = opening; step = step }) log s.is_log saves next s.kept (inputs ∙ rw a.inputs refl)
-      (subst (λ b. paths_of next.tree ≡ paths_of saves.tree ++ prefixes (rows_to saves.inputs ((replay settings log).frame + 1)) (way_to saves ((replay settings log).frame + 1)) ((replay settings log).frame + 1 - b - way_to saves ((replay settings log).frame + 1))) settled_is
-      (subst (λ n. paths_of next.tree ≡ paths_of saves.tree ++ prefixes (rows_to saves.inputs n) (way_to saves n) (n - saves.inputs.settled - way_to saves n)) (e ∙ ap (λ n. n + 1) frame_is) (rw tree a.paths)))
-      (rw tree (added_values m (m - saves.inputs.settled - way_to saves m) after a))
+      (subst (λ b. paths_of next.tree ≡ paths_of saves.tree ++ prefixes (rows_to saves.inputs ((replay settings log).frame + 1)) (deepest_toward saves ((replay settings log).frame + 1)) ((replay settings log).frame + 1 - b - deepest_toward saves ((replay settings log).frame + 1))) settled_is
+      (subst (λ n. paths_of next.tree ≡ paths_of saves.tree ++ prefixes (rows_to saves.inputs n) (deepest_toward saves n) (n - saves.inputs.settled - deepest_toward saves n)) (e ∙ ap (λ n. n + 1) frame_is) (rw tree a.paths)))
+      (rw tree (added_values m (m - saves.inputs.settled - deepest_toward saves m) after a))
 
   pub between_after_partial : (m made : ℕ) (after : Standing N) → (replay settings log).frame ≤ m → Added m made after → IsBetween snapshot_value step opening settings (replay settings log) (Partial m made) after
   between_after_partial m made after low a =

@@ -19,7 +19,7 @@ use Rattle.roll_plan.specs.Plans.{CanPlan}
 use Rattle.roll_tree.specs.SavedStates.{CanGrow, SavedStates, Saved, state_named, paths_of, time_to, with_state}
 use Rattle.roll_frame.proofs.Timelines.{timeline_row, length_timeline}
 use Rattle.roll_laws.proofs.Few.{length_prefixes}
-use Rattle.roll_session.specs.Saves.{HaveValues, Standing, rows_to, way_to}
+use Rattle.roll_session.specs.Saves.{HaveValues, Standing, rows_to, deepest_toward}
 use Rattle.roll_session.specs.Standing.{rows_from}
 use Rattle.roll_session.proofs.Grows.{fresh}
 use Rattle.roll_session.proofs.Steps.{time_is}
@@ -103,7 +103,7 @@ pub record IsOnWay {S : Type 0} (value : S → Value) (step : Value → List Cel
   pub time : now.tree.time ≡ old.tree.time
   pub low : from ≤ frame
   pub high : frame ≤ to
-  pub paths : paths_of now.tree ≡ paths_of old.tree ++ prefixes (rows_to old.inputs to) (way_to old to) (frame - from)
+  pub paths : paths_of now.tree ≡ paths_of old.tree ++ prefixes (rows_to old.inputs to) (deepest_toward old to) (frame - from)
   pub here : IsSomeAnd (state_named now.tree at) (λ u. u.path ≡ rows_from old.inputs.players old.inputs.settled (frame - old.inputs.settled))
   pub values : (opening : Value) → HaveValues value step opening (timeline old.inputs.players old.inputs.settled) old.tree.states → HaveValues value step opening (timeline old.inputs.players old.inputs.settled) now.tree.states
   pub reached : (opening : Value) → HaveValues value step opening (timeline old.inputs.players old.inputs.settled) old.tree.states → state ≡ run step opening (timeline old.inputs.players frame)
@@ -124,14 +124,14 @@ if_some o u P e h = rw e at h
 pub snapshot_is : {S : Type 0} (o : Option (Saved S)) (u : Saved S) (snapshot : S) → option_map (λ (v : Saved S). v.snapshot) o ≡ Some snapshot → o ≡ Some u → u.snapshot ≡ snapshot
 snapshot_is o u snapshot h e = let same = rw e at h in cc same
 
-module _ {S : Type 0} (value : S → Value) (step : Value → List Cell → Value) (old : Standing S) (from to : ℕ) (start : from ≡ old.inputs.settled + way_to old to) where
+module _ {S : Type 0} (value : S → Value) (step : Value → List Cell → Value) (old : Standing S) (from to : ℕ) (start : from ≡ old.inputs.settled + deepest_toward old to) where
   -- the state that the roll starts from
-  pub way_start : (at : ℕ) (snapshot : S) (state : Value) → from ≤ to → old.tree.base ≡ old.inputs.settled → IsSomeAnd (state_named old.tree at) (λ u. u.path ≡ rows_from old.inputs.players old.inputs.settled (way_to old to))
+  pub way_start : (at : ℕ) (snapshot : S) (state : Value) → from ≤ to → old.tree.base ≡ old.inputs.settled → IsSomeAnd (state_named old.tree at) (λ u. u.path ≡ rows_from old.inputs.players old.inputs.settled (deepest_toward old to))
       → option_map (λ u. u.snapshot) (state_named old.tree at) ≡ Some snapshot → state ≡ value snapshot → IsOnWay value step old old from to from at state
   way_start at snapshot state within base here found loaded =
       let none : from - from ≡ 0 = omega arith in
-      let place : way_to old to ≡ from - old.inputs.settled = omega (arith, start) in
-      let s = some_is (state_named old.tree at) (λ u. u.path ≡ rows_from old.inputs.players old.inputs.settled (way_to old to)) here in
+      let place : deepest_toward old to ≡ from - old.inputs.settled = omega (arith, start) in
+      let s = some_is (state_named old.tree at) (λ u. u.path ≡ rows_from old.inputs.players old.inputs.settled (deepest_toward old to)) here in
       record {
         inputs = refl;
         room = refl;
@@ -149,20 +149,20 @@ module _ {S : Type 0} (value : S → Value) (step : Value → List Cell → Valu
   pub can_grow : (now : Standing S) (frame at : ℕ) (state : Value) → IsOnWay value step old now from to frame at state → frame < to → to < 2 ^ 32 → to ≤ old.inputs.settled + PATH_LIMIT → CanGrow now.tree at (row_at now.inputs.players frame)
   can_grow now frame at state w high wide near =
       let s = some_is (state_named now.tree at) (λ u. u.path ≡ rows_from old.inputs.players old.inputs.settled (frame - old.inputs.settled)) w.here in
-      let place : way_to old to + (frame - from) + 1 ≡ frame + 1 - old.inputs.settled = omega (arith, start, w.low) in
+      let place : deepest_toward old to + (frame - from) + 1 ≡ frame + 1 - old.inputs.settled = omega (arith, start, w.low) in
       let path_is : (u : Saved S) → state_named now.tree at ≡ Some u → u.path ≡ rows_from old.inputs.players old.inputs.settled (frame - old.inputs.settled) = λ u e. ap (λ (v : Saved S). v.path) (held_same (state_named now.tree at) u s.0 e s.1) ∙ s.2 in
       record {
         kept = some_there (state_named now.tree at) s.0 s.1;
         short = λ u e. omega (arith, ap length (path_is u e), length-rows_from old.inputs.players old.inputs.settled (frame - old.inputs.settled), near, start, w.low);
         frames = λ u e. omega (arith, ap length (path_is u e), length-rows_from old.inputs.players old.inputs.settled (frame - old.inputs.settled), w.base, wide, start, w.low);
-        fresh = λ u e. rw (w.paths, w.inputs, path_is u e, next_rows old.inputs.players old.inputs.settled frame (omega (arith, start, w.low))) (subst (λ k. contains (paths_of old.tree ++ prefixes (rows_to old.inputs to) (way_to old to) (frame - from)) (rows_from old.inputs.players old.inputs.settled k) ≡ false) place (fresh old.inputs.players old.inputs.settled to (paths_of old.tree) (frame - from) (omega (arith, start, high, w.low))));
+        fresh = λ u e. rw (w.paths, w.inputs, path_is u e, next_rows old.inputs.players old.inputs.settled frame (omega (arith, start, w.low))) (subst (λ k. contains (paths_of old.tree ++ prefixes (rows_to old.inputs to) (deepest_toward old to) (frame - from)) (rows_from old.inputs.players old.inputs.settled k) ≡ false) place (fresh old.inputs.players old.inputs.settled to (paths_of old.tree) (frame - from) (omega (arith, start, high, w.low))));
       }
 
   -- there is room for the next state
   pub still_few : (now : Standing S) (frame at limit : ℕ) (state : Value) → IsOnWay value step old now from to frame at state → frame < to → length old.tree.states + (to - from) ≤ limit → length now.tree.states < limit
   still_few now frame at limit state w high fits =
-      let long = ap length w.paths ∙ length-append (paths_of old.tree) (prefixes (rows_to old.inputs to) (way_to old to) (frame - from)) in
-      omega (arith, long, length-map now.tree.states (λ (u : Saved S). u.path), length-map old.tree.states (λ (u : Saved S). u.path), length_prefixes (rows_to old.inputs to) (way_to old to) (frame - from), fits, w.low)
+      let long = ap length w.paths ∙ length-append (paths_of old.tree) (prefixes (rows_to old.inputs to) (deepest_toward old to) (frame - from)) in
+      omega (arith, long, length-map now.tree.states (λ (u : Saved S). u.path), length-map old.tree.states (λ (u : Saved S). u.path), length_prefixes (rows_to old.inputs to) (deepest_toward old to) (frame - from), fits, w.low)
 
   -- one frame more
   pub way_more : (now new : Standing S) (frame at name : ℕ) (state state' : Value) (snapshot : S) (row : List Cell) → IsOnWay value step old now from to frame at state → frame < to → row ≡ row_at now.inputs.players frame → state' ≡ step state row → value snapshot ≡ step state row
@@ -183,7 +183,7 @@ module _ {S : Type 0} (value : S → Value) (step : Value → List Cell → Valu
         time = ap (λ (t : SavedStates S). t.time) tree ∙ w.time;
         low = omega (arith, w.low);
         high = omega (arith, high);
-        paths = ap paths_of tree ∙ map-append (λ (v : Saved S). v.path) now.tree.states (u ∷ []) ∙ rw (w.paths, path, prefixes_more old.inputs.players old.inputs.settled to (way_to old to) from frame start w.low high) (append_assoc (paths_of old.tree) (prefixes (rows_to old.inputs to) (way_to old to) (frame - from)) (rows_from old.inputs.players old.inputs.settled (frame + 1 - old.inputs.settled) ∷ []));
+        paths = ap paths_of tree ∙ map-append (λ (v : Saved S). v.path) now.tree.states (u ∷ []) ∙ rw (w.paths, path, prefixes_more old.inputs.players old.inputs.settled to (deepest_toward old to) from frame start w.low high) (append_assoc (paths_of old.tree) (prefixes (rows_to old.inputs to) (deepest_toward old to) (frame - from)) (rows_from old.inputs.players old.inputs.settled (frame + 1 - old.inputs.settled) ∷ []));
         here = rw (tree, held_last now.tree u vacant) path;
         values = λ opening h. rw tree (All-push (λ v. value v.snapshot ≡ run step opening (timeline old.inputs.players old.inputs.settled ++ v.path)) now.tree.states u (w.values opening h) (snap ∙ led opening h ∙ ap (run step opening) (sym (ap (λ (q : Rows). timeline old.inputs.players old.inputs.settled ++ q) path ∙ whole old.inputs.players old.inputs.settled (frame + 1) (omega (arith, low))))));
         reached = λ opening h. state_is ∙ led opening h;

@@ -20,18 +20,17 @@ use Rattle.roll_frame.proofs.Refused.{AllFail}
 use Rattle.roll_frame.proofs.Timelines.{length_timeline, timeline_none_given}
 use Rattle.roll_game.specs.Counts.{rolled}
 use Rattle.roll_game.specs.declared.counts.Counts.{Counts}
-use Rattle.roll_laws.specs.Sessions.{IsLog}
 use Rattle.roll_laws.proofs.Accepted.{accepted_passes}
 use Rattle.roll_laws.proofs.Fair.{IsFair, fair_is_right}
 use Rattle.roll_laws.proofs.Fronts.{depth_is}
-use Rattle.roll_laws.proofs.Glue.{always_holds, log_more}
 use Rattle.roll_laws.proofs.KeptPaths.{prefixes_are_saved}
 use Rattle.roll_laws.proofs.Rolls.{next_is_fair, roll_of}
 use Rattle.roll_laws.proofs.Saved.{has_in, in_has, in_left, in_right, take_timeline, In}
 use Rattle.roll_laws.proofs.Sound.{sound_played, Sound}
 use Rattle.roll_session.specs.Answered.{counts_by, with_entries, IsReplied}
 use Rattle.roll_session.specs.Headline.{is_declined, is_rolled, last_claim, time_of, value_shown, words_in, words_of, IsCertificate, IsCertified, IsFewest, IsNext, IsSaved, LosesNothing, RunsFewest, ShowsSerialRun, TakesOnce, Turn}
-use Rattle.roll_session.specs.Seen.{Seen, Step, core_of, game_of}
+use Rattle.roll_session.specs.Seen.{FollowsLog, IsLeast, Seen, Step, game_of}
+use Rattle.roll_session.proofs.Following.{follows_more, law_of}
 use Rattle.roll_session.proofs.Holding.{least_of}
 use Rattle.roll_session.proofs.Runs.{none_added}
 use Rattle.roll_session.proofs.Words.{remote_again, remote_next, words_applied, words_at}
@@ -48,26 +47,26 @@ IsAsked (Partial to made) = ⊥
 
 -- an event was accepted
 pub record WasAccepted (step : Step) (old new : Seen) (event : CoreEvent) (said : Reply) : Type 0 where
-  pub fits : is_accepted old.settings (game_of step old) (core_of old) event ≡ true
-  pub said_is : said ≡ answer (core_of old) event.entry
-  pub seen : new ≡ with_entries old (event.entry ∷ []) (counts_by (core_of old) event.entry old.counts)
-  pub core : core_of new ≡ applied (core_of old) event.entry
+  pub fits : is_accepted old.settings (game_of step old) old.core event ≡ true
+  pub said_is : said ≡ answer old.core event.entry
+  pub seen : new ≡ with_entries old (event.entry ∷ []) (counts_by old.core event.entry old.counts)
+  pub core : new.core ≡ applied old.core event.entry
 
 -- or it repeated a word, or was refused, and changed nothing
 pub record WasDeclined (old new : Seen) (event : CoreEvent) (said : Reply) : Type 0 where
-  pub why : ((said ≡ Repeated) × (is_repeat (core_of old) event.entry ≡ true)) ⊎ ((why : Refusal) × (said ≡ Refused why))
+  pub why : ((said ≡ Repeated) × (is_repeat old.core event.entry ≡ true)) ⊎ ((why : Refusal) × (said ≡ Refused why))
   pub same : new ≡ old
 
 pub came : (step : Step) (old new : Seen) (event : CoreEvent) (said : Reply) → IsReplied step old new event said → WasAccepted step old new event said ⊎ WasDeclined old new event said
-came step old new event said r = go (is_repeat (core_of old) event.entry) (refusal old.settings (game_of step old) (core_of old) event) refl refl r.said_is
+came step old new event said r = go (is_repeat old.core event.entry) (refusal old.settings (game_of step old) old.core event) refl refl r.said_is
   where
-    not_accepted : is_accepted old.settings (game_of step old) (core_of old) event ≡ false → new ≡ old
+    not_accepted : is_accepted old.settings (game_of step old) old.core event ≡ false → new ≡ old
     not_accepted e = (rw e at r.played.seen) ∙ sym (none_added old)
 
-    accepted : is_accepted old.settings (game_of step old) (core_of old) event ≡ true → said ≡ answer (core_of old) event.entry → WasAccepted step old new event said
+    accepted : is_accepted old.settings (game_of step old) old.core event ≡ true → said ≡ answer old.core event.entry → WasAccepted step old new event said
     accepted e h = record { fits = e; said_is = h; seen = rw e at r.played.seen; core = rw e at r.played.core }
 
-    go : (b : Bool) (o : Option Refusal) → is_repeat (core_of old) event.entry ≡ b → refusal old.settings (game_of step old) (core_of old) event ≡ o → said ≡ cond b Repeated (option_map_or Refused o (answer (core_of old) event.entry))
+    go : (b : Bool) (o : Option Refusal) → is_repeat old.core event.entry ≡ b → refusal old.settings (game_of step old) old.core event ≡ o → said ≡ cond b Repeated (option_map_or Refused o (answer old.core event.entry))
         → WasAccepted step old new event said ⊎ WasDeclined old new event said
     go true o e f h = inr (record { why = inl (h, e); same = not_accepted (rw e refl) })
     go false None e f h = inl (accepted (rw (e, f) refl) h)
@@ -189,10 +188,10 @@ module _ (step : Step) (old new : Seen) (event : CoreEvent) (said : Reply) where
   abbrev pub turn_of : Turn
   turn_of = record { before = old; event = event; said = said; after = new }
 
-  refused_declined : WasDeclined old new event said → is_declined said ≡ true
+  pub refused_declined : WasDeclined old new event said → is_declined said ≡ true
   refused_declined d = go d.why
     where
-      go : ((said ≡ Repeated) × (is_repeat (core_of old) event.entry ≡ true)) ⊎ ((why : Refusal) × (said ≡ Refused why)) → is_declined said ≡ true
+      go : ((said ≡ Repeated) × (is_repeat old.core event.entry ≡ true)) ⊎ ((why : Refusal) × (said ≡ Refused why)) → is_declined said ≡ true
       go (inl h) = rw h.0 refl
       go (inr h) = rw h.1 refl
 
@@ -206,11 +205,11 @@ module _ (step : Step) (old new : Seen) (event : CoreEvent) (said : Reply) where
     same_opening : new.opening ≡ old.opening
     same_opening = ap (λ (s : Seen). s.opening) a.seen
 
-    rolls : is_rolled said ≡ true → is_rolled (answer (core_of old) event.entry) ≡ true
+    rolls : is_rolled said ≡ true → is_rolled (answer old.core event.entry) ≡ true
     rolls h = subst (λ (r : Reply). is_rolled r ≡ true) a.said_is h
 
-    left_alone : IsAsked event.entry → is_rolled said ≡ false → IsLeft (core_of old) event.entry
-    left_alone asked h = left_by (core_of old) event.entry asked (subst (λ (r : Reply). is_rolled r ≡ false) a.said_is h)
+    left_alone : IsAsked event.entry → is_rolled said ≡ false → IsLeft old.core event.entry
+    left_alone asked h = left_by old.core event.entry asked (subst (λ (r : Reply). is_rolled r ≡ false) a.said_is h)
 
     accepted_shows : IsAsked event.entry → ShowsSerialRun step turn_of
     accepted_shows asked = shown_by (is_rolled said) (value_shown step new) (Some (run step new.opening (time_of new))) (value_shown step old) rolled_to stays
@@ -218,56 +217,61 @@ module _ (step : Step) (old new : Seen) (event : CoreEvent) (said : Reply) where
         rolled_to : is_rolled said ≡ true → value_shown step new ≡ Some (run step new.opening (time_of new))
         rolled_to h =
             subst (λ (c : Core). option_map (run step new.opening) c.shown ≡ Some (run step new.opening (timeline c.players c.frame))) (sym a.core)
-            (shows step new.opening (core_of old) event.entry (rolls h))
+            (shows step new.opening old.core event.entry (rolls h))
 
         stays : is_rolled said ≡ false → value_shown step new ≡ value_shown step old
         stays h =
             let shown = ap (λ (c : Core). c.shown) a.core ∙ (left_alone asked h).shown in
             λ i. option_map (run step (same_opening i)) (shown i)
 
-    module _ (l : IsLog old.settings (game_of step old) old.log) where
+    module _ (l : FollowsLog step old) where
       -- each first part of a path that is saved then is saved too
-      fronts_saved : (path : Rows) (n : ℕ) → contains (core_of new).ever path ≡ true → contains (core_of new).ever (take n path) ≡ true
+      fronts_saved : (path : Rows) (n : ℕ) → contains new.core.ever path ≡ true → contains new.core.ever (take n path) ≡ true
       fronts_saved =
-          let law = always_holds (λ s core. (path : Rows) (n : ℕ) → contains core.ever path ≡ true → contains core.ever (take n path) ≡ true) prefixes_are_saved old.settings (game_of step old) (old.log ++ event.entry ∷ []) (log_more old.settings (game_of step old) old.log event l a.fits) in
-          subst (λ (s : Seen). (path : Rows) (n : ℕ) → contains (core_of s).ever path ≡ true → contains (core_of s).ever (take n path) ≡ true) (sym a.seen) law
+          let after : Seen = with_entries old (event.entry ∷ []) (counts_by old.core event.entry old.counts) in
+          let law = law_of step after (follows_more step old l event after.counts a.fits) (λ s core. (path : Rows) (n : ℕ) → contains core.ever path ≡ true → contains core.ever (take n path) ≡ true) prefixes_are_saved in
+          subst (λ (s : Seen). (path : Rows) (n : ℕ) → contains s.core.ever path ≡ true → contains s.core.ever (take n path) ≡ true) (sym a.seen) law
 
-      module _ (m : ℕ) (r : IsRolledBy (core_of old) event.entry m) where
-        time_is : time_of new ≡ timeline (core_of old).players m
-        time_is = subst (λ (c : Core). timeline c.players c.frame ≡ timeline (core_of old).players m) (sym a.core) (ap (timeline (applied (core_of old) event.entry).players) r.frame ∙ r.time)
+      module _ (m : ℕ) (r : IsRolledBy old.core event.entry m) where
+        time_is : time_of new ≡ timeline old.core.players m
+        time_is = subst (λ (c : Core). timeline c.players c.frame ≡ timeline old.core.players m) (sym a.core) (ap (timeline (applied old.core event.entry).players) r.frame ∙ r.time)
 
-        last_is : (core_of new).last ≡ Some (roll_of (core_of old) m)
+        last_is : new.core.last ≡ Some (roll_of old.core m)
         last_is = ap (λ (c : Core). c.last) a.core ∙ r.last
 
-        fair : IsFair old.settings.players (roll_of (core_of old) m)
-        fair = always_holds (λ s core. (k : ℕ) → core.frame ≤ k → k ≤ core.frame + 1 → IsFair s.players (roll_of core k)) next_is_fair old.settings (game_of step old) old.log l m r.low r.high
+        fair : IsFair old.settings.players (roll_of old.core m)
+        fair = law_of step old l (λ s core. (k : ℕ) → core.frame ≤ k → k ≤ core.frame + 1 → IsFair s.players (roll_of core k)) next_is_fair m r.low r.high
 
-        fewest_is : IsFewest turn_of (claim_of new.settings.players (roll_of (core_of old) m))
+        least : (k : ℕ) → IsLeast old.core k
+        least k = subst (λ (c : Core). IsLeast c k) (sym l.core) (least_of old.settings (game_of step old) old.log l.log k)
+
+        fewest_is : IsFewest turn_of (claim_of new.settings.players (roll_of old.core m))
         fewest_is =
-            let core : Core = core_of old in
+            let core : Core = old.core in
             let long = length_timeline core.players m in
-            let sound : Sound old.settings core = always_holds Sound sound_played old.settings (game_of step old) old.log l in
+            let sound : Sound old.settings core = law_of step old l Sound sound_played in
             let d = depth_is core m sound.root in
-            let frame : (core_of new).frame ≡ m = ap (λ (c : Core). c.frame) a.core ∙ r.frame in
+            let frame : new.core.frame ≡ m = ap (λ (c : Core). c.frame) a.core ∙ r.frame in
             record {
               starts =
                   subst (λ (q : Rows). IsSaved old (take (depth core m) q)) (sym time_is)
                   (in_has core.ever (take (depth core m) (timeline core.players m)) (subst (λ (q : Rows). In q core.ever) (sym (take_timeline core.players (depth core m) m d.0)) d.1));
               longest = λ path rest i e.
                   let leads : path ++ rest ≡ timeline core.players m = e ∙ time_is in
-                  let least : cost core m ≤ length rest = least_of old.settings (game_of step old) old.log l m path rest (record { saved = i; leads = leads }) in
-                  omega (arith, least, long, d.0, ap (λ (q : Rows). length q) leads, length-append path rest);
+                  let few : cost core m ≤ length rest = least m path rest (record { saved = i; leads = leads }) in
+                  omega (arith, few, long, d.0, ap (λ (q : Rows). length q) leads, length-append path rest);
               advanced = ap (λ (s : Seen). s.counts) a.seen ∙ r.counts old.counts ∙ ap (λ k. rolled (k - depth core m) old.counts) (sym frame);
               saves = λ n.
                   subst (λ (q : Rows). IsSaved new (take n q)) (sym time_is)
                   (fronts_saved (timeline core.players m) n (subst (λ (c : Core). contains c.ever (timeline core.players m) ≡ true) (sym a.core) (subst (λ (ps : List Rows). contains ps (timeline core.players m) ≡ true) (sym r.ever) (in_has (core.ever ++ rolled_paths core m (cost core m)) (timeline core.players m) (end_saved core m d)))));
             }
 
-        certificate_is : IsCertificate turn_of (claim_of new.settings.players (roll_of (core_of old) m))
+        certificate_is : IsCertificate turn_of (claim_of new.settings.players (roll_of old.core m))
         certificate_is =
-            let core : Core = core_of old in
+            let core : Core = old.core in
             subst (λ n. IsCertificate turn_of (claim_of n (roll_of core m))) (ap (λ (s : Settings). s.players) (sym same_settings)) (record {
               right = fair_is_right old.settings.players (roll_of core m) fair;
+              players = refl;
               base = refl;
               time = ap (drop (settled core)) (sym time_is);
               lists = refl;
@@ -278,7 +282,7 @@ module _ (step : Step) (old new : Seen) (event : CoreEvent) (said : Reply) where
         where
           rolled_to : is_rolled said ≡ true → IsSomeAnd (last_claim new) (IsFewest turn_of)
           rolled_to h =
-              let r = roll_in (core_of old) event.entry (rolls h) in
+              let r = roll_in old.core event.entry (rolls h) in
               subst (λ (o : Option Roll). IsSomeAnd (option_map (claim_of new.settings.players) o) (IsFewest turn_of)) (sym (last_is r.0 r.1)) (fewest_is r.0 r.1)
 
           stays : is_rolled said ≡ false → new.counts ≡ old.counts
@@ -289,7 +293,7 @@ module _ (step : Step) (old new : Seen) (event : CoreEvent) (said : Reply) where
         where
           rolled_to : is_rolled said ≡ true → IsSomeAnd (last_claim new) (IsCertificate turn_of)
           rolled_to h =
-              let r = roll_in (core_of old) event.entry (rolls h) in
+              let r = roll_in old.core event.entry (rolls h) in
               subst (λ (o : Option Roll). IsSomeAnd (option_map (claim_of new.settings.players) o) (IsCertificate turn_of)) (sym (last_is r.0 r.1)) (certificate_is r.0 r.1)
 
           stays : is_rolled said ≡ false → last_claim new ≡ last_claim old
@@ -299,17 +303,17 @@ module _ (step : Step) (old new : Seen) (event : CoreEvent) (said : Reply) where
 
     accepted_takes : TakesOnce turn_of
     accepted_takes =
-        let fails = (accepted_passes old.settings (game_of step old) (core_of old) event a.fits).0 in
+        let fails = (accepted_passes old.settings (game_of step old) old.core event a.fits).0 in
         record {
           next = subst (λ (q : Reply). IsNext old event.entry q) (sym a.said_is) (heard event.entry fails);
           words = λ p.
-              ap (λ (c : Core). words_at c.players p) a.core ∙ words_applied old.settings (game_of step old) (core_of old) event fails p
+              ap (λ (c : Core). words_at c.players p) a.core ∙ words_applied old.settings (game_of step old) old.core event fails p
               ∙ ap (λ (q : Reply). words_of old p ++ words_in event.entry q p) (sym a.said_is);
         }
       where
-        heard : (entry : Entry) → AllFail (tests_of old.settings (game_of step old) (core_of old) event.value entry) → IsNext old entry (answer (core_of old) entry)
+        heard : (entry : Entry) → AllFail (tests_of old.settings (game_of step old) old.core event.value entry) → IsNext old entry (answer old.core entry)
         heard (Local p word) f = tt
-        heard (Remote p frame word) f = remote_next old.settings (game_of step old) (core_of old) p frame word f
+        heard (Remote p frame word) f = remote_next old.settings (game_of step old) old.core p frame word f
         heard (Disconnect p) f = tt
         heard Sync f = tt
         heard Advance f = tt
@@ -318,13 +322,13 @@ module _ (step : Step) (old new : Seen) (event : CoreEvent) (said : Reply) where
 
     accepted_loses : IsAsked event.entry → LosesNothing turn_of
     accepted_loses asked = record {
-      refused = λ h. absurd (not_declined (core_of old) event.entry asked (subst (λ (q : Reply). is_declined q ≡ true) a.said_is h));
-      saved = λ path h. subst (λ (c : Core). contains c.ever path ≡ true) (sym a.core) (stays_saved (core_of old) event.entry path h);
+      refused = λ h. absurd (not_declined old.core event.entry asked (subst (λ (q : Reply). is_declined q ≡ true) a.said_is h));
+      saved = λ path h. subst (λ (c : Core). contains c.ever path ≡ true) (sym a.core) (stays_saved old.core event.entry path h);
     }
 
   module _ (d : WasDeclined old new event said) where
     declined_loses : LosesNothing turn_of
-    declined_loses = record { refused = λ h. d.same; saved = λ path h. subst (λ (s : Seen). contains (core_of s).ever path ≡ true) (sym d.same) h }
+    declined_loses = record { refused = λ h. d.same; saved = λ path h. subst (λ (s : Seen). contains s.core.ever path ≡ true) (sym d.same) h }
 
     declined_takes : TakesOnce turn_of
     declined_takes = go d.why
@@ -346,9 +350,9 @@ module _ (step : Step) (old new : Seen) (event : CoreEvent) (said : Reply) where
         unheard (Graft ticket route) why = tt
         unheard (Partial to made) why = tt
 
-        again : (entry : Entry) → is_repeat (core_of old) entry ≡ true → IsNext old entry Repeated
+        again : (entry : Entry) → is_repeat old.core entry ≡ true → IsNext old entry Repeated
         again (Local p word) h = tt
-        again (Remote p frame word) h = remote_again (core_of old).players p frame word h
+        again (Remote p frame word) h = remote_again old.core.players p frame word h
         again (Disconnect p) h = tt
         again Sync h = tt
         again Advance h = tt
@@ -373,7 +377,7 @@ module _ (step : Step) (old new : Seen) (event : CoreEvent) (said : Reply) where
         none_again (Graft ticket route) p = refl
         none_again (Partial to made) p = refl
 
-        go : ((said ≡ Repeated) × (is_repeat (core_of old) event.entry ≡ true)) ⊎ ((why : Refusal) × (said ≡ Refused why)) → TakesOnce turn_of
+        go : ((said ≡ Repeated) × (is_repeat old.core event.entry ≡ true)) ⊎ ((why : Refusal) × (said ≡ Refused why)) → TakesOnce turn_of
         go (inl h) = none Repeated h.0 (none_again event.entry) (again event.entry h.1)
         go (inr h) = none (Refused h.0) h.1 (no_words event.entry h.0) (unheard event.entry h.0)
 
@@ -385,7 +389,7 @@ module _ (step : Step) (old new : Seen) (event : CoreEvent) (said : Reply) where
     pub inputs : TakesOnce turn_of
     pub nothing_lost : LosesNothing turn_of
 
-  pub turn_is : IsLog old.settings (game_of step old) old.log → IsAsked event.entry → IsReplied step old new event said → IsTurn
+  pub turn_is : FollowsLog step old → IsAsked event.entry → IsReplied step old new event said → IsTurn
   turn_is l asked r = go (came step old new event said r)
     where
       go : WasAccepted step old new event said ⊎ WasDeclined old new event said → IsTurn

@@ -1,18 +1,19 @@
 -- What events make of a session, and what is answered.
-use Rattle.std.specs.Prelude.{◌≡◌, ◌⊎◌, ◌+◌, ◌-◌, ◌≤◌, ℕ, true, List, [], ◌∷◌, ◌++◌, length, Result, Ok, Err, if◌then◌else◌}
+use Rattle.std.specs.Prelude.{◌≡◌, ◌⊎◌, ◌+◌, ◌-◌, ℕ, true, List, [], ◌∷◌, ◌++◌, fold, length, Result, Ok, Err, if◌then◌else◌}
 use Rattle.roll_frame.specs.Core.{Core, cost}
-use Rattle.roll_frame.specs.Events.{CoreEvent, after, is_accepted, log_from, played_from, replies_from, reply}
+use Rattle.roll_frame.specs.Events.{CoreEvent, after, applied, is_accepted, log_from, played_from, replies_from, reply}
 use Rattle.roll_frame.specs.Games.{Game}
 use Rattle.roll_frame.specs.declared.entry.Entry.{Entry}
-use Rattle.roll_frame.specs.declared.entry.Entry.TheVariants.{Sync, Advance, Partial}
+use Rattle.roll_frame.specs.declared.entry.Entry.TheVariants.{Sync, Advance}
 use Rattle.roll_frame.specs.declared.refusal.Refusal.{Refusal}
 use Rattle.roll_frame.specs.declared.refusal.Refusal.TheVariants.{NoMemory}
 use Rattle.roll_frame.specs.declared.reply.Reply.{Reply}
 use Rattle.roll_frame.specs.declared.reply.Reply.TheVariants.{Refused}
 use Rattle.roll_frame.specs.declared.settings.Settings.{Settings}
-use Rattle.roll_game.specs.Counts.{IsRefusedAt, rolled}
+use Rattle.roll_game.specs.Counts.{rolled}
 use Rattle.roll_game.specs.declared.counts.Counts.{Counts}
-use Rattle.roll_session.specs.Seen.{Step, Seen, core_of, game_of}
+use Rattle.roll_session.specs.Changes.{IsPartial}
+use Rattle.roll_session.specs.Seen.{Step, Seen, game_of}
 
 -- what an accepted entry asks of the game: nothing, unless it rolls
 abbrev pub counts_by : Core → Entry → Counts → Counts
@@ -28,39 +29,38 @@ counts_from settings game core (event ∷ events) counts =
 
 -- the session after more entries, of which each is one event less that there is room for
 abbrev pub with_entries : Seen → List Entry → Counts → Seen
-with_entries s entries counts = record s { log = s.log ++ entries; counts = counts; reserved = s.reserved - length entries }
+with_entries s entries counts =
+    record s {
+      core = fold applied s.core entries;
+      log = s.log ++ entries;
+      counts = counts;
+      reserved = s.reserved - length entries;
+    }
 
 -- the replies to any events
 abbrev pub replies_to : Step → Seen → List CoreEvent → List Reply
-replies_to step s events = replies_from s.settings (game_of step s) (core_of s) events
+replies_to step s events = replies_from s.settings (game_of step s) s.core events
 
 -- the session after any events, each of them accepted or refused by the rules
 pub record IsPlayed (step : Step) (old new : Seen) (events : List CoreEvent) : Type 0 where
-  pub seen : new ≡ with_entries old (log_from old.settings (game_of step old) (core_of old) events) (counts_from old.settings (game_of step old) (core_of old) events old.counts)
-  pub core : core_of new ≡ played_from old.settings (game_of step old) (core_of old) events
+  pub seen : new ≡ with_entries old (log_from old.settings (game_of step old) old.core events) (counts_from old.settings (game_of step old) old.core events old.counts)
+  pub core : new.core ≡ played_from old.settings (game_of step old) old.core events
 
 -- what the rules make of an event, and their reply
 pub record IsReplied (step : Step) (old new : Seen) (event : CoreEvent) (said : Reply) : Type 0 where
-  pub said_is : said ≡ reply old.settings (game_of step old) (core_of old) event
+  pub said_is : said ≡ reply old.settings (game_of step old) old.core event
   pub played : IsPlayed step old new (event ∷ [])
-
--- the game refused in a roll to this frame: what was saved by then stays, and no finished row is forgotten
-pub record IsPartial (old new : Seen) (to : ℕ) : Type 0 where
-  pub made : ℕ
-  pub few : made ≤ cost (core_of old) to
-  pub seen : new ≡ with_entries old (Partial to made ∷ []) new.counts
-  pub counts : IsRefusedAt made old.counts new.counts
 
 -- the game refused in the roll of an entry
 abbrev pub IsCutShort : Seen → Seen → Entry → Type 0
-IsCutShort old new Sync = IsPartial old new (core_of old).frame
-IsCutShort old new Advance = IsPartial old new ((core_of old).frame + 1)
+IsCutShort old new Sync = IsPartial old new old.core.frame
+IsCutShort old new Advance = IsPartial old new (old.core.frame + 1)
 IsCutShort old new entry = ⊥
 
 -- memory ran out for an event that the rules accept: the session is as it was, which can't be where an event was reserved,
 -- or the game refused in the roll
 pub record IsShort (step : Step) (old new : Seen) (event : CoreEvent) : Type 0 where
-  pub accepted : is_accepted old.settings (game_of step old) (core_of old) event ≡ true
+  pub accepted : is_accepted old.settings (game_of step old) old.core event ≡ true
   pub left : ((new ≡ old) × (old.reserved ≡ 0)) ⊎ IsCutShort old new event.entry
 
 -- an event is answered as the rules have it, or for want of memory

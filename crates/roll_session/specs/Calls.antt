@@ -10,7 +10,7 @@ use Rattle.roll_frame.specs.declared.reply.Reply.{Reply}
 use Rattle.roll_frame.specs.declared.reply.Reply.TheVariants.{Done, Taken, Repeated, Disconnected}
 use Rattle.roll_inputs.specs.declared.heard.Heard.{Heard}
 use Rattle.roll_inputs.specs.declared.heard.Heard.TheVariants.{Taken as HeardNow, Repeated as HeardBefore}
-use Rattle.roll_session.specs.Seen.{Step, Seen, core_of, plain, refusal_of}
+use Rattle.roll_session.specs.Seen.{Step, Seen, plain, refusal_of}
 use Rattle.roll_session.specs.declared.event.Call.{Call}
 use Rattle.roll_session.specs.declared.event.Call.TheVariants.{Local as LocalCall, Remote as RemoteCall, Disconnect as DisconnectCall, Sync as SyncCall, Advance as AdvanceCall}
 use Rattle.roll_session.specs.declared.event.Request.{Request}
@@ -69,13 +69,13 @@ input_reply call heard = Done
 
 -- the rules accept a call
 pub record IsAllowed (step : Step) (s : Seen) (call : Call) : Type 0 where
-  pub new : is_repeat (core_of s) (entry_of call) ≡ false
+  pub new : is_repeat s.core (entry_of call) ≡ false
   pub accepted : refusal_of step s (entry_of call) ≡ None
 
 -- a call is let in, with room for its entry, or it repeats a word
 abbrev pub IsAdmitted : Step → Seen → Seen → Call → Heard → Type 0
 IsAdmitted step old new call HeardNow = IsAllowed step old call × (new ≡ record old { reserved = max old.reserved 1 })
-IsAdmitted step old new call HeardBefore = (is_repeat (core_of old) (entry_of call) ≡ true) × (new ≡ old)
+IsAdmitted step old new call HeardBefore = (is_repeat old.core (entry_of call) ≡ true) × (new ≡ old)
 
 -- what is judged of an event that repeats a word, or not, and that a test is against, or none
 abbrev pub judged : Bool → Option Refusal → Result Heard Refusal

@@ -17,15 +17,15 @@ use Rattle.roll_session.specs.Saves.{Standing}
 use Rattle.roll_session.specs.Seen.{Step}
 
 -- the rows from the path's base on
-abbrev pub lead_of : Route → Rows
-lead_of route = route.path.rows.items ++ route.rows.items
+abbrev pub rows_of_route : Route → Rows
+rows_of_route route = route.path.rows.items ++ route.rows.items
 
 -- where the branch starts and ends, from frame 0
 abbrev pub start_of : Route → ℕ
 start_of route = route.path.base + length route.path.rows.items
 
 abbrev pub end_of : Route → ℕ
-end_of route = route.path.base + length (lead_of route)
+end_of route = route.path.base + length (rows_of_route route)
 
 -- where it may be new from
 abbrev pub anchor_of : Inputs → Route → ℕ
@@ -33,11 +33,11 @@ anchor_of inputs route = max (start_of route) inputs.settled
 
 -- its rows past the settled frame
 abbrev pub ahead_of : Inputs → Route → Rows
-ahead_of inputs route = drop (inputs.settled - route.path.base) (lead_of route)
+ahead_of inputs route = drop (inputs.settled - route.path.base) (rows_of_route route)
 
 -- how far it is possible
 abbrev pub possible_to : Inputs → Route → ℕ
-possible_to inputs route = route.path.base + possible_rows route.path.base inputs.players (lead_of route)
+possible_to inputs route = route.path.base + possible_rows route.path.base inputs.players (rows_of_route route)
 
 module _ {S : Type 0} where
   -- how far it is kept
@@ -52,7 +52,7 @@ module _ {S : Type 0} where
   abbrev pub place_tests : Standing S → Route → List (Bool × Refusal)
   place_tests s route =
       (nat_lt s.inputs.settled route.path.base, Stranger)
-      ∷ (not (are_rows_of (length s.inputs.players) (lead_of route)), Stranger)
+      ∷ (not (are_rows_of (length s.inputs.players) (rows_of_route route)), Stranger)
       ∷ (nat_lt (s.inputs.settled + PATH_LIMIT) (end_of route), TooFar)
       ∷ (nat_le (end_of route) s.inputs.settled, Late)
       ∷ (nat_lt (possible_to s.inputs route) (anchor_of s.inputs route), Dead)

@@ -19,7 +19,7 @@ use Rattle.roll_game.specs.declared.counts.Counts.{Counts}
 use Rattle.roll_inputs.specs.Boards.{Inputs}
 use Rattle.roll_tree.specs.SavedStates.{paths_of}
 use Rattle.roll_session.specs.Saves.{Standing}
-use Rattle.roll_session.specs.Seen.{Seen, Step, core_of, game_of}
+use Rattle.roll_session.specs.Seen.{Seen, Step, game_of}
 use Rattle.roll_session.specs.Standing.{rows_from}
 
 -- the rows from the settled frame to another, if player p gave these words next
@@ -48,7 +48,7 @@ module _ {S : Type 0} where
 
 -- why a guess is refused, if it is
 abbrev pub guess_refusal_of : Seen → ℕ → List ℕ → ℕ → Option Refusal
-guess_refusal_of s p words until = first_refusal (guess_tests s.settings.limit (core_of s) p words until)
+guess_refusal_of s p words until = first_refusal (guess_tests s.settings.limit s.core p words until)
 
 -- the job of a branch that is to be run
 abbrev pub job_from : Game → Core → Branch → Routed
@@ -64,7 +64,7 @@ abbrev pub guess_job : Game → Core → ℕ → List ℕ → ℕ → Option Rou
 guess_job game core p words until = option_map (job_from game core) (guessed_job core p words until)
 
 abbrev pub guess_job_of : Step → Seen → ℕ → List ℕ → ℕ → Option Routed
-guess_job_of step s p words until = guess_job (game_of step s) (core_of s) p words until
+guess_job_of step s p words until = guess_job (game_of step s) s.core p words until
 
 -- what a game was asked for where a job was wanted: one copy where there is one, and no more than one, which it refused,
 -- where memory ran out

@@ -2,8 +2,8 @@
 -- shown is the serial run over the timeline; a rollback runs as few frames as any plan from a state that was ever saved; and
 -- it leaves a certificate of that.
 --
--- What it cites: `Seen` (Seen), what contracts see of a session, and `core_of`, what its log has made of it; in roll_frame/specs
--- `Core`, `settled` and `kept` (Core), what that is; `timeline` (Timeline), the rows of the confirmed words and of the predictions
+-- What it cites: `Seen` (Seen), what contracts see of a session; in roll_frame/specs `Core`, `settled` and `kept` (Core), what
+-- its events have made of it; `timeline` (Timeline), the rows of the confirmed words and of the predictions
 -- after them; `run` (Paths), the value that rows lead to; `IsRight` (Claims), what a claim has to have; and in roll_game/specs
 -- `rolled` (Counts), what a rollback asks of the game. Which events are refused, and what the others change, is said by the rules
 -- (Events), and needn't be known here.
@@ -24,11 +24,8 @@ use Rattle.roll_frame.specs.declared.entry.Entry.TheVariants.{Local, Remote}
 use Rattle.roll_frame.specs.declared.reply.Reply.{Reply}
 use Rattle.roll_frame.specs.declared.reply.Reply.TheVariants.{Refused, Done, Taken, Repeated, Synchronized, Reached}
 use Rattle.roll_game.specs.Counts.{rolled}
-use Rattle.roll_session.specs.Answered.{IsReplied, IsShort}
-use Rattle.roll_session.specs.Calls.{asked}
-use Rattle.roll_session.specs.Requests.{all_asked}
-use Rattle.roll_session.specs.Seen.{Step, Seen, core_of}
-use Rattle.roll_session.specs.declared.event.Request.{Request}
+use Rattle.roll_session.specs.Answered.{IsReplied}
+use Rattle.roll_session.specs.Seen.{Step, Seen}
 
 -- an event with its reply, and the session before and after it
 pub record Turn : Type 0 where
@@ -44,23 +41,23 @@ AreTurns old (turn ∷ turns) new = (turn.before ≡ old) × AreTurns turn.after
 
 -- the timeline up to the frame: the confirmed words, and the predictions after them
 abbrev pub time_of : Seen → Rows
-time_of s = timeline (core_of s).players (core_of s).frame
+time_of s = timeline s.core.players s.core.frame
 
 -- the value of the state that `current` shows, if it shows one
 abbrev pub value_shown : Step → Seen → Option Value
-value_shown step s = option_map (run step s.opening) (core_of s).shown
+value_shown step s = option_map (run step s.opening) s.core.shown
 
 -- the claim of the last rollback, which `claim` makes, if there is one
 abbrev pub last_claim : Seen → Option Claim
-last_claim s = option_map (claim_of s.settings.players) (core_of s).last
+last_claim s = option_map (claim_of s.settings.players) s.core.last
 
 -- a state that these rows lead to was saved at some time, whether it is still kept or was forgotten since
 abbrev pub IsSaved : Seen → Rows → Type 0
-IsSaved s path = contains (core_of s).ever path ≡ true
+IsSaved s path = contains s.core.ever path ≡ true
 
 -- the confirmed words of a player
 abbrev pub words_of : Seen → ℕ → List ℕ
-words_of s p = option_map_or (λ player. player.words) (player_at (core_of s).players p) []
+words_of s p = option_map_or (λ player. player.words) (player_at s.core.players p) []
 
 -- whether this replies to a sync or an advance that was not refused: it went to its frame, by a rollback of 0 frames or more
 abbrev pub is_rolled : Reply → Bool
@@ -100,7 +97,7 @@ pub record IsFewest (turn : Turn) (claim : Claim) : Type 0 where
   pub longest : (path rest : Rows) → IsSaved turn.before path → path ++ rest ≡ time_of turn.after
       → length path ≤ claim.from
   pub advanced : turn.after.counts
-      ≡ rolled ((core_of turn.after).frame - claim.from) turn.before.counts
+      ≡ rolled (turn.after.core.frame - claim.from) turn.before.counts
   pub saves : (n : ℕ) → IsSaved turn.after (take n (time_of turn.after))
 
 -- any other event asks nothing of the game
@@ -113,9 +110,10 @@ RunsFewest turn =
 -- lists, is deeper than the start, and not past the frame. It lists all paths that were kept before the rollback
 pub record IsCertificate (turn : Turn) (claim : Claim) : Type 0 where
   pub right : IsRight claim
-  pub base : claim.base ≡ settled (core_of turn.before)
+  pub players : claim.players ≡ turn.before.settings.players
+  pub base : claim.base ≡ settled turn.before.core
   pub time : claim.time ≡ drop claim.base (time_of turn.after)
-  pub lists : claim.kept ≡ map (path_from claim.base) (in_order (kept (core_of turn.before)))
+  pub lists : claim.kept ≡ map (path_from claim.base) (in_order (kept turn.before.core))
 
 -- any other event leaves the last claim
 abbrev pub IsCertified : Turn → Type 0
@@ -153,22 +151,3 @@ pub record Headline (step : Step) (old new : Seen) (events : List CoreEvent)
   pub certificate : All IsCertified turns
   pub inputs : All TakesOnce turns
   pub nothing_lost : All LosesNothing turns
-
-module _ {G S N : Type 0} where
-  -- memory ran out for one of these requests, after those before it were done
-  pub record EndsShort (step : Step) (old new : Seen) (requests left : List (Request G S N))
-      (replies : List Reply) : Type 0 where
-    pub before : Seen
-    pub done : List (Request G S N)
-    pub request : Request G S N
-    pub split : requests ≡ done ++ request ∷ left
-    pub headline : Headline step old before (all_asked done) replies
-    pub short : IsShort step before new (asked request)
-
-  -- the headline of all requests; where memory ran out, of those before the one that it ran out for
-  abbrev pub IsHeadline : Bool → Step → Seen → Seen → (requests left : List (Request G S N))
-      → List Reply → Type 0
-  IsHeadline true step old new requests left replies =
-      Headline step old new (all_asked requests) replies
-  IsHeadline false step old new requests left replies =
-      EndsShort step old new requests left replies

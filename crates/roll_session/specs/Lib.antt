@@ -12,3 +12,4 @@ pub mod Headline
 pub mod Grafting
 pub mod Guessing
 pub mod Replaying
+pub mod Changes

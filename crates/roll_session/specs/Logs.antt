@@ -17,10 +17,10 @@ pub record Filed : Type 0 where
   pub room : ℕ
 
 -- the entry that is told
-abbrev pub told : Logged → Entry
-told (CallTold call) = entry_of call
-told (GraftTold ticket route) = Graft ticket route.now
-told (PartialTold to made) = Partial to made
+abbrev pub logged_entry : Logged → Entry
+logged_entry (CallTold call) = entry_of call
+logged_entry (GraftTold ticket route) = Graft ticket route.now
+logged_entry (PartialTold to made) = Partial to made
 
 -- the entry of a slot beside these grafts. Sync stands for a graft that isn't there, of which no slot of a log is
 abbrev pub entry_in : List Origin → Slot → Entry

@@ -32,8 +32,8 @@ pub record IsInStep {S : Type 0} (s : Inside S) : Type 0 where
   pub room : s.board.frame ≤ s.past.room
 
 -- whether rows have the word at this place in the cells of this player, from 0, or end before it
-abbrev pub is_told : Rows → ℕ → ℕ → ℕ → Bool
-is_told time place player word = option_map_or (λ row. option_eq cell_eq (slice_get row player) (Some (Word word))) (slice_get time place) true
+abbrev pub has_word : Rows → ℕ → ℕ → ℕ → Bool
+has_word time place player word = option_map_or (λ row. option_eq cell_eq (slice_get row player) (Some (Word word))) (slice_get time place) true
 
 -- the inputs after a player's input
 abbrev pub taken_inputs : Inputs → Entry → Inputs
@@ -75,8 +75,8 @@ module _ {S : Type 0} where
   taken_states inputs entry states = states
 
   -- how far past the settled rows the deepest saved state lies on the timeline's way to a frame
-  abbrev pub way_to : Standing S → ℕ → ℕ
-  way_to s to = longest (paths_of s.tree) (rows_to s.inputs to)
+  abbrev pub deepest_toward : Standing S → ℕ → ℕ
+  deepest_toward s to = longest (paths_of s.tree) (rows_to s.inputs to)
 
   -- each state has the value that the settled rows and its path lead to
   abbrev pub HaveValues : (S → Value) → (Value → List Cell → Value) → Value → Rows → List (Saved S) → Type 0
@@ -84,7 +84,7 @@ module _ {S : Type 0} where
 
   -- how many rows can be settled more: the deepest saved state on the confirmed timeline up to the frame ends them
   abbrev pub settling : Standing S → ℕ
-  settling s = way_to s (min (front s.inputs.players) s.inputs.frame)
+  settling s = deepest_toward s (min (front s.inputs.players) s.inputs.frame)
 
   -- the states as they are seen from n settled rows later
   abbrev pub settled_by : Standing S → ℕ → List (Saved S)

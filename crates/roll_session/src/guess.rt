@@ -39,7 +39,8 @@ pub fn guessed_rows(
 fn route_at(base: u32, rows: &[Row], depth: usize) -> Route
     requires within { depth ≤ length rows.now }
     requires few { length rows.now ≤ PATH_LIMIT }
-    ensures { result ≡ record { path = record { base = base; rows = record { items = take depth rows.now } }; rows = record { items = take BRANCH_LIMIT (drop depth rows.now) } } }
+    ensures { result
+        ≡ record { path = record { base = base; rows = record { items = take depth rows.now } }; rows = record { items = take BRANCH_LIMIT (drop depth rows.now) } } }
 {
     let end = rows.len().min(depth + BRANCH_LIMIT);
     let mut path = Path {
@@ -52,11 +53,11 @@ fn route_at(base: u32, rows: &[Row], depth: usize) -> Route
     Route { path, rows: next }
 }
 
-/// The job of rows from the settled frame on. None where all are kept.
+/// The job of rows from the settled frame on. None if all are kept.
 ///
 /// # Errors
 ///
-/// `NoMemory` where the allocator has no room, or the game refuses its copy, for which it is asked last.
+/// `NoMemory` if the allocator has no room, or the game refuses its copy, for which it is asked last.
 pub fn job_along<G: Game>(
     game: &mut G,
     saves: &Saves<G::Snapshot>,
@@ -64,7 +65,11 @@ pub fn job_along<G: Game>(
     rows: &[Row],
 ) -> Result<Option<Job<G>>, Refusal>
     requires { length rows.now ≤ PATH_LIMIT }
-    ensures job { IfOk result (λ job. (opening : Value) → HaveValues G.snapshot_value G.step opening (timeline saves.now.inputs.players saves.now.inputs.settled) saves.now.tree.states → job ≡ job_along G.step opening saves.now rows.now) }
+    ensures job { IfOk result
+        (λ job. (opening : Value)
+        → HaveValues G.snapshot_value G.step opening
+        (timeline saves.now.inputs.players saves.now.inputs.settled) saves.now.tree.states → job
+        ≡ job_along G.step opening saves.now rows.now) }
     ensures refused { IfErr result (λ why. why ≡ Refusal.NoMemory) }
     ensures counts { IsCopied (G.call_counts game.old) (G.call_counts game.new) result }
 {

@@ -2,7 +2,7 @@
 ghost use Rattle.std.specs.Prelude.{◌≡◌, ◌==◌, ℕ, List, ◌≤◌, ◌<◌, ◌+◌, ◌∷◌, ◌++◌, [], length, OnOk, OnErr, Some, option_map, slice_get};
 ghost use Rattle.roll_frame.specs.declared.entry.Entry.TheVariants.{Graft as Grafts, Partial as Partials};
 ghost use Rattle.roll_session.specs.Calls.{entry_of};
-ghost use Rattle.roll_session.specs.Logs.{entry_in, told, IsWithin};
+ghost use Rattle.roll_session.specs.Logs.{entry_in, logged_entry, IsWithin};
 ghost use Rattle.roll_session.specs.declared.log.Origin.{Origin};
 
 use crate::event::Call;
@@ -87,7 +87,7 @@ impl Log {
 
     /// The entry of this place, counted from 0, if there is one.
     pub fn get(&self, place: usize) -> Option<Logged<'_>>
-        ensures { option_map told result ≡ slice_get self.now.entries place }
+        ensures { option_map logged_entry result ≡ slice_get self.now.entries place }
     {
         if place < self.slots.len() {
             Some(self.at(place))
@@ -99,7 +99,7 @@ impl Log {
     /// The entry of this place.
     pub(crate) fn at(&self, place: usize) -> Logged<'_>
         requires { place < length self.now.entries }
-        ensures { slice_get self.now.entries place ≡ Some (told result) }
+        ensures { slice_get self.now.entries place ≡ Some (logged_entry result) }
     {
         match self.slots[place] {
             Slot::Local { player, word } => Logged::Call(Call::Local { player, word }),
@@ -138,7 +138,7 @@ impl Log {
         self.grafts.reserve(count)
     }
 
-    /// Adds a call where there is room for it.
+    /// Adds a call if there is room for it.
     #[inline(always)]
     pub fn add_call(&mut self, call: Call)
         requires { 1 ≤ self.old.room }
@@ -148,7 +148,7 @@ impl Log {
         self.slots.push_reserved(slot_of(call));
     }
 
-    /// Adds a branch that was taken in, where there is room for it.
+    /// Adds a branch that was taken in, if there is room for it.
     pub fn add_graft(&mut self, ticket: u64, route: Boxed<Route>)
         requires room { 1 ≤ self.old.room }
         requires few { length self.old.entries ≤ LOG_LIMIT }
@@ -160,7 +160,7 @@ impl Log {
         self.slots.push_reserved(Slot::Graft { place });
     }
 
-    /// Adds a roll that the game cut short, where there is room for it.
+    /// Adds a roll that the game cut short, if there is room for it.
     pub fn add_partial(&mut self, to: u32, made: u32)
         requires { 1 ≤ self.old.room }
         ensures entries { self.new.entries ≡ self.old.entries ++ Partials to made ∷ [] }

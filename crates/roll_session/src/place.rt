@@ -5,7 +5,7 @@ ghost use Rattle.roll_frame.specs.Grafts.{are_rows_of};
 ghost use Rattle.roll_frame.specs.Paths.{longest, prefixes};
 ghost use Rattle.roll_frame.specs.Refusals.{first_refusal};
 ghost use Rattle.roll_frame.specs.Timeline.{timeline};
-ghost use Rattle.roll_session.specs.Grafting.{ahead_of, anchor_of, branch_tests, count_new, end_of, has_no_room, is_same_there, kept_to, lead_of, place_tests, possible_to, start_of, KeepsWorth};
+ghost use Rattle.roll_session.specs.Grafting.{ahead_of, anchor_of, branch_tests, count_new, end_of, has_no_room, is_same_there, kept_to, rows_of_route, place_tests, possible_to, start_of, KeepsWorth};
 ghost use Rattle.roll_session.specs.Saves.{HaveValues};
 ghost use Rattle.roll_tree.specs.SavedStates.{paths_of, state_named};
 
@@ -19,9 +19,9 @@ use std::collections::VecDeque;
 /// The most rows of a route, with those of its path.
 const ROUTE_LIMIT: usize = 32;
 
-/// All rows of a route, from its base on.
-fn lead_of(route: &Route) -> ArrayVec<Row, ROUTE_LIMIT>
-    ensures { result.items ≡ lead_of route.now }
+/// All rows of a route, from its base on: those of its path, and those that were run.
+fn rows_of_route(route: &Route) -> ArrayVec<Row, ROUTE_LIMIT>
+    ensures { result.items ≡ rows_of_route route.now }
 {
     let mut lead = ArrayVec::new();
     lead.try_extend_from_slice(route.path.rows.as_slice())
@@ -37,12 +37,12 @@ fn are_rows_of(players: usize, rows: &[Row]) -> bool
     rows.iter().all(|row| usize::from(row.count()) == players)
 }
 
-/// How far a route is possible, from frame 0.
+/// Up to which frame the rows of a route are possible.
 fn possible_to<S>(saves: &Saves<S>, route: &Route) -> u32
     requires { route.now.path.base ≤ FRAME_LIMIT }
     ensures { result ≡ possible_to saves.now.inputs route.now }
 {
-    let lead = lead_of(route);
+    let lead = rows_of_route(route);
     let base = route.path.base;
     for place in 0..lead.len() {
         if !saves.allows(base + place as u32, &lead[place]) {
@@ -59,7 +59,7 @@ fn ahead_of<S>(saves: &Saves<S>, route: &Route) -> ArrayVec<Row, PATH_LIMIT>
     requires near { end_of route.now ≤ saves.now.inputs.settled + PATH_LIMIT }
     ensures { result.items ≡ ahead_of saves.now.inputs route.now }
 {
-    let lead = lead_of(route);
+    let lead = rows_of_route(route);
     let behind = (saves.board().settled() - route.path.base) as usize;
     let mut ahead = ArrayVec::new();
     ahead
@@ -99,7 +99,7 @@ fn place_refusal<S>(saves: &Saves<S>, route: &Route) -> Option<Refusal>
     if route.path.base > settled {
         return Some(Refusal::Stranger);
     }
-    let lead = lead_of(route);
+    let lead = rows_of_route(route);
     if !are_rows_of(saves.board().players(), lead.as_slice()) {
         return Some(Refusal::Stranger);
     }
@@ -123,7 +123,9 @@ fn anchor_node<S>(saves: &Saves<S>, route: &Route) -> usize
     requires reached { saves.now.inputs.settled ≤ end_of route.now }
     requires near { end_of route.now ≤ saves.now.inputs.settled + PATH_LIMIT }
     requires kept { anchor_of saves.now.inputs route.now ≤ kept_to saves.now route.now }
-    ensures { IsSomeAnd (state_named saves.now.tree result) (λ s. s.path ≡ take (anchor_of saves.now.inputs route.now - saves.now.inputs.settled) (ahead_of saves.now.inputs route.now)) }
+    ensures { IsSomeAnd (state_named saves.now.tree result)
+        (λ s. s.path ≡ take (anchor_of saves.now.inputs route.now - saves.now.inputs.settled)
+        (ahead_of saves.now.inputs route.now)) }
 {
     saves.laws();
     let tree = saves.tree();
@@ -139,8 +141,12 @@ fn is_same_there<G: Game>(game: &G, saves: &Saves<G::Snapshot>, branch: &Branch<
     requires base { branch.now.route.path.base ≤ saves.now.inputs.settled }
     requires reached { saves.now.inputs.settled < end_of branch.now.route }
     requires near { end_of branch.now.route ≤ saves.now.inputs.settled + PATH_LIMIT }
-    requires kept { anchor_of saves.now.inputs branch.now.route ≤ kept_to saves.now branch.now.route }
-    ensures { (opening : Value) → HaveValues G.snapshot_value G.step opening (timeline saves.now.inputs.players saves.now.inputs.settled) saves.now.tree.states → result ≡ is_same_there G.step opening saves.now branch.now.route branch.now.from }
+    requires kept { anchor_of saves.now.inputs branch.now.route
+        ≤ kept_to saves.now branch.now.route }
+    ensures { (opening : Value)
+        → HaveValues G.snapshot_value G.step opening
+        (timeline saves.now.inputs.players saves.now.inputs.settled) saves.now.tree.states → result
+        ≡ is_same_there G.step opening saves.now branch.now.route branch.now.from }
 {
     saves.laws();
     let route = branch.route();
@@ -150,7 +156,7 @@ fn is_same_there<G: Game>(game: &G, saves: &Saves<G::Snapshot>, branch: &Branch<
     game.same(branch.state(run), saves.tree().get(node))
 }
 
-/// Whether there is no room for what a branch adds, where branches may fill so many kept states.
+/// Whether there is no room for what a branch adds. `most` is how many kept states branches may fill.
 fn has_no_room<S>(saves: &Saves<S>, route: &Route, most: usize) -> bool
     requires base { route.now.path.base ≤ saves.now.inputs.settled }
     requires reached { saves.now.inputs.settled ≤ end_of route.now }
@@ -162,14 +168,17 @@ fn has_no_room<S>(saves: &Saves<S>, route: &Route, most: usize) -> bool
     count > 0 && saves.tree().len() + count > most
 }
 
-/// Why a branch can't be grafted, if it can't, where branches may fill so many kept states.
+/// Why a branch can't be grafted, if it can't. `most` is how many kept states branches may fill.
 pub fn branch_refusal<G: Game>(
     game: &G,
     saves: &Saves<G::Snapshot>,
     branch: &Branch<G>,
     most: usize,
 ) -> Option<Refusal>
-    ensures { (opening : Value) → HaveValues G.snapshot_value G.step opening (timeline saves.now.inputs.players saves.now.inputs.settled) saves.now.tree.states → result ≡ first_refusal (branch_tests G.step opening most saves.now branch.now) }
+    ensures { (opening : Value)
+        → HaveValues G.snapshot_value G.step opening
+        (timeline saves.now.inputs.players saves.now.inputs.settled) saves.now.tree.states → result
+        ≡ first_refusal (branch_tests G.step opening most saves.now branch.now) }
 {
     let refusal = place_refusal(saves, branch.route());
     if refusal.is_some() {
@@ -184,7 +193,7 @@ pub fn branch_refusal<G: Game>(
 }
 
 /// Saves a branch's new states, which are moved here, and says how many they are.
-pub fn hang_new<S: Drop>(saves: &mut Saves<S>, route: &Route, states: Vec<S>) -> u32
+pub fn add_new_states<S: Drop>(saves: &mut Saves<S>, route: &Route, states: Vec<S>) -> u32
     requires base { route.now.path.base ≤ saves.old.inputs.settled }
     requires reached { saves.old.inputs.settled ≤ end_of route.now }
     requires near { end_of route.now ≤ saves.old.inputs.settled + PATH_LIMIT }
@@ -195,7 +204,10 @@ pub fn hang_new<S: Drop>(saves: &mut Saves<S>, route: &Route, states: Vec<S>) ->
     ensures added { result ≡ count_new saves.old route.now }
     ensures inputs { saves.new.inputs ≡ saves.old.inputs }
     ensures room { saves.new.room ≡ saves.old.room }
-    ensures paths { paths_of saves.new.tree ≡ paths_of saves.old.tree ++ prefixes (ahead_of saves.old.inputs route.now) (longest (paths_of saves.old.tree) (ahead_of saves.old.inputs route.now)) (count_new saves.old route.now) }
+    ensures paths { paths_of saves.new.tree ≡ paths_of saves.old.tree
+        ++ prefixes (ahead_of saves.old.inputs route.now)
+        (longest (paths_of saves.old.tree) (ahead_of saves.old.inputs route.now))
+        (count_new saves.old route.now) }
     ensures values { KeepsWorth saves.old saves.new route.now states.items }
 {
     saves.laws();
@@ -208,7 +220,7 @@ pub fn hang_new<S: Drop>(saves: &mut Saves<S>, route: &Route, states: Vec<S>) ->
     let mut at = first;
     for frame in from..end {
         let snapshot = left.pop_front().unwrap();
-        at = saves.hang(at, ahead[(frame - settled) as usize], snapshot);
+        at = saves.add_state(at, ahead[(frame - settled) as usize], snapshot);
     }
     end - from
 }

@@ -7,7 +7,7 @@ ghost use Rattle.roll_frame.specs.Timeline.{timeline};
 ghost use Rattle.roll_game.specs.Counts.{IsRefusedAt, rolled};
 ghost use Rattle.roll_plan.specs.Plans.{made_of};
 ghost use Rattle.roll_tree.specs.SavedStates.{state_named, paths_of};
-ghost use Rattle.roll_session.specs.Saves.{HaveValues, rows_to, way_to};
+ghost use Rattle.roll_session.specs.Saves.{HaveValues, rows_to, deepest_toward};
 ghost use Rattle.roll_session.specs.Standing.{rows_from};
 
 use crate::saves::Saves;
@@ -25,21 +25,37 @@ fn run_on<G: Game>(
     to: u32,
 ) -> Result<G::State, u32>
     requires base { saves.old.tree.base ≡ saves.old.inputs.settled }
-    requires from { from ≡ saves.old.inputs.settled + way_to saves.old to }
+    requires from { from ≡ saves.old.inputs.settled + deepest_toward saves.old to }
     requires within { from ≤ to }
     requires near { to ≤ saves.old.inputs.settled + PATH_LIMIT }
     requires told { to ≤ saves.old.inputs.settled + length saves.old.tree.time }
-    requires start { IsSomeAnd (state_named saves.old.tree start) (λ s. s.path ≡ rows_from saves.old.inputs.players saves.old.inputs.settled (way_to saves.old to)) }
+    requires start { IsSomeAnd (state_named saves.old.tree start)
+        (λ s. s.path ≡ rows_from saves.old.inputs.players saves.old.inputs.settled
+        (deepest_toward saves.old to)) }
     requires fits { length saves.old.tree.states + (to - from) ≤ TREE_LIMIT }
     ensures inputs { saves.new.inputs ≡ saves.old.inputs }
     ensures room { saves.new.room ≡ saves.old.room }
-    ensures paths { OnOk result (paths_of saves.new.tree ≡ paths_of saves.old.tree ++ prefixes (rows_to saves.old.inputs to) (way_to saves.old to) (to - from)) }
-    ensures values { (opening : Value) → HaveValues G.snapshot_value G.step opening (timeline saves.old.inputs.players saves.old.inputs.settled) saves.old.tree.states → HaveValues G.snapshot_value G.step opening (timeline saves.old.inputs.players saves.old.inputs.settled) saves.new.tree.states }
-    ensures state { IfOk result (λ state. (opening : Value) → HaveValues G.snapshot_value G.step opening (timeline saves.old.inputs.players saves.old.inputs.settled) saves.old.tree.states → G.state_value state ≡ run G.step opening (timeline saves.old.inputs.players to)) }
-    ensures counts { OnOk result (G.call_counts game.new ≡ rolled (to - from) (G.call_counts game.old)) }
+    ensures paths { OnOk result
+        (paths_of saves.new.tree ≡ paths_of saves.old.tree
+        ++ prefixes (rows_to saves.old.inputs to) (deepest_toward saves.old to) (to - from)) }
+    ensures values { (opening : Value)
+        → HaveValues G.snapshot_value G.step opening
+        (timeline saves.old.inputs.players saves.old.inputs.settled) saves.old.tree.states
+        → HaveValues G.snapshot_value G.step opening
+        (timeline saves.old.inputs.players saves.old.inputs.settled) saves.new.tree.states }
+    ensures state { IfOk result
+        (λ state. (opening : Value)
+        → HaveValues G.snapshot_value G.step opening
+        (timeline saves.old.inputs.players saves.old.inputs.settled) saves.old.tree.states
+        → G.state_value state ≡ run G.step opening (timeline saves.old.inputs.players to)) }
+    ensures counts { OnOk result
+        (G.call_counts game.new ≡ rolled (to - from) (G.call_counts game.old)) }
     ensures made { IfErr result (λ made. made ≤ to - from) }
-    ensures partial { IfErr result (λ made. paths_of saves.new.tree ≡ paths_of saves.old.tree ++ prefixes (rows_to saves.old.inputs to) (way_to saves.old to) made) }
-    ensures refused { IfErr result (λ made. IsRefusedAt made (G.call_counts game.old) (G.call_counts game.new)) }
+    ensures partial { IfErr result
+        (λ made. paths_of saves.new.tree ≡ paths_of saves.old.tree
+        ++ prefixes (rows_to saves.old.inputs to) (deepest_toward saves.old to) made) }
+    ensures refused { IfErr result
+        (λ made. IsRefusedAt made (G.call_counts game.old) (G.call_counts game.new)) }
 {
     let Ok(loaded) = game.load(saves.tree().get(start)) else {
         return Err(0);
@@ -51,7 +67,7 @@ fn run_on<G: Game>(
         let Ok(snapshot) = advance_and_save(game, &mut state, &row) else {
             return Err(frame - from);
         };
-        at = saves.hang(at, row, snapshot);
+        at = saves.add_state(at, row, snapshot);
     }
     Ok(state)
 }
@@ -73,21 +89,44 @@ pub fn roll<G: Game>(
 ) -> Result<Rolled<G::State>, u32>
     requires low { saves.old.inputs.frame ≤ to }
     requires high { to ≤ saves.old.inputs.frame + 1 }
-    requires fits { length saves.old.tree.states + (to - saves.old.inputs.settled - way_to saves.old to) ≤ TREE_LIMIT }
+    requires fits { length saves.old.tree.states +
+        (to - saves.old.inputs.settled - deepest_toward saves.old to) ≤ TREE_LIMIT }
     requires time { AreRowsOf planner.old.players (rows_to saves.old.inputs to) }
     requires widths { All (AreRowsOf planner.old.players) (paths_of saves.old.tree) }
     ensures inputs { saves.new.inputs ≡ saves.old.inputs }
     ensures room { saves.new.room ≡ saves.old.room }
-    ensures from { IfOk result (λ rolled. rolled.from ≡ saves.old.inputs.settled + way_to saves.old to) }
+    ensures from { IfOk result
+        (λ rolled. rolled.from ≡ saves.old.inputs.settled + deepest_toward saves.old to) }
     ensures within { IfOk result (λ rolled. rolled.from ≤ to) }
-    ensures paths { OnOk result (paths_of saves.new.tree ≡ paths_of saves.old.tree ++ prefixes (rows_to saves.old.inputs to) (way_to saves.old to) (to - saves.old.inputs.settled - way_to saves.old to)) }
-    ensures values { (opening : Value) → HaveValues G.snapshot_value G.step opening (timeline saves.old.inputs.players saves.old.inputs.settled) saves.old.tree.states → HaveValues G.snapshot_value G.step opening (timeline saves.old.inputs.players saves.old.inputs.settled) saves.new.tree.states }
-    ensures state { IfOk result (λ rolled. (opening : Value) → HaveValues G.snapshot_value G.step opening (timeline saves.old.inputs.players saves.old.inputs.settled) saves.old.tree.states → G.state_value rolled.state ≡ run G.step opening (timeline saves.old.inputs.players to)) }
-    ensures plan { OnOk result (planner.new ≡ record planner.old { last = Some (made_of saves.old.tree (rows_to saves.old.inputs to)) }) }
-    ensures counts { OnOk result (G.call_counts game.new ≡ rolled (to - saves.old.inputs.settled - way_to saves.old to) (G.call_counts game.old)) }
-    ensures made { IfErr result (λ made. made ≤ to - saves.old.inputs.settled - way_to saves.old to) }
-    ensures partial { IfErr result (λ made. paths_of saves.new.tree ≡ paths_of saves.old.tree ++ prefixes (rows_to saves.old.inputs to) (way_to saves.old to) made) }
-    ensures refused { IfErr result (λ made. IsRefusedAt made (G.call_counts game.old) (G.call_counts game.new)) }
+    ensures paths { OnOk result
+        (paths_of saves.new.tree ≡ paths_of saves.old.tree
+        ++ prefixes (rows_to saves.old.inputs to) (deepest_toward saves.old to)
+        (to - saves.old.inputs.settled - deepest_toward saves.old to)) }
+    ensures values { (opening : Value)
+        → HaveValues G.snapshot_value G.step opening
+        (timeline saves.old.inputs.players saves.old.inputs.settled) saves.old.tree.states
+        → HaveValues G.snapshot_value G.step opening
+        (timeline saves.old.inputs.players saves.old.inputs.settled) saves.new.tree.states }
+    ensures state { IfOk result
+        (λ rolled. (opening : Value)
+        → HaveValues G.snapshot_value G.step opening
+        (timeline saves.old.inputs.players saves.old.inputs.settled) saves.old.tree.states
+        → G.state_value rolled.state ≡ run G.step opening (timeline saves.old.inputs.players to)) }
+    ensures plan { OnOk result
+        (planner.new ≡ record planner.old {
+          last = Some
+              (made_of saves.old.tree (rows_to saves.old.inputs to));
+        }) }
+    ensures counts { OnOk result
+        (G.call_counts game.new ≡ rolled
+        (to - saves.old.inputs.settled - deepest_toward saves.old to) (G.call_counts game.old)) }
+    ensures made { IfErr result
+        (λ made. made ≤ to - saves.old.inputs.settled - deepest_toward saves.old to) }
+    ensures partial { IfErr result
+        (λ made. paths_of saves.new.tree ≡ paths_of saves.old.tree
+        ++ prefixes (rows_to saves.old.inputs to) (deepest_toward saves.old to) made) }
+    ensures refused { IfErr result
+        (λ made. IsRefusedAt made (G.call_counts game.old) (G.call_counts game.new)) }
     ensures no_plan { OnErr result (planner.new ≡ record planner.old { last = None }) }
 {
     saves.laws();

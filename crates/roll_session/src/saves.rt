@@ -16,7 +16,7 @@ ghost use Rattle.roll_tree.specs.SavedStates.{CanGrow, state_named, paths_of, wi
 ghost use Rattle.roll_tree.specs.Marks.{AreSameBut};
 ghost use Rattle.roll_session.specs.Calls.{entry_of};
 ghost use Rattle.roll_session.specs.Standing.{rows_from};
-ghost use Rattle.roll_session.specs.Saves.{is_told, rows_to, settled_by, settling, stepped_inputs, taken_inputs, taken_states, with_gone_only, without_other, IsFree};
+ghost use Rattle.roll_session.specs.Saves.{has_word, rows_to, settled_by, settling, stepped_inputs, taken_inputs, taken_states, with_gone_only, without_other, IsFree};
 
 use crate::event::Call;
 use arrayvec::ArrayVec;
@@ -53,7 +53,9 @@ impl<S> Saves<S> {
         requires frame { board.frame ≡ 0 }
         requires settled { board.settled ≡ 0 }
         ensures inputs { IfOk result (λ s. s.inputs ≡ board) }
-        ensures alone { IfOk result (λ s. s.tree.states ≡ record { name = s.tree.root; path = []; snapshot = opening } ∷ []) }
+        ensures alone { IfOk result
+            (λ s. s.tree.states
+            ≡ record { name = s.tree.root; path = []; snapshot = opening } ∷ []) }
         ensures returned { IfErr result (λ failed. failed.value ≡ opening) }
     {
         board.laws();
@@ -70,22 +72,28 @@ impl<S> Saves<S> {
         S: Drop,
         requires { local_refusal self.old.inputs player ≡ None }
         ensures inputs { self.new.inputs ≡ with_player (with_given word) self.old.inputs player }
-        ensures states { self.new.tree.states ≡ without_other self.old.inputs player (Cell.Word word) self.old.tree.states }
-        ensures rows { timeline self.new.inputs.players self.old.inputs.settled ≡ timeline self.old.inputs.players self.old.inputs.settled }
+        ensures states { self.new.tree.states
+            ≡ without_other self.old.inputs player (Cell.Word word) self.old.tree.states }
+        ensures rows { timeline self.new.inputs.players self.old.inputs.settled
+            ≡ timeline self.old.inputs.players self.old.inputs.settled }
         ensures room { self.new.room ≡ self.old.room }
     {
         self.board.laws();
         let count = self.board.count(player);
         self.board.local(player, word).unwrap();
-        retell(&mut self.tree, &self.board, player, count, word);
+        change_word(&mut self.tree, &self.board, player, count, word);
         self.tree.cut(player, count, Cell::Word(word));
     }
 
     /// What a remote word would be answered now.
     pub fn remote_reply(&self, player: u8, frame: u32, word: u32) -> Result<Heard, Refusal>
-        ensures heard { IfOk result (λ heard. heard ≡ (if is_repeated self.now.inputs.players player frame word then Heard.Repeated else Heard.Taken)) }
-        ensures accepted { IfOk result (λ heard. heard ≡ Heard.Taken → remote_refusal self.now.inputs player frame ≡ None) }
-        ensures refused { IfErr result (λ why. remote_refusal self.now.inputs player frame ≡ Some why) }
+        ensures heard { IfOk result
+            (λ heard. heard
+            ≡ (if is_repeated self.now.inputs.players player frame word then Heard.Repeated else Heard.Taken)) }
+        ensures accepted { IfOk result
+            (λ heard. heard ≡ Heard.Taken → remote_refusal self.now.inputs player frame ≡ None) }
+        ensures refused { IfErr result
+            (λ why. remote_refusal self.now.inputs player frame ≡ Some why) }
         ensures new { OnErr result (is_repeated self.now.inputs.players player frame word ≡ false) }
     {
         self.board.remote_reply(&self.past, player, frame, word)
@@ -97,15 +105,18 @@ impl<S> Saves<S> {
         S: Drop,
         requires new { is_repeated self.old.inputs.players player frame word ≡ false }
         requires accepted { remote_refusal self.old.inputs player frame ≡ None }
-        ensures inputs { self.new.inputs ≡ with_player (with_words (word ∷ [])) self.old.inputs player }
-        ensures states { self.new.tree.states ≡ without_other self.old.inputs player (Cell.Word word) self.old.tree.states }
-        ensures rows { timeline self.new.inputs.players self.old.inputs.settled ≡ timeline self.old.inputs.players self.old.inputs.settled }
+        ensures inputs { self.new.inputs
+            ≡ with_player (with_words (word ∷ [])) self.old.inputs player }
+        ensures states { self.new.tree.states
+            ≡ without_other self.old.inputs player (Cell.Word word) self.old.tree.states }
+        ensures rows { timeline self.new.inputs.players self.old.inputs.settled
+            ≡ timeline self.old.inputs.players self.old.inputs.settled }
         ensures room { self.new.room ≡ self.old.room }
     {
         self.board.laws();
         let count = self.board.count(player);
         self.board.remote(&self.past, player, frame, word).unwrap();
-        retell(&mut self.tree, &self.board, player, count, word);
+        change_word(&mut self.tree, &self.board, player, count, word);
         self.tree.cut(player, count, Cell::Word(word));
     }
 
@@ -115,14 +126,16 @@ impl<S> Saves<S> {
         S: Drop,
         requires { disconnect_refusal self.old.inputs player ≡ None }
         ensures inputs { self.new.inputs ≡ with_player with_gone self.old.inputs player }
-        ensures states { self.new.tree.states ≡ with_gone_only self.old.inputs player self.old.tree.states }
-        ensures rows { timeline self.new.inputs.players self.old.inputs.settled ≡ timeline self.old.inputs.players self.old.inputs.settled }
+        ensures states { self.new.tree.states
+            ≡ with_gone_only self.old.inputs player self.old.tree.states }
+        ensures rows { timeline self.new.inputs.players self.old.inputs.settled
+            ≡ timeline self.old.inputs.players self.old.inputs.settled }
         ensures room { self.new.room ≡ self.old.room }
     {
         self.board.laws();
         let count = self.board.count(player);
         self.board.disconnect(player).unwrap();
-        tell_again(&mut self.tree, &self.board, player, count);
+        change_rows(&mut self.tree, &self.board, player, count);
         cut_words(&mut self.tree, player, count);
     }
 
@@ -132,8 +145,10 @@ impl<S> Saves<S> {
         S: Drop,
         requires { IsFree self.old.inputs (entry_of call) }
         ensures inputs { self.new.inputs ≡ taken_inputs self.old.inputs (entry_of call) }
-        ensures states { self.new.tree.states ≡ taken_states self.old.inputs (entry_of call) self.old.tree.states }
-        ensures rows { timeline self.new.inputs.players self.old.inputs.settled ≡ timeline self.old.inputs.players self.old.inputs.settled }
+        ensures states { self.new.tree.states
+            ≡ taken_states self.old.inputs (entry_of call) self.old.tree.states }
+        ensures rows { timeline self.new.inputs.players self.old.inputs.settled
+            ≡ timeline self.old.inputs.players self.old.inputs.settled }
         ensures room { self.new.room ≡ self.old.room }
     {
         match call {
@@ -149,9 +164,10 @@ impl<S> Saves<S> {
     }
 
     /// Goes on after a roll for this call.
-    pub fn step_on(&mut self, call: Call)
+    pub fn finish_roll(&mut self, call: Call)
         requires given { entry_of call ≡ Advances → IsTrue (all_given self.old.inputs.players) }
-        requires near { self.old.inputs.frame ≤ self.old.inputs.settled + self.old.inputs.threshold }
+        requires near { self.old.inputs.frame
+            ≤ self.old.inputs.settled + self.old.inputs.threshold }
         requires room { self.old.inputs.frame < self.old.room }
         ensures inputs { self.new.inputs ≡ stepped_inputs self.old.inputs (entry_of call) }
         ensures tree { self.new.tree ≡ self.old.tree }
@@ -165,9 +181,11 @@ impl<S> Saves<S> {
     /// Begins the next frame, with no word given.
     pub fn next(&mut self)
         requires given { IsTrue (all_given self.old.inputs.players) }
-        requires near { self.old.inputs.frame ≤ self.old.inputs.settled + self.old.inputs.threshold }
+        requires near { self.old.inputs.frame
+            ≤ self.old.inputs.settled + self.old.inputs.threshold }
         requires room { self.old.inputs.frame < self.old.room }
-        ensures inputs { self.new.inputs ≡ record self.old.inputs { frame = self.old.inputs.frame + 1; players = map with_none_given self.old.inputs.players } }
+        ensures inputs { self.new.inputs
+            ≡ record self.old.inputs { frame = self.old.inputs.frame + 1; players = map with_none_given self.old.inputs.players } }
         ensures tree { self.new.tree ≡ self.old.tree }
         ensures room { self.new.room ≡ self.old.room }
     {
@@ -180,7 +198,8 @@ impl<S> Saves<S> {
     where
         S: Drop,
         requires { self.old.inputs.settled ≤ front self.old.inputs.players }
-        ensures inputs { self.new.inputs ≡ record self.old.inputs { settled = self.old.inputs.settled + settling self.old } }
+        ensures inputs { self.new.inputs
+            ≡ record self.old.inputs { settled = self.old.inputs.settled + settling self.old } }
         ensures states { self.new.tree.states ≡ settled_by self.old (settling self.old) }
         ensures room { self.old.room ≤ self.new.room }
     {
@@ -190,7 +209,7 @@ impl<S> Saves<S> {
         if to == base {
             return;
         }
-        reach(&mut self.tree, &self.board, to);
+        extend_time(&mut self.tree, &self.board, to);
         let (node, end) = self.tree.deepest(to);
         self.past.append(&self.tree.time()[..(end - base) as usize]);
         self.tree.settle_at(node);
@@ -204,17 +223,25 @@ impl<S> Saves<S> {
         requires near { to ≤ self.old.inputs.settled + PATH_LIMIT }
         requires time { AreRowsOf planner.old.players (rows_to self.old.inputs to) }
         requires paths { All (AreRowsOf planner.old.players) (paths_of self.old.tree) }
-        ensures plan { planner.new ≡ record planner.old { last = Some (made_of self.old.tree (rows_to self.old.inputs to)) } }
+        ensures plan { planner.new
+            ≡ record planner.old {
+              last = Some
+                  (made_of self.old.tree (rows_to self.old.inputs to));
+            } }
         ensures inputs { self.new.inputs ≡ self.old.inputs }
         ensures tree { self.new.tree ≡ record self.old.tree { time = self.new.tree.time } }
         ensures told { to ≤ self.old.inputs.settled + length self.new.tree.time }
         ensures room { self.new.room ≡ self.old.room }
-        ensures node { IsSomeAnd (state_named self.old.tree result.0) (λ s. s.path ≡ rows_from self.old.inputs.players self.old.inputs.settled (longest (paths_of self.old.tree) (rows_to self.old.inputs to))) }
-        ensures length { result.1 ≡ self.old.inputs.settled + longest (paths_of self.old.tree) (rows_to self.old.inputs to) }
+        ensures node { IsSomeAnd (state_named self.old.tree result.0)
+            (λ s. s.path ≡ rows_from self.old.inputs.players self.old.inputs.settled
+            (longest (paths_of self.old.tree) (rows_to self.old.inputs to))) }
+        ensures length { result.1
+            ≡ self.old.inputs.settled + longest (paths_of self.old.tree)
+            (rows_to self.old.inputs to) }
         ensures within { result.1 ≤ to }
     {
         self.board.laws();
-        reach(&mut self.tree, &self.board, to);
+        extend_time(&mut self.tree, &self.board, to);
         planner.plan(&self.tree, to)
     }
 
@@ -228,7 +255,7 @@ impl<S> Saves<S> {
     }
 
     /// Saves a state one row below another.
-    pub fn hang(&mut self, parent: usize, row: Row, snapshot: S) -> usize
+    pub fn add_state(&mut self, parent: usize, row: Row, snapshot: S) -> usize
     where
         S: Drop,
         requires fits { CanGrow self.old.tree parent row }
@@ -236,7 +263,9 @@ impl<S> Saves<S> {
         ensures inputs { self.new.inputs ≡ self.old.inputs }
         ensures room { self.new.room ≡ self.old.room }
         ensures vacant { state_named self.old.tree result ≡ None }
-        ensures added { IfSome (state_named self.old.tree parent) (λ s. self.new.tree ≡ with_state self.old.tree (record { name = result; path = s.path ++ row ∷ []; snapshot = snapshot })) }
+        ensures added { IfSome (state_named self.old.tree parent)
+            (λ s. self.new.tree ≡ with_state self.old.tree
+            (record { name = result; path = s.path ++ row ∷ []; snapshot = snapshot })) }
     {
         match self.tree.insert(parent, row, snapshot) {
             Ok(name) => name,
@@ -250,7 +279,7 @@ impl<S> Saves<S> {
     {
         self.board.laws();
         if frame < self.board.settled() {
-            Some(*row) == self.settled_row(frame as usize)
+            Some(*row) == self.settled_row(frame)
         } else {
             self.board.allows(frame, row)
         }
@@ -278,10 +307,11 @@ impl<S> Saves<S> {
     }
 
     /// A settled row. None from the settled frame on.
-    pub fn settled_row(&self, frame: usize) -> Option<Row>
-        ensures { result ≡ (if nat_lt frame self.now.inputs.settled then Some (row_at self.now.inputs.players frame) else None) }
+    pub fn settled_row(&self, frame: u32) -> Option<Row>
+        ensures { result ≡ (if nat_lt frame self.now.inputs.settled then Some
+            (row_at self.now.inputs.players frame) else None) }
     {
-        self.past.get(frame)
+        self.past.get(frame as usize)
     }
 
     /// What holds of the timeline and the saved states. It does nothing.
@@ -291,7 +321,8 @@ impl<S> Saves<S> {
         ensures short { self.now.inputs.frame ≤ FRAME_LIMIT }
         ensures near { self.now.inputs.frame + 1 ≤ self.now.inputs.settled + PATH_LIMIT }
         ensures stays { All (λ p. p.local ≡ true → p.gone ≡ false) self.now.inputs.players }
-        ensures ahead { All (λ p. p.gone ≡ false → self.now.inputs.settled ≤ length p.words) self.now.inputs.players }
+        ensures ahead { All (λ p. p.gone ≡ false → self.now.inputs.settled
+            ≤ length p.words) self.now.inputs.players }
     {
         self.board.laws();
     }
@@ -320,34 +351,43 @@ fn rows_of(board: &Board, count: usize) -> ArrayVec<Row, PATH_LIMIT>
     rows
 }
 
-/// Tells a tree again the rows that it knows, after a player's cells changed from a frame on.
-fn tell_again<S>(tree: &mut Tree<S>, board: &Board, player: u8, from: u32)
+/// Puts a player's cells, which changed from a frame on, into the timeline that a tree knows.
+fn change_rows<S>(tree: &mut Tree<S>, board: &Board, player: u8, from: u32)
     requires base { tree.old.base ≡ board.now.settled }
-    requires same { AreSameBut player from board.now.settled tree.old.time (rows_from board.now.players board.now.settled (length tree.old.time)) }
-    ensures { tree.new ≡ record tree.old { time = rows_from board.now.players board.now.settled (length tree.old.time) } }
+    requires same { AreSameBut player from board.now.settled tree.old.time
+        (rows_from board.now.players board.now.settled (length tree.old.time)) }
+    ensures { tree.new ≡ record tree.old {
+      time = rows_from board.now.players board.now.settled
+          (length tree.old.time);
+    } }
 {
     let rows = rows_of(board, tree.time().len());
     tree.mark(player, from, rows.as_slice());
 }
 
-/// Does so after a player gave its next word. Where that changes none of these rows, there's nothing to tell.
-fn retell<S>(tree: &mut Tree<S>, board: &Board, player: u8, from: u32, word: u32)
+/// Puts a player's next word, of this frame, into the timeline that a tree knows, unless that says so already.
+fn change_word<S>(tree: &mut Tree<S>, board: &Board, player: u8, from: u32, word: u32)
     requires base { tree.old.base ≡ board.now.settled }
     requires some { 1 ≤ player }
     requires early { board.now.settled ≤ from }
-    requires same { AreSameBut player from board.now.settled tree.old.time (rows_from board.now.players board.now.settled (length tree.old.time)) }
-    requires told { is_told tree.old.time (from - board.now.settled) (player - 1) word ≡ true → rows_from board.now.players board.now.settled (length tree.old.time) ≡ tree.old.time }
-    ensures { tree.new ≡ record tree.old { time = rows_from board.now.players board.now.settled (length tree.old.time) } }
+    requires same { AreSameBut player from board.now.settled tree.old.time
+        (rows_from board.now.players board.now.settled (length tree.old.time)) }
+    requires told { has_word tree.old.time (from - board.now.settled) (player - 1) word ≡ true
+        → rows_from board.now.players board.now.settled (length tree.old.time) ≡ tree.old.time }
+    ensures { tree.new ≡ record tree.old {
+      time = rows_from board.now.players board.now.settled
+          (length tree.old.time);
+    } }
 {
     let place = (from - tree.base()) as usize;
-    if !is_told(tree.time(), place, usize::from(player) - 1, word) {
-        tell_again(tree, board, player, from);
+    if !has_word(tree.time(), place, usize::from(player) - 1, word) {
+        change_rows(tree, board, player, from);
     }
 }
 
 /// Whether these rows have the word at this place in the player's cells, who is counted from 0, or end before it.
-fn is_told(time: &[Row], place: usize, player: usize, word: u32) -> bool
-    ensures { result ≡ is_told time.now place player word }
+fn has_word(time: &[Row], place: usize, player: usize, word: u32) -> bool
+    ensures { result ≡ has_word time.now place player word }
 {
     match time.get(place) {
         Some(row) => row.get(player) == Some(Cell::Word(word)),
@@ -360,7 +400,11 @@ fn cut_words<S: Drop>(tree: &mut Tree<S>, player: u8, from: u32)
     requires some { 1 ≤ player }
     requires base { tree.old.base ≤ from }
     requires short { tree.old.base ≤ FRAME_LIMIT }
-    ensures { tree.new ≡ record tree.old { states = filter (λ s. list_all (has_no_other (player - 1) Gone) (drop (from - tree.old.base) s.path)) tree.old.states } }
+    ensures { tree.new ≡ record tree.old {
+      states = filter
+          (λ s. list_all (has_no_other (player - 1) Gone)
+          (drop (from - tree.old.base) s.path)) tree.old.states;
+    } }
 {
     tree.laws();
     for frame in from..tree.base() + PATH_LIMIT as u32 {
@@ -368,14 +412,16 @@ fn cut_words<S: Drop>(tree: &mut Tree<S>, player: u8, from: u32)
     }
 }
 
-/// Tells a tree the timeline up to a frame, if it doesn't know it so far.
-fn reach<S>(tree: &mut Tree<S>, board: &Board, to: u32)
+/// Tells a tree the timeline's rows up to a frame, as far as it doesn't know them.
+fn extend_time<S>(tree: &mut Tree<S>, board: &Board, to: u32)
     requires base { tree.old.base ≡ board.now.settled }
-    requires told { tree.old.time ≡ rows_from board.now.players board.now.settled (length tree.old.time) }
+    requires told { tree.old.time
+        ≡ rows_from board.now.players board.now.settled (length tree.old.time) }
     requires from { board.now.settled ≤ to }
     requires near { to ≤ board.now.settled + PATH_LIMIT }
     ensures same { tree.new ≡ record tree.old { time = tree.new.time } }
-    ensures told { tree.new.time ≡ rows_from board.now.players board.now.settled (length tree.new.time) }
+    ensures told { tree.new.time
+        ≡ rows_from board.now.players board.now.settled (length tree.new.time) }
     ensures far { to ≤ board.now.settled + length tree.new.time }
 {
     board.laws();

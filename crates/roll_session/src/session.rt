@@ -1,34 +1,33 @@
 //! The session.
-ghost use Rattle.std.specs.Prelude.{◌≡◌, ℕ, ◌≤◌, ◌<◌, ◌+◌, ◌-◌, ◌∷◌, [], length, true, false, map, max, nat_lt, IfOk, OnOk, IfErr, OnErr, IfSome, IsSome, is_none, unwrap_or, option_and_then, option_copied, None, Some, if◌then◌else◌};
+ghost use Rattle.std.specs.Prelude.{◌≡◌, ℕ, ◌≤◌, ◌<◌, ◌+◌, ◌-◌, ◌∷◌, [], length, true, false, map, max, nat_lt, IfOk, OnOk, IfErr, OnErr, IfSome, IsSome, is_none, option_and_then, option_copied, None, Some, if◌then◌else◌};
 ghost use Rattle.std.specs.Option.{option_map};
 ghost use Rattle.roll_frame.specs.Claims.{claim_of, path_from, IsRight};
 ghost use Rattle.roll_frame.specs.Core.{depth, kept as kept_of, settled as settled_frame};
-ghost use Rattle.roll_frame.specs.Events.{answer, branch_of, is_repeat, refusal, tests_of};
+ghost use Rattle.roll_frame.specs.Events.{answer, branch_of, is_repeat, tests_of};
 ghost use Rattle.roll_frame.specs.Grafts.{new_paths};
 ghost use Rattle.roll_frame.specs.Refusals.{first_refusal};
-ghost use Rattle.roll_frame.specs.Inputs.{of_player, player_at};
+ghost use Rattle.roll_frame.specs.Inputs.{is_repeated, of_player, player_at};
 ghost use Rattle.roll_frame.specs.Order.{in_order};
 ghost use Rattle.roll_frame.specs.Paths.{run as run_of};
 ghost use Rattle.roll_frame.specs.Settings.{delay_at, start_refusal};
 ghost use Rattle.roll_frame.specs.Timeline.{row_at as row_of, timeline};
-ghost use Rattle.roll_frame.specs.declared.entry.Entry.TheVariants.{Graft as Grafts};
 ghost use Rattle.roll_game.specs.Counts.{counted};
 ghost use Rattle.roll_game.specs.declared.counts.Call.TheVariants.{Load as Loads, Copy as Copies};
 ghost use Rattle.roll_inputs.specs.Boards.{confirmed_word, source_at};
-ghost use Rattle.roll_laws.specs.Sessions.{IsLog};
 ghost use Rattle.roll_session.specs.Guessing.{guess_job_of, guess_refusal_of, IsCopied};
 ghost use Rattle.roll_session.specs.Held.{Shows};
 ghost use Rattle.roll_session.specs.Planned.{IsPlanOfRoll};
-ghost use Rattle.roll_session.specs.Answered.{counts_by, replied, with_entries, IsAnswered, IsPartial};
+ghost use Rattle.roll_session.specs.Answered.{counts_by, replied, with_entries, IsAnswered};
 ghost use Rattle.roll_session.specs.Calls.{entry_of, event_of, grafting, heard_reply, input_reply, judged, IsAdmitted, IsAllowed, IsInput, IsRollTo};
-ghost use Rattle.roll_session.specs.Seen.{core_of, game_of, IsLeast};
-ghost use Rattle.roll_session.specs.Started.{IsGivenBack};
+ghost use Rattle.roll_session.specs.Changes.{advance_refusal, after_advance, after_disconnect, after_graft, after_local, after_sync, disconnect_refusal, graft_refusal, local_refusal, reached_by, remote_refusal, reserve_refusal, sync_refusal, FitsLog, IsHeard, IsPartial, IsRefused, IsRollRefused, IsWhy};
+ghost use Rattle.roll_session.specs.Seen.{game_of, FollowsLog, IsLeast};
+ghost use Rattle.roll_session.specs.Started.{first_seen, IsGivenBack};
 ghost use Rattle.roll_session.specs.Headline.{last_claim, value_shown};
 
 use crate::event::{Call, Grafted, Reached};
 use crate::guess::{guessed_rows, job_along};
 use crate::log::Log;
-use crate::place::{branch_refusal, hang_new};
+use crate::place::{add_new_states, branch_refusal};
 use crate::roll::{Rolled, roll};
 use crate::room::Room;
 use crate::saves::Saves;
@@ -40,7 +39,7 @@ use roll_plan::{Plan, Planner};
 use std::alloc::Global;
 use std::marker::Model;
 
-/// A game that is run ahead on predicted inputs, and again where they were wrong.
+/// A game that is run ahead on predicted inputs, and again if they were wrong.
 #[derive(Drop)]
 pub struct Session<G: Game> {
     game: G,
@@ -54,18 +53,24 @@ pub struct Session<G: Game> {
 }
 
 impl<G: Game> Model for Session<G> {
+    ghost use Rattle.roll_frame.specs.Events.{replay};
     ghost use Rattle.roll_session.specs.Seen.{Seen};
     ghost use Rattle.roll_session.specs.Held.{HasRoom, IsSession};
 
     ghost Value = { Seen };
 
-    ghost view = { λ s. record { settings = s.settings; opening = G.snapshot_value s.opening; log = s.log.entries; counts = G.call_counts s.game; reserved = s.room.promised } };
+    ghost view = { λ s. record { settings = s.settings; opening = G.snapshot_value s.opening; core = replay s.settings s.log.entries; log = s.log.entries; counts = G.call_counts s.game; reserved = s.room.promised } };
 
     ghost invariant = { λ s. IsSession G.state_value G.snapshot_value G.step (G.snapshot_value s.opening) s.settings s.log.entries s.saves s.planner s.current × HasRoom s.log s.saves s.room };
 }
 
 impl<G: Game> Session<G> {
-    /// Starts a session at frame 0, with the opening shown. A refusal hands both back.
+    /// Starts a session at frame 0, with the opening shown. The game is asked for a copy of the opening, and then to load it.
+    ///
+    /// # Errors
+    ///
+    /// What is wrong with the settings, else `NoMemory` if the allocator has no room, or the game refuses. Game and opening
+    /// are handed back.
     pub fn start(
         alloc: Global,
         game: G,
@@ -73,10 +78,12 @@ impl<G: Game> Session<G> {
         settings: Settings,
     ) -> Result<Session<G>, StartFault<G>>
         ensures accepted { OnOk result (start_refusal settings ≡ None) }
-        ensures session { IfOk result (λ session. session ≡ record { settings = settings; opening = G.snapshot_value opening; log = []; counts = counted Loads true (counted Copies true (G.call_counts game)); reserved = 0 }) }
-        ensures refused { IfErr result (λ fault. fault.why ≡ unwrap_or (start_refusal settings) Refusal.NoMemory) }
+        ensures session { IfOk result (λ session. session ≡ first_seen settings
+            (G.snapshot_value opening) (counted Loads true (counted Copies true (G.call_counts game)))) }
+        ensures refused { IfErr result (λ fault. IsWhy (start_refusal settings) fault.why) }
         ensures opening_back { IfErr result (λ fault. fault.opening ≡ opening) }
-        ensures game_back { IfErr result (λ fault. IsGivenBack (start_refusal settings) (G.call_counts game) (G.call_counts fault.game)) }
+        ensures game_back { IfErr result (λ fault. IsGivenBack (start_refusal settings)
+            (G.call_counts game) (G.call_counts fault.game)) }
     {
         let board = match Board::new(alloc, &settings) {
             Ok(board) => board,
@@ -111,10 +118,21 @@ impl<G: Game> Session<G> {
         })
     }
 
-    /// The row of this frame. Rolls back where a prediction was wrong.
+    /// The row of this frame. Rolls back if a prediction was wrong, and shows the state of this frame. No plan from any state
+    /// that was ever saved runs fewer frames.
+    ///
+    /// # Errors
+    ///
+    /// `LogFull`, else `NoMemory` if the allocator has no room, and nothing is changed, or if the game refuses: what it has
+    /// saved by then stays, nothing is shown, and the call can be made again.
     pub fn synchronize_input(&mut self) -> Result<Row, Refusal>
-        ensures answered { IsAnswered G.step self.old self.new (event_of Call.Sync) (replied (λ row. Reply.Synchronized row) result) }
-        ensures least { IsLeast (core_of self.old) (core_of self.old).frame }
+        ensures accepted { OnOk result (sync_refusal self.old ≡ None) }
+        ensures row { IfOk result
+            (λ row. row ≡ row_of self.old.core.players self.old.core.frame) }
+        ensures rolled { OnOk result (self.new ≡ after_sync self.old) }
+        ensures least { IsLeast self.old.core self.old.core.frame }
+        ensures refused { IfErr result
+            (IsRollRefused (sync_refusal self.old) self.old self.new self.old.core.frame) }
     {
         self.saves.laws();
         let board = self.saves.board();
@@ -124,10 +142,20 @@ impl<G: Game> Session<G> {
         Ok(row)
     }
 
-    /// The next frame. Rolls back where a prediction was wrong.
+    /// Goes on to the next frame, and shows its state. Rolls back first if a prediction was wrong. No plan from any state that
+    /// was ever saved runs fewer frames.
+    ///
+    /// # Errors
+    ///
+    /// `LocalInputMissing` if a local player has not given its word of this frame, then `LogFull`, else `NoMemory` as for
+    /// [`synchronize_input`](Self::synchronize_input).
     pub fn advance_frame(&mut self) -> Result<Reached, Refusal>
-        ensures answered { IsAnswered G.step self.old self.new (event_of Call.Advance) (replied (λ reached. Reply.Reached reached.frame reached.from reached.rerun) result) }
-        ensures least { IsLeast (core_of self.old) ((core_of self.old).frame + 1) }
+        ensures accepted { OnOk result (advance_refusal self.old ≡ None) }
+        ensures reached { IfOk result (λ reached. reached ≡ reached_by self.old.core) }
+        ensures rolled { OnOk result (self.new ≡ after_advance self.old) }
+        ensures least { IsLeast self.old.core (self.old.core.frame + 1) }
+        ensures refused { IfErr result
+            (IsRollRefused (advance_refusal self.old) self.old self.new (self.old.core.frame + 1)) }
     {
         self.saves.laws();
         let next = self.saves.board().frame() + 1;
@@ -139,17 +167,35 @@ impl<G: Game> Session<G> {
         })
     }
 
-    /// Gives a local player's word of this frame.
+    /// Gives a local player's word of this frame. It counts in a later one if the player has a delay.
+    ///
+    /// # Errors
+    ///
+    /// `InvalidPlayer`, `InputTwice`, `PredictionThreshold`, `FrameLimit`, in this order, then `LogFull`, else `NoMemory` if the
+    /// allocator has no room. Nothing is changed.
     pub fn add_local_input(&mut self, player: u8, word: u32) -> Result<(), Refusal>
-        ensures { IsAnswered G.step self.old self.new (event_of (Call.Local player word)) (replied (λ done. Reply.Done) result) }
+        ensures accepted { OnOk result (local_refusal self.old player ≡ None) }
+        ensures taken { OnOk result (self.new ≡ after_local self.old player word) }
+        ensures refused { IfErr result
+            (IsRefused (local_refusal self.old player) self.old self.new) }
     {
         self.take(Call::Local { player, word })?;
         Ok(())
     }
 
     /// Takes the next word of a remote player, or sees that it was taken before.
+    ///
+    /// # Errors
+    ///
+    /// `InvalidPlayer`, `PlayerDisconnected`, `Conflict` with another word that was taken, `Gap` before it, `QueueFull` 128
+    /// words past the settled frame, in this order, then `LogFull`, else `NoMemory` if the allocator has no room. Nothing is
+    /// changed.
     pub fn remote_input(&mut self, player: u8, frame: u32, word: u32) -> Result<Heard, Refusal>
-        ensures { IsAnswered G.step self.old self.new (event_of (Call.Remote player frame word)) (replied heard_reply result) }
+        ensures heard { IfOk result (IsHeard self.old self.new player frame word) }
+        ensures fresh { OnErr result
+            (is_repeated self.old.core.players player frame word ≡ false) }
+        ensures refused { IfErr result
+            (IsRefused (remote_refusal self.old player frame) self.old self.new) }
     {
         self.take(Call::Remote {
             player,
@@ -158,10 +204,18 @@ impl<G: Game> Session<G> {
         })
     }
 
-    /// A remote player leaves.
+    /// A remote player leaves: its cells are gone from the frame of its next word on.
+    ///
+    /// # Errors
+    ///
+    /// `InvalidPlayer`, `PlayerDisconnected`, in this order, then `LogFull`, else `NoMemory` if the allocator has no room.
+    /// Nothing is changed.
     pub fn disconnect_player(&mut self, player: u8) -> Result<Event, Refusal>
-        ensures answered { IsAnswered G.step self.old self.new (event_of (Call.Disconnect player)) (replied (λ event. Reply.Disconnected player) result) }
+        ensures accepted { OnOk result (disconnect_refusal self.old player ≡ None) }
+        ensures taken { OnOk result (self.new ≡ after_disconnect self.old player) }
         ensures event { IfOk result (λ event. event ≡ Event.DisconnectedFromPeer player) }
+        ensures refused { IfErr result
+            (IsRefused (disconnect_refusal self.old player) self.old self.new) }
     {
         self.take(Call::Disconnect { player })?;
         Ok(Event::DisconnectedFromPeer { player })
@@ -169,7 +223,7 @@ impl<G: Game> Session<G> {
 
     /// Why a branch would be refused now, if it would: what `graft` would answer, but for want of memory.
     pub fn graft_refusal(&self, branch: &Branch<G>) -> Option<Refusal>
-        ensures { result ≡ refusal self.now.settings (game_of G.step self.now) (core_of self.now) (grafting branch.now) }
+        ensures { result ≡ graft_refusal G.step self.now branch.now }
     {
         let most = usize::from(self.settings.profile.branch_limit());
         let refusal = branch_refusal(&self.game, &self.saves, branch, most);
@@ -184,8 +238,17 @@ impl<G: Game> Session<G> {
 
     /// Takes a branch in: saves its new states, moved, not copied, and settles what can be settled then. A refused branch
     /// is dropped.
+    ///
+    /// # Errors
+    ///
+    /// What [`graft_refusal`](Self::graft_refusal) answers, else `NoMemory` if the allocator has no room. Nothing is changed.
     pub fn graft(&mut self, branch: Branch<G>) -> Result<Grafted, Refusal>
-        ensures answered { IsAnswered G.step self.old self.new (grafting branch) (replied (λ grafted. Reply.Grafted grafted.added) result) }
+        ensures accepted { OnOk result (graft_refusal G.step self.old branch ≡ None) }
+        ensures grafted { IfOk result (λ grafted. grafted.added
+            ≡ length (new_paths self.old.core (branch_of branch.route))) }
+        ensures taken { OnOk result (self.new ≡ after_graft self.old branch) }
+        ensures refused { IfErr result
+            (IsRefused (graft_refusal G.step self.old branch) self.old self.new) }
     {
         if let Some(why) = self.graft_refusal(&branch) {
             return Err(why);
@@ -195,11 +258,11 @@ impl<G: Game> Session<G> {
     }
 
     /// A guess: if this player gave these words next. The job is to run the timeline that this would make, up to a frame,
-    /// from the deepest kept state on its way, at most 8 rows. None where all of it is kept.
+    /// from the deepest kept state on its way, at most 8 rows. None if all of it is kept.
     ///
     /// # Errors
     ///
-    /// What the tests of a guess say, in their order, else `NoMemory` where the allocator has no room, or the game refuses
+    /// What the tests of a guess say, in their order, else `NoMemory` if the allocator has no room, or the game refuses
     /// its copy, for which it is asked last.
     pub fn guess(
         &mut self,
@@ -208,10 +271,13 @@ impl<G: Game> Session<G> {
         words: &[u32],
         until: u32,
     ) -> Result<Option<Job<G>>, Refusal>
-        ensures job { IfOk result (λ job. job ≡ guess_job_of G.step self.old player words.now until) }
+        ensures job { IfOk result
+            (λ job. job ≡ guess_job_of G.step self.old player words.now until) }
         ensures accepted { OnOk result (guess_refusal_of self.old player words.now until ≡ None) }
-        ensures refused { IfErr result (λ why. why ≡ unwrap_or (guess_refusal_of self.old player words.now until) Refusal.NoMemory) }
-        ensures unasked { IsSome (guess_refusal_of self.old player words.now until) → self.new ≡ self.old }
+        ensures refused { IfErr result
+            (IsWhy (guess_refusal_of self.old player words.now until)) }
+        ensures unasked { IsSome (guess_refusal_of self.old player words.now until)
+            → self.new ≡ self.old }
         ensures asked { IsCopied self.old.counts self.new.counts result }
         ensures same { self.new ≡ record self.old { counts = self.new.counts } }
     {
@@ -227,11 +293,12 @@ impl<G: Game> Session<G> {
     #[inline(always)]
     fn take(&mut self, call: Call) -> Result<Heard, Refusal>
         requires input { IsInput call }
-        ensures { IsAnswered G.step self.old self.new (event_of call) (replied (λ heard. input_reply call heard) result) }
+        ensures { IsAnswered G.step self.old self.new (event_of call)
+            (replied (λ heard. input_reply call heard) result) }
     {
         match self.admit(call)? {
             Heard::Taken => {
-                self.take_in(call);
+                self.apply_input(call);
                 Ok(Heard::Taken)
             }
             Heard::Repeated => Ok(Heard::Repeated),
@@ -240,11 +307,12 @@ impl<G: Game> Session<G> {
 
     /// Rolls to the call's frame, and says where the roll started.
     fn roll_to(&mut self, call: Call, to: u32) -> Result<u32, Refusal>
-        requires to { IsRollTo (core_of self.old) call to }
-        ensures answered { IsAnswered G.step self.old self.new (event_of call) (replied (λ from. answer (core_of self.old) (entry_of call)) result) }
-        ensures from { IfOk result (λ from. from ≡ depth (core_of self.old) to) }
+        requires to { IsRollTo self.old.core call to }
+        ensures answered { IsAnswered G.step self.old self.new (event_of call)
+            (replied (λ from. answer self.old.core (entry_of call)) result) }
+        ensures from { IfOk result (λ from. from ≡ depth self.old.core to) }
         ensures within { IfOk result (λ from. from ≤ to) }
-        ensures least { IsLeast (core_of self.old) to }
+        ensures least { IsLeast self.old.core to }
     {
         self.laws();
         self.admit(call)?;
@@ -255,7 +323,8 @@ impl<G: Game> Session<G> {
     #[inline(always)]
     fn admit(&mut self, call: Call) -> Result<Heard, Refusal>
         ensures heard { IfOk result (λ heard. IsAdmitted G.step self.old self.new call heard) }
-        ensures refused { IfErr result (λ why. IsAnswered G.step self.old self.new (event_of call) (Reply.Refused why)) }
+        ensures refused { IfErr result
+            (λ why. IsAnswered G.step self.old self.new (event_of call) (Reply.Refused why)) }
     {
         match self.judge(call) {
             Ok(Heard::Taken) => {
@@ -270,7 +339,9 @@ impl<G: Game> Session<G> {
     /// What the rules say of a call, apart from a full log.
     #[inline(always)]
     fn judge(&self, call: Call) -> Result<Heard, Refusal>
-        ensures { result ≡ judged (is_repeat (core_of self.now) (entry_of call)) (first_refusal (tests_of self.now.settings (game_of G.step self.now) (core_of self.now) [] (entry_of call))) }
+        ensures { result ≡ judged (is_repeat self.now.core (entry_of call))
+            (first_refusal (tests_of self.now.settings (game_of G.step self.now) self.now.core []
+            (entry_of call))) }
     {
         let board = self.saves.board();
         let refusal = match call {
@@ -288,7 +359,7 @@ impl<G: Game> Session<G> {
     }
 
     /// Takes a player's input that the rules accept.
-    fn take_in(&mut self, call: Call)
+    fn apply_input(&mut self, call: Call)
         requires input { IsInput call }
         requires allowed { IsAllowed G.step self.old call }
         requires room { 1 ≤ self.old.reserved }
@@ -303,10 +374,10 @@ impl<G: Game> Session<G> {
 
     /// Takes in a branch that the rules accept.
     fn take_branch(&mut self, branch: Branch<G>) -> Grafted
-        requires accepted { refusal self.old.settings (game_of G.step self.old) (core_of self.old) (grafting branch) ≡ None }
+        requires accepted { graft_refusal G.step self.old branch ≡ None }
         requires room { 1 ≤ self.old.reserved }
-        ensures entered { self.new ≡ with_entries self.old (Grafts branch.ticket branch.route ∷ []) self.old.counts }
-        ensures added { result.added ≡ length (new_paths (core_of self.old) (branch_of branch.route)) }
+        ensures entered { self.new ≡ after_graft self.old branch }
+        ensures added { result.added ≡ length (new_paths self.old.core (branch_of branch.route)) }
     {
         self.saves.laws();
         let BranchParts {
@@ -314,7 +385,7 @@ impl<G: Game> Session<G> {
             route,
             states,
         } = branch.into_parts();
-        let added = hang_new(&mut self.saves, route.get(), states);
+        let added = add_new_states(&mut self.saves, route.get(), states);
         self.saves.settle();
         self.log.add_graft(ticket, route);
         self.room.spend();
@@ -323,11 +394,13 @@ impl<G: Game> Session<G> {
 
     /// Rolls to the frame of a call that the rules accept, and says where the roll started.
     fn roll_on(&mut self, call: Call, to: u32) -> Result<u32, Refusal>
-        requires to { IsRollTo (core_of self.old) call to }
+        requires to { IsRollTo self.old.core call to }
         requires allowed { IsAllowed G.step self.old call }
         requires room { 1 ≤ self.old.reserved }
-        ensures entered { OnOk result (self.new ≡ with_entries self.old (entry_of call ∷ []) (counts_by (core_of self.old) (entry_of call) self.old.counts)) }
-        ensures from { IfOk result (λ from. from ≡ depth (core_of self.old) to) }
+        ensures entered { OnOk result
+            (self.new ≡ with_entries self.old (entry_of call ∷ [])
+            (counts_by self.old.core (entry_of call) self.old.counts)) }
+        ensures from { IfOk result (λ from. from ≡ depth self.old.core to) }
         ensures within { IfOk result (λ from. from ≤ to) }
         ensures cut { OnErr result (IsPartial self.old self.new to) }
         ensures why { IfErr result (λ why. why ≡ Refusal.NoMemory) }
@@ -335,7 +408,7 @@ impl<G: Game> Session<G> {
         self.saves.laws();
         match roll(&mut self.game, &mut self.saves, &mut self.planner, to) {
             Ok(Rolled { state, from }) => {
-                self.saves.step_on(call);
+                self.saves.finish_roll(call);
                 self.saves.settle();
                 self.current = Some(state);
                 self.log.add_call(call);
@@ -358,12 +431,13 @@ impl<G: Game> Session<G> {
     ///
     /// # Errors
     ///
-    /// `LogFull` where the log would pass its limit, else `NoMemory` where the allocator has no room.
+    /// `LogFull` if the log would pass its limit, else `NoMemory` if the allocator has no room.
     pub fn reserve_log(&mut self, events: u32) -> Result<(), Refusal>
-        ensures fits { OnOk result ((core_of self.old).logged + events ≤ self.old.settings.log) }
-        ensures reserved { OnOk result (self.new ≡ record self.old { reserved = max self.old.reserved events }) }
-        ensures refused { IfErr result (λ why. why ≡ (if nat_lt self.old.settings.log ((core_of self.old).logged + events) then Refusal.LogFull else Refusal.NoMemory)) }
-        ensures short { OnErr result ((core_of self.old).logged + events ≤ self.old.settings.log → self.old.reserved < events) }
+        ensures fits { OnOk result (FitsLog self.old events) }
+        ensures reserved { OnOk result
+            (self.new ≡ record self.old { reserved = max self.old.reserved events }) }
+        ensures refused { IfErr result (IsWhy (reserve_refusal self.old events)) }
+        ensures short { OnErr result (FitsLog self.old events → self.old.reserved < events) }
         ensures unchanged { OnErr result (self.new ≡ self.old) }
     {
         if events as usize > self.settings.log as usize - self.log.len() {
@@ -375,8 +449,8 @@ impl<G: Game> Session<G> {
 
     /// The log is one that events of a session that starts leave: so each law of `roll_laws` holds of the session's core.
     pub fn laws(&self)
-        ensures log { IsLog self.now.settings (game_of G.step self.now) self.now.log }
-        ensures least { (m : ℕ) → IsLeast (core_of self.now) m }
+        ensures log { FollowsLog G.step self.now }
+        ensures least { (m : ℕ) → IsLeast self.now.core m }
     {
         self.saves.laws();
     }
@@ -390,7 +464,7 @@ impl<G: Game> Session<G> {
 
     /// The current frame.
     pub fn frame(&self) -> u32
-        ensures { result ≡ (core_of self.now).frame }
+        ensures { result ≡ self.now.core.frame }
     {
         self.saves.board().frame()
     }
@@ -404,23 +478,27 @@ impl<G: Game> Session<G> {
 
     /// How many players there are. They are numbered from 1.
     pub fn players(&self) -> u8
-        ensures { result ≡ length (core_of self.now).players }
+        ensures { result ≡ length self.now.core.players }
     {
         self.settings.players
     }
 
     /// Whether there is such a player, and it is local.
     pub fn is_local(&self, player: u8) -> bool
-        ensures { result ≡ of_player (λ p. p.local) (core_of self.now).players player }
+        ensures { result ≡ of_player (λ p. p.local) self.now.core.players player }
     {
         self.saves.board().is_local(player)
     }
 
     /// The frame in which a local player's next word counts: as many frames from now as its delay, and one more once it
-    /// has given its word of this frame. None where there is no such player, or it isn't local.
+    /// has given its word of this frame. None if there is no such player, or it isn't local.
     pub fn input_frame(&self, player: u8) -> Option<u32>
-        ensures counted { result ≡ option_and_then (λ p. if p.local then Some (length p.words) else None) (player_at (core_of self.now).players player) }
-        ensures delayed { IfSome result (λ frame. frame ≡ (core_of self.now).frame + delay_at self.now.settings (player - 1) + (if of_player (λ p. p.given) (core_of self.now).players player then 1 else 0)) }
+        ensures counted { result ≡ option_and_then
+            (λ p. if p.local then Some (length p.words) else None)
+            (player_at self.now.core.players player) }
+        ensures delayed { IfSome result (λ frame. frame
+            ≡ self.now.core.frame + delay_at self.now.settings (player - 1)
+            + (if of_player (λ p. p.given) self.now.core.players player then 1 else 0)) }
     {
         let board = self.saves.board();
         if board.is_local(player) {
@@ -430,53 +508,58 @@ impl<G: Game> Session<G> {
         }
     }
 
-    /// How many words of a player are confirmed: the frame whose word must come next. None where there is no such player.
+    /// How many words of a player are confirmed: the frame whose word must come next. None if there is no such player.
     pub fn confirmed(&self, player: u8) -> Option<u32>
-        ensures { result ≡ option_map (λ p. length p.words) (player_at (core_of self.now).players player) }
+        ensures { result
+            ≡ option_map (λ p. length p.words) (player_at self.now.core.players player) }
     {
         self.saves.board().confirmed(player)
     }
 
-    /// The confirmed word of a player at a frame, settled or not. None where it isn't confirmed, and where there is no such
+    /// The confirmed word of a player at a frame, settled or not. None if it isn't confirmed, and if there is no such
     /// player.
     pub fn confirmed_word(&self, player: u8, frame: u32) -> Option<u32>
-        ensures { result ≡ confirmed_word (core_of self.now).players player frame }
+        ensures { result ≡ confirmed_word self.now.core.players player frame }
     {
         self.saves.confirmed_word(player, frame)
     }
 
     /// Where a player's cell of a frame, past or to come, is from. None where there is no such player.
     pub fn source(&self, player: u8, frame: u32) -> Option<Source>
-        ensures { result ≡ option_map (source_at frame) (player_at (core_of self.now).players player) }
+        ensures { result ≡ option_map (source_at frame) (player_at self.now.core.players player) }
     {
         self.saves.board().source(player, frame)
     }
 
     /// The state that is shown.
     pub fn current(&self) -> Option<&G::State>
-        ensures shows { Shows G.state_value G.step self.now.opening (core_of self.now).shown (option_copied result) }
-        ensures value { option_map G.state_value (option_copied result) ≡ value_shown G.step self.now }
+        ensures shows { Shows G.state_value G.step self.now.opening self.now.core.shown
+            (option_copied result) }
+        ensures value { option_map G.state_value (option_copied result)
+            ≡ value_shown G.step self.now }
     {
         self.current.as_ref()
     }
 
     /// How many rows are settled.
-    pub fn settled(&self) -> usize
-        ensures { result ≡ settled_frame (core_of self.now) }
+    pub fn settled(&self) -> u32
+        ensures { result ≡ settled_frame self.now.core }
     {
-        self.saves.board().settled() as usize
+        self.saves.board().settled()
     }
 
     /// A settled row: it never changes. None from the settled frame on.
-    pub fn settled_row(&self, frame: usize) -> Option<Row>
-        ensures { result ≡ (if nat_lt frame (settled_frame (core_of self.now)) then Some (row_of (core_of self.now).players frame) else None) }
+    pub fn settled_row(&self, frame: u32) -> Option<Row>
+        ensures { result ≡ (if nat_lt frame (settled_frame self.now.core)
+            then Some (row_of self.now.core.players frame) else None) }
     {
         self.saves.settled_row(frame)
     }
 
     /// The state after the settled rows.
     pub fn settled_state(&self) -> &G::Snapshot
-        ensures { G.snapshot_value result.now ≡ run_of G.step self.now.opening (timeline (core_of self.now).players (settled_frame (core_of self.now))) }
+        ensures { G.snapshot_value result.now ≡ run_of G.step self.now.opening
+            (timeline self.now.core.players (settled_frame self.now.core)) }
     {
         let tree = self.saves.tree();
         tree.get(tree.root())
@@ -484,8 +567,9 @@ impl<G: Game> Session<G> {
 
     /// The plan of the last roll. None at first, and after a roll that the game refused, until one succeeds.
     pub fn last_plan(&self) -> Option<&Plan>
-        ensures when { is_none result ≡ is_none (core_of self.now).last }
-        ensures plan { IfSome (core_of self.now).last (λ roll. IfSome result (λ plan. IsPlanOfRoll self.now.settings.players roll plan.now)) }
+        ensures when { is_none result ≡ is_none self.now.core.last }
+        ensures plan { IfSome self.now.core.last (λ roll. IfSome result
+            (λ plan. IsPlanOfRoll self.now.settings.players roll plan.now)) }
     {
         self.planner.last()
     }
@@ -494,13 +578,15 @@ impl<G: Game> Session<G> {
     ///
     /// # Errors
     ///
-    /// `NoPlan` where there is no last plan, else `NoMemory` where the allocator has no room.
+    /// `NoPlan` if there is no last plan, else `NoMemory` if the allocator has no room.
     pub fn claim(&self, alloc: Global) -> Result<Claim, Refusal>
-        ensures claim { IfOk result (λ claim. IfSome (core_of self.now).last (λ roll. claim ≡ claim_of self.now.settings.players roll)) }
+        ensures claim { IfOk result (λ claim. IfSome self.now.core.last
+            (λ roll. claim ≡ claim_of self.now.settings.players roll)) }
         ensures last { IfOk result (λ claim. last_claim self.now ≡ Some claim) }
         ensures right { IfOk result (λ claim. IsRight claim) }
-        ensures made { OnOk result (is_none (core_of self.now).last ≡ false) }
-        ensures refused { IfErr result (λ why. why ≡ (if is_none (core_of self.now).last then Refusal.NoPlan else Refusal.NoMemory)) }
+        ensures made { OnOk result (is_none self.now.core.last ≡ false) }
+        ensures refused { IfErr result (λ why. why
+            ≡ (if is_none self.now.core.last then Refusal.NoPlan else Refusal.NoMemory)) }
     {
         self.planner.claim(alloc)
     }
@@ -509,9 +595,10 @@ impl<G: Game> Session<G> {
     ///
     /// # Errors
     ///
-    /// `NoMemory` where the allocator has no room.
+    /// `NoMemory` if the allocator has no room.
     pub fn kept(&self, alloc: Global) -> Result<Vec<Path>, Refusal>
-        ensures kept { IfOk result (λ paths. paths.items ≡ map (path_from (settled_frame (core_of self.now))) (in_order (kept_of (core_of self.now)))) }
+        ensures kept { IfOk result (λ paths. paths.items
+            ≡ map (path_from (settled_frame self.now.core)) (in_order (kept_of self.now.core))) }
         ensures refused { IfErr result (λ why. why ≡ Refusal.NoMemory) }
     {
         self.saves.laws();
@@ -521,7 +608,7 @@ impl<G: Game> Session<G> {
     /// Takes the session apart.
     pub fn into_parts(self) -> Parts<G>
         ensures opening { G.snapshot_value result.opening ≡ self.opening }
-        ensures shown { Shows G.state_value G.step self.opening (core_of self).shown result.shown }
+        ensures shown { Shows G.state_value G.step self.opening self.core.shown result.shown }
         ensures counts { G.call_counts result.game ≡ self.counts }
     {
         Parts {

@@ -1,7 +1,6 @@
 //! The rings of all spectators.
 ghost use Rattle.std.specs.Prelude.{◌≡◌, ◌+◌, ◌<◌, [], ◌∷◌, ◌++◌, length, sum_by, All, IfOk, IfErr, OnOk, OnErr, nat_le, if◌then◌else◌};
 ghost use Rattle.std.specs.List.{AllZip};
-ghost use Rattle.roll_session.specs.Seen.{core_of};
 ghost use Rattle.roll_session.specs.Standing.{settled_rows};
 ghost use Rattle.roll_spectate.specs.Sent.{IsFed};
 ghost use Rattle.roll_spectate.specs.declared.limits.TheConstants.{SPECTATOR_LIMIT as MOST};
@@ -41,7 +40,7 @@ impl Feed {
     ///
     /// # Errors
     ///
-    /// `NoMemory` where the allocator has no room.
+    /// `NoMemory` if the allocator has no room.
     pub fn new(alloc: Global) -> Result<Feed, Refusal>
         ensures feed { IfOk result (λ feed. feed ≡ []) }
         ensures refused { IfErr result (λ why. why ≡ Refusal.NoMemory) }
@@ -54,11 +53,14 @@ impl Feed {
     ///
     /// # Errors
     ///
-    /// `TooManySpectators` where 32 were added, those who are gone too; else `NoMemory` where the allocator has no room.
+    /// `TooManySpectators` if 32 were added, those who are gone too; else `NoMemory` if the allocator has no room.
     pub fn add(&mut self) -> Result<RowReceiver, Refusal>
-        ensures added { IfOk result (λ receiver. self.new ≡ self.old ++ record { ring = receiver; rows = [] } ∷ []) }
+        ensures added { IfOk result
+            (λ receiver. self.new ≡ self.old ++ record { ring = receiver; rows = [] } ∷ []) }
         ensures place { OnOk result (length self.old < MOST) }
-        ensures refused { IfErr result (λ why. why ≡ (if nat_le MOST (length self.old) then Refusal.TooManySpectators else Refusal.NoMemory)) }
+        ensures refused { IfErr result
+            (λ why. why ≡ (if nat_le MOST
+            (length self.old) then Refusal.TooManySpectators else Refusal.NoMemory)) }
         ensures unchanged { OnErr result (self.new ≡ self.old) }
     {
         if self.senders.len() >= SPECTATOR_LIMIT {
@@ -72,8 +74,9 @@ impl Feed {
     /// Sends each spectator its next settled rows, until its ring is full, and says how many it sent in all. It takes no
     /// memory and waits for nobody. The session is to be the one whose rows were sent before.
     pub fn push<G: Game>(&mut self, session: &Session<G>) -> u32
-        ensures pushed { AllZip (IsFed (settled_rows (core_of session.now))) self.old self.new }
-        ensures count { sum_by (λ spectator. length spectator.rows) self.new ≡ sum_by (λ spectator. length spectator.rows) self.old + result }
+        ensures pushed { AllZip (IsFed (settled_rows session.now.core)) self.old self.new }
+        ensures count { sum_by (λ spectator. length spectator.rows) self.new
+            ≡ sum_by (λ spectator. length spectator.rows) self.old + result }
     {
         let mut count = 0;
         for sender in self.senders.iter_mut() {

@@ -3,7 +3,6 @@ ghost use Rattle.std.specs.Prelude.{◌≡◌, ◌⊎◌, ◌<◌, ◌≤◌, �
 ghost use Rattle.roll_frame.specs.Core.{settled};
 ghost use Rattle.roll_frame.specs.Timeline.{row_at};
 ghost use Rattle.roll_frame.specs.declared.limits.TheConstants.{FRAME_LIMIT};
-ghost use Rattle.roll_session.specs.Seen.{core_of};
 ghost use Rattle.roll_session.specs.Standing.{settled_rows};
 ghost use Rattle.roll_spectate.specs.Sent.{IsFirstPart, IsFed, IsPushed};
 ghost use Rattle.roll_spectate.specs.declared.limits.TheConstants.{RING_ROWS as ROWS};
@@ -82,7 +81,7 @@ pub(crate) fn open_ring(alloc: Global) -> Result<(RowSender, RowReceiver), Alloc
 impl RowSender {
     /// Sends the settled rows that were not sent before, until the ring is full, and says how many.
     pub fn push<G: Game>(&mut self, session: &Session<G>) -> u32
-        ensures pushed { IsFed (settled_rows (core_of session.now)) self.old self.new }
+        ensures pushed { IsFed (settled_rows session.now.core) self.old self.new }
         ensures count { length self.new.rows ≡ length self.old.rows + result }
         ensures few { length self.new.rows ≤ FRAME_LIMIT }
     {
@@ -96,17 +95,19 @@ impl RowSender {
         self.count - from
     }
 
-    /// The first settled row that was not sent. None where all were.
+    /// The first settled row that was not sent. None if all were.
     fn next<G: Game>(&self, session: &Session<G>) -> Option<Row>
-        ensures { result ≡ (if nat_lt (length self.now.rows) (settled (core_of session.now)) then Some (row_at (core_of session.now).players (length self.now.rows)) else None) }
+        ensures { result ≡ (if nat_lt (length self.now.rows) (settled session.now.core) then Some
+            (row_at session.now.core.players (length self.now.rows)) else None) }
     {
-        session.settled_row(self.count as usize)
+        session.settled_row(self.count)
     }
 
     /// Sends a row if the ring has a place for it, and says whether it did.
     fn send(&mut self, row: Row) -> bool
         requires { length self.old.rows < FRAME_LIMIT }
-        ensures sent { IsTrue result → self.new ≡ record self.old { rows = self.old.rows ++ row ∷ [] } }
+        ensures sent { IsTrue result → self.new
+            ≡ record self.old { rows = self.old.rows ++ row ∷ [] } }
         ensures full { IsFalse result → (self.new ≡ self.old) × (ROWS ≤ length self.old.rows) }
     {
         if self.producer.push(row).is_err() {

@@ -49,15 +49,18 @@ impl<G: Game> Spectator<G> {
     ///
     /// # Errors
     ///
-    /// `NoMemory` where the game refuses to load the opening. Game and receiver are handed back.
+    /// `NoMemory` if the game refuses to load the opening. Game and receiver are handed back.
     pub fn new(
         game: G,
         opening: &G::Snapshot,
         receiver: RowReceiver,
     ) -> Result<Spectator<G>, SpectatorFault<G>>
-        ensures spectator { IfOk result (λ spectator. spectator ≡ record { opening = G.snapshot_value opening.now; rows = []; stopped = false; counts = counted Load true (G.call_counts game) }) }
+        ensures spectator { IfOk result
+            (λ spectator. spectator
+            ≡ record { opening = G.snapshot_value opening.now; rows = []; stopped = false; counts = counted Load true (G.call_counts game) }) }
         ensures refused { IfErr result (λ fault. fault.why ≡ Refusal.NoMemory) }
-        ensures game_back { IfErr result (λ fault. G.call_counts fault.game ≡ counted Load false (G.call_counts game)) }
+        ensures game_back { IfErr result
+            (λ fault. G.call_counts fault.game ≡ counted Load false (G.call_counts game)) }
         ensures receiver_back { IfErr result (λ fault. fault.receiver ≡ receiver) }
     {
         let mut game = game;
@@ -82,7 +85,7 @@ impl<G: Game> Spectator<G> {
     ///
     /// # Errors
     ///
-    /// `Stopped` where memory ran out before; `PredictionThreshold` where no row is there; else `NoMemory` where the game
+    /// `Stopped` if memory ran out before; `PredictionThreshold` if no row is there; else `NoMemory` if the game
     /// refuses to advance, and the spectator is stopped.
     pub fn step(&mut self) -> Result<u32, Refusal>
         ensures stepped { OnOk result (IsStepped self.old self.new true) }

@@ -6,8 +6,8 @@ use Rattle.clap.specs.declared.error.kind.ErrorKind.TheVariants.{DisplayHelp, Di
 use Rattle.prog_parts.specs.declared.fault.PlayFault.{PlayFault}
 use Rattle.prog_parts.specs.declared.fault.PlayFault.TheVariants.{NoMemory, Read, Write}
 use Rattle.prog_parts.specs.declared.ending.Ending.{Ending}
-use Rattle.roll_match.specs.Options.{IsPlayable}
-use Rattle.roll_match.specs.declared.options.MatchOptions.{MatchOptions}
+use Rattle.prog_match.specs.Options.{IsPlayable}
+use Rattle.prog_match.specs.declared.options.MatchOptions.{MatchOptions}
 
 -- the program ends with a fault
 abbrev pub faulted : PlayFault → Ending

@@ -10,9 +10,9 @@ use Rattle.prog_parts.specs.declared.ending.GameName.TheVariants.{Tally, Duel}
 use Rattle.prog_parts.specs.declared.task.Task.{Task}
 use Rattle.prog_parts.specs.declared.task.Task.TheVariants.{Play, SyncTest, Certify}
 use Rattle.roll_live.specs.declared.program.Live.{Live}
-use Rattle.roll_match.specs.declared.options.Guesses.{Guesses}
-use Rattle.roll_match.specs.declared.options.Guesses.TheVariants.{Off, Words, Turns}
-use Rattle.roll_match.specs.declared.options.MatchOptions.{MatchOptions}
+use Rattle.prog_match.specs.declared.options.Guesses.{Guesses}
+use Rattle.prog_match.specs.declared.options.Guesses.TheVariants.{Off, Words, Turns}
+use Rattle.prog_match.specs.declared.options.MatchOptions.{MatchOptions}
 use Rattle.rollduel.specs.Commands.{rollduel_app}
 use Rattle.rollduel.specs.declared.command_line.Input.{Input}
 use Rattle.rollduel.specs.declared.command_line.Input.TheVariants.{Standard, File}

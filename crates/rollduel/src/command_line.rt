@@ -12,9 +12,9 @@ use crate::commands::{
     guesses, program_command,
 };
 use clap::{ArgMatches, Error};
+use prog_match::{Guesses, MatchOptions};
 use prog_parts::{GameName, Task};
 use roll_live::Live;
-use roll_match::{Guesses, MatchOptions};
 use std::alloc::Global;
 
 /// What is to be done.

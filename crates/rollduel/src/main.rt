@@ -1,6 +1,6 @@
 //! The program `rollduel`: plays scripts and prints what the session shows, plays matches, tests games, and checks claims.
 //!
-//! The work is done in `roll_cli`, `prog_explain`, `roll_live` and `roll_match`. Here are the command line, the streams and the exit status.
+//! The work is done in `roll_cli`, `prog_explain`, `roll_live` and `prog_match`. Here are the command line, the streams and the exit status.
 #![tactic(auto)]
 
 ghost use Rattle.std.specs.Fn.{FnOnceReturnsAt};
@@ -150,7 +150,7 @@ where
             let ending = work::play_live(threads, input, live, standard, notice, opener, writer);
             Ok(ending)
         }
-        Request::Match(options) => Ok(roll_match::run(alloc, &options, writer)),
+        Request::Match(options) => Ok(prog_match::run(alloc, &options, writer)),
     }
 }
 

@@ -38,14 +38,14 @@ fn put_rolled<G: Staged>(out: &mut Vec<u8>, session: &Session<G>) -> Answer {
         }
         None => put(out, b" from - rerun -")?,
     }
-    put_count(out, b" settled ", session.settled())?;
+    put_named(out, b" settled ", session.settled())?;
     put_state::<G>(out, session.current())
 }
 
 /// Writes the frame, the settled frame, the length of the log, both states, and the last plan.
 pub fn put_seen<G: Staged>(out: &mut Vec<u8>, session: &Session<G>) -> Answer {
     put_named(out, b"frame ", session.frame())?;
-    put_count(out, b" settled ", session.settled())?;
+    put_named(out, b" settled ", session.settled())?;
     put_count(out, b" log ", session.log().len())?;
     put_state::<G>(out, session.current())?;
     put(out, b" settled state ")?;
@@ -79,7 +79,7 @@ pub fn put_kept<G: Staged>(alloc: Global, out: &mut Vec<u8>, session: &Session<G
 
 /// Writes a settled row, or a dash.
 pub fn put_settled_row<G: Staged>(out: &mut Vec<u8>, session: &Session<G>, frame: u32) -> Answer {
-    match session.settled_row(frame as usize) {
+    match session.settled_row(frame) {
         Some(row) => put_row(out, &row),
         None => put(out, b"-"),
     }

@@ -5,9 +5,8 @@ ghost use Rattle.roll_frame.specs.declared.row.Cell.{Cell};
 ghost use Rattle.roll_host.specs.Hosted.{rings_of};
 ghost use Rattle.roll_host.specs.Requests.{EndsOwn};
 ghost use Rattle.roll_laws.specs.Laws.{known_cell};
-ghost use Rattle.roll_laws.specs.Sessions.{IsLog};
 ghost use Rattle.roll_session.specs.Held.{Shows};
-ghost use Rattle.roll_session.specs.Seen.{core_of, game_of, IsLeast};
+ghost use Rattle.roll_session.specs.Seen.{FollowsLog, IsLeast};
 
 use roll_game::{Game, NoMemory};
 use roll_host::{Host, HostReply, HostRequest};
@@ -15,8 +14,8 @@ use std::collections::VecDeque;
 
 /// The log of a host's session is one that events leave, and no plan of a roll runs fewer frames than the roll does.
 pub fn host_laws<G: Game>(host: &Host<G>)
-    ensures log { IsLog host.now.session.settings (game_of G.step host.now.session) host.now.session.log }
-    ensures least { (m : ℕ) → IsLeast (core_of host.now.session) m }
+    ensures log { FollowsLog G.step host.now.session }
+    ensures least { (m : ℕ) → IsLeast host.now.session.core m }
 {
     host.session().laws();
 }
@@ -30,9 +29,9 @@ pub fn host_goes_on<G: Game>(
 ) -> Result<(), NoMemory>
     requires room { vec_len replies.old + length requests.old.items ≤ vec_capacity replies.old }
     requires ends { All (EndsOwn (rings_of host.old.links)) requests.old.items }
-    ensures settled { OnOk result (settled (core_of host.old.session) ≤ settled (core_of host.new.session)) }
-    ensures known { OnOk result ((place t : ℕ) (cell : Cell) → known_cell (core_of host.old.session).players place t ≡ Some cell → known_cell (core_of host.new.session).players place t ≡ Some cell) }
-    ensures least { OnOk result ((m : ℕ) → IsLeast (core_of host.new.session) m) }
+    ensures settled { OnOk result (settled host.old.session.core ≤ settled host.new.session.core) }
+    ensures known { OnOk result ((place t : ℕ) (cell : Cell) → known_cell host.old.session.core.players place t ≡ Some cell → known_cell host.new.session.core.players place t ≡ Some cell) }
+    ensures least { OnOk result ((m : ℕ) → IsLeast host.new.session.core m) }
 {
     host_laws(host);
     host.run(requests, replies)?;
@@ -42,7 +41,7 @@ pub fn host_goes_on<G: Game>(
 
 /// The state that a host shows is the run over the rows of its log's replay: those of the last roll.
 pub fn host_shows<G: Game>(host: &Host<G>) -> Option<&G::State>
-    ensures { Shows G.state_value G.step host.now.session.opening (core_of host.now.session).shown (option_copied result) }
+    ensures { Shows G.state_value G.step host.now.session.opening host.now.session.core.shown (option_copied result) }
 {
     host.session().current()
 }

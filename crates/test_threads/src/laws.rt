@@ -3,9 +3,6 @@ ghost use Rattle.std.specs.Prelude.{◌≡◌, ◌≢◌, ◌≤◌, ◌+◌, �
 ghost use Rattle.roll_frame.specs.Core.{kept, settled};
 ghost use Rattle.roll_frame.specs.declared.row.Cell.{Cell};
 ghost use Rattle.roll_laws.specs.Laws.{known_cell, most_kept};
-ghost use Rattle.roll_laws.specs.Sessions.{IsLog};
-ghost use Rattle.roll_session.specs.Held.{Shows};
-ghost use Rattle.roll_session.specs.Seen.{core_of, game_of, IsLeast};
 
 use roll_frame::{Refusal, Reply, Row};
 use roll_game::{Game, NoMemory, never_diverges};
@@ -15,7 +12,7 @@ use std::collections::VecDeque;
 
 /// A session keeps few states, whatever was asked of it.
 pub fn keeps_few<G: Game>(session: &Session<G>)
-    ensures { length (kept (core_of session.now)) ≤ most_kept session.now.settings.profile }
+    ensures { length (kept session.now.core) ≤ most_kept session.now.settings.profile }
 {
     session.laws();
 }
@@ -27,8 +24,8 @@ pub fn goes_on<G: Game>(
     replies: &mut Vec<Reply>,
 ) -> Result<(), NoMemory>
     requires { vec_len replies.old + length requests.old.items ≤ vec_capacity replies.old }
-    ensures settled { OnOk result (settled (core_of session.old) ≤ settled (core_of session.new)) }
-    ensures known { OnOk result ((place t : ℕ) (cell : Cell) → known_cell (core_of session.old).players place t ≡ Some cell → known_cell (core_of session.new).players place t ≡ Some cell) }
+    ensures settled { OnOk result (settled session.old.core ≤ settled session.new.core) }
+    ensures known { OnOk result ((place t : ℕ) (cell : Cell) → known_cell session.old.core.players place t ≡ Some cell → known_cell session.new.core.players place t ≡ Some cell) }
 {
     session.laws();
     session.run(requests, replies)?;

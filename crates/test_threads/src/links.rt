@@ -227,7 +227,6 @@ where
         || play_all(rt, &mut host, &mut serial),
     );
     let session = host.session();
-    let is_settled = session.settled() == EACH as usize
-        && *session.settled_state() == serial.shown(EACH);
+    let is_settled = session.settled() == EACH && *session.settled_state() == serial.shown(EACH);
     Ok(sent && serial.is_well && is_settled)
 }

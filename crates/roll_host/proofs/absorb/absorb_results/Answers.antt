@@ -20,14 +20,14 @@ pub loop-preserved : goal.loop-preserved
 loop-preserved g c =
     let now = c.loop.invariant in
     let all = c.count.ensures in
-    let fate = c.take_in.result in
+    let fate = c.graft_result.result in
     record {
       done =
-          absorbed_more g.G.Game.step c.args.session.now c.loop.session c.take_in.new.session c.args.owner.now.came c.loop.owner.came c.collect.new.self.came c.loop.absorbed c.count.new.self c.in-Some.done fate now.done
-          (omega (arith, now.count, c.loop-test.true)) c.in-Some.ensures.some c.take_in.ensures.fate all;
+          absorbed_more g.G.Game.step c.args.session.now c.loop.session c.graft_result.new.session c.args.owner.now.came c.loop.owner.came c.collect.new.self.came c.loop.absorbed c.count.new.self c.in-Some.done fate now.done
+          (omega (arith, now.count, c.loop-test.true)) c.in-Some.ensures.some c.graft_result.ensures.fate all;
       pool = c.collect.ensures.same ∙ (λ i. record (now.pool i) { came = c.collect.new.self.came });
       count = omega (arith, ap (λ (x : Absorbed). x.taken) all, now.count);
       dropped = omega (arith, ap (λ (x : Absorbed). x.taken) all, ap (λ (x : Absorbed). x.dropped) all, now.dropped, (counts_one fate).0);
       unmade = omega (arith, ap (λ (x : Absorbed). x.taken) all, ap (λ (x : Absorbed). x.unmade) all, now.unmade, (counts_one fate).1);
-      added = omega (arith, ap (λ (x : Absorbed). x.taken) all, ap (λ (x : Absorbed). x.added) all, now.added, c.take_in.ensures.few);
+      added = omega (arith, ap (λ (x : Absorbed). x.taken) all, ap (λ (x : Absorbed). x.added) all, now.added, c.graft_result.ensures.few);
     }

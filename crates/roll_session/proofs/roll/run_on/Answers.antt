@@ -12,14 +12,14 @@ loop-frame-init g c =
       counts = rw none c.in-Ok.ensures.counts;
     }
 
-pub hang-at-requires-clause-fits : goal.hang-at-requires-clause-fits
-hang-at-requires-clause-fits g c =
+pub add_state-at-requires-clause-fits : goal.add_state-at-requires-clause-fits
+add_state-at-requires-clause-fits g c =
     let row : c.told_row-row.result ≡ row_at c.loop-frame.saves.inputs.players c.loop-frame.frame = c.told_row-row.ensures in
     rw row (
     can_grow g.G.RawGame.snapshot_value g.G.Game.step c.args.saves.now c.args.from c.args.to c.requires.from c.loop-frame.saves c.loop-frame.frame c.loop-frame.at (g.G.RawGame.state_value c.loop-frame.state) c.loop-frame.invariant.way (omega (arith, c.loop-frame-test.true)) (omega (arith, c.ranges.to.fits)) c.requires.near)
 
-pub hang-at-requires-clause-few : goal.hang-at-requires-clause-few
-hang-at-requires-clause-few g c =
+pub add_state-at-requires-clause-few : goal.add_state-at-requires-clause-few
+add_state-at-requires-clause-few g c =
     still_few g.G.RawGame.snapshot_value g.G.Game.step c.args.saves.now c.args.from c.args.to c.requires.from c.loop-frame.saves c.loop-frame.frame c.loop-frame.at TREE_LIMIT (g.G.RawGame.state_value c.loop-frame.state) c.loop-frame.invariant.way (omega (arith, c.loop-frame-test.true)) c.requires.fits
 
 pub loop-frame-preserved : goal.loop-frame-preserved
@@ -28,8 +28,8 @@ loop-frame-preserved g c =
     let stepped = (g.met.G.Game.is_step _ _ _).0 c.in-Ok-advance_and_save.ensures.ran in
     record {
       way =
-          way_more g.G.RawGame.snapshot_value g.G.Game.step c.args.saves.now c.args.from c.args.to c.requires.from c.loop-frame.saves c.hang-at.new.self c.loop-frame.frame c.loop-frame.at c.hang-at.result (g.G.RawGame.state_value c.loop-frame.state) (g.G.RawGame.state_value c.advance_and_save.new.state)
-          c.in-Ok-advance_and_save.snapshot c.told_row-row.result now.way (omega (arith, c.loop-frame-test.true)) (c.told_row-row.ensures) stepped (c.in-Ok-advance_and_save.ensures.snapshot ∙ stepped) c.hang-at.ensures.inputs c.hang-at.ensures.room c.hang-at.ensures.vacant c.hang-at.ensures.added;
+          way_more g.G.RawGame.snapshot_value g.G.Game.step c.args.saves.now c.args.from c.args.to c.requires.from c.loop-frame.saves c.add_state-at.new.self c.loop-frame.frame c.loop-frame.at c.add_state-at.result (g.G.RawGame.state_value c.loop-frame.state) (g.G.RawGame.state_value c.advance_and_save.new.state)
+          c.in-Ok-advance_and_save.snapshot c.told_row-row.result now.way (omega (arith, c.loop-frame-test.true)) (c.told_row-row.ensures) stepped (c.in-Ok-advance_and_save.ensures.snapshot ∙ stepped) c.add_state-at.ensures.inputs c.add_state-at.ensures.room c.add_state-at.ensures.vacant c.add_state-at.ensures.added;
       counts =
           let one : c.loop-frame.frame + 1 - c.args.from ≡ suc (c.loop-frame.frame - c.args.from) = omega (arith, now.way.low) in
           rw (one, c.in-Ok-advance_and_save.ensures.counts, now.counts) refl;

@@ -1,5 +1,5 @@
 use Rattle.std.proofs.Common.{◌≡◌}
-use Rattle.roll_host.specs.Hosted.{places_of}
+use Rattle.fazgrond.specs.Hosted.{places_of}
 use Rattle.example_on_threads.proofs.side.Side.play.Given as goal
 
 abbrev pub invariant-loop : goal.invariant-loop

@@ -12,18 +12,18 @@ pub loop-end-preserved : goal.loop-end-preserved
 loop-end-preserved g c =
     let was = c.loop-end.invariant in
     let items = c.in-Some-next.ensures.items in
-    let took = c.take_in.ensures in
-    let v = worker_view c.loop-end.deque in let w = worker_view c.take_in.new.deque in (
+    let took = c.take_pass.ensures in
+    let v = worker_view c.loop-end.deque in let w = worker_view c.take_pass.new.deque in (
       tt,
       tt,
-      (places_step (worker_deque c.loop-end.deque) (worker_deque c.take_in.new.deque) (signals_at (arc_value c.self.inside.signals)) _ c.in-Some-next.ring _ _ c.in-Some.end _ was.2 items c.in-Some.ensures.steps.0 took.deque.0).2,
+      (places_step (worker_deque c.loop-end.deque) (worker_deque c.take_pass.new.deque) (signals_at (arc_value c.self.inside.signals)) _ c.in-Some-next.ring _ _ c.in-Some.end _ was.2 items c.in-Some.ensures.steps.0 took.deque.0).2,
       took.deque.1 ∙ was.3,
       view_step v w _ c.in-Some-next.ring _ c.in-Some.end.jobs items was.4 took.view,
       ap (λ u. u.issued) took.view ∙ was.5,
       one_more_in v.jobs c.in-Some.end.jobs w.jobs _ _ c.in-Some-next.ring.came _ c.in-Some.end.results _ _ was.6 (ap (λ u. u.jobs) took.view) (ap (λ l. collected (came_by l)) items) took.late took.told,
       omega (arith, took.room.0, was.7, ap length items),
       took.room.1 ∙ was.8,
-      late_step _ c.loop-end.late.items c.take_in.new.late.items _ c.in-Some-next.ring _ _ c.in-Some.end _ was.9 items c.in-Some.ensures.steps.0 took.late,
+      late_step _ c.loop-end.late.items c.take_pass.new.late.items _ c.in-Some-next.ring _ _ c.in-Some.end _ was.9 items c.in-Some.ensures.steps.0 took.late,
     )
 
 -- in each of the goals after the loop no ring is left

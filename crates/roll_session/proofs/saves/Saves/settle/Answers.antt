@@ -16,7 +16,7 @@ slice_bounds-append-end g c =
     let low = rw (← c.self.view_is) at c.requires in
     let from : i.board.settled ≤ c.min-to.result = omega (arith, low, c.min-to.ensures, c.front.ensures, c.frame.ensures, c.laws.ensures.reached) in
     let n = longest (paths_of i.tree) (rows_to i.board c.min-to.result) in
-    let deep = deepest_told i.board.players i.board.settled c.min-to.result i.tree c.reach.new.tree c.deepest-node.result.0 c.deepest-node.result.1 c.self.invariant.base c.reach.ensures.same c.reach.ensures.told from c.reach.ensures.far c.deepest-node.ensures.node c.deepest-node.ensures.length in
+    let deep = deepest_told i.board.players i.board.settled c.min-to.result i.tree c.extend_time.new.tree c.deepest-node.result.0 c.deepest-node.result.1 c.self.invariant.base c.extend_time.ensures.same c.extend_time.ensures.told from c.extend_time.ensures.far c.deepest-node.ensures.node c.deepest-node.ensures.length in
     let count : c.deepest-node.result.1 - c.settled-base.result ≡ n = omega (arith, deep.end_is, c.settled-base.ensures) in
     let rows : take (c.deepest-node.result.1 - c.settled-base.result) c.time.result.now ≡ rows_from i.board.players i.board.settled n = ap (λ m. take m c.time.result.now) count ∙ (ap (take n) c.time.ensures.value ∙ deep.rows) in
     let long = ap length rows ∙ length-rows_from i.board.players i.board.settled n in
@@ -28,7 +28,7 @@ append-requires-clause-room g c =
     let low = rw (← c.self.view_is) at c.requires in
     let from : i.board.settled ≤ c.min-to.result = omega (arith, low, c.min-to.ensures, c.front.ensures, c.frame.ensures, c.laws.ensures.reached) in
     let n = longest (paths_of i.tree) (rows_to i.board c.min-to.result) in
-    let deep = deepest_told i.board.players i.board.settled c.min-to.result i.tree c.reach.new.tree c.deepest-node.result.0 c.deepest-node.result.1 c.self.invariant.base c.reach.ensures.same c.reach.ensures.told from c.reach.ensures.far c.deepest-node.ensures.node c.deepest-node.ensures.length in
+    let deep = deepest_told i.board.players i.board.settled c.min-to.result i.tree c.extend_time.new.tree c.deepest-node.result.0 c.deepest-node.result.1 c.self.invariant.base c.extend_time.ensures.same c.extend_time.ensures.told from c.extend_time.ensures.far c.deepest-node.ensures.node c.deepest-node.ensures.length in
     let count : c.deepest-node.result.1 - c.settled-base.result ≡ n = omega (arith, deep.end_is, c.settled-base.ensures) in
     let rows : take (c.deepest-node.result.1 - c.settled-base.result) c.time.result.now ≡ rows_from i.board.players i.board.settled n = ap (λ m. take m c.time.result.now) count ∙ (ap (take n) c.time.ensures.value ∙ deep.rows) in
     let long = ap length rows ∙ length-rows_from i.board.players i.board.settled n in
@@ -41,7 +41,7 @@ append-requires-clause-wide g c =
     let low = rw (← c.self.view_is) at c.requires in
     let from : i.board.settled ≤ c.min-to.result = omega (arith, low, c.min-to.ensures, c.front.ensures, c.frame.ensures, c.laws.ensures.reached) in
     let n = longest (paths_of i.tree) (rows_to i.board c.min-to.result) in
-    let deep = deepest_told i.board.players i.board.settled c.min-to.result i.tree c.reach.new.tree c.deepest-node.result.0 c.deepest-node.result.1 c.self.invariant.base c.reach.ensures.same c.reach.ensures.told from c.reach.ensures.far c.deepest-node.ensures.node c.deepest-node.ensures.length in
+    let deep = deepest_told i.board.players i.board.settled c.min-to.result i.tree c.extend_time.new.tree c.deepest-node.result.0 c.deepest-node.result.1 c.self.invariant.base c.extend_time.ensures.same c.extend_time.ensures.told from c.extend_time.ensures.far c.deepest-node.ensures.node c.deepest-node.ensures.length in
     let count : c.deepest-node.result.1 - c.settled-base.result ≡ n = omega (arith, deep.end_is, c.settled-base.ensures) in
     let rows : take (c.deepest-node.result.1 - c.settled-base.result) c.time.result.now ≡ rows_from i.board.players i.board.settled n = ap (λ m. take m c.time.result.now) count ∙ (ap (take n) c.time.ensures.value ∙ deep.rows) in
     rw (rows, c.self.invariant.wide) (wide-rows_from i.board.players i.board.settled n)
@@ -52,7 +52,7 @@ settle-requires-clause-confirmed g c =
     let low = rw (← c.self.view_is) at c.requires in
     let from : i.board.settled ≤ c.min-to.result = omega (arith, low, c.min-to.ensures, c.front.ensures, c.frame.ensures, c.laws.ensures.reached) in
     let n = longest (paths_of i.tree) (rows_to i.board c.min-to.result) in
-    let deep = deepest_told i.board.players i.board.settled c.min-to.result i.tree c.reach.new.tree c.deepest-node.result.0 c.deepest-node.result.1 c.self.invariant.base c.reach.ensures.same c.reach.ensures.told from c.reach.ensures.far c.deepest-node.ensures.node c.deepest-node.ensures.length in
+    let deep = deepest_told i.board.players i.board.settled c.min-to.result i.tree c.extend_time.new.tree c.deepest-node.result.0 c.deepest-node.result.1 c.self.invariant.base c.extend_time.ensures.same c.extend_time.ensures.told from c.extend_time.ensures.far c.deepest-node.ensures.node c.deepest-node.ensures.length in
     let to : c.min-to.result ≡ min (front i.board.players) i.board.frame = c.min-to.ensures ∙ rw (c.front.ensures, c.frame.ensures) refl in
     omega (arith, deep.end_is, deep.within, to)
 
@@ -62,19 +62,19 @@ invariant_of-self g c =
     let low = rw (← c.self.view_is) at c.requires in
     let from : i.board.settled ≤ c.min-to.result = omega (arith, low, c.min-to.ensures, c.front.ensures, c.frame.ensures, c.laws.ensures.reached) in
     let n = longest (paths_of i.tree) (rows_to i.board c.min-to.result) in
-    let deep = deepest_told i.board.players i.board.settled c.min-to.result i.tree c.reach.new.tree c.deepest-node.result.0 c.deepest-node.result.1 c.self.invariant.base c.reach.ensures.same c.reach.ensures.told from c.reach.ensures.far c.deepest-node.ensures.node c.deepest-node.ensures.length in
+    let deep = deepest_told i.board.players i.board.settled c.min-to.result i.tree c.extend_time.new.tree c.deepest-node.result.0 c.deepest-node.result.1 c.self.invariant.base c.extend_time.ensures.same c.extend_time.ensures.told from c.extend_time.ensures.far c.deepest-node.ensures.node c.deepest-node.ensures.length in
     let count : c.deepest-node.result.1 - c.settled-base.result ≡ n = omega (arith, deep.end_is, c.settled-base.ensures) in
     let rows : take (c.deepest-node.result.1 - c.settled-base.result) c.time.result.now ≡ rows_from i.board.players i.board.settled n = ap (λ m. take m c.time.result.now) count ∙ (ap (take n) c.time.ensures.value ∙ deep.rows) in
     let long = ap length rows ∙ length-rows_from i.board.players i.board.settled n in
-    let k = length c.reach.new.tree.time in
+    let k = length c.extend_time.new.tree.time in
     let long' = length-rows_from i.board.players i.board.settled n in
-    let base : c.reach.new.tree.base ≡ i.board.settled = ap (λ (t : SavedStates g.row.S.Denot). t.base) c.reach.ensures.same ∙ c.self.invariant.base in
-    let tree = settled_at c.reach.new.tree c.settle_at.new.self c.deepest-node.result.0 (rows_from i.board.players i.board.settled n) deep.path c.settle_at.ensures in
+    let base : c.extend_time.new.tree.base ≡ i.board.settled = ap (λ (t : SavedStates g.row.S.Denot). t.base) c.extend_time.ensures.same ∙ c.self.invariant.base in
+    let tree = settled_at c.extend_time.new.tree c.settle_at.new.self c.deepest-node.result.0 (rows_from i.board.players i.board.settled n) deep.path c.settle_at.ensures in
     settled_step i (record { board = c.settle.new.self; past = c.append.new.self; tree = c.settle_at.new.self }) n k c.self.invariant
     (c.settle.ensures ∙ ap (λ m. record i.board { settled = m }) deep.end_is)
     (c.append.ensures ∙ ap (λ (q : Rows). record i.past { rows = i.past.rows ++ q }) rows)
     (ap (λ (t : SavedStates g.row.S.Denot). t.base) tree ∙ omega (arith, base, long'))
-    (ap (λ (t : SavedStates g.row.S.Denot). t.time) tree ∙ (ap (λ m. drop m c.reach.new.tree.time) long' ∙ ap (drop n) c.reach.ensures.told))
+    (ap (λ (t : SavedStates g.row.S.Denot). t.time) tree ∙ (ap (λ m. drop m c.extend_time.new.tree.time) long' ∙ ap (drop n) c.extend_time.ensures.told))
 
 pub returns-clause-inputs : goal.returns-clause-inputs
 returns-clause-inputs g c =
@@ -82,7 +82,7 @@ returns-clause-inputs g c =
     let low = rw (← c.self.view_is) at c.requires in
     let from : i.board.settled ≤ c.min-to.result = omega (arith, low, c.min-to.ensures, c.front.ensures, c.frame.ensures, c.laws.ensures.reached) in
     let n = longest (paths_of i.tree) (rows_to i.board c.min-to.result) in
-    let deep = deepest_told i.board.players i.board.settled c.min-to.result i.tree c.reach.new.tree c.deepest-node.result.0 c.deepest-node.result.1 c.self.invariant.base c.reach.ensures.same c.reach.ensures.told from c.reach.ensures.far c.deepest-node.ensures.node c.deepest-node.ensures.length in
+    let deep = deepest_told i.board.players i.board.settled c.min-to.result i.tree c.extend_time.new.tree c.deepest-node.result.0 c.deepest-node.result.1 c.self.invariant.base c.extend_time.ensures.same c.extend_time.ensures.told from c.extend_time.ensures.far c.deepest-node.ensures.node c.deepest-node.ensures.length in
     let to : c.min-to.result ≡ min (front i.board.players) i.board.frame = c.min-to.ensures ∙ rw (c.front.ensures, c.frame.ensures) refl in
     rw (← c.self.view_is) (c.settle.ensures ∙ (ap (λ k. record i.board { settled = k }) deep.end_is ∙ ap (λ k. record i.board { settled = i.board.settled + longest (paths_of i.tree) (rows_to i.board k) }) to))
 
@@ -92,11 +92,11 @@ returns-clause-states g c =
     let low = rw (← c.self.view_is) at c.requires in
     let from : i.board.settled ≤ c.min-to.result = omega (arith, low, c.min-to.ensures, c.front.ensures, c.frame.ensures, c.laws.ensures.reached) in
     let n = longest (paths_of i.tree) (rows_to i.board c.min-to.result) in
-    let deep = deepest_told i.board.players i.board.settled c.min-to.result i.tree c.reach.new.tree c.deepest-node.result.0 c.deepest-node.result.1 c.self.invariant.base c.reach.ensures.same c.reach.ensures.told from c.reach.ensures.far c.deepest-node.ensures.node c.deepest-node.ensures.length in
+    let deep = deepest_told i.board.players i.board.settled c.min-to.result i.tree c.extend_time.new.tree c.deepest-node.result.0 c.deepest-node.result.1 c.self.invariant.base c.extend_time.ensures.same c.extend_time.ensures.told from c.extend_time.ensures.far c.deepest-node.ensures.node c.deepest-node.ensures.length in
     let to : c.min-to.result ≡ min (front i.board.players) i.board.frame = c.min-to.ensures ∙ rw (c.front.ensures, c.frame.ensures) refl in
     let long' = length-rows_from i.board.players i.board.settled n in
-    let tree = settled_at c.reach.new.tree c.settle_at.new.self c.deepest-node.result.0 (rows_from i.board.players i.board.settled n) deep.path c.settle_at.ensures in
-    let same = ap (λ (t : SavedStates g.row.S.Denot). t.states) c.reach.ensures.same in
+    let tree = settled_at c.extend_time.new.tree c.settle_at.new.self c.deepest-node.result.0 (rows_from i.board.players i.board.settled n) deep.path c.settle_at.ensures in
+    let same = ap (λ (t : SavedStates g.row.S.Denot). t.states) c.extend_time.ensures.same in
     let states = i.tree.states in
     rw (← c.self.view_is)
     (ap (λ (t : SavedStates g.row.S.Denot). t.states) tree

@@ -1,7 +1,18 @@
-use Rattle.std.proofs.Common.{◌∙◌, inl, sym}
-use Rattle.roll_session.proofs.Answering.{grafted_replied}
+use Rattle.std.proofs.Common.{◌∙◌, ap, length, sym}
+use Rattle.roll_frame.specs.Events.{branch_of}
+use Rattle.roll_frame.specs.Grafts.{new_paths}
+use Rattle.roll_session.specs.Changes.{after_graft}
+use Rattle.roll_session.specs.Seen.{Seen}
+use Rattle.roll_session.proofs.Changes.{graft_reserved}
 use Rattle.roll_session.proofs.session.Session.graft.Goals as goal
 
 pub returns : goal.returns
 returns g c =
-    record { answered = inl (grafted_replied g.G.Game.step c.args.self.now c.reserve_log.new.self c.take_branch.new.self c.args.branch c.take_branch.result.added (sym c.graft_refusal.ensures ∙ c.in_default.is) c.in_ok-reserve_log.ensures.reserved c.take_branch.ensures.entered c.take_branch.ensures.added) }
+    let old : Seen = c.args.self.now in
+    let reserved = c.in_ok-reserve_log.ensures.reserved in
+    record {
+      accepted = sym c.graft_refusal.ensures ∙ c.in_default.is;
+      grafted = c.take_branch.ensures.added ∙ ap (λ (s : Seen). length (new_paths s.core (branch_of c.args.branch.route))) reserved;
+      taken = c.take_branch.ensures.entered ∙ ap (λ (s : Seen). after_graft s c.args.branch) reserved ∙ graft_reserved old c.args.branch;
+      refused = tt;
+    }

@@ -1,5 +1,7 @@
 use Rattle.std.proofs.Common.{◌∙◌, ap, arith, refl}
+use Rattle.roll_frame.specs.declared.entry.Entry.TheVariants.{Partial}
 use Rattle.roll_inputs.specs.Boards.{Inputs}
+use Rattle.roll_laws.proofs.Glue.{replay-push}
 use Rattle.roll_session.proofs.Entering.{counts_are, few_made, is_close, partial_next, partial_settles, rolled_next, rolled_settles, room_next, rows_fit, starts, states_fit, stepped_frame, widths_fit}
 use Rattle.roll_session.specs.Calls.{entry_of}
 use Rattle.roll_session.proofs.session.Session.roll_on.Goals as goal
@@ -16,23 +18,23 @@ roll-requires-clause-widths g c = let to = rw (← c.self.view_is) at c.requires
 pub returns-in-Ok-clause-from : goal.returns-in-Ok-clause-from
 returns-in-Ok-clause-from g c = let to = rw (← c.self.view_is) at c.requires.to in rw (← c.self.view_is) (c.in-Ok.ensures.from ∙ starts c.self.invariant.0 c.args.call c.args.to to)
 
-pub step_on-requires-clause-near : goal.step_on-requires-clause-near
-step_on-requires-clause-near g c = rw c.in-Ok.ensures.inputs (is_close c.self.invariant.0)
+pub finish_roll-requires-clause-near : goal.finish_roll-requires-clause-near
+finish_roll-requires-clause-near g c = rw c.in-Ok.ensures.inputs (is_close c.self.invariant.0)
 
 pub settle-requires : goal.settle-requires
 settle-requires g c =
     let q = rw (← c.self.view_is) at c.requires in
     let e = c.in-Ok.ensures in
-    rolled_settles c.self.invariant.0 c.args.call c.args.to q.to q.allowed.accepted c.roll.new.saves c.step_on.new.self (record { inputs = e.inputs; paths = e.paths; values = e.values }) c.step_on.ensures.inputs c.step_on.ensures.tree
+    rolled_settles c.self.invariant.0 c.args.call c.args.to q.to q.allowed.accepted c.roll.new.saves c.finish_roll.new.self (record { inputs = e.inputs; paths = e.paths; values = e.values }) c.finish_roll.ensures.inputs c.finish_roll.ensures.tree
 
 pub invariant_of-self : goal.invariant_of-self
 invariant_of-self g c =
     let q = rw (← c.self.view_is) at c.requires in
     let e = c.in-Ok.ensures in (
       rw c.add_call.ensures.entries
-          (rolled_next c.self.invariant.0 c.args.call c.args.to q.to q.allowed.accepted c.roll.new.saves c.step_on.new.self c.settle.new.self c.roll.new.planner c.in-Ok.field-0.state
-          (record { inputs = e.inputs; paths = e.paths; values = e.values }) c.step_on.ensures.inputs c.step_on.ensures.tree (record { inputs = c.settle.ensures.inputs; states = c.settle.ensures.states }) e.state c.laws.ensures.base e.plan),
-      room_next c.step_on.new.self c.self.invariant.1 q.room c.add_call.ensures.room c.spend.ensures.promised c.spend.ensures.there (rw (c.step_on.ensures.inputs, e.inputs) (stepped_frame c.self.inside.saves.inputs (entry_of c.args.call))) (c.step_on.ensures.room ∙ e.room) c.settle.ensures.inputs c.settle.ensures.room,
+          (rolled_next c.self.invariant.0 c.args.call c.args.to q.to q.allowed.accepted c.roll.new.saves c.finish_roll.new.self c.settle.new.self c.roll.new.planner c.in-Ok.field-0.state
+          (record { inputs = e.inputs; paths = e.paths; values = e.values }) c.finish_roll.ensures.inputs c.finish_roll.ensures.tree (record { inputs = c.settle.ensures.inputs; states = c.settle.ensures.states }) e.state c.laws.ensures.base e.plan),
+      room_next c.finish_roll.new.self c.self.invariant.1 q.room c.add_call.ensures.room c.spend.ensures.promised c.spend.ensures.there (rw (c.finish_roll.ensures.inputs, e.inputs) (stepped_frame c.self.inside.saves.inputs (entry_of c.args.call))) (c.finish_roll.ensures.room ∙ e.room) c.settle.ensures.inputs c.settle.ensures.room,
     )
 
 pub settle-requires-in-Err : goal.settle-requires-in-Err
@@ -55,7 +57,8 @@ pub returns-in-Ok-clause-entered : goal.returns-in-Ok-clause-entered
 returns-in-Ok-clause-entered g c =
     let q = rw (← c.self.view_is) at c.requires in
     let counts = c.in-Ok.ensures.counts ∙ counts_are c.self.invariant.0 c.args.call c.args.to q.to _ in
-    rw (← c.self.view_is) (rw (c.add_call.ensures.entries, c.spend.ensures.promised, counts) refl)
+    rw (← c.self.view_is)
+    (rw (c.add_call.ensures.entries, c.spend.ensures.promised, counts, replay-push c.self.inside.settings c.self.inside.log.entries (entry_of c.args.call)) refl)
 
 pub returns-in-Err-clause-cut : goal.returns-in-Err-clause-cut
 returns-in-Err-clause-cut g c =
@@ -63,6 +66,6 @@ returns-in-Err-clause-cut g c =
     rw (← c.self.view_is) (record {
       made = c.in-Err.made;
       few = few_made c.self.invariant.0 c.args.call c.args.to q.to q.allowed.accepted c.in-Err.made c.in-Err.ensures.made;
-      seen = rw (c.add_partial.ensures.entries, c.spend-in-Err.ensures.promised) refl;
+      seen = rw (c.add_partial.ensures.entries, c.spend-in-Err.ensures.promised, replay-push c.self.inside.settings c.self.inside.log.entries (Partial c.args.to c.in-Err.made)) refl;
       counts = c.in-Err.ensures.refused;
     })

@@ -1,6 +1,6 @@
-use Rattle.std.proofs.Common.{◌∙◌, ap, arith}
+use Rattle.std.proofs.Common.{◌∙◌, ap, arith, refl}
 use Rattle.roll_inputs.specs.Boards.{Inputs}
-use Rattle.roll_session.proofs.Holding.{session_first}
+use Rattle.roll_session.proofs.Holding.{replay-nil, session_first}
 use Rattle.roll_session.proofs.session.Session.start.Goals as goal
 
 pub invariant_of-result : goal.invariant_of-result
@@ -11,3 +11,6 @@ invariant_of-result g c =
           c.in-Ok.ensures.accepted started c.in-Ok-new-2.ensures.alone c.in-Ok-copy.ensures.value c.in-Ok-load.ensures.value),
       record { promised = omega arith; entries = omega arith; rows = omega (arith, ap (λ (i : Inputs). i.frame) started) },
     )
+
+pub returns-clause-session : goal.returns-clause-session
+returns-clause-session g c = rw (c.new-4.ensures, c.in-Ok-load.ensures.counts, c.in-Ok-copy.ensures.counts, replay-nil c.args.settings) refl

@@ -1,6 +1,5 @@
 use Rattle.std.proofs.Common.{◌∙◌, ◌≤◌, ◌<◌, length, ap, arith}
 use Rattle.roll_frame.specs.declared.limits.TheConstants.{FRAME_LIMIT}
-use Rattle.roll_session.specs.Seen.{core_of}
 use Rattle.roll_session.specs.Standing.{settled_rows}
 use Rattle.roll_spectate.proofs.Sending.{one_more}
 use Rattle.roll_spectate.proofs.feed.Feed.push.Goals as goal
@@ -16,4 +15,4 @@ pub loop-sender-preserved : goal.loop-sender-preserved
 loop-sender-preserved g c =
     let there : c.loop-sender.sender-index < length c.args.self.now = omega (arith, c.loop-sender-test.true, ap length (c.deref_mut-sender-items.ensures.value ∙ c.self.view_is)) in
     let few : c.push-count.result ≤ FRAME_LIMIT = omega (arith, c.push-count.ensures.count, c.push-count.ensures.few) in
-    one_more (settled_rows (core_of c.args.session.now)) _ _ _ _ c.loop-sender.invariant there c.sender-item.result c.push-count.new.self c.push-count.result c.push-count.ensures.pushed c.push-count.ensures.count few
+    one_more (settled_rows c.args.session.now.core) _ _ _ _ c.loop-sender.invariant there c.sender-item.result c.push-count.new.self c.push-count.result c.push-count.ensures.pushed c.push-count.ensures.count few

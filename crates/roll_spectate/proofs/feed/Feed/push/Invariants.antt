@@ -1,7 +1,6 @@
-use Rattle.roll_session.specs.Seen.{core_of}
 use Rattle.roll_session.specs.Standing.{settled_rows}
 use Rattle.roll_spectate.proofs.Sending.{IsSentTo}
 use Rattle.roll_spectate.proofs.feed.Feed.push.Given as goal
 
 abbrev pub invariant-loop-sender : goal.invariant-loop-sender
-invariant-loop-sender g l = IsSentTo (settled_rows (core_of l.session)) l.fn.self l.sender-items l.sender-index l.count
+invariant-loop-sender g l = IsSentTo (settled_rows l.session.core) l.fn.self l.sender-items l.sender-index l.count

@@ -1,0 +1,7 @@
+-- What contracts over a game or a host cite.
+pub use Rattle.roll_frame.specs.Words
+pub use Rattle.roll_frame.specs.declared.row.Cell
+pub use Rattle.roll_game.specs.Counts
+pub use Rattle.roll_host.specs.Hosted
+pub use Rattle.roll_pool.specs.Crews
+pub use Rattle.roll_game.specs.declared.counts.Counts as GameCounts

@@ -1,0 +1,44 @@
+//! Rollback sessions for lockstep games between peers, with the interface of the GGPO SDK, and workers that run ahead on guesses.
+//!
+//! This is all that a game needs of the library, under one name. A game brings its rules, and sockets, clock, controllers and
+//! picture. It gets the state to show at each frame, and for each rollback a claim that another program can check.
+//!
+//! - **A game** says what its states are and what a row of inputs makes of them: [`game::RawGame`] and [`game::Game`]; with
+//!   [`game::Shown`] its states have a text. [`SyncTest`] finds out whether it comes out the same each time.
+//! - **A session** plays it on one thread: [`Settings`] and [`Session`]. A call that is not taken answers a [`Refusal`].
+//! - **Beside other threads**: [`Host`] has a session, [`Link`]s that bring remote words from the network's thread, and the
+//!   workers of a [`Crew`], which run guesses ahead.
+//! - **Spectators** get the settled rows from a [`Feed`], and run them on any thread: [`Spectator`].
+//! - **Claims** of rollbacks are checked, written and read by [`claims`].
+//!
+//! A peer's main loop, in each turn:
+//!
+//! 1. For each packet that has come: [`Session::remote_input`] for each of its words, [`Advice::note`] for its lead, and then
+//!    one [`Session::synchronize_input`], which rolls back if a prediction was wrong.
+//! 2. [`Session::add_local_input`] with the word of the buttons. If it answers [`Refusal::PredictionThreshold`], the peer is too
+//!    far ahead, and waits.
+//! 3. [`Session::advance_frame`], and then [`Session::current`] is the state to show.
+//! 4. A packet for the other peer, with the words that it doesn't have yet.
+//!
+//! The program `example_two_peers` is this loop, and `example_on_threads` the one with a host; both use this crate alone.
+#![tactic(auto)]
+
+pub use roll_branch::{Branch, Done, Job, extend};
+pub use roll_cert as claims;
+pub use roll_frame::{
+    Advice, Cell, Claim, Entry, Event, FRAME_LIMIT, LOG_LIMIT, PLAYER_LIMIT, Path, Profile,
+    Refusal, Reply, Row, Settings, SettingsFault,
+};
+pub use roll_game as game;
+pub use roll_host::{Absorbed, Host, HostReply, HostRequest, LINK_LIMIT, Pumped, TURN_LIMIT};
+pub use roll_link::{Finished, LINK_ROOM, Link, LinkSender, Remote, SendFault};
+pub use roll_pool::{
+    Crew, Gate, IssueFault, JOBS_OUT, OpenGate, Outcome, Owner, WORKER_LIMIT, WorkerEnd, start_all,
+};
+pub use roll_session::{
+    Call, Grafted, Heard, Log, Logged, Parts, Plan, Reached, ReplayFault, Request, Session, Source,
+    StartFault,
+};
+pub use roll_spectate::{Feed, RING_ROWS, RowReceiver, SPECTATOR_LIMIT, Spectator, SpectatorFault};
+pub use roll_synctest::{SyncTest, Verdict};
+pub use roll_text as text;

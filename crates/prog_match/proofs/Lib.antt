@@ -1,0 +1,14 @@
+pub mod Wrongs
+pub mod Passing
+pub mod Greatest
+pub mod Syncing
+pub mod Summed
+pub mod Agreeing
+pub mod Telling
+pub mod Going
+pub mod FirstWords
+pub mod Knowing
+pub mod Finishing
+pub mod Starting
+pub mod Stepping
+pub mod Reporting

@@ -1,0 +1,8 @@
+use Rattle.std.proofs.Common.{◌<◌, ℕ}
+use Rattle.prog_match.specs.Agreement.{IsSameRow}
+use Rattle.prog_match.proofs.agreement.agreed.Given as goal
+
+abbrev pub invariant-loop-frame : goal.invariant-loop-frame
+invariant-loop-frame g l = record {
+  same : (t : ℕ) → t < l.frame → IsSameRow l.first l.second t;
+}

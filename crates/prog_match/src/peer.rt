@@ -1,0 +1,101 @@
+//! One side of a match, with its way to the other.
+ghost use Rattle.std.specs.Prelude.{◌≡◌, ◌+◌, IfOk, OnOk, if◌then◌else◌, is_some, unwrap_or, vec_len};
+ghost use Rattle.prog_match.specs.Hearing.{heard_by};
+ghost use Rattle.prog_match.specs.Known.{known_of};
+ghost use Rattle.prog_match.specs.Sides.{SideGoesOn};
+ghost use Rattle.prog_match.specs.Totals.{is_played, wrongs_in};
+
+use crate::options::MatchOptions;
+use crate::side::{Side, check_claim};
+use crate::totals::is_played;
+use crate::turn::Turn;
+use crate::way::Way;
+use roll_frame::Refusal;
+use roll_game::Game;
+use std::alloc::Global;
+
+/// A side, its way to the other, and what it did.
+#[derive(Drop)]
+pub struct Peer<G: Game> {
+    pub side: Side<G>,
+    pub way: Way,
+    /// One for each simulated frame so far.
+    pub turns: Vec<Turn>,
+}
+
+impl<G: Game> Peer<G> {
+    /// A simulated frame: takes the words that have come, gives its own and goes on, and guesses.
+    pub fn turn(
+        &mut self,
+        alloc: Global,
+        options: &MatchOptions,
+        words: &[u32],
+        there: u32,
+    ) -> Result<(), Refusal>
+        ensures turns { OnOk result (vec_len self.new.turns ≡ vec_len self.old.turns + 1) }
+        ensures right { OnOk result
+            (wrongs_in self.new.turns.items ≡ wrongs_in self.old.turns.items) }
+        ensures on { OnOk result (SideGoesOn self.old.side words.now self.new.side) }
+        ensures same { let side = self.new.side in
+            side ≡ record self.old.side { session = side.session; helper = side.helper } }
+    {
+        let turn = take_turn(&mut self.side, alloc, options, words, there)?;
+        self.turns.push(turn)?;
+        Ok(())
+    }
+
+    /// Sends the packet of a simulated frame.
+    pub fn send(&mut self, options: &MatchOptions) -> Result<(), Refusal>
+        ensures turns { self.new.turns ≡ self.old.turns }
+        ensures side { self.new.side ≡ self.old.side }
+    {
+        let words = self.side.given();
+        self.way.send(options, words)?;
+        Ok(())
+    }
+}
+
+/// What a side does in a simulated frame.
+fn take_turn<G: Game>(
+    side: &mut Side<G>,
+    alloc: Global,
+    options: &MatchOptions,
+    words: &[u32],
+    there: u32,
+) -> Result<Turn, Refusal>
+    ensures frame { IfOk result (λ turn. turn.frame ≡ side.old.session.core.frame) }
+    ensures known { IfOk result
+        (λ turn. turn.known ≡ known_of side.old.session.core side.old.other) }
+    ensures rerun { IfOk result
+        (λ turn. turn.rerun ≡ unwrap_or
+        (heard_by G.step side.old.session side.old.other words.now there) 0) }
+    ensures claims { IfOk result
+        (λ turn. turn.claims ≡ (if is_some
+        (heard_by G.step side.old.session side.old.other words.now there) then 1 else 0) +
+        (if is_played turn.went then 1 else 0)) }
+    ensures right { IfOk result (λ turn. turn.wrong ≡ 0) }
+    ensures on { OnOk result (SideGoesOn side.old words.now side.new) }
+    ensures same { side.new
+        ≡ record side.old { session = side.new.session; helper = side.new.helper } }
+{
+    let frame = side.session.frame();
+    let known = side.known();
+    let synced = side.hear(words, there)?;
+    let heard = side.known();
+    let first = check_claim(alloc, &side.session, synced.is_some())?;
+    let went = side.play()?;
+    let second = check_claim(alloc, &side.session, is_played(went))?;
+    let guessed = side.guess(alloc, options, words)?;
+    Ok(Turn {
+        frame,
+        known,
+        heard,
+        rerun: synced.unwrap_or(0),
+        went,
+        guesses: guessed.guesses,
+        added: guessed.added,
+        dropped: guessed.dropped,
+        claims: first.checked + second.checked,
+        wrong: first.wrong + second.wrong,
+    })
+}

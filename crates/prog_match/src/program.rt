@@ -1,0 +1,190 @@
+//! A match from its options to what is written of it.
+ghost use Rattle.std.specs.Prelude.{◌≡◌, ◌⊎◌, ◌<◌, ◌≤◌, ◌^◌, ◌++◌, ◌↔◌, IfErr, IfOk, IfSome, IsTrue, MatchOption, OnOk, false, vec_len};
+ghost use Rattle.std.specs.String.{string_bytes};
+ghost use Rattle.prog_match.specs.Agreement.{Agree, AgreeTo, AreDelivered};
+ghost use Rattle.prog_match.specs.Endings.{refused_line, TellsRefusal, WritesRefusal};
+ghost use Rattle.prog_match.specs.Options.{IsPlayable};
+ghost use Rattle.prog_match.specs.Totals.{totals_of};
+ghost use Rattle.roll_duel.specs.Duels.{field_in};
+ghost use Rattle.roll_duel.specs.Frame.{opening_of};
+ghost use Rattle.prog_parts.specs.declared.fault.PlayFault.TheVariants.{Write as CannotWrite};
+
+use crate::agreement::{agreed, agrees};
+use crate::options::MatchOptions;
+use crate::playing::{Engines, Match};
+use crate::side::Side;
+use crate::table::{Report, push_report};
+use crate::totals::sum_up;
+use prog_parts::{Ending, GameName, PlayFault};
+use roll_duel::Duel;
+use roll_frame::Refusal;
+use roll_game::{Shown, Tally};
+use roll_text::write_all;
+use std::alloc::{AllocError, Global};
+use std::fmt::Write as _;
+use std::io::Write;
+
+/// Plays a match, and writes its table and its line. Settings that no session starts with are answered `refused 11` alone. So
+/// the status is 1 only if the match was refused: one that was played is well.
+pub fn run<W: Write>(alloc: Global, options: &MatchOptions, writer: &mut W) -> Ending
+    ensures status { MatchOption result.fault (result.status ≤ 1) (λ fault. result.status ≡ 2) }
+    ensures played { result.status ≡ 0 → IsPlayable options.now }
+    ensures refused { result.status ≡ 1
+        → WritesRefusal (W.contents writer.old) (W.contents writer.new) }
+    ensures untouched { IfSome result.fault
+        (λ fault. (fault ≡ CannotWrite) ⊎ (writer.new ≡ writer.old)) }
+{
+    match perform(alloc, options, writer) {
+        Ok(true) => Ending {
+            status: 0,
+            fault: None,
+        },
+        Ok(false) => Ending {
+            status: 1,
+            fault: None,
+        },
+        Err(fault) => Ending::from(fault),
+    }
+}
+
+/// Plays a match and writes what came of it, and answers whether all is well.
+fn perform<W: Write>(
+    alloc: Global,
+    options: &MatchOptions,
+    writer: &mut W,
+) -> Result<bool, PlayFault>
+    ensures played { IfOk result (λ well. IsTrue well → IsPlayable options.now) }
+    ensures refused { IfOk result (λ well. well ≡ false
+        → WritesRefusal (W.contents writer.old) (W.contents writer.new)) }
+    ensures untouched { IfErr result (λ fault. (fault ≡ CannotWrite) ⊎ (writer.new ≡ writer.old)) }
+{
+    let mut out = String::new(alloc);
+    let well = tell(alloc, options, &mut out)?;
+    write_all(writer, out.as_bytes())?;
+    Ok(well)
+}
+
+/// Plays a match and tells what came of it, and answers whether all is well: unless it was refused.
+fn tell(alloc: Global, options: &MatchOptions, out: &mut String) -> Result<bool, PlayFault>
+    ensures played { IfOk result (λ well. IsTrue well → IsPlayable options.now) }
+    ensures refused { IfOk result (λ well. well ≡ false
+        → TellsRefusal (string_bytes out.old) (string_bytes out.new)) }
+{
+    match play(alloc, options) {
+        Ok(report) => {
+            push_report(out, options, &report)?;
+            Ok(report.is_well())
+        }
+        Err(Refusal::NoMemory) => Err(PlayFault::NoMemory),
+        Err(why) => {
+            push_refused(out, why)?;
+            Ok(false)
+        }
+    }
+}
+
+fn push_refused(out: &mut String, why: Refusal) -> Result<(), AllocError>
+    ensures { OnOk result (string_bytes out.new ≡ string_bytes out.old ++ refused_line why) }
+{
+    let code = why.code().unsigned_abs();
+    writeln!(out, "refused {code}")
+}
+
+/// Plays a match, and answers how it came out: both sides agree, and no claim is wrong.
+///
+/// # Errors
+///
+/// `InvalidRequest` for settings that no session starts with, `NoMemory`, or what refused a session's call.
+pub fn play(alloc: Global, options: &MatchOptions) -> Result<Report, Refusal>
+    ensures playable { OnOk result (IsPlayable options.now) }
+    ensures agrees { IfOk result (λ report. IsTrue report.agrees) }
+    ensures right { IfOk result (λ report. (report.first.wrong ≡ 0) × (report.second.wrong ≡ 0)) }
+{
+    match options.game {
+        GameName::Tally => play_out(alloc, options, tally(), tally()),
+        GameName::Duel => play_out(alloc, options, duel(alloc)?, duel(alloc)?),
+    }
+}
+
+fn tally() -> Engines<Tally>
+    ensures { result.opening ≡ 0 }
+{
+    Engines {
+        game: Tally::new(),
+        opening: Tally::opening(),
+        helper: Tally::new(),
+    }
+}
+
+fn duel(alloc: Global) -> Result<Engines<Duel>, Refusal>
+    ensures { IfOk result (λ engines. field_in engines.opening ≡ opening_of 2) }
+{
+    let game = Duel::new(alloc, 2)?;
+    let opening = game.opening()?;
+    Ok(Engines {
+        game,
+        opening,
+        helper: Duel::new(alloc, 2)?,
+    })
+}
+
+/// Plays a match with these engines.
+fn play_out<G: Shown + Drop>(
+    alloc: Global,
+    options: &MatchOptions,
+    first: Engines<G>,
+    second: Engines<G>,
+) -> Result<Report, Refusal>
+    ensures playable { OnOk result (IsPlayable options.now) }
+    ensures right { IfOk result (λ report. (report.first.wrong ≡ 0) × (report.second.wrong ≡ 0)) }
+    ensures agrees { G.snapshot_value first.opening ≡ G.snapshot_value second.opening
+        → IfOk result (λ report. IsTrue report.agrees) }
+{
+    let mut both = Match::new(alloc, options, first, second)?;
+    both.play(alloc, options)?;
+    report(alloc, &mut both)
+}
+
+/// How a match came out.
+fn report<G: Shown>(alloc: Global, both: &mut Match<G>) -> Result<Report, Refusal>
+    requires first { vec_len both.old.first.turns < 2 ^ 32 }
+    requires second { vec_len both.old.second.turns < 2 ^ 32 }
+    ensures first { IfOk result
+        (λ report. report.first
+        ≡ totals_of both.old.second.side.words.items both.old.first.turns.items) }
+    ensures second { IfOk result
+        (λ report. report.second
+        ≡ totals_of both.old.first.side.words.items both.old.second.turns.items) }
+    ensures agreed { IfOk result
+        (λ report. AgreeTo both.old.first.side.session both.old.second.side.session report.agreed) }
+    ensures agrees { IfOk result
+        (λ report. IsTrue report.agrees
+        ↔ Agree G.step both.old.first.side.session both.old.second.side.session) }
+    ensures delivered { IfOk result
+        (λ report. AreDelivered both.old.first.side.session both.old.second.side.session
+        → IsTrue report.agrees) }
+{
+    let first = sum_up(&both.second.side.words, &both.first.turns);
+    let second = sum_up(&both.first.side.words, &both.second.turns);
+    let agreed = agreed(&both.first.side.session, &both.second.side.session);
+    let agrees = agrees(&both.first.side.session, &both.second.side.session, agreed);
+    let state = settled_text(alloc, &mut both.first.side)?;
+    Ok(Report {
+        first,
+        second,
+        agreed,
+        agrees,
+        state,
+    })
+}
+
+/// The text of a side's settled state.
+fn settled_text<G: Shown>(alloc: Global, side: &mut Side<G>) -> Result<String, Refusal> {
+    let state = side.helper.load(side.session.settled_state())?;
+    let mut bytes = Vec::new(alloc);
+    side.helper.text(&state, &mut bytes)?;
+    match String::from_utf8(bytes) {
+        Ok(text) => Ok(text),
+        Err(_) => Err(Refusal::NoMemory),
+    }
+}
