@@ -151,3 +151,13 @@ the first frame can be played.
   $ kept hosted > a; kept grafted > b; diff a b; tail -n 2 grafted
   ok
   frame 1 from 0 rerun 1 settled 0 state 0
+
+A host that is closed has closed its workers' pool: no worker takes the job, which one of them takes if it isn't closed.
+
+  $ told() { printf "workers 2\nissue 0 . 4 1,3\nhost\n${1}work 0\nwork 1\n" | two | tail -n 2; }
+  $ told 'close\n'
+  closed
+  closed
+  $ told ''
+  did 0
+  empty
