@@ -18,8 +18,10 @@ impl Way {
     /// Sends the packet of a simulated frame, whose sender has given so many words.
     pub fn send(&mut self, options: &MatchOptions, words: u32) -> Result<(), AllocFailed<Packet>>
         ensures sent { OnOk result
-            (self.new.line ≡ self.old.line
-            ++ record { words = words; late = lateness self.old.draws options.now.late options.now.lost } ∷ []) }
+            (self.new.line ≡ self.old.line ++ record {
+              words = words;
+              late = lateness self.old.draws options.now.late options.now.lost;
+            } ∷ []) }
         ensures drawn { self.new.draws ≡ after_draw (after_draw self.old.draws) }
     {
         let late = self.draws.lateness(options.late, options.lost);

@@ -1,24 +1,18 @@
 -- What a roll's line is, by what a session shows.
-use Rattle.std.proofs.lemmas.List.{length-set}
-use Rattle.std.proofs.Common.{◌≡◌, ℕ, ◌≤◌, ◌+◌, ◌-◌, ◌++◌, length, length-append, List, [], ◌∷◌, true, false, arith, append_assoc, codes, refl, sym, ap, ◌∙◌, Option, Some, None}
-use Rattle.std.specs.Prelude.{IfSome, is_none, Result, Ok, Err}
+use Rattle.std.proofs.Common.{◌≡◌, ℕ, ◌-◌, ◌++◌, List, [], true, false, append_assoc, codes, refl, sym, ap, ◌∙◌, Option, Some, None}
+use Rattle.std.specs.Prelude.{IfSome, is_none}
 use Rattle.std.proofs.lemmas.Bool.{false≢true}
 use Rattle.std.specs.Fmt.{decimal}
 use Rattle.std.specs.Option.{option_map_or}
-use Rattle.roll_branch.specs.Routed.{Routed}
 use Rattle.roll_frame.specs.Cells.{Rows}
 use Rattle.roll_frame.specs.Core.{Core, Roll, end_of, settled}
 use Rattle.roll_frame.specs.Games.{Game}
 use Rattle.roll_frame.specs.Paths.{run}
-use Rattle.roll_frame.specs.declared.refusal.Refusal.{Refusal}
 use Rattle.roll_frame.specs.declared.row.Cell.{Cell}
 use Rattle.roll_session.specs.Held.{Shows}
 use Rattle.roll_plan.specs.declared.plan.Plan.{Plan}
 use Rattle.roll_session.specs.Planned.{IsPlanOfRoll}
-use Rattle.roll_frame.specs.declared.settings.Settings.{Settings}
-use Rattle.prog_scripts.specs.declared.command.Command.{Command}
-use Rattle.prog_scripts.specs.declared.command.Command.TheVariants.{Local as Gives, Remote as Tells, Disconnect as Leaves, Sync as Syncs, Advance as Advances, Guess, Extend, Claim}
-use Rattle.prog_replies.specs.Output.{Playing, Texts, after_command, frame_line, guessed, with_job}
+use Rattle.prog_replies.specs.Output.{Texts, frame_line}
 
 no_roll : (last : Option Roll) → true ≡ is_none last → last ≡ None
 no_roll None e = refl

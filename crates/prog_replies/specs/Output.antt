@@ -25,7 +25,7 @@ use Rattle.roll_frame.specs.declared.settings.Settings.{Settings}
 use Rattle.roll_game.specs.Tally.{tally_step}
 use Rattle.roll_session.specs.Calls.{grafting}
 use Rattle.roll_session.specs.Guessing.{guess_job}
-use Rattle.roll_session.specs.Seen.{plain}
+use Rattle.roll_session.specs.Seen.{Step, plain}
 use Rattle.roll_text.specs.Lines.{ended, text_of}
 use Rattle.prog_scripts.specs.declared.command.Command.{Command}
 use Rattle.prog_scripts.specs.declared.command.Command.TheVariants.{Local as Gives, Remote as Tells, Disconnect as Leaves, Sync as Syncs, Advance as Advances, Guess, Extend, Claim}
@@ -39,6 +39,10 @@ Texts = Value → List ℕ
 
 abbrev pub refused_line : Refusal → List ℕ
 refused_line why = codes "refused " ++ decimal (code_of why)
+
+-- a refusal is all that is written, and counts as one
+abbrev pub IsRefusedAlone : Refusal → List ℕ → ℕ → Type 0
+IsRefusedAlone why written refused = (written ≡ ended (refused_line why)) × (refused ≡ 1)
 
 -- after a roll: the frame, the roll's numbers, the settled frame, and the state shown
 unfoldable pub frame_line : Texts → Game → Core → List ℕ
@@ -160,6 +164,10 @@ output texts game play = output_under texts (settings_of play.setup) game play.c
 
 abbrev pub refusals : Game → Play → ℕ
 refusals game play = refusals_under (settings_of play.setup) game play.commands
+
+-- the game that opens with this value and goes on by this step
+abbrev pub game_from : Value → Step → Game
+game_from opening next = record { opening = opening; step = next }
 
 abbrev pub tally_game : Game
 tally_game = record { opening = 0 ∷ []; step = tally_step }

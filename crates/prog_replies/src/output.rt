@@ -1,12 +1,11 @@
 //! What is written of a session.
-ghost use Rattle.std.specs.Prelude.{◌≡◌, ◌≢◌, ◌⊎◌, ◌++◌, Err, IfErr, IfOk, OnOk, codes, is_none};
-ghost use Rattle.std.specs.Io.KnownBytes.{Appends};
-ghost use Rattle.roll_text.specs.Streams.{AppendsPart};
+ghost use Rattle.std.specs.Prelude.{◌≡◌, ◌≢◌, ◌⊎◌, ◌++◌, IfErr, IfOk, OnOk, codes, is_none};
 ghost use Rattle.prog_parts.specs.declared.fault.PlayFault.TheVariants.{NoMemory, Write as CannotWrite};
 ghost use Rattle.std.specs.Fmt.{decimal};
 ghost use Rattle.roll_session.specs.Seen.{game_of};
 ghost use Rattle.roll_text.specs.Lines.{ended};
-ghost use Rattle.prog_replies.specs.Output.{claim_text, frame_line, refused_line, reply_line};
+ghost use Rattle.prog_scripts.specs.Engines.{Outputs};
+ghost use Rattle.prog_replies.specs.Output.{IsRefusedAlone, claim_text, frame_line, refused_line, reply_line};
 
 use prog_parts::PlayFault;
 use roll_frame::{Refusal, Reply};
@@ -17,6 +16,10 @@ use std::alloc::{AllocError, Global};
 use std::io::Write;
 
 /// Writes the claim of the last roll, or the refusal if there is none, and answers whether it was refused.
+///
+/// # Errors
+///
+/// `NoMemory` if the allocator has no room. A part of the refusal may stand written, and nothing of a claim.
 #[inline(never)]
 pub fn push_claim<G: Shown>(
     alloc: Global,
@@ -43,6 +46,10 @@ pub fn push_claim<G: Shown>(
 }
 
 /// Writes the line of a reply.
+///
+/// # Errors
+///
+/// `NoMemory` if the allocator has no room, or if the game refuses the text of its state. A part of the line may stand written.
 #[inline(always)]
 pub fn push_reply<G: Shown>(
     out: &mut Vec<u8>,
@@ -68,6 +75,10 @@ pub fn push_reply<G: Shown>(
 }
 
 /// Writes the line of a guess that gave a job, with the job's number and how many rows it has.
+///
+/// # Errors
+///
+/// `AllocError` if the allocator has no room. A part of the line may stand written.
 pub fn push_job(out: &mut Vec<u8>, number: u32, rows: u32) -> Result<(), AllocError>
     ensures { OnOk result (out.new.items ≡ out.old.items
         ++ ended (codes "job " ++ (decimal number ++ (codes " rows " ++ decimal rows)))) }
@@ -101,6 +112,10 @@ fn push_frame<G: Shown>(out: &mut Vec<u8>, session: &Session<G>) -> Result<(), P
 }
 
 /// Writes a refusal, without the line's end.
+///
+/// # Errors
+///
+/// `AllocError` if the allocator has no room. A part of it may stand written.
 #[inline(never)]
 pub fn push_refused(out: &mut Vec<u8>, why: Refusal) -> Result<(), AllocError>
     ensures { OnOk result (out.new.items ≡ out.old.items ++ refused_line why) }
@@ -111,6 +126,10 @@ pub fn push_refused(out: &mut Vec<u8>, why: Refusal) -> Result<(), AllocError>
 }
 
 /// Writes a number behind its name.
+///
+/// # Errors
+///
+/// `AllocError` if the allocator has no room. A part of it may stand written.
 #[inline(always)]
 pub fn push_named(out: &mut Vec<u8>, name: &[u8], n: u32) -> Result<(), AllocError>
     ensures { OnOk result (out.new.items ≡ out.old.items ++ (name.now ++ decimal n)) }
@@ -121,16 +140,18 @@ pub fn push_named(out: &mut Vec<u8>, name: &[u8], n: u32) -> Result<(), AllocErr
 }
 
 /// Writes why there is no game to play.
+///
+/// # Errors
+///
+/// `NoMemory` if the allocator has no room, or if that is the refusal: nothing is written. `Write` if the writer fails: it has a
+/// part of the line, and not all of it.
 pub fn write_not_started<W: Write>(
     alloc: Global,
     writer: &mut W,
     why: Refusal,
 ) -> Result<u32, PlayFault>
-    ensures written { OnOk result
-        (Appends (W.contents writer.old) (W.contents writer.new) (ended (refused_line why))) }
-    ensures refused { IfOk result (λ refused. refused ≡ 1) }
-    ensures cut { result ≡ Err CannotWrite
-        → AppendsPart (W.contents writer.old) (W.contents writer.new) (ended (refused_line why)) }
+    ensures outputs { Outputs (IsRefusedAlone why)
+        (W.contents writer.old) (W.contents writer.new) result }
     ensures fault { IfErr result
         (λ fault. (fault ≡ CannotWrite) ⊎ ((fault ≡ NoMemory) × (writer.new ≡ writer.old))) }
 {
@@ -141,6 +162,10 @@ pub fn write_not_started<W: Write>(
 }
 
 /// Writes why a session didn't start, unless memory was refused: the only reply, and a refusal.
+///
+/// # Errors
+///
+/// `NoMemory` if the allocator has no room, or if that is the refusal. A part of the line may stand written.
 pub fn push_not_started(out: &mut Vec<u8>, why: Refusal) -> Result<u32, PlayFault>
     ensures written { OnOk result (out.new.items ≡ out.old.items ++ ended (refused_line why)) }
     ensures refused { IfOk result (λ refused. (refused ≡ 1) × (why ≢ Refusal.NoMemory)) }

@@ -4,6 +4,7 @@ pub mod Unplayed
 pub mod Outlined
 pub mod Few
 pub mod RowsRead
+pub mod Engines
 mod Diagnosed
 mod LinesOf
 mod Rising

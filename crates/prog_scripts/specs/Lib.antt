@@ -3,5 +3,6 @@ pub mod Headers
 pub mod Plays
 pub mod RowsFiles
 pub mod Faults
+pub mod Engines
 pub mod Diagnoses
 pub mod DiagnosisTexts

@@ -54,6 +54,10 @@ pub enum Command {
 
 impl Command {
     /// The command that a line spells, given without its end.
+    ///
+    /// # Errors
+    ///
+    /// `AllocError` if the allocator has no room.
     pub fn read(alloc: Global, line: &[u8]) -> Result<Option<Command>, AllocError>
         ensures { IfOk result (λ command. Reads IsCommand line_of line.now command) }
     {
@@ -78,6 +82,10 @@ impl Command {
 }
 
 /// The command in the first line of a text, and what follows that line. None if no command's line comes first.
+///
+/// # Errors
+///
+/// `AllocError` if the allocator has no room.
 #[inline(always)]
 pub fn first_command(alloc: Global, text: &[u8]) -> Result<Option<(Command, &[u8])>, AllocError>
     ensures { IfOk result (λ found. CutsCommand text.now

@@ -39,6 +39,10 @@ pub struct Header {
 
 impl Header {
     /// The header that a line spells, given without its end.
+    ///
+    /// # Errors
+    ///
+    /// `AllocError` if the allocator has no room.
     pub fn read(alloc: Global, line: &[u8]) -> Result<Option<Header>, AllocError>
         ensures { IfOk result (λ header. Reads IsSetup header_of line.now
             (option_map setup_of header)) }

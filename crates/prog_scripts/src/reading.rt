@@ -27,7 +27,12 @@ impl From<ScriptFault> for PlayFault {
     }
 }
 
-/// The script that a reader holds.
+/// The script that a reader holds. At most 1,048,577 bytes are read.
+///
+/// # Errors
+///
+/// `Unreadable` with the first line that no script with the same earlier lines has, or with 0 if the text is too long; `Read` if
+/// the reader fails; `NoMemory` if the allocator has no room. What was read by then is gone from the reader.
 pub fn read_script<R: Read>(alloc: Global, reader: &mut R) -> Result<Script, PlayFault>
     ensures fits { IfOk result (λ script. IsPlay (play_of script)) }
     ensures few { IfOk result (λ script. length script.commands.items < 2 ^ 32) }

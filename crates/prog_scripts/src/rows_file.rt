@@ -20,6 +20,11 @@ pub struct RowsFile {
 
 impl RowsFile {
     /// The file that a text spells.
+    ///
+    /// # Errors
+    ///
+    /// `Unreadable` with the first line that no such file with the same earlier lines has; `NoMemory` if the allocator has no
+    /// room.
     pub fn read(alloc: Global, text: &[u8]) -> Result<RowsFile, ScriptFault>
         ensures fits { IfOk result (λ file. IsRowsFile (file_of file)) }
         ensures spelled { IfOk result (λ file. text.now ≡ text_of (file_lines (file_of file))) }

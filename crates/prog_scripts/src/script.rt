@@ -51,6 +51,10 @@ impl<T: Drop> From<AllocFailed<T>> for ScriptFault {
 
 impl Script {
     /// The script that a text spells.
+    ///
+    /// # Errors
+    ///
+    /// `Unreadable` with the first line that no script with the same earlier lines has; `NoMemory` if the allocator has no room.
     pub fn read(alloc: Global, text: &[u8]) -> Result<Script, ScriptFault>
         ensures fits { IfOk result (λ script. IsPlay (play_of script)) }
         ensures spelled { IfOk result (λ script. text.now ≡ text_of (play_lines (play_of script))) }
@@ -73,6 +77,10 @@ impl Script {
 }
 
 /// Sees that a text is a script's. Of the script it keeps the header alone, and where the commands' lines begin.
+///
+/// # Errors
+///
+/// As for [`Script::read`].
 pub fn outline(alloc: Global, text: &[u8]) -> Result<(Header, &[u8]), ScriptFault>
     requires { length text.now ≤ TEXT_LIMIT }
     ensures outlined { IfOk result (λ found. IsOutlined (setup_of found.0) found.1.now text.now) }

@@ -1,5 +1,5 @@
 -- What becomes of a guess of a script, by what its session answers.
-use Rattle.std.proofs.Common.{◌≡◌, ℕ, List, refl, sym, ap, ◌∙◌, subst, length, Option, Some, None}
+use Rattle.std.proofs.Common.{◌≡◌, ℕ, List, refl, sym, ap, ◌∙◌, subst, length, Option, None}
 use Rattle.std.specs.Prelude.{◌≢◌, unwrap_or, is_err, Result, Ok, Err}
 use Rattle.roll_branch.specs.Routed.{Routed}
 use Rattle.roll_frame.specs.declared.refusal.Refusal.{Refusal}

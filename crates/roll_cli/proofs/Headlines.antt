@@ -108,11 +108,15 @@ headlined : (texts : Texts) (game : Game) (play : Play) → IsHeadlined texts ga
 headlined texts game play counts starts = scripts_have_headlines texts (settings_of play.setup) game counts play.commands starts
 
 -- so whatever a script writes, it has the headline
-pub also_headlined : (texts : Texts) (game : Game) (appends : List ℕ → Type 0) (text : Option (List ℕ)) (refused : ℕ) → IfSome text (λ t. (written : List ℕ) × IsOutput (output texts game) (refusals game) t written refused × appends written)
-    → IfSome text (λ t. (written : List ℕ) × IsHeadlinedOutput texts game t written refused × appends written)
-also_headlined texts game appends None refused h = tt
-also_headlined texts game appends (Some text) refused h = (h.0, record { is_output = h.1; headline = headlined texts game h.1.play }, h.2)
+pub output_headlined : (texts : Texts) (game : Game) (text written : List ℕ) (refused : ℕ)
+    → IsOutput (output texts game) (refusals game) text written refused
+    → IsHeadlinedOutput texts game text written refused
+output_headlined texts game text written refused is =
+    record { is_output = is; headline = headlined texts game is.play }
 
-pub duel_also_headlined : (appends : List ℕ → Type 0) (text : Option (List ℕ)) (refused : ℕ) → IfSome text (λ t. (written : List ℕ) × IsOutput duel_output duel_refusals t written refused × appends written) → IfSome text (λ t. (written : List ℕ) × IsHeadlinedDuel t written refused × appends written)
-duel_also_headlined appends None refused h = tt
-duel_also_headlined appends (Some text) refused h = (h.0, record { is_output = h.1; headline = λ ships. headlined duel_text (duel_game h.1.play.setup.players) h.1.play }, h.2)
+pub duel_headlined : (text written : List ℕ) (refused : ℕ)
+    → IsOutput duel_output duel_refusals text written refused → IsHeadlinedDuel text written refused
+duel_headlined text written refused is = record {
+  is_output = is;
+  headline = λ ships. headlined duel_text (duel_game is.play.setup.players) is.play;
+}

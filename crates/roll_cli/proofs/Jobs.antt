@@ -1,5 +1,5 @@
 -- How many jobs commands give.
-use Rattle.std.proofs.Common.{ℕ, ◌≤◌, ◌+◌, length, length-append, List, [], ◌∷◌, arith, Option, Some, None}
+use Rattle.std.proofs.Common.{◌≤◌, ◌+◌, length, length-append, List, [], ◌∷◌, arith, Option, Some, None}
 use Rattle.std.specs.Prelude.{Result, Ok, Err}
 use Rattle.std.proofs.lemmas.List.{length-set}
 use Rattle.roll_branch.specs.Routed.{Routed}

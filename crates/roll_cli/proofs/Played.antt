@@ -1,7 +1,6 @@
 -- What a session that starts writes.
-use Rattle.std.proofs.Common.{◌≡◌, ℕ, ◌≤◌, ◌<◌, ◌^◌, List, [], ◌∷◌, length, length-append, refl, sym, ap, ◌∙◌, arith, None}
+use Rattle.std.proofs.Common.{◌≡◌, ℕ, ◌≤◌, ◌<◌, ◌^◌, List, [], length, length-append, refl, sym, ap, arith, None}
 use Rattle.std.specs.Prelude.{◌≢◌, unwrap_or, Result, Ok, Err, IfOk, OnOk}
-use Rattle.std.proofs.lemmas.List.{length-map}
 use Rattle.roll_frame.specs.Games.{Value, Game}
 use Rattle.roll_frame.specs.Settings.{start_refusal}
 use Rattle.roll_frame.specs.declared.refusal.Refusal.{Refusal}
@@ -10,14 +9,13 @@ use Rattle.roll_frame.specs.declared.settings.Settings.{Settings}
 use Rattle.roll_game.specs.declared.counts.Counts.{Counts}
 use Rattle.roll_session.specs.Seen.{Seen}
 use Rattle.roll_session.specs.Started.{first_seen}
-use Rattle.roll_text.specs.Lines.{ended, text_of}
+use Rattle.roll_text.specs.Lines.{ended}
 use Rattle.roll_text.specs.declared.streams.TheConstants.{TEXT_LIMIT}
 use Rattle.prog_scripts.specs.declared.command.Command.{Command}
-use Rattle.prog_scripts.specs.Commands.{line_of}
 use Rattle.prog_replies.specs.Output.{Texts, first_playing, output_under, refusals_under, refused_line, refusals_from, written_from}
 use Rattle.roll_cli.specs.Playings.{Played}
 use Rattle.prog_scripts.specs.Headers.{Setup, header_of}
-use Rattle.prog_scripts.specs.Plays.{IsOutlined, Play, play_lines}
+use Rattle.prog_scripts.specs.Plays.{IsOutlined}
 use Rattle.roll_cli.proofs.Guessed.{played_of}
 use Rattle.prog_replies.proofs.Refused.{refused_so}
 

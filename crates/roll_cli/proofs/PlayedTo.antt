@@ -1,5 +1,5 @@
 -- Commands that are read from a text one by one, and played.
-use Rattle.std.proofs.Common.{◌≡◌, ℕ, ◌+◌, ◌≤◌, ◌<◌, ◌++◌, List, [], ◌∷◌, Bool, None, refl, sym, ap, ◌∙◌, arith, append_assoc, length, length-append, map}
+use Rattle.std.proofs.Common.{◌≡◌, ℕ, ◌+◌, ◌≤◌, ◌<◌, ◌++◌, List, [], ◌∷◌, Bool, refl, sym, ap, ◌∙◌, arith, append_assoc, length, length-append, map}
 use Rattle.std.specs.Prelude.{if◌then◌else◌}
 use Rattle.std.specs.List.{AllByRecursion}
 use Rattle.std.proofs.lemmas.List.{append-nil, map-append}
@@ -8,9 +8,9 @@ use Rattle.roll_frame.specs.declared.settings.Settings.{Settings}
 use Rattle.roll_text.specs.Lines.{ended, text_of}
 use Rattle.prog_scripts.specs.declared.command.Command.{Command}
 use Rattle.prog_scripts.specs.Commands.{IsCommand, line_of}
-use Rattle.prog_scripts.specs.Headers.{Setup, IsSetup, header_of}
+use Rattle.prog_scripts.specs.Headers.{Setup, header_of}
 use Rattle.prog_replies.specs.Output.{IsOutput, IsOutputAfter, Playing, Texts, after_command, refused_by, refusals_from, written_by, written_from}
-use Rattle.prog_scripts.specs.Plays.{AreCommands, CutsCommand, IsOutlined, IsScript, Play}
+use Rattle.prog_scripts.specs.Plays.{AreCommands, IsOutlined, Play}
 use Rattle.roll_cli.proofs.Jobs.{jobs_within}
 use Rattle.roll_text.proofs.LineTexts.{text_of-next}
 use Rattle.prog_scripts.proofs.Outlined.{each_more, line_size, rest_are}

@@ -12,7 +12,9 @@ use Rattle.roll_text.specs.Lines.{ended, text_of}
 -- where the roll started, where it ended, and how many frames it ran
 abbrev pub right_line : Claim → List ℕ
 right_line claim =
-    codes "yes: from " ++ (decimal claim.from ++ (codes " to " ++ (decimal (target_of claim) ++ (codes " rerun " ++ decimal (target_of claim - claim.from)))))
+    codes "yes: from " ++ (decimal claim.from
+    ++ (codes " to " ++ (decimal (target_of claim)
+    ++ (codes " rerun " ++ decimal (target_of claim - claim.from)))))
 
 abbrev pub wrong_line : Flaw → List ℕ
 wrong_line Shape = codes "no: shape"
@@ -25,13 +27,17 @@ wrong_line (Missing state) = codes "no: missing " ++ decimal state
 -- whether a claim is right, and the line that says so: of a wrong one it names the first flaw
 abbrev pub IsAnswer : Claim → Bool → List ℕ → Type 0
 IsAnswer claim true line = IsRight claim × (line ≡ right_line claim)
-IsAnswer claim false line = (IsRight claim → ⊥) × ((flaw : Flaw) × IsFirst claim flaw × (line ≡ wrong_line flaw))
+IsAnswer claim false line =
+    (IsRight claim → ⊥) × ((flaw : Flaw) × IsFirst claim flaw × (line ≡ wrong_line flaw))
+
+-- what is written of it, that line alone, and whether it is right
+abbrev pub IsAnswered : Claim → List ℕ → Bool → Type 0
+IsAnswered claim written right =
+    (line : List ℕ) × IsAnswer claim right line × (written ≡ ended line)
 
 -- the text is a claim's, of which this is written
 pub record IsCertified (text written : List ℕ) (right : Bool) : Type 0 where
   pub claim : Claim
   pub fits : IsSized claim
   pub spelled : text ≡ text_of (claim_lines claim)
-  pub line : List ℕ
-  pub answer : IsAnswer claim right line
-  pub whole : written ≡ ended line
+  pub answered : IsAnswered claim written right

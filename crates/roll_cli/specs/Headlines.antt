@@ -3,7 +3,7 @@ use Rattle.std.specs.Prelude.{◌≡◌, List, [], ◌∷◌, ◌++◌, map, Non
 use Rattle.std.specs.Int.{is_in_range}
 use Rattle.std.specs.Option.{option_to_list}
 use Rattle.roll_frame.specs.Events.{CoreEvent}
-use Rattle.roll_frame.specs.Games.{Game, Value}
+use Rattle.roll_frame.specs.Games.{Game}
 use Rattle.roll_frame.specs.Settings.{start_refusal}
 use Rattle.roll_frame.specs.declared.settings.Settings.{Settings}
 use Rattle.roll_game.specs.declared.counts.Counts.{Counts}

@@ -25,8 +25,13 @@ IsReadable Certify text = IsClaimText text
 -- what a task writes of a text that it can read, and whether all is well: no reply is a refusal, no frame came out
 -- different, or the claim is right
 abbrev pub IsDone : Task → List ℕ → List ℕ → Bool → Type 0
-IsDone (Play Tally) text written well = (refused : ℕ) × IsOutput (output tally_text tally_game) (refusals tally_game) text written refused × (well ≡ (refused == 0))
-IsDone (Play Duel) text written well = (refused : ℕ) × IsOutput duel_output duel_refusals text written refused × (well ≡ (refused == 0))
+IsDone (Play Tally) text written well =
+    (refused : ℕ)
+    × IsOutput (output tally_text tally_game) (refusals tally_game) text written refused
+    × (well ≡ (refused == 0))
+IsDone (Play Duel) text written well =
+    (refused : ℕ) × IsOutput duel_output duel_refusals text written refused
+    × (well ≡ (refused == 0))
 IsDone (SyncTest Tally frames) text written well = IsTallySynced frames text written well
 IsDone (SyncTest Duel frames) text written well = IsDuelSynced frames text written well
 IsDone Certify text written well = IsCertified text written well
@@ -37,11 +42,16 @@ abbrev pub IsFault : Task → List ℕ → Option (List ℕ) → Option (List �
 IsFault task text old new (Unreadable line) = IsBadAt (IsReadable task) line text
 IsFault task text old new NoMemory = ⊤
 IsFault task text old new Read = ⊤
-IsFault task text old new Write = (written : List ℕ) × (well : Bool) × IsDone task text written well × AppendsPart old new written
+IsFault task text old new Write =
+    (written : List ℕ) × (well : Bool) × IsDone task text written well
+    × AppendsPart old new written
 
 -- how the program ends for a task and a text, where these bytes were written before and after
-abbrev pub EndsBy : Task → List ℕ → Option (List ℕ) → Option (List ℕ) → ℕ → Option PlayFault → Type 0
-EndsBy task text old new status None = (written : List ℕ) × (well : Bool) × IsDone task text written well × Appends old new written × (status ≡ (if well then 0 else 1))
+abbrev pub EndsBy : Task → List ℕ → Option (List ℕ) → Option (List ℕ) → ℕ → Option PlayFault
+    → Type 0
+EndsBy task text old new status None =
+    (written : List ℕ) × (well : Bool) × IsDone task text written well
+    × Appends old new written × (status ≡ (if well then 0 else 1))
 EndsBy task text old new status (Some fault) = (status ≡ 2) × IsFault task text old new fault
 
 abbrev pub Ends : Task → List ℕ → Option (List ℕ) → Option (List ℕ) → Ending → Type 0

@@ -1,14 +1,16 @@
 //! Claims that are checked, from a reader to a writer.
-ghost use Rattle.std.specs.Prelude.{◌≡◌, ◌≢◌, ◌⊎◌, ◌+◌, ◌++◌, ℕ, Bool, List, Err, IfErr, IfOk, IfSome, OnOk, string_bytes};
-ghost use Rattle.std.specs.Io.KnownBytes.{Appends};
+ghost use Rattle.std.specs.Prelude.{◌≡◌, ◌≢◌, ◌⊎◌, ◌+◌, ◌++◌, ℕ, List, Err, IfErr, IfOk, IfSome, OnOk};
+ghost use Rattle.std.specs.Prelude.{string_bytes};
 ghost use Rattle.roll_frame.specs.Claims.{IsRight};
 ghost use Rattle.roll_text.specs.Lines.{ended, text_of};
-ghost use Rattle.roll_text.specs.Streams.{AppendsPart, IsBadAt};
+ghost use Rattle.roll_text.specs.Streams.{IsBadAt};
 ghost use Rattle.roll_text.specs.declared.streams.TheConstants.{TEXT_LIMIT};
 ghost use Rattle.roll_cert.specs.Texts.{IsClaimText, IsSized, claim_lines};
-ghost use Rattle.roll_cli.specs.Certified.{IsAnswer, IsCertified, right_line, wrong_line};
+ghost use Rattle.prog_parts.specs.declared.fault.PlayFault.TheVariants.{NoMemory, Unreadable};
+ghost use Rattle.prog_parts.specs.declared.fault.PlayFault.TheVariants.{Write as CannotWrite};
+ghost use Rattle.prog_scripts.specs.Engines.{Outputs, Plays};
 ghost use Rattle.prog_scripts.specs.Faults.{TakesAtMost, fault_of_claim};
-ghost use Rattle.prog_parts.specs.declared.fault.PlayFault.TheVariants.{NoMemory, Unreadable, Write as CannotWrite};
+ghost use Rattle.roll_cli.specs.Certified.{IsAnswered, IsCertified, right_line, wrong_line};
 
 use prog_parts::PlayFault;
 use roll_cert::{Flaw, check};
@@ -18,21 +20,23 @@ use std::alloc::{AllocError, Global};
 use std::fmt::Write as _;
 use std::io::{Read, Write};
 
-/// Checks the claim whose text a reader holds, and answers whether it is right. One line is written: `yes`, if the
-/// roll started and ended and how many frames it ran, or `no` and the claim's first flaw.
+/// Checks the claim whose text a reader holds, and answers whether it is right. One line is written: `yes`, from which
+/// frame to which the roll went, and how many frames it ran, or `no` and the claim's first flaw.
 ///
 /// At most 1,048,577 bytes are read. Nothing is written unless the whole claim can be read.
+///
+/// # Errors
+///
+/// `Unreadable` with the first line that no claim with the same earlier lines has, or with 0 if the text is too long; `Read` if
+/// the reader fails; `NoMemory` if the allocator has no room. After these nothing is written. `Write` if the writer fails: it
+/// has a part of the line, and not all of it. What was read by then is gone from the reader.
 pub fn certify<R: Read, W: Write>(
     alloc: Global,
     reader: &mut R,
     writer: &mut W,
 ) -> Result<bool, PlayFault>
-    ensures written { IfOk result (λ right. IfSome (R.remaining reader.old) (λ text.
-        (written : List ℕ) × IsCertified text written right × Appends (W.contents writer.old) (W.contents writer.new) written)) }
-    ensures unreadable { (line : ℕ) → result ≡ Err (Unreadable line)
-        → IfSome (R.remaining reader.old) (IsBadAt IsClaimText line) }
-    ensures cut { result ≡ Err CannotWrite → IfSome (R.remaining reader.old) (λ text.
-        (whole : List ℕ) × (right : Bool) × IsCertified text whole right × AppendsPart (W.contents writer.old) (W.contents writer.new) whole) }
+    ensures plays { Plays (IsBadAt IsClaimText) IsCertified
+        (R.remaining reader.old) (W.contents writer.old) (W.contents writer.new) result }
     ensures untouched { IfErr result (λ fault. (fault ≡ CannotWrite) ⊎ (writer.new ≡ writer.old)) }
     ensures taken { TakesAtMost (TEXT_LIMIT + 1) (R.remaining reader.old) (R.remaining reader.new) }
 {
@@ -69,12 +73,8 @@ fn fault(why: Refusal) -> PlayFault
 
 /// Writes the answer to a claim at once.
 fn write_answer<W: Write>(alloc: Global, writer: &mut W, claim: &Claim) -> Result<bool, PlayFault>
-    ensures written { IfOk result
-        (λ right. (line : List ℕ) × IsAnswer claim.now right line
-        × Appends (W.contents writer.old) (W.contents writer.new) (ended line)) }
-    ensures cut { result ≡ Err CannotWrite → (right : Bool) × (line : List ℕ)
-        × IsAnswer claim.now right line
-        × AppendsPart (W.contents writer.old) (W.contents writer.new) (ended line) }
+    ensures outputs { Outputs (IsAnswered claim.now)
+        (W.contents writer.old) (W.contents writer.new) result }
     ensures fault { IfErr result
         (λ fault. (fault ≡ CannotWrite) ⊎ ((fault ≡ NoMemory) × (writer.new ≡ writer.old))) }
 {
@@ -86,8 +86,8 @@ fn write_answer<W: Write>(alloc: Global, writer: &mut W, claim: &Claim) -> Resul
 
 /// Writes the answer to a claim at the end.
 fn push_answer(out: &mut String, claim: &Claim) -> Result<bool, AllocError>
-    ensures { IfOk result (λ right. (line : List ℕ) × IsAnswer claim.now right line
-        × (string_bytes out.new ≡ string_bytes out.old ++ ended line)) }
+    ensures { IfOk result (λ right. (written : List ℕ) × IsAnswered claim.now written right
+        × (string_bytes out.new ≡ string_bytes out.old ++ written)) }
 {
     match check(claim) {
         Ok(()) => {

@@ -1,16 +1,16 @@
 //! Scripts that are played, from a reader to a writer.
-ghost use Rattle.std.specs.Prelude.{◌≡◌, ◌≢◌, ◌⊎◌, ◌<◌, ◌+◌, ◌^◌, ◌++◌, ℕ, List, Err, IfErr, IfOk, IfSome, OnOk, length};
-ghost use Rattle.std.specs.Io.KnownBytes.{Appends};
-ghost use Rattle.roll_text.specs.Lines.{ended, text_of as text_of_lines};
-ghost use Rattle.roll_text.specs.Streams.{AppendsPart, IsBadAt};
+ghost use Rattle.std.specs.Prelude.{◌≡◌, ◌⊎◌, ◌<◌, ◌+◌, ◌^◌, ◌++◌, List, IfErr, IfOk, length};
+ghost use Rattle.roll_text.specs.Streams.{IsBadAt};
 ghost use Rattle.roll_text.specs.declared.streams.TheConstants.{TEXT_LIMIT};
+ghost use Rattle.prog_parts.specs.declared.fault.PlayFault.TheVariants.{NoMemory, Write as CannotWrite};
+ghost use Rattle.prog_scripts.specs.Engines.{Outputs, Plays};
 ghost use Rattle.prog_scripts.specs.Faults.{TakesAtMost};
-ghost use Rattle.prog_replies.specs.Output.{IsOutput, IsOutputAfter, duel_output, duel_refusals, output, output_under, refusals, refusals_under, refused_line};
 ghost use Rattle.prog_scripts.specs.Headers.{IsSetup, setup_of};
-ghost use Rattle.roll_cli.specs.Headlines.{IsHeadlinedDuel, IsHeadlinedOutput};
-ghost use Rattle.prog_scripts.specs.Plays.{AreCommands, IsPlay, IsScript, play_lines, play_of};
+ghost use Rattle.prog_scripts.specs.Plays.{AreCommands, IsScript};
 ghost use Rattle.prog_scripts.specs.declared.command.Command.{Command};
-ghost use Rattle.prog_parts.specs.declared.fault.PlayFault.TheVariants.{NoMemory, Unreadable, Write as CannotWrite};
+ghost use Rattle.prog_replies.specs.Output.{IsOutputAfter, duel_output, duel_refusals, game_from};
+ghost use Rattle.prog_replies.specs.Output.{output, output_under, refusals, refusals_under};
+ghost use Rattle.roll_cli.specs.Headlines.{IsHeadlinedDuel, IsHeadlinedOutput};
 
 use crate::playing::Playing;
 use prog_parts::PlayFault;
@@ -29,11 +29,17 @@ use std::io::{Read, Write};
 const REPLIES: usize = 5;
 
 /// Plays a script: reads all of it, writes the reply to each command, and answers how many replies are refusals. The
-/// game starts at `opening`; `helper`, a second game of its kind, runs the jobs that guesses give. Where the helper refuses,
+/// game starts at `opening`; `helper`, a second game of its kind, runs the jobs that guesses give. If the helper refuses,
 /// the script ends as one for which there is no memory.
 ///
 /// At most 1,048,577 bytes are read. Nothing is written unless the whole script can be read, and then all in large
-/// pieces at the end. Where the session doesn't start, its refusal is all that is written, and counts as one.
+/// pieces at the end. If the session doesn't start, its refusal is all that is written, and counts as one.
+///
+/// # Errors
+///
+/// `Unreadable` with the first line that no script with the same earlier lines has, or with 0 if the text is too long; `Read` if
+/// the reader fails; `NoMemory` if the allocator has no room, or a game refuses. After these nothing is written. `Write` if the
+/// writer fails: it has a front of the output, and not all of it. What was read by then is gone from the reader.
 pub fn play<G: Shown + Drop, R: Read, W: Write>(
     alloc: Global,
     reader: &mut R,
@@ -42,14 +48,9 @@ pub fn play<G: Shown + Drop, R: Read, W: Write>(
     opening: G::Snapshot,
     helper: G,
 ) -> Result<u32, PlayFault>
-    ensures written { IfOk result (λ refused. IfSome (R.remaining reader.old) (λ text.
-        (written : List ℕ) × IsOutput (output G.text_of (record { opening = G.snapshot_value opening; step = G.step })) (refusals (record { opening = G.snapshot_value opening; step = G.step })) text written refused × Appends (W.contents writer.old) (W.contents writer.new) written)) }
-    ensures headline { IfOk result (λ refused. IfSome (R.remaining reader.old) (λ text.
-        (written : List ℕ) × IsHeadlinedOutput G.text_of (record { opening = G.snapshot_value opening; step = G.step }) text written refused × Appends (W.contents writer.old) (W.contents writer.new) written)) }
-    ensures unreadable { (line : ℕ) → result ≡ Err (Unreadable line)
-        → IfSome (R.remaining reader.old) (IsBadAt IsScript line) }
-    ensures cut { result ≡ Err CannotWrite → IfSome (R.remaining reader.old) (λ text.
-        (whole : List ℕ) × (refused : ℕ) × IsOutput (output G.text_of (record { opening = G.snapshot_value opening; step = G.step })) (refusals (record { opening = G.snapshot_value opening; step = G.step })) text whole refused × AppendsPart (W.contents writer.old) (W.contents writer.new) whole) }
+    ensures plays { Plays (IsBadAt IsScript)
+        (IsHeadlinedOutput G.text_of (game_from (G.snapshot_value opening) G.step))
+        (R.remaining reader.old) (W.contents writer.old) (W.contents writer.new) result }
     ensures untouched { IfErr result (λ fault. (fault ≡ CannotWrite) ⊎ (writer.new ≡ writer.old)) }
     ensures taken { TakesAtMost (TEXT_LIMIT + 1) (R.remaining reader.old) (R.remaining reader.new) }
 {
@@ -60,19 +61,17 @@ pub fn play<G: Shown + Drop, R: Read, W: Write>(
 
 /// Plays a script of the ship duel, as `play` does, with a ship for each player. A script with one player or more than
 /// four is answered `refused 3` alone.
+///
+/// # Errors
+///
+/// As for [`play`].
 pub fn play_duel<R: Read, W: Write>(
     alloc: Global,
     reader: &mut R,
     writer: &mut W,
 ) -> Result<u32, PlayFault>
-    ensures written { IfOk result (λ refused. IfSome (R.remaining reader.old) (λ text.
-        (written : List ℕ) × IsOutput duel_output duel_refusals text written refused × Appends (W.contents writer.old) (W.contents writer.new) written)) }
-    ensures headline { IfOk result (λ refused. IfSome (R.remaining reader.old) (λ text.
-        (written : List ℕ) × IsHeadlinedDuel text written refused × Appends (W.contents writer.old) (W.contents writer.new) written)) }
-    ensures unreadable { (line : ℕ) → result ≡ Err (Unreadable line)
-        → IfSome (R.remaining reader.old) (IsBadAt IsScript line) }
-    ensures cut { result ≡ Err CannotWrite → IfSome (R.remaining reader.old) (λ text.
-        (whole : List ℕ) × (refused : ℕ) × IsOutput duel_output duel_refusals text whole refused × AppendsPart (W.contents writer.old) (W.contents writer.new) whole) }
+    ensures plays { Plays (IsBadAt IsScript) IsHeadlinedDuel
+        (R.remaining reader.old) (W.contents writer.old) (W.contents writer.new) result }
     ensures untouched { IfErr result (λ fault. (fault ≡ CannotWrite) ⊎ (writer.new ≡ writer.old)) }
     ensures taken { TakesAtMost (TEXT_LIMIT + 1) (R.remaining reader.old) (R.remaining reader.new) }
 {
@@ -94,12 +93,10 @@ fn write_played<G: Shown + Drop, W: Write>(
     requires fits { IsSetup (setup_of header.now) }
     requires readable { (list : List Command) × AreCommands commands.now list }
     requires few { length commands.now < 2 ^ 32 }
-    ensures written { IfOk result (λ refused. (written : List ℕ)
-        × IsOutputAfter (setup_of header.now) (output G.text_of (record { opening = G.snapshot_value opening; step = G.step })) (refusals (record { opening = G.snapshot_value opening; step = G.step })) commands.now written refused
-        × Appends (W.contents writer.old) (W.contents writer.new) written) }
-    ensures cut { result ≡ Err CannotWrite → (whole : List ℕ) × (refused : ℕ)
-        × IsOutputAfter (setup_of header.now) (output G.text_of (record { opening = G.snapshot_value opening; step = G.step })) (refusals (record { opening = G.snapshot_value opening; step = G.step })) commands.now whole refused
-        × AppendsPart (W.contents writer.old) (W.contents writer.new) whole }
+    ensures outputs { Outputs (IsOutputAfter (setup_of header.now)
+        (output G.text_of (game_from (G.snapshot_value opening) G.step))
+        (refusals (game_from (G.snapshot_value opening) G.step)) commands.now)
+        (W.contents writer.old) (W.contents writer.new) result }
     ensures fault { IfErr result
         (λ fault. (fault ≡ CannotWrite) ⊎ ((fault ≡ NoMemory) × (writer.new ≡ writer.old))) }
 {
@@ -120,13 +117,9 @@ fn write_duel<W: Write>(
     requires fits { IsSetup (setup_of header.now) }
     requires readable { (list : List Command) × AreCommands commands.now list }
     requires few { length commands.now < 2 ^ 32 }
-    ensures written { IfOk result
-        (λ refused. (written : List ℕ)
-        × IsOutputAfter (setup_of header.now) duel_output duel_refusals commands.now written refused
-        × Appends (W.contents writer.old) (W.contents writer.new) written) }
-    ensures cut { result ≡ Err CannotWrite → (whole : List ℕ) × (refused : ℕ)
-        × IsOutputAfter (setup_of header.now) duel_output duel_refusals commands.now whole refused
-        × AppendsPart (W.contents writer.old) (W.contents writer.new) whole }
+    ensures outputs { Outputs
+        (IsOutputAfter (setup_of header.now) duel_output duel_refusals commands.now)
+        (W.contents writer.old) (W.contents writer.new) result }
     ensures fault { IfErr result
         (λ fault. (fault ≡ CannotWrite) ⊎ ((fault ≡ NoMemory) × (writer.new ≡ writer.old))) }
 {
@@ -152,8 +145,10 @@ fn push_output<G: Shown + Drop>(
     requires readable { (list : List Command) × AreCommands commands.now list }
     requires few { length commands.now < 2 ^ 32 }
     ensures written { IfOk result (λ refused. (list : List Command) × AreCommands commands.now list
-        × (out.new.items ≡ out.old.items ++ output_under G.text_of settings (record { opening = G.snapshot_value opening; step = G.step }) list)
-        × (refused ≡ refusals_under settings (record { opening = G.snapshot_value opening; step = G.step }) list)) }
+        × (out.new.items ≡ out.old.items ++ output_under G.text_of settings
+        (game_from (G.snapshot_value opening) G.step) list)
+        × (refused ≡ refusals_under settings
+        (game_from (G.snapshot_value opening) G.step) list)) }
     ensures fault { IfErr result (λ fault. fault ≡ NoMemory) }
 {
     match Session::start(alloc, game, opening, settings) {

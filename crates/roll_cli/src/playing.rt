@@ -3,7 +3,6 @@ ghost use Rattle.std.specs.Prelude.{◌≡◌, List, ◌<◌, ◌+◌, ◌^◌, 
 ghost use Rattle.roll_frame.specs.Events.{after, reply};
 ghost use Rattle.roll_session.specs.Calls.{asked};
 ghost use Rattle.roll_text.specs.Lines.{ended};
-ghost use Rattle.prog_replies.specs.Calls.{call_of, narrowed};
 ghost use Rattle.prog_replies.specs.Output.{after_command, event_text, guess_line, guessed, is_refused as refuses, job_at, refusals_from, refused_by, with_job, written_by, written_from};
 ghost use Rattle.roll_cli.specs.Playings.{game_of};
 ghost use Rattle.prog_scripts.specs.Plays.{AreCommands};
@@ -37,14 +36,21 @@ impl<G: Game> Model for Playing<G> {
 
     ghost Value = { Played };
 
-    ghost view = { λ p. record { settings = p.session.settings; opening = p.session.opening; now = record { core = p.session.core; jobs = p.jobs.items } } };
+    ghost view = { λ p. record {
+      settings = p.session.settings;
+      opening = p.session.opening;
+      now = record { core = p.session.core; jobs = p.jobs.items };
+    } };
 }
 
 impl<G: Shown> Playing<G> {
     /// A session of which nothing was asked for yet, and a second game of its kind, which is to run its jobs.
     pub fn new(alloc: Global, session: Session<G>, helper: G) -> Playing<G>
-        ensures { result
-            ≡ record { settings = session.settings; opening = session.opening; now = record { core = session.core; jobs = [] } } }
+        ensures { result ≡ record {
+          settings = session.settings;
+          opening = session.opening;
+          now = record { core = session.core; jobs = [] };
+        } }
     {
         Playing {
             session,
@@ -53,7 +59,7 @@ impl<G: Shown> Playing<G> {
         }
     }
 
-    /// Makes room at once for the events that so long a text of commands asks for, about. Where it is refused, room is made
+    /// Makes room at once for the events that so long a text of commands asks for, about. If it is refused, room is made
     /// as they come.
     pub fn expect(&mut self, commands: &[u8])
         ensures { self.new ≡ self.old }
@@ -64,6 +70,10 @@ impl<G: Shown> Playing<G> {
     }
 
     /// Plays the commands whose lines a text is, writes their replies at the end, and answers how many are refusals.
+    ///
+    /// # Errors
+    ///
+    /// `NoMemory` if the allocator has no room, or a game refuses. What was played and written by then stays.
     pub fn play_all(
         &mut self,
         alloc: Global,
@@ -74,8 +84,11 @@ impl<G: Shown> Playing<G> {
         requires few { length self.old.now.jobs + length commands.now < 2 ^ 32 }
         ensures played { IfOk result
             (λ refused. (list : List Command) × AreCommands commands.now list
-            × (out.new.items ≡ out.old.items ++ written_from G.text_of self.old.settings (game_of G.step self.old) self.old.now list)
-            × (refused ≡ refusals_from self.old.settings (game_of G.step self.old) self.old.now list)) }
+            × (out.new.items ≡ out.old.items
+            ++ written_from G.text_of self.old.settings
+            (game_of G.step self.old) self.old.now list)
+            × (refused ≡ refusals_from self.old.settings
+            (game_of G.step self.old) self.old.now list)) }
         ensures fault { IfErr result (λ fault. fault ≡ PlayFault.NoMemory) }
     {
         let mut rest = commands;
@@ -93,6 +106,10 @@ impl<G: Shown> Playing<G> {
     }
 
     /// Plays a command, writes its reply, and answers whether it was refused.
+    ///
+    /// # Errors
+    ///
+    /// `NoMemory` if the allocator has no room, or a game refuses. What was played and written by then stays.
     #[inline(always)]
     pub fn play(
         &mut self,
@@ -193,7 +210,12 @@ impl<G: Shown> Playing<G> {
     ) -> Result<bool, PlayFault>
         requires { length self.old.now.jobs < 2 ^ 32 }
         ensures played { OnOk result
-            (self.new ≡ record self.old { now = record self.old.now { jobs = with_job self.old.now.jobs (guessed self.old.settings (game_of G.step self.old) self.old.now.core player words.now until) } }) }
+            (self.new ≡ record self.old {
+              now = record self.old.now {
+                jobs = with_job self.old.now.jobs (guessed self.old.settings
+                    (game_of G.step self.old) self.old.now.core player words.now until);
+              };
+            }) }
         ensures written { OnOk result
             (out.new.items ≡ out.old.items
             ++ ended (guess_line (length self.old.now.jobs)

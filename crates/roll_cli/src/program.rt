@@ -1,15 +1,16 @@
 //! What the program does with a text, and how it ends.
-ghost use Rattle.std.specs.Prelude.{◌≡◌, ◌≤◌, ◌⊎◌, ◌+◌, ℕ, List, Err, IfErr, IfOk, IfSome, MatchOption};
-ghost use Rattle.std.specs.Io.KnownBytes.{Appends};
-ghost use Rattle.roll_text.specs.Streams.{AppendsPart, IsBadAt};
-ghost use Rattle.roll_text.specs.declared.streams.TheConstants.{TEXT_LIMIT};
-ghost use Rattle.prog_scripts.specs.Faults.{TakesAtMost};
-ghost use Rattle.prog_replies.specs.Output.{IsOutput, output, refusals, tally_game};
-ghost use Rattle.prog_scripts.specs.Plays.{IsScript};
-ghost use Rattle.roll_cli.specs.Programs.{Ends, IsDone, IsFault};
+ghost use Rattle.std.specs.Prelude.{◌≡◌, ◌≤◌, ◌⊎◌, ◌+◌, IfErr, IfSome, MatchOption};
 ghost use Rattle.roll_game.specs.Shown.{tally_text};
-ghost use Rattle.prog_parts.specs.declared.fault.PlayFault.TheVariants.{Unreadable, Write as CannotWrite};
+ghost use Rattle.roll_text.specs.Streams.{IsBadAt};
+ghost use Rattle.roll_text.specs.declared.streams.TheConstants.{TEXT_LIMIT};
+ghost use Rattle.prog_parts.specs.declared.fault.PlayFault.TheVariants.{Write as CannotWrite};
 ghost use Rattle.prog_parts.specs.declared.task.Task.TheVariants.{Play, SyncTest};
+ghost use Rattle.prog_scripts.specs.Engines.{Plays};
+ghost use Rattle.prog_scripts.specs.Faults.{TakesAtMost};
+ghost use Rattle.prog_scripts.specs.Plays.{IsScript};
+ghost use Rattle.prog_replies.specs.Output.{tally_game};
+ghost use Rattle.roll_cli.specs.Headlines.{IsHeadlinedOutput};
+ghost use Rattle.roll_cli.specs.Programs.{Ends, IsDone, IsReadable};
 
 use crate::certificate::certify;
 use crate::engine::{play, play_duel};
@@ -50,11 +51,8 @@ fn perform<R: Read, W: Write>(
     reader: &mut R,
     writer: &mut W,
 ) -> Result<bool, PlayFault>
-    ensures done { IfOk result (λ well. IfSome (R.remaining reader.old) (λ text.
-        (written : List ℕ) × IsDone task text written well × Appends (W.contents writer.old) (W.contents writer.new) written)) }
-    ensures fault { IfErr result
-        (λ fault. IfSome (R.remaining reader.old)
-        (λ text. IsFault task text (W.contents writer.old) (W.contents writer.new) fault)) }
+    ensures plays { Plays (IsBadAt (IsReadable task)) (IsDone task)
+        (R.remaining reader.old) (W.contents writer.old) (W.contents writer.new) result }
     ensures untouched { IfErr result (λ fault. (fault ≡ CannotWrite) ⊎ (writer.new ≡ writer.old)) }
     ensures taken { TakesAtMost (TEXT_LIMIT + 1) (R.remaining reader.old) (R.remaining reader.new) }
 {
@@ -72,19 +70,15 @@ fn play_named<R: Read, W: Write>(
     reader: &mut R,
     writer: &mut W,
 ) -> Result<bool, PlayFault>
-    ensures done { IfOk result (λ well. IfSome (R.remaining reader.old) (λ text.
-        (written : List ℕ) × IsDone (Play game) text written well × Appends (W.contents writer.old) (W.contents writer.new) written)) }
-    ensures fault { IfErr result
-        (λ fault. IfSome (R.remaining reader.old)
-        (λ text. IsFault (Play game) text (W.contents writer.old) (W.contents writer.new) fault)) }
+    ensures plays { Plays (IsBadAt (IsReadable (Play game))) (IsDone (Play game))
+        (R.remaining reader.old) (W.contents writer.old) (W.contents writer.new) result }
     ensures untouched { IfErr result (λ fault. (fault ≡ CannotWrite) ⊎ (writer.new ≡ writer.old)) }
     ensures taken { TakesAtMost (TEXT_LIMIT + 1) (R.remaining reader.old) (R.remaining reader.new) }
 {
-    let refused = match game {
-        GameName::Tally => play_tally(alloc, reader, writer)?,
-        GameName::Duel => play_duel(alloc, reader, writer)?,
-    };
-    Ok(refused == 0)
+    match game {
+        GameName::Tally => Ok(play_tally(alloc, reader, writer)? == 0),
+        GameName::Duel => Ok(play_duel(alloc, reader, writer)? == 0),
+    }
 }
 
 /// Tests the game of this name, and answers whether no frame came out different.
@@ -95,12 +89,9 @@ fn test_named<R: Read, W: Write>(
     reader: &mut R,
     writer: &mut W,
 ) -> Result<bool, PlayFault>
-    ensures done { IfOk result (λ well. IfSome (R.remaining reader.old) (λ text.
-        (written : List ℕ) × IsDone (SyncTest game frames) text written well × Appends (W.contents writer.old) (W.contents writer.new) written)) }
-    ensures fault { IfErr result
-        (λ fault. IfSome (R.remaining reader.old)
-        (λ text. IsFault (SyncTest game frames) text (W.contents writer.old)
-        (W.contents writer.new) fault)) }
+    ensures plays { Plays (IsBadAt (IsReadable (SyncTest game frames)))
+        (IsDone (SyncTest game frames))
+        (R.remaining reader.old) (W.contents writer.old) (W.contents writer.new) result }
     ensures untouched { IfErr result (λ fault. (fault ≡ CannotWrite) ⊎ (writer.new ≡ writer.old)) }
     ensures taken { TakesAtMost (TEXT_LIMIT + 1) (R.remaining reader.old) (R.remaining reader.new) }
 {
@@ -115,12 +106,8 @@ fn play_tally<R: Read, W: Write>(
     reader: &mut R,
     writer: &mut W,
 ) -> Result<u32, PlayFault>
-    ensures written { IfOk result (λ refused. IfSome (R.remaining reader.old) (λ text.
-        (written : List ℕ) × IsOutput (output tally_text tally_game) (refusals tally_game) text written refused × Appends (W.contents writer.old) (W.contents writer.new) written)) }
-    ensures unreadable { (line : ℕ) → result ≡ Err (Unreadable line)
-        → IfSome (R.remaining reader.old) (IsBadAt IsScript line) }
-    ensures cut { result ≡ Err CannotWrite → IfSome (R.remaining reader.old) (λ text.
-        (whole : List ℕ) × (refused : ℕ) × IsOutput (output tally_text tally_game) (refusals tally_game) text whole refused × AppendsPart (W.contents writer.old) (W.contents writer.new) whole) }
+    ensures plays { Plays (IsBadAt IsScript) (IsHeadlinedOutput tally_text tally_game)
+        (R.remaining reader.old) (W.contents writer.old) (W.contents writer.new) result }
     ensures untouched { IfErr result (λ fault. (fault ≡ CannotWrite) ⊎ (writer.new ≡ writer.old)) }
     ensures taken { TakesAtMost (TEXT_LIMIT + 1) (R.remaining reader.old) (R.remaining reader.new) }
 {

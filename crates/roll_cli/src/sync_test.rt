@@ -1,15 +1,17 @@
 //! Sync tests of files of rows, from a reader to a writer.
-ghost use Rattle.std.specs.Prelude.{◌≡◌, ◌≢◌, ◌⊎◌, ◌≤◌, ◌+◌, ◌++◌, [], ℕ, Bool, List, Err, Some, IfErr, IfOk, IfSome, OnOk, map};
-ghost use Rattle.std.specs.Io.KnownBytes.{Appends};
+ghost use Rattle.std.specs.Prelude.{◌≡◌, ◌≢◌, ◌⊎◌, ◌≤◌, ◌+◌, ◌++◌, [], ℕ, List, Err, IfErr, IfOk, IfSome, OnOk, map};
 ghost use Rattle.roll_game.specs.Divergence.{NeverDiverges};
 ghost use Rattle.roll_synctest.specs.declared.verdict.Verdict.{Verdict as VerdictSaid};
 ghost use Rattle.roll_text.specs.Lines.{ended, text_of};
-ghost use Rattle.roll_text.specs.Streams.{AppendsPart, IsBadAt};
+ghost use Rattle.roll_text.specs.Streams.{IsBadAt};
 ghost use Rattle.roll_text.specs.declared.streams.TheConstants.{TEXT_LIMIT};
+ghost use Rattle.prog_parts.specs.declared.fault.PlayFault.TheVariants.{NoMemory, Unreadable};
+ghost use Rattle.prog_parts.specs.declared.fault.PlayFault.TheVariants.{Write as CannotWrite};
+ghost use Rattle.prog_scripts.specs.Engines.{Outputs, Plays};
 ghost use Rattle.prog_scripts.specs.Faults.{TakesAtMost};
 ghost use Rattle.prog_scripts.specs.RowsFiles.{IsRowsFile, IsRowsText, file_lines, file_of};
-ghost use Rattle.roll_cli.specs.SyncTests.{AreSaid, IsDuelSynced, IsTallySynced, IsTested, IsTold, duel_sync_output, is_duel_startable, is_startable, verdict_line};
-ghost use Rattle.prog_parts.specs.declared.fault.PlayFault.TheVariants.{NoMemory, Unreadable, Write as CannotWrite};
+ghost use Rattle.roll_cli.specs.SyncTests.{AreSaid, IsDuelSynced, IsDuelTold, IsTallySynced, IsTested};
+ghost use Rattle.roll_cli.specs.SyncTests.{IsTold, is_startable, verdict_line};
 
 use prog_parts::PlayFault;
 use prog_replies::{push_named, push_not_started, write_not_started};
@@ -25,8 +27,14 @@ use std::io::{Read, Write};
 /// Tests a game with the rows that a reader holds, so many frames at once (1 to 8), and answers whether none came out
 /// different. A line is written for each row, up to the first frame that did.
 ///
-/// At most 1,048,577 bytes are read. Nothing is written unless all rows can be read, and then all at the end. Where the test
+/// At most 1,048,577 bytes are read. Nothing is written unless all rows can be read, and then all at the end. If the test
 /// doesn't start, its refusal is all that is written. A `Game` comes out different nowhere (`never_diverges`).
+///
+/// # Errors
+///
+/// `Unreadable` with the first line that no such file with the same earlier lines has, or with 0 if the text is too long; `Read`
+/// if the reader fails; `NoMemory` if the allocator has no room, or the game refuses. After these nothing is written. `Write` if
+/// the writer fails: it has a front of the output, and not all of it. What was read by then is gone from the reader.
 pub fn synctest<G: RawGame + Drop, R: Read, W: Write>(
     alloc: Global,
     reader: &mut R,
@@ -35,13 +43,9 @@ pub fn synctest<G: RawGame + Drop, R: Read, W: Write>(
     opening: G::Snapshot,
     frames: u32,
 ) -> Result<bool, PlayFault>
-    ensures written { IfOk result (λ well. IfSome (R.remaining reader.old) (λ text.
-        (written : List ℕ) × IsTested G.ran (G.snapshot_value opening) frames text written well × Appends (W.contents writer.old) (W.contents writer.new) written)) }
+    ensures plays { Plays (IsBadAt IsRowsText) (IsTested G.ran (G.snapshot_value opening) frames)
+        (R.remaining reader.old) (W.contents writer.old) (W.contents writer.new) result }
     ensures game { NeverDiverges G.ran → IfOk result (λ well. well ≡ is_startable frames) }
-    ensures unreadable { (line : ℕ) → result ≡ Err (Unreadable line)
-        → IfSome (R.remaining reader.old) (IsBadAt IsRowsText line) }
-    ensures cut { result ≡ Err CannotWrite → IfSome (R.remaining reader.old) (λ text.
-        (whole : List ℕ) × (well : Bool) × IsTested G.ran (G.snapshot_value opening) frames text whole well × AppendsPart (W.contents writer.old) (W.contents writer.new) whole) }
     ensures untouched { IfErr result (λ fault. (fault ≡ CannotWrite) ⊎ (writer.new ≡ writer.old)) }
     ensures taken { TakesAtMost (TEXT_LIMIT + 1) (R.remaining reader.old) (R.remaining reader.new) }
 {
@@ -50,18 +54,18 @@ pub fn synctest<G: RawGame + Drop, R: Read, W: Write>(
 }
 
 /// Tests the tally with the rows that a reader holds, as `synctest` does. It never comes out different.
+///
+/// # Errors
+///
+/// As for [`synctest`].
 pub fn synctest_tally<R: Read, W: Write>(
     alloc: Global,
     reader: &mut R,
     writer: &mut W,
     frames: u32,
 ) -> Result<bool, PlayFault>
-    ensures written { IfOk result (λ well. IfSome (R.remaining reader.old) (λ text.
-        (written : List ℕ) × IsTallySynced frames text written well × Appends (W.contents writer.old) (W.contents writer.new) written)) }
-    ensures unreadable { (line : ℕ) → result ≡ Err (Unreadable line)
-        → IfSome (R.remaining reader.old) (IsBadAt IsRowsText line) }
-    ensures cut { result ≡ Err CannotWrite → IfSome (R.remaining reader.old) (λ text.
-        (whole : List ℕ) × (well : Bool) × IsTallySynced frames text whole well × AppendsPart (W.contents writer.old) (W.contents writer.new) whole) }
+    ensures plays { Plays (IsBadAt IsRowsText) (IsTallySynced frames)
+        (R.remaining reader.old) (W.contents writer.old) (W.contents writer.new) result }
     ensures untouched { IfErr result (λ fault. (fault ≡ CannotWrite) ⊎ (writer.new ≡ writer.old)) }
     ensures taken { TakesAtMost (TEXT_LIMIT + 1) (R.remaining reader.old) (R.remaining reader.new) }
 {
@@ -78,18 +82,18 @@ pub fn synctest_tally<R: Read, W: Write>(
 
 /// Tests the ship duel with the rows that a reader holds, as `synctest` does, with a ship for each player. A file with one
 /// player is answered `refused 3` alone.
+///
+/// # Errors
+///
+/// As for [`synctest`].
 pub fn synctest_duel<R: Read, W: Write>(
     alloc: Global,
     reader: &mut R,
     writer: &mut W,
     frames: u32,
 ) -> Result<bool, PlayFault>
-    ensures written { IfOk result (λ well. IfSome (R.remaining reader.old) (λ text.
-        (written : List ℕ) × IsDuelSynced frames text written well × Appends (W.contents writer.old) (W.contents writer.new) written)) }
-    ensures unreadable { (line : ℕ) → result ≡ Err (Unreadable line)
-        → IfSome (R.remaining reader.old) (IsBadAt IsRowsText line) }
-    ensures cut { result ≡ Err CannotWrite → IfSome (R.remaining reader.old) (λ text.
-        (whole : List ℕ) × (well : Bool) × IsDuelSynced frames text whole well × AppendsPart (W.contents writer.old) (W.contents writer.new) whole) }
+    ensures plays { Plays (IsBadAt IsRowsText) (IsDuelSynced frames)
+        (R.remaining reader.old) (W.contents writer.old) (W.contents writer.new) result }
     ensures untouched { IfErr result (λ fault. (fault ≡ CannotWrite) ⊎ (writer.new ≡ writer.old)) }
     ensures taken { TakesAtMost (TEXT_LIMIT + 1) (R.remaining reader.old) (R.remaining reader.new) }
 {
@@ -105,13 +109,8 @@ fn write_duel_test<W: Write>(
     frames: u32,
 ) -> Result<bool, PlayFault>
     requires { IsRowsFile (file_of file.now) }
-    ensures written { OnOk result
-        (Appends (W.contents writer.old) (W.contents writer.new)
-        (duel_sync_output frames (file_of file.now))) }
-    ensures well { IfOk result (λ well. well ≡ is_duel_startable frames (file_of file.now)) }
-    ensures cut { result ≡ Err CannotWrite
-        → AppendsPart (W.contents writer.old) (W.contents writer.new)
-        (duel_sync_output frames (file_of file.now)) }
+    ensures outputs { Outputs (IsDuelTold frames (file_of file.now))
+        (W.contents writer.old) (W.contents writer.new) result }
     ensures fault { IfErr result
         (λ fault. (fault ≡ CannotWrite) ⊎ ((fault ≡ NoMemory) × (writer.new ≡ writer.old))) }
 {
@@ -149,13 +148,8 @@ fn write_test<G: RawGame + Drop, W: Write>(
     opening: G::Snapshot,
     frames: u32,
 ) -> Result<bool, PlayFault>
-    ensures written { IfOk result
-        (λ well. (written : List ℕ)
-        × IsTold G.ran (G.snapshot_value opening) frames rows.now written well
-        × Appends (W.contents writer.old) (W.contents writer.new) written) }
-    ensures cut { result ≡ Err CannotWrite → (whole : List ℕ) × (well : Bool)
-        × IsTold G.ran (G.snapshot_value opening) frames rows.now whole well
-        × AppendsPart (W.contents writer.old) (W.contents writer.new) whole }
+    ensures outputs { Outputs (IsTold G.ran (G.snapshot_value opening) frames rows.now)
+        (W.contents writer.old) (W.contents writer.new) result }
     ensures fault { IfErr result
         (λ fault. (fault ≡ CannotWrite) ⊎ ((fault ≡ NoMemory) × (writer.new ≡ writer.old))) }
 {

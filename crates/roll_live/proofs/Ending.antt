@@ -1,6 +1,6 @@
 -- How a script that is played live ends.
-use Rattle.std.proofs.Common.{◌≡◌, ◌≢◌, ◌⊎◌, ◌∙◌, ℕ, ◌++◌, List, [], refl, ap, sym, inl, inr, Option, Some, None}
-use Rattle.std.specs.Prelude.{IfOk, IfSome, IfErr, IsErrAnd, OnOk, Result, Ok, Err, ⊤, unwrap_or}
+use Rattle.std.proofs.Common.{◌≡◌, ◌≢◌, ◌⊎◌, ◌∙◌, ℕ, ◌++◌, List, refl, ap, sym, inl, inr, Option, Some, None}
+use Rattle.std.specs.Prelude.{IfOk, IfSome, IsErrAnd, OnOk, Result, Ok, Err, ⊤, unwrap_or}
 use Rattle.std.proofs.lemmas.Option.{IfSome_then}
 use Rattle.roll_frame.specs.Games.{Game, Value}
 use Rattle.roll_frame.specs.Settings.{start_refusal}
@@ -10,9 +10,8 @@ use Rattle.roll_frame.specs.declared.settings.Settings.{Settings}
 use Rattle.roll_game.specs.declared.counts.Counts.{Counts}
 use Rattle.roll_session.specs.Seen.{Seen}
 use Rattle.roll_text.specs.Lines.{ended}
-use Rattle.roll_text.specs.Streams.{AppendsPart, IsBadAt}
 use Rattle.prog_replies.specs.Output.{Texts, refused_line}
-use Rattle.prog_scripts.specs.Plays.{IsScript, Play}
+use Rattle.prog_scripts.specs.Engines.{Plays}
 use Rattle.prog_scripts.specs.declared.command.Command.{Command}
 use Rattle.prog_parts.specs.declared.fault.PlayFault.{PlayFault}
 use Rattle.prog_parts.specs.declared.fault.PlayFault.TheVariants.{Unreadable, NoMemory, Read, Write}
@@ -40,35 +39,16 @@ not_started texts game settings commands why out new (Ok n) e w h = (ended (refu
 pub started_so : (s : Seen) (settings : Settings) (opening : Value) (counts : Counts) → s ≡ first_seen settings opening counts → s ≡ first_seen settings opening s.counts
 started_so s settings opening counts e = e ∙ ap (first_seen settings opening) (sym (ap (λ (x : Seen). x.counts) e))
 
--- a line that isn't one of a script can't be read
-pub bad_line : {X Y : Type 0} (r : Result X PlayFault) (answer : Result Y PlayFault) (fault : PlayFault) (known : Option (List ℕ)) (Far : Play → ℕ → Type 0) → r ≡ Err fault → IsErrAnd answer (λ other. other ≡ fault)
-    → ((line : ℕ) → r ≡ Err (Unreadable line) → IfSome known (IsBadAt IsScript line)) → (line : ℕ) → answer ≡ Err (Unreadable line) → IfSome known (λ text. IsUnreadable Far text line)
-bad_line r answer fault known Far was h bad line e =
-    let is : Unreadable line ≡ fault = rw e at h in
-    IfSome_then known (bad line (was ∙ ap Err (sym is))) (λ text b. inl b)
-
 of_any : (known : Option (List ℕ)) → IfSome known (λ text. ⊤)
 of_any None = tt
 of_any (Some text) = tt
 
-is_fault : (game : GameName) (known old new : Option (List ℕ)) (fault : PlayFault)
-    → ((line : ℕ) → fault ≡ Unreadable line → IfSome known (λ text. IsUnreadable (FarOf game) text line))
-    → (fault ≡ Write → IfSome known (λ text. (written : List ℕ) × (refused : ℕ) × IsOutput (WritesOf game) text written refused × AppendsPart old new written))
+-- a fault of an engine that plays the game live is one of the game
+pub is_fault : (game : GameName) (known old new : Option (List ℕ)) (result : Result ℕ PlayFault)
+    (fault : PlayFault) → result ≡ Err fault
+    → Plays (IsUnreadable (FarOf game)) (IsOutput (WritesOf game)) known old new result
     → IfSome known (λ text. IsFault game text old new fault)
-is_fault game known old new (Unreadable line) bad cut = bad line refl
-is_fault game known old new NoMemory bad cut = of_any known
-is_fault game known old new Read bad cut = of_any known
-is_fault game known old new Write bad cut = cut refl
-
--- a fault is one of the game where a line that it names can't be read, and what a failed writer has is cut short
-pub ends_in_fault : {X : Type 0} (game : GameName) (known old new : Option (List ℕ)) (result : Result X PlayFault)
-    → ((line : ℕ) → result ≡ Err (Unreadable line) → IfSome known (λ text. IsUnreadable (FarOf game) text line))
-    → (result ≡ Err Write → IfSome known (λ text. (written : List ℕ) × (refused : ℕ) × IsOutput (WritesOf game) text written refused × AppendsPart old new written))
-    → IfErr result (λ fault. IfSome known (λ text. IsFault game text old new fault))
-ends_in_fault game known old new (Ok x) bad cut = tt
-ends_in_fault game known old new (Err fault) bad cut = is_fault game known old new fault (λ line e. bad line (ap Err e)) (λ e. cut (ap Err e))
-
--- a fault of reading is none of writing
-pub never_cut : {X : Type 0} (result : Result X PlayFault) (P : Type 0) → IfErr result (λ fault. fault ≢ Write) → result ≡ Err Write → P
-never_cut (Ok x) P h e = absurd (cc e)
-never_cut (Err fault) P h e = let is : fault ≡ Write = cc in absurd (h is)
+is_fault game known old new result (Unreadable line) is h = h.unreadable line is
+is_fault game known old new result NoMemory is h = of_any known
+is_fault game known old new result Read is h = of_any known
+is_fault game known old new result Write is h = IfSome_then known h.outputs (λ text out. out.cut is)

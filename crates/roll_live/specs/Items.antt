@@ -42,7 +42,9 @@ item_refusal settings log item =
 abbrev pub refusal_of : Option Player → ℕ → Refusal
 refusal_of None frame = InvalidPlayer
 refusal_of (Some player) frame =
-    if player.local then InvalidPlayer else (if player.gone then PlayerDisconnected else (if nat_lt (length player.words) frame then Gap else Conflict))
+    if player.local then InvalidPlayer
+    else (if player.gone then PlayerDisconnected
+    else (if nat_lt (length player.words) frame then Gap else Conflict))
 
 -- the reply to an item that was applied, by whether the log grew and how many items were refused
 abbrev pub item_reply : Bool → ℕ → Refusal → Reply

@@ -16,10 +16,12 @@ module _ (step : Step) (texts : Texts) where
   -- commands one after another
   abbrev pub AreTold : Seen → List Telling → Seen → Type 0
   AreTold old [] new = new ≡ old
-  AreTold old (first ∷ more) new = IsTold step texts old first.after first.command first.line × AreTold first.after more new
+  AreTold old (first ∷ more) new =
+      IsTold step texts old first.after first.command first.line × AreTold first.after more new
 
   -- these commands were played, which wrote this, with so many refusals
-  pub record IsLive (old new : Seen) (commands : List Command) (written : List ℕ) (refused : ℕ) : Type 0 where
+  pub record IsLive (old new : Seen) (commands : List Command) (written : List ℕ) (refused : ℕ)
+      : Type 0 where
     pub tellings : List Telling
     pub commands_are : commands ≡ map (λ telling. telling.command) tellings
     pub are_told : AreTold old tellings new

@@ -27,7 +27,10 @@ use Rattle.roll_live.specs.declared.playing.TheConstants.{AHEAD_LIMIT}
 -- the frame, and the state shown
 unfoldable pub state_line : Texts → Game → Core → List ℕ
 state_line texts game core =
-    option_map_or (λ rows. codes "frame " ++ (decimal core.frame ++ (codes " state " ++ texts (run game.step game.opening rows)))) core.shown []
+    option_map_or
+    (λ rows. codes "frame " ++ (decimal core.frame
+    ++ (codes " state " ++ texts (run game.step game.opening rows))))
+    core.shown []
 
 -- the line of a reply, without its end, and the core after its event: of a roll the frame and the state alone
 abbrev pub live_line : Texts → Game → Core → Reply → List ℕ
@@ -45,7 +48,8 @@ abbrev pub silent : Line
 silent = record { text = []; refused = false }
 
 abbrev pub said_line : Texts → Game → Core → Reply → Line
-said_line texts game core said = record { text = ended (live_line texts game core said); refused = is_refused said }
+said_line texts game core said =
+    record { text = ended (live_line texts game core said); refused = is_refused said }
 
 -- the item of an `R` line
 abbrev pub item_of : ℕ → ℕ → ℕ → Remote
@@ -67,8 +71,8 @@ module _ (step : Step) (texts : Texts) where
     pub replied : IsReplied step old new event said
     pub line_is : line ≡ said_line texts (game_of step new) new.core said
 
-  -- an item was sent, and a pump applied what had come. The reply is told by the log; where nothing else had come, it is what
-  -- the session replies to the item
+  -- an item was sent, and a pump applied what had come. The reply is told by the log; where nothing
+  -- else had come, it is what the session replies to the item
   pub record IsHeard (old new : Seen) (item : Remote) (line : Line) : Type 0 where
     pub near : item.frame < old.core.frame + AHEAD_LIMIT
     pub items : List Remote
@@ -76,19 +80,25 @@ module _ (step : Step) (texts : Texts) where
     pub heard : AreHeard step old new items refused
     pub some : 1 ≤ length items
     pub said : Reply
-    pub said_is : said ≡ item_reply (nat_lt (length old.log) (length new.log)) refused (item_refusal new.settings new.log item)
-    pub same : items ≡ item ∷ [] → said ≡ reply old.settings (game_of step old) old.core (event_of item)
+    pub said_is : said ≡ item_reply (nat_lt (length old.log) (length new.log)) refused
+        (item_refusal new.settings new.log item)
+    pub same : items ≡ item ∷ []
+        → said ≡ reply old.settings (game_of step old) old.core (event_of item)
     pub line_is : line ≡ said_line texts (game_of step new) new.core said
 
-  -- each command: a guess has the game copied, if anything; `B` takes branches in, whichever have come
+  -- each command: a guess has the game copied, if anything; `B` takes branches in, whichever have
+  -- come
   abbrev pub IsTold : Seen → Seen → Command → Line → Type 0
   IsTold old new (Gives p word) line = IsAsked old new (plain (Local (narrowed p) word)) line
   IsTold old new (Tells p f word) line = IsHeard old new (item_of p f word) line
   IsTold old new (Leaves p) line = IsAsked old new (plain (Disconnect (narrowed p))) line
   IsTold old new Syncs line = IsAsked old new (plain Sync) line
   IsTold old new Advances line = IsAsked old new (plain Advance) line
-  IsTold old new (Guess p until words) line = (line ≡ silent) × (new ≡ record old { counts = guessed_counts old.counts new.counts })
-  IsTold old new (Extend j) line = (line ≡ silent) × ((branches : List Routed) × IsPlayed step old new (map grafting branches))
+  IsTold old new (Guess p until words) line =
+      (line ≡ silent) × (new ≡ record old { counts = guessed_counts old.counts new.counts })
+  IsTold old new (Extend j) line =
+      (line ≡ silent)
+      × ((branches : List Routed) × IsPlayed step old new (map grafting branches))
   IsTold old new Claim line = (line ≡ silent) × (new ≡ old)
 
 -- a command that ends the run as unreadable: an `R` line whose frame is too far ahead

@@ -1,20 +1,21 @@
 //! Scripts that are played live, from a reader to a writer.
-ghost use Rattle.std.specs.Prelude.{◌≡◌, ◌≢◌, ◌≤◌, ◌⊎◌, ◌<◌, ◌+◌, ◌^◌, ◌++◌, ℕ, List, Err, IfErr, IfOk, IfSome, OnOk, length, vec_len};
-ghost use Rattle.std.specs.Io.KnownBytes.{Appends};
-ghost use Rattle.roll_frame.specs.Settings.{start_refusal};
+ghost use Rattle.std.specs.Prelude.{◌≡◌, ◌≢◌, ◌≤◌, ◌⊎◌, ◌<◌, ◌+◌, ◌^◌, ◌++◌, ℕ, List, Err, IfErr, IfOk};
+ghost use Rattle.std.specs.Prelude.{length, vec_len};
 ghost use Rattle.roll_host.specs.Hosted.{came_by, issued_of, places_of};
 ghost use Rattle.roll_pool.specs.Crews.{places_in};
 ghost use Rattle.roll_pool.specs.Owners.{collected};
 ghost use Rattle.roll_pool.specs.Settled.{Settles};
 ghost use Rattle.roll_pool.specs.declared.owner.TheConstants.{WORKER_LIMIT as TEAM};
 ghost use Rattle.roll_session.specs.Seen.{Seen};
-ghost use Rattle.roll_text.specs.Streams.{AppendsPart};
 ghost use Rattle.roll_text.specs.declared.streams.TheConstants.{TEXT_LIMIT};
+ghost use Rattle.prog_parts.specs.declared.fault.PlayFault.TheVariants.{Unreadable, Write as CannotWrite};
+ghost use Rattle.prog_scripts.specs.Engines.{Outputs, Plays};
 ghost use Rattle.prog_scripts.specs.Faults.{TakesAtMost};
 ghost use Rattle.prog_scripts.specs.Plays.{IsPlay, play_of};
-ghost use Rattle.prog_parts.specs.declared.fault.PlayFault.TheVariants.{NoMemory, Unreadable, Write as CannotWrite};
+ghost use Rattle.prog_replies.specs.Output.{game_from};
 ghost use Rattle.roll_live.specs.Headlines.{HasHeadline};
-ghost use Rattle.roll_live.specs.Lives.{IsFarAt, IsFarOf, IsFarUnder, IsOutput, IsUnreadable, Writes, WritesUnder};
+ghost use Rattle.roll_live.specs.Lives.{IsFarAt, IsFarOf, IsFarUnder, IsOutput, IsUnreadable};
+ghost use Rattle.roll_live.specs.Lives.{Writes, WritesUnder};
 
 use crate::playing::Playing;
 use prog_parts::PlayFault;
@@ -36,9 +37,16 @@ use std::thread::Threads;
 /// thread of its own.
 ///
 /// At most 1,048,577 bytes are read. Nothing is written unless the whole script can be read and played, and then all in large
-/// pieces at the end. Where the session doesn't start, its refusal is all that is written, and counts as one. A worker that
+/// pieces at the end. If the session doesn't start, its refusal is all that is written, and counts as one. A worker that
 /// can't be started, and a word that is held, end the run as one for which there is no memory. All threads have ended by then,
 /// whatever came of the script.
+///
+/// # Errors
+///
+/// `Unreadable` with the first line that no script with the same earlier lines has, or that of the first `R` whose frame is 100
+/// or more past the session's, or with 0 if the text is too long; `Read` if the reader fails; `NoMemory` if the allocator has no
+/// room, a game refuses, a worker can't be started, or a word is held. After these nothing is written. `Write` if the writer
+/// fails: it has a front of the output, and not all of it. What was read by then is gone from the reader.
 pub fn live<RT, G, R, W>(
     alloc: Global,
     rt: &RT,
@@ -56,14 +64,10 @@ where
     R: Read,
     W: Write,
     requires { (1 ≤ vec_len helpers) × (vec_len helpers ≤ TEAM) }
-    ensures written { IfOk result (λ refused. IfSome (R.remaining reader.old) (λ text.
-        (written : List ℕ) × IsOutput (Writes G.text_of (record { opening = G.snapshot_value opening; step = G.step })) text written refused × Appends (W.contents writer.old) (W.contents writer.new) written)) }
-    ensures unreadable { (line : ℕ) → result ≡ Err (Unreadable line)
-        → IfSome (R.remaining reader.old)
-        (λ text. IsUnreadable (IsFarOf G.text_of
-        (record { opening = G.snapshot_value opening; step = G.step })) text line) }
-    ensures cut { result ≡ Err CannotWrite → IfSome (R.remaining reader.old) (λ text.
-        (whole : List ℕ) × (refused : ℕ) × IsOutput (Writes G.text_of (record { opening = G.snapshot_value opening; step = G.step })) text whole refused × AppendsPart (W.contents writer.old) (W.contents writer.new) whole) }
+    ensures plays { Plays
+        (IsUnreadable (IsFarOf G.text_of (game_from (G.snapshot_value opening) G.step)))
+        (IsOutput (Writes G.text_of (game_from (G.snapshot_value opening) G.step)))
+        (R.remaining reader.old) (W.contents writer.old) (W.contents writer.new) result }
     ensures untouched { IfErr result (λ fault. (fault ≡ CannotWrite) ⊎ (writer.new ≡ writer.old)) }
     ensures taken { TakesAtMost (TEXT_LIMIT + 1) (R.remaining reader.old) (R.remaining reader.new) }
 {
@@ -72,6 +76,10 @@ where
 }
 
 /// Plays a script live, and writes all that it writes at once.
+///
+/// # Errors
+///
+/// As for [`live`], but for those of the reader and of a text that is no script's.
 pub fn write_live<RT, G, W>(
     alloc: Global,
     rt: &RT,
@@ -90,18 +98,12 @@ where
     requires fits { IsPlay (play_of script.now) }
     requires few { length script.now.commands.items < 2 ^ 32 }
     requires workers { (1 ≤ vec_len helpers) × (vec_len helpers ≤ TEAM) }
-    ensures written { IfOk result
-        (λ refused. (written : List ℕ)
-        × Writes G.text_of (record { opening = G.snapshot_value opening; step = G.step })
-        (play_of script.now) written refused
-        × Appends (W.contents writer.old) (W.contents writer.new) written) }
+    ensures outputs { Outputs (Writes G.text_of
+        (game_from (G.snapshot_value opening) G.step) (play_of script.now))
+        (W.contents writer.old) (W.contents writer.new) result }
     ensures far { (line : ℕ) → result ≡ Err (Unreadable line)
-        → IsFarOf G.text_of (record { opening = G.snapshot_value opening; step = G.step })
+        → IsFarOf G.text_of (game_from (G.snapshot_value opening) G.step)
         (play_of script.now) line }
-    ensures cut { result ≡ Err CannotWrite → (whole : List ℕ) × (refused : ℕ)
-        × Writes G.text_of (record { opening = G.snapshot_value opening; step = G.step })
-        (play_of script.now) whole refused
-        × AppendsPart (W.contents writer.old) (W.contents writer.new) whole }
     ensures untouched { IfErr result (λ fault. (fault ≡ CannotWrite) ⊎ (writer.new ≡ writer.old)) }
 {
     let mut out = Vec::new(alloc);
@@ -134,11 +136,12 @@ where
     requires workers { (1 ≤ vec_len helpers) × (vec_len helpers ≤ TEAM) }
     ensures written { IfOk result
         (λ refused. (written : List ℕ)
-        × WritesUnder G.text_of
-        (record { opening = G.snapshot_value opening; step = G.step }) settings commands.now written refused × (out.new.items ≡ out.old.items ++ written)) }
+        × WritesUnder G.text_of (game_from (G.snapshot_value opening) G.step)
+        settings commands.now written refused
+        × (out.new.items ≡ out.old.items ++ written)) }
     ensures far { (line : ℕ) → result ≡ Err (Unreadable line)
-        → IsFarUnder G.text_of
-        (record { opening = G.snapshot_value opening; step = G.step }) settings commands.now line }
+        → IsFarUnder G.text_of (game_from (G.snapshot_value opening) G.step)
+        settings commands.now line }
     ensures fault { IfErr result (λ fault. fault ≢ CannotWrite) }
 {
     match Session::start(alloc, game, opening, settings) {

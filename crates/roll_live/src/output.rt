@@ -11,6 +11,10 @@ use roll_game::Shown;
 use roll_session::Session;
 
 /// Writes the line of a reply.
+///
+/// # Errors
+///
+/// `NoMemory` if the allocator has no room, or if the game refuses the text of its state. A part of the line may stand written.
 pub fn push_line<G: Shown>(
     out: &mut Vec<u8>,
     session: &Session<G>,

@@ -1,7 +1,6 @@
 //! A script that is being played live.
 ghost use Rattle.std.specs.List.{flat_map};
-ghost use Rattle.std.specs.Prelude.{◌≡◌, ◌≢◌, ◌≤◌, ◌⊎◌, ◌<◌, ◌+◌, ◌^◌, ◌++◌, ◌∷◌, [], ℕ, List, Err, IfErr, IfOk, OnOk, length, map, true};
-ghost use Rattle.roll_frame.specs.Events.{CoreEvent};
+ghost use Rattle.std.specs.Prelude.{◌≡◌, ◌≢◌, ◌≤◌, ◌⊎◌, ◌<◌, ◌+◌, ◌^◌, ◌++◌, ◌∷◌, [], ℕ, List, Err, IfErr, IfOk, OnOk, length, map};
 ghost use Rattle.roll_branch.specs.Routed.{Routed};
 ghost use Rattle.roll_host.specs.Heard.{AreHeard};
 ghost use Rattle.roll_host.specs.Hosted.{places_of};
@@ -11,7 +10,7 @@ ghost use Rattle.roll_session.specs.Calls.{event_of as event_of_call, grafting};
 ghost use Rattle.prog_replies.specs.Output.{is_refused as refuses};
 ghost use Rattle.roll_live.specs.Lives.{IsFarAt};
 ghost use Rattle.roll_live.specs.Tellings.{IsLive};
-ghost use Rattle.roll_live.specs.Told.{guessed_counts, items_of, Line, IsAsked, IsFar, IsHeard, IsTold};
+ghost use Rattle.roll_live.specs.Told.{guessed_counts, items_of, IsAsked, IsFar, IsHeard, IsTold};
 
 use crate::item::item_reply;
 use crate::output::push_line;
@@ -38,6 +37,11 @@ pub struct Playing<G: Game> {
 impl<G: Shown> Playing<G> {
     /// Plays the commands, of which the first stands in line 2, writes their replies at the end, and answers how many are
     /// refusals.
+    ///
+    /// # Errors
+    ///
+    /// `Unreadable` with the line of the first `R` whose frame is 100 or more past the session's; `NoMemory` if the allocator
+    /// has no room, a game refuses, or a word is held. What was played and written by then stays.
     pub fn play_all<RT: Wait>(
         &mut self,
         rt: &RT,
@@ -47,7 +51,9 @@ impl<G: Shown> Playing<G> {
         requires { length commands.now < 2 ^ 32 }
         ensures played { IfOk result
             (λ refused. (written : List ℕ)
-            × IsLive G.step G.text_of self.old.host.session self.new.host.session commands.now written refused × (out.new.items ≡ out.old.items ++ written)) }
+            × IsLive G.step G.text_of self.old.host.session self.new.host.session
+            commands.now written refused
+            × (out.new.items ≡ out.old.items ++ written)) }
         ensures far { (line : ℕ) → result ≡ Err (PlayFault.Unreadable line)
             → IsFarAt G.step G.text_of self.old.host.session commands.now line }
         ensures fault { IfErr result
@@ -193,11 +199,13 @@ impl<G: Shown> Playing<G> {
         unreachable!()
     }
 
-    /// Has the workers run a guess. Where it is refused it isn't run, and nothing else is different.
+    /// Has the workers run a guess. If it is refused it isn't run, and nothing else is different.
     fn guess(&mut self, player: u8, words: &[u32], until: u32)
         ensures sender { self.new.sender ≡ self.old.sender }
-        ensures session { self.new.host.session
-            ≡ record self.old.host.session { counts = guessed_counts self.old.host.session.counts self.new.host.session.counts } }
+        ensures session { self.new.host.session ≡ record self.old.host.session {
+          counts = guessed_counts
+              self.old.host.session.counts self.new.host.session.counts;
+        } }
         ensures places { places_of self.new.host.pool ≡ places_of self.old.host.pool }
     {
         let _ = self.host.speculate(player, words, until);

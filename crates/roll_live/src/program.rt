@@ -1,14 +1,15 @@
 //! What the program does with a script that is played live, and how it ends.
-ghost use Rattle.std.specs.Prelude.{◌≡◌, ◌≤◌, ◌⊎◌, ◌+◌, ◌<◌, ◌^◌, ℕ, List, Err, IfErr, IfOk, IfSome, MatchOption, length, vec_len};
-ghost use Rattle.std.specs.Io.KnownBytes.{Appends};
+ghost use Rattle.std.specs.Prelude.{◌≡◌, ◌≤◌, ◌⊎◌, ◌+◌, ◌<◌, ◌^◌, ℕ, Err, IfErr, IfOk, IfSome, MatchOption};
+ghost use Rattle.std.specs.Prelude.{length, vec_len};
 ghost use Rattle.roll_pool.specs.declared.owner.TheConstants.{WORKER_LIMIT as TEAM};
-ghost use Rattle.roll_text.specs.Streams.{AppendsPart};
 ghost use Rattle.roll_text.specs.declared.streams.TheConstants.{TEXT_LIMIT};
+ghost use Rattle.prog_parts.specs.declared.ending.GameName.TheVariants.{Duel as DuelName};
+ghost use Rattle.prog_parts.specs.declared.fault.PlayFault.TheVariants.{NoMemory, Unreadable};
+ghost use Rattle.prog_parts.specs.declared.fault.PlayFault.TheVariants.{Write as CannotWrite};
+ghost use Rattle.prog_scripts.specs.Engines.{Outputs, Plays};
 ghost use Rattle.prog_scripts.specs.Faults.{TakesAtMost};
 ghost use Rattle.prog_scripts.specs.Plays.{IsPlay, play_of};
-ghost use Rattle.prog_parts.specs.declared.fault.PlayFault.TheVariants.{NoMemory, Unreadable, Write as CannotWrite};
-ghost use Rattle.prog_parts.specs.declared.ending.GameName.TheVariants.{Duel as DuelName};
-ghost use Rattle.roll_live.specs.Lives.{DuelWrites, Ends, FarOf, IsFault, IsOutput, WritesOf};
+ghost use Rattle.roll_live.specs.Lives.{DuelWrites, Ends, FarOf, IsOutput, IsUnreadable, WritesOf};
 
 use crate::engine::{live, write_live};
 use prog_parts::{Ending, GameName, PlayFault};
@@ -73,11 +74,8 @@ where
     R: Read,
     W: Write,
     requires { (1 ≤ asked.workers) × (asked.workers ≤ TEAM) }
-    ensures written { IfOk result (λ refused. IfSome (R.remaining reader.old) (λ text.
-        (written : List ℕ) × IsOutput (WritesOf asked.game) text written refused × Appends (W.contents writer.old) (W.contents writer.new) written)) }
-    ensures fault { IfErr result
-        (λ fault. IfSome (R.remaining reader.old)
-        (λ text. IsFault asked.game text (W.contents writer.old) (W.contents writer.new) fault)) }
+    ensures plays { Plays (IsUnreadable (FarOf asked.game)) (IsOutput (WritesOf asked.game))
+        (R.remaining reader.old) (W.contents writer.old) (W.contents writer.new) result }
     ensures untouched { IfErr result (λ fault. (fault ≡ CannotWrite) ⊎ (writer.new ≡ writer.old)) }
     ensures taken { TakesAtMost (TEXT_LIMIT + 1) (R.remaining reader.old) (R.remaining reader.new) }
 {
@@ -116,14 +114,10 @@ where
     requires fits { IsPlay (play_of script.now) }
     requires few { length script.now.commands.items < 2 ^ 32 }
     requires workers { (1 ≤ workers) × (workers ≤ TEAM) }
-    ensures written { IfOk result
-        (λ refused. (written : List ℕ) × DuelWrites (play_of script.now) written refused
-        × Appends (W.contents writer.old) (W.contents writer.new) written) }
+    ensures outputs { Outputs (DuelWrites (play_of script.now))
+        (W.contents writer.old) (W.contents writer.new) result }
     ensures far { (line : ℕ) → result ≡ Err (Unreadable line)
         → FarOf DuelName (play_of script.now) line }
-    ensures cut { result ≡ Err CannotWrite → (whole : List ℕ) × (refused : ℕ)
-        × DuelWrites (play_of script.now) whole refused
-        × AppendsPart (W.contents writer.old) (W.contents writer.new) whole }
     ensures untouched { IfErr result (λ fault. (fault ≡ CannotWrite) ⊎ (writer.new ≡ writer.old)) }
 {
     let ships = script.header.players as u8;

@@ -1,0 +1,51 @@
+-- What C sees of settings, rows and requests.
+use Rattle.std.specs.Prelude.{◌≡◌, ◌⊎◌, ℕ, ◌+◌, ◌-◌, List, ◌++◌, drop, take, length, map, min, replicate}
+use Rattle.roll_frame.specs.Packed.{bits_of}
+use Rattle.roll_frame.specs.Words.{word_of}
+use Rattle.roll_frame.specs.declared.profile.Profile.TheVariants.{Ggpo, Wide}
+use Rattle.roll_frame.specs.declared.row.Cell.{Cell}
+use Rattle.roll_frame.specs.declared.settings.Settings.{Settings}
+use Rattle.roll_requests.specs.declared.request.Request.{Request}
+use Rattle.roll_requests.specs.declared.request.Request.TheVariants.{Load, Save, Advance, Free}
+use Rattle.fazgrond_c.specs.declared.kinds.RequestOut.{RequestOut}
+use Rattle.fazgrond_c.specs.declared.kinds.RowOut.{RowOut}
+use Rattle.fazgrond_c.specs.declared.kinds.SettingsIn.{SettingsIn}
+
+abbrev pub row_out : List Cell → RowOut
+row_out row =
+    record {
+      count = length row;
+      gone = bits_of row;
+      words = map word_of row ++ replicate (8 - length row) 0;
+    }
+
+abbrev pub no_row : RowOut
+no_row = record { count = 0; gone = 0; words = replicate 8 0 }
+
+abbrev pub request_out : Request → RequestOut
+request_out (Load slot) = record { kind = 1; slot = slot; row = no_row }
+request_out (Save slot) = record { kind = 2; slot = slot; row = no_row }
+request_out (Advance row) = record { kind = 3; slot = 0; row = row_out row }
+request_out (Free slot) = record { kind = 4; slot = slot; row = no_row }
+
+-- the settings that were given
+pub record AreGiven (given : SettingsIn) (settings : Settings) : Type 0 where
+  pub profile : ((given.profile ≡ 0) × (settings.profile ≡ Ggpo))
+      ⊎ ((given.profile ≡ 1) × (settings.profile ≡ Wide))
+  pub players : settings.players ≡ given.players
+  pub local : settings.local ≡ given.local
+  pub threshold : settings.threshold ≡ given.threshold
+  pub limit : settings.limit ≡ given.limit
+  pub log : settings.log ≡ given.log
+  pub delays : settings.delays ≡ given.delays
+  pub masks : settings.masks ≡ given.masks
+
+-- of some requests those past the ones that were handed out, as many as there is room for, are written to the front of a
+-- buffer
+pub record AreHanded (given next count : ℕ) (before after : List RequestOut) : Type 0 where
+  pub requests : List Request
+  pub next_is : next ≡ min given (length requests) + count
+  pub count_is : count ≡ min (length before) (length (drop (min given (length requests)) requests))
+  pub written : after
+      ≡ map request_out (take count (drop (min given (length requests)) requests))
+      ++ drop count before

@@ -1,0 +1,3 @@
+pub mod Holds
+pub mod Kinds
+pub mod Made

@@ -1,0 +1,141 @@
+-- What a call through a handle comes to.
+use Rattle.std.specs.Prelude.{◌≡◌, ◌≢◌, ◌⊎◌, ℕ, ℤ, List, ◌++◌, drop, length, max, nat_lt, IsSomeAnd, if◌then◌else◌, pos, Result, Ok, Err, IfOk, IfErr, Option, Some, None, IfSome, MatchOption}
+use Rattle.roll_frame.specs.Codes.{code_of}
+use Rattle.roll_frame.specs.Core.{Core, settled}
+use Rattle.roll_frame.specs.Timeline.{row_at}
+use Rattle.roll_frame.specs.declared.row.Cell.{Cell}
+use Rattle.roll_frame.specs.declared.refusal.Refusal.{Refusal}
+use Rattle.roll_frame.specs.declared.reply.Reply.{Reply}
+use Rattle.roll_frame.specs.declared.reply.Reply.TheVariants.{Refused, Repeated, Taken, Reached}
+use Rattle.roll_cert.specs.Texts.{claim_lines}
+use Rattle.roll_frame.specs.declared.settings.Settings.{Settings}
+use Rattle.roll_requests.specs.Leading.{opened}
+use Rattle.roll_requests.specs.Names.{opening_digest, step_of}
+use Rattle.roll_session.specs.Answered.{IsAnswered, IsReplied}
+use Rattle.roll_session.specs.Calls.{event_of}
+use Rattle.roll_session.specs.Headline.{last_claim}
+use Rattle.roll_session.specs.Started.{first_seen}
+use Rattle.roll_session.specs.declared.event.Call.{Call}
+use Rattle.roll_text.specs.Lines.{text_of}
+use Rattle.fazgrond_c.specs.Kinds.{AreGiven, AreHanded}
+use Rattle.fazgrond_c.specs.declared.kinds.ReachedOut.{ReachedOut}
+use Rattle.fazgrond_c.specs.declared.kinds.RequestOut.{RequestOut}
+use Rattle.fazgrond_c.specs.declared.kinds.SettingsIn.{SettingsIn}
+use Rattle.fazgrond_c.specs.declared.live.Live.{Live}
+
+-- the session of an open handle answers a call by the rules
+pub record IsMade (old new : Option Live) (call : Call) (said : Reply) : Type 0 where
+  pub before : Live
+  pub after : Live
+  pub was : old ≡ Some before
+  pub is : new ≡ Some after
+  pub replied : IsReplied step_of before.session after.session (event_of call) said
+
+-- a call isn't made, since the requests of the last roll were not taken yet, or it is refused, by the rules or for want of
+-- memory: this is the code
+abbrev pub IsDeclined : Live → Live → Call → ℤ → Type 0
+IsDeclined before after call code =
+    ((code ≡ pos 202) × (after ≡ before))
+    ⊎ ((why : Refusal) × (code ≡ pos (code_of why))
+    × IsAnswered step_of before.session after.session (event_of call) (Refused why))
+
+-- the same through a handle, which may be closed
+pub record IsDeclinedBy (old new : Option Live) (call : Call) (code : ℤ) : Type 0 where
+  pub before : Live
+  pub after : Live
+  pub was : old ≡ Some before
+  pub is : new ≡ Some after
+  pub declined : IsDeclined before after call code
+
+abbrev pub IsNotMade : Option Live → Option Live → Call → ℤ → Type 0
+IsNotMade old new call code =
+    ((code ≡ pos 201) × (old ≡ None) × (new ≡ None)) ⊎ IsDeclinedBy old new call code
+
+-- the code of a call's result
+abbrev pub code_in : Result Reply ℤ → ℤ
+code_in (Ok said) = pos 0
+code_in (Err code) = code
+
+-- a call of the session that a handle holds, made or not, has this result
+pub record HasResult (old new : Option Live) (call : Call) (result : Result Reply ℤ) : Type 0 where
+  pub made : IfOk result (IsMade old new call)
+  pub not_made : IfErr result (IsNotMade old new call)
+
+-- it is answered by this code
+pub record IsAnsweredBy (old new : Option Live) (call : Call) (code : ℤ) : Type 0 where
+  pub result : Result Reply ℤ
+  pub has : HasResult old new call result
+  pub code_is : code ≡ code_in result
+
+-- and if it is made, this of its reply is written
+pub record IsWrittenBy {T : Type 0} (value : Reply → Option T) (old new : Option Live) (call : Call)
+    (before after : T) (code : ℤ) : Type 0 where
+  pub result : Result Reply ℤ
+  pub has : HasResult old new call result
+  pub code_is : code ≡ code_in result
+  pub written : IfOk result (λ said. IfSome (value said) (λ there. after ≡ there))
+  pub unwritten : IfErr result (λ code. after ≡ before)
+
+-- whether a word was taken before
+abbrev pub flag_of : Reply → Option ℕ
+flag_of Repeated = Some 1
+flag_of Taken = Some 0
+flag_of said = None
+
+-- where an advance led
+abbrev pub reached_in : Reply → Option ReachedOut
+reached_in (Reached frame from rerun) = Some (record { frame = frame; from = from; rerun = rerun })
+reached_in said = None
+
+module _ {T : Type 0} where
+  -- what is read of an open session, and written; the session stays as it is
+  pub record Reads (value : Live → T) (old new : Option Live) (before after : T) (code : ℤ)
+      : Type 0 where
+    pub kept : new ≡ old
+    pub read : IfSome old (λ live. (code ≡ pos 0) × (after ≡ value live))
+    pub closed : old ≡ None → (code ≡ pos 201) × (after ≡ before)
+
+  -- the same of what may not be there
+  pub record ReadsSome (value : Live → Option T) (old new : Option Live) (before after : T)
+      (code : ℤ) : Type 0 where
+    pub kept : new ≡ old
+    pub read : IfSome old (λ live. MatchOption (value live)
+        ((code ≡ pos 203) × (after ≡ before)) (λ there. (code ≡ pos 0) × (after ≡ there)))
+    pub closed : old ≡ None → (code ≡ pos 201) × (after ≡ before)
+
+-- the settled row of a frame
+abbrev pub settled_row : Core → ℕ → Option (List Cell)
+settled_row core frame = if nat_lt frame (settled core) then Some (row_at core.players frame) else None
+
+-- room was made for so many more events, or nothing is changed
+pub record IsReserved (old new : Option Live) (events : ℕ) (code : ℤ) : Type 0 where
+  pub closed : old ≡ None → (code ≡ pos 201) × (new ≡ None)
+  pub made : IfSome old (λ live. IfSome new (λ after. code ≡ pos 0
+      → after.session ≡ record live.session { reserved = max live.session.reserved events }))
+  pub refused : IfSome old (λ live. IfSome new (λ after. code ≢ pos 0 → after ≡ live))
+
+-- a session with these settings is open at its start
+pub record IsOpened (given : SettingsIn) (live : Live) : Type 0 where
+  pub settings : Settings
+  pub are_given : AreGiven given settings
+  pub session : live.session ≡ first_seen settings opening_digest opened
+
+-- a session was opened in the place of the one before, or nothing is changed
+pub record IsOpenedBy (given : SettingsIn) (old new : Option Live) (code : ℤ) : Type 0 where
+  pub opened : code ≡ pos 0 → IsSomeAnd new (IsOpened given)
+  pub refused : code ≢ pos 0 → new ≡ old
+
+-- the text of the last claim is written to the front of a buffer, if it has room
+pub record IsClaimed (old new : Option Live) (before after : List ℕ) (size : ℕ) (code : ℤ) : Type 0 where
+  pub kept : new ≡ old
+  pub closed : old ≡ None → code ≡ pos 201
+  pub written : code ≡ pos 0 → IfSome old (λ live. IfSome (last_claim live.session) (λ claim.
+      (after ≡ text_of (claim_lines claim) ++ drop size before)
+      × (size ≡ length (text_of (claim_lines claim)))))
+  pub unwritten : code ≢ pos 0 → after ≡ before
+
+-- requests of an open session are handed out; a closed one has none
+pub record IsHandedBy (old new : Option Live) (before after : List RequestOut) (count : ℕ) : Type 0 where
+  pub closed : old ≡ None → (new ≡ None) × ((count ≡ 0) × (after ≡ before))
+  pub handed : IfSome old (λ live. IsSomeAnd new (λ now.
+      (now.session ≡ live.session) × AreHanded live.given now.given count before after))

@@ -1,0 +1,128 @@
+//! What C sees.
+ghost use Rattle.std.specs.Prelude.{◌≡◌, IfSome};
+ghost use Rattle.fazgrond_c.specs.Kinds.{no_row, request_out, row_out, AreGiven};
+
+use roll_frame::{PLAYER_LIMIT, Profile, Row, Settings};
+use roll_requests::Request;
+
+/// How a session is opened.
+#[repr(C)]
+#[derive(Drop)]
+pub struct SettingsIn {
+    /// 0 is GGPO's profile, 1 the wide one.
+    pub profile: u32,
+    pub players: u32,
+    pub local: u32,
+    pub threshold: u32,
+    pub limit: u32,
+    pub log: u32,
+    pub delays: [u32; PLAYER_LIMIT],
+    pub masks: [u32; PLAYER_LIMIT],
+}
+
+impl SettingsIn {
+    /// The settings, if each number has room where it belongs.
+    pub fn settings(&self) -> Option<Settings>
+        ensures { IfSome result (AreGiven self.now) }
+    {
+        let profile = match self.profile {
+            0 => Profile::Ggpo,
+            1 => Profile::Wide,
+            _ => return None,
+        };
+        let (Ok(players), Ok(local)) = (u8::try_from(self.players), u8::try_from(self.local)) else {
+            return None;
+        };
+        Some(Settings {
+            profile,
+            players,
+            local,
+            delays: self.delays,
+            masks: self.masks,
+            threshold: self.threshold,
+            limit: self.limit,
+            log: self.log,
+        })
+    }
+}
+
+/// A row: so many players, which of them are gone, and their words.
+#[repr(C)]
+#[derive(Drop)]
+pub struct RowOut {
+    pub count: u32,
+    pub gone: u32,
+    pub words: [u32; PLAYER_LIMIT],
+}
+
+impl RowOut {
+    /// No player.
+    fn empty() -> RowOut
+        ensures { result ≡ no_row }
+    {
+        RowOut {
+            count: 0,
+            gone: 0,
+            words: [0; PLAYER_LIMIT],
+        }
+    }
+
+    /// A row.
+    pub fn of(row: &Row) -> RowOut
+        ensures { result ≡ row_out row.now }
+    {
+        let mut words = [0; PLAYER_LIMIT];
+        words[..usize::from(row.count())].copy_from_slice(row.words());
+        RowOut {
+            count: u32::from(row.count()),
+            gone: u32::from(row.gone_bits()),
+            words,
+        }
+    }
+}
+
+/// A request: 1 loads a slot, 2 saves into a slot, 3 advances with a row, 4 frees a slot.
+#[repr(C)]
+#[derive(Drop)]
+pub struct RequestOut {
+    pub kind: u32,
+    pub slot: u32,
+    pub row: RowOut,
+}
+
+impl RequestOut {
+    /// A request.
+    pub fn of(request: &Request) -> RequestOut
+        ensures { result ≡ request_out request.now }
+    {
+        match request {
+            Request::Load { slot } => RequestOut::of_slot(1, *slot),
+            Request::Save { slot } => RequestOut::of_slot(2, *slot),
+            Request::Advance { row } => RequestOut {
+                kind: 3,
+                slot: 0,
+                row: RowOut::of(row),
+            },
+            Request::Free { slot } => RequestOut::of_slot(4, *slot),
+        }
+    }
+
+    fn of_slot(kind: u32, slot: u32) -> RequestOut
+        ensures { result ≡ record { kind = kind; slot = slot; row = no_row } }
+    {
+        RequestOut {
+            kind,
+            slot,
+            row: RowOut::empty(),
+        }
+    }
+}
+
+/// Where an advance led.
+#[repr(C)]
+#[derive(Drop)]
+pub struct ReachedOut {
+    pub frame: u32,
+    pub from: u32,
+    pub rerun: u32,
+}

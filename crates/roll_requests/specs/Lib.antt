@@ -1,0 +1,5 @@
+pub mod Names
+pub mod Carried
+pub mod Slots
+pub mod Tables
+pub mod Leading

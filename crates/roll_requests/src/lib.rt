@@ -1,0 +1,16 @@
+//! Games that are played elsewhere: what a session would do with a game becomes a list of requests.
+#![tactic(auto)]
+
+mod name;
+mod recorder;
+mod request;
+mod shown;
+mod table;
+#[cfg(test)]
+mod tests;
+
+pub use name::Name;
+pub use recorder::{Point, Recorder, Saved};
+pub use request::Request;
+pub use shown::{Outcome, all_requests, requests_of, start};
+pub use table::{Kept, Table};

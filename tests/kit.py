@@ -1,0 +1,52 @@
+"""The crates, and how `rt` has one checked: for the scripts beside this file."""
+import collections
+import subprocess
+from pathlib import Path
+
+ROOT = Path(__file__).resolve().parent.parent
+
+Crate = collections.namedtuple("Crate", "name folder of_kit own below")
+
+
+def kit_folder():
+    """Where the kit is."""
+    return Path(subprocess.run(["rt", "doc"], stdout=subprocess.PIPE, check=True, text=True).stdout.strip()).parent
+
+
+def crates_of(lines):
+    """The crates of crates.txt by name, each with the libraries of the kit and its own that it names, and all own ones below it."""
+    parts = [it.partition("#")[0].partition(":") for it in lines]
+    uses = {name.split()[0]: used.split() for name, colon, used in parts if colon}
+    found = {}
+
+    def add(name):
+        if name not in found:
+            own = [add(it) for it in uses[name] if it in uses]
+            below = dict.fromkeys(name for it in own for name in [*it.below, it.name])
+            of_kit = ["std", *(it for it in uses[name] if it not in uses)]
+            found[name] = Crate(name, ROOT / "crates" / name, of_kit, [it.name for it in own], list(below))
+        return found[name]
+
+    for name in uses:
+        add(name)
+    return found
+
+
+def root_of(crate):
+    """A crate's first file."""
+    return "src/main.rt" if (crate.folder / "src/main.rt").is_file() else "src/lib.rt"
+
+
+def words_of(crate, crates, kit):
+    """The words by which `rt` has a crate checked."""
+    words = ["--crate-name", crate.name, root_of(crate)]
+    rlib = lambda name: crates[name].folder / "out" / "rlib"
+    for name in crate.of_kit:
+        words += ["--extern", f"{name}={kit}/rlibs/{name}.rlib"]
+    words += ["-L", f"dependency={kit}/rlibs"]
+    for name in crate.own:
+        words += ["--extern", f"{name}={rlib(name)}/{name}.rlib"]
+    for name in crate.below:
+        words += ["-L", f"dependency={rlib(name)}"]
+    words += ["--antt-project", f"{kit}/rattle/logic/antt-project.json", "--logic-built", f"{kit}/logic_built"]
+    return [*words, "--links", f"{crate.name}=", "--jobs", "1"]
