@@ -1,6 +1,8 @@
 /* What a frame costs through C: make -C c bench
  *
- * Two players, a game of one number. Each line is the least of nine runs; a frame is all calls and requests of a turn. */
+ * Two players, a game of one number. Each line is the least of nine runs; a frame is all calls and requests of a turn. Beside each
+ * is the same match by GGPO's policy with callbacks, in plain C: if a prediction was wrong, it loads the state before the first wrong
+ * frame and runs from there on. The last line is many sessions that take turns; the least of two runs. */
 #define _POSIX_C_SOURCE 199309L
 #include <fazgrond.h>
 #include <stdio.h>
@@ -80,24 +82,150 @@ static void play(match *game, uint32_t late, int changes) {
     }
 }
 
-static void measure(const char *what, uint32_t late, int changes) {
-    static match game;
+/* GGPO's policy, over callbacks of the game. */
+#define KEPT 16
+
+typedef struct callbacks {
+    void (*save)(void *game, uint32_t frame);
+    void (*load)(void *game, uint32_t frame);
+    void (*step)(void *game, const uint32_t words[2]);
+} callbacks;
+
+typedef struct policy {
+    callbacks call;
+    void *game;
+    uint32_t frame;             /* the current one */
+    uint32_t heard;             /* how many words of player 2 have come */
+    uint32_t wrong;             /* the first frame that was predicted wrong, or `frame` */
+    uint32_t own[KEPT];         /* player 1's words */
+    uint32_t other[KEPT];       /* player 2's, as they came or as predicted */
+    uint32_t last;              /* player 2's last word */
+} policy;
+
+static void run_frame(policy *ggpo, uint32_t frame) {
+    if (frame >= ggpo->heard)
+        ggpo->other[frame % KEPT] = ggpo->last;
+    uint32_t words[2] = { ggpo->own[frame % KEPT], ggpo->other[frame % KEPT] };
+    ggpo->call.step(ggpo->game, words);
+    ggpo->call.save(ggpo->game, frame + 1);
+}
+
+static void roll_back(policy *ggpo) {
+    if (ggpo->wrong == ggpo->frame)
+        return;
+    ggpo->call.load(ggpo->game, ggpo->wrong);
+    for (uint32_t frame = ggpo->wrong; frame < ggpo->frame; frame++)
+        run_frame(ggpo, frame);
+    ggpo->wrong = ggpo->frame;
+}
+
+static void hear_by_policy(policy *ggpo, uint32_t word) {
+    uint32_t frame = ggpo->heard++;
+    if (frame < ggpo->frame && ggpo->other[frame % KEPT] != word && frame < ggpo->wrong)
+        ggpo->wrong = frame;
+    ggpo->other[frame % KEPT] = ggpo->last = word;
+}
+
+static void advance_by_policy(policy *ggpo, uint32_t word) {
+    roll_back(ggpo);
+    ggpo->own[ggpo->frame % KEPT] = word;
+    run_frame(ggpo, ggpo->frame);
+    ggpo->wrong = ++ggpo->frame;
+}
+
+static void save_state(void *game, uint32_t frame) {
+    match *own = game;
+    own->saved[frame % KEPT] = own->state;
+}
+
+static void load_state(void *game, uint32_t frame) {
+    match *own = game;
+    own->state = own->saved[frame % KEPT];
+}
+
+static void step_state(void *game, const uint32_t words[2]) {
+    match *own = game;
+    own->state = (10 * own->state + words[0] + 2 * (uint64_t)words[1]) % 1000000;
+    own->steps++;
+}
+
+static void play_by_policy(match *game, uint32_t late, int changes) {
+    policy ggpo = { { save_state, load_state, step_state }, game, 0, 0, 0, { 0 }, { 0 }, 0 };
+    game->state = game->saved[0] = game->steps = 0;
+    for (uint32_t frame = 0; frame < FRAMES; frame++) {
+        if (frame >= late) {
+            hear_by_policy(&ggpo, changes ? frame - late : 0);
+            roll_back(&ggpo);
+        }
+        advance_by_policy(&ggpo, frame);
+    }
+}
+
+static double least_of(match *game, uint32_t late, int changes, void (*plays)(match *, uint32_t, int), int opens) {
     double least = 0;
     for (int run = 0; run < RUNS; run++) {
-        open_match(&game);
+        if (opens)
+            open_match(game);
         double from = now();
-        play(&game, late, changes);
+        plays(game, late, changes);
         double took = (now() - from) / FRAMES;
         if (run == 0 || took < least)
             least = took;
     }
-    printf("%-42s %7.0f ns a frame, %4.2f steps\n", what, least, (double)game.steps / FRAMES);
+    return least;
+}
+
+static void measure(const char *what, uint32_t late, int changes) {
+    static match game, other;
+    double took = least_of(&game, late, changes, play, 1);
+    double others = least_of(&other, late, changes, play_by_policy, 0);
+    printf("%-38s %7.0f ns a frame, %4.2f steps; GGPO's policy %5.0f ns, %4.2f steps\n", what, took,
+           (double)game.steps / FRAMES, others, (double)other.steps / FRAMES);
+    if (game.state != other.state) {
+        fprintf(stderr, "the states differ\n");
+        exit(1);
+    }
     fazgrond_close(&game.session);
+}
+
+/* Many sessions, each of which plays a frame in turn: the other player's word comes 2 frames late, and is another one in each. */
+#define SESSIONS 10000
+#define TURNS 120
+
+static void measure_many(void) {
+    match *games = calloc(SESSIONS, sizeof(match));
+    fazgrond_reached reached;
+    double least = 0;
+    if (games == NULL)
+        exit(1);
+    for (int run = 0; run < 2; run++) {
+        for (size_t at = 0; at < SESSIONS; at++)
+            open_match(&games[at]);
+        double from = now();
+        for (uint32_t frame = 0; frame < TURNS; frame++) {
+            for (size_t at = 0; at < SESSIONS; at++) {
+                if (frame >= 2)
+                    hear(&games[at], frame - 2, 1);
+                must(fazgrond_add_local_input(&games[at].session, 1, frame));
+                must(fazgrond_advance_frame(&games[at].session, &reached));
+                carry_out_all(&games[at]);
+            }
+        }
+        double took = (now() - from) / TURNS / SESSIONS;
+        if (run == 0 || took < least)
+            least = took;
+    }
+    printf("%-38s %7.0f ns a frame\n", "10000 sessions, words 2 frames late", least);
+    for (size_t at = 0; at < SESSIONS; at++)
+        fazgrond_close(&games[at].session);
+    free(games);
 }
 
 int main(void) {
     measure("each word in time, no rollback", 0, 1);
     measure("each word 6 frames late, as predicted", 6, 0);
     measure("each word 6 frames late, another one", 6, 1);
+    measure("each word 2 frames late, another one", 2, 1);
+    measure_many();
     return 0;
 }

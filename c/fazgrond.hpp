@@ -16,6 +16,7 @@ using Settings = fazgrond_settings;
 using Row = fazgrond_row;
 using Reached = fazgrond_reached;
 using Request = fazgrond_request;
+using Entry = fazgrond_entry;
 
 // What a call answers.
 enum class [[nodiscard]] Code : std::int32_t {
@@ -32,10 +33,18 @@ enum class [[nodiscard]] Code : std::int32_t {
     queue_full = FAZGROND_QUEUE_FULL,
     frame_limit = FAZGROND_FRAME_LIMIT,
     no_memory = FAZGROND_NO_MEMORY,
+    stranger = FAZGROND_STRANGER,
+    too_far = FAZGROND_TOO_FAR,
+    late = FAZGROND_LATE,
+    orphan = FAZGROND_ORPHAN,
+    dead = FAZGROND_DEAD,
+    tree_full = FAZGROND_TREE_FULL,
     log_full = FAZGROND_LOG_FULL,
+    no_plan = FAZGROND_NO_PLAN,
+    full = FAZGROND_FULL,
+    no_job = FAZGROND_NO_JOB,
     is_closed = FAZGROND_IS_CLOSED,
     pending = FAZGROND_PENDING,
-    no_plan = FAZGROND_NO_PLAN,
     nothing = FAZGROND_NOTHING,
     too_short = FAZGROND_TOO_SHORT,
 };
@@ -47,7 +56,7 @@ inline const char *message(Code code) {
     case Code::player_out_of_range: return "the number of players is out of range";
     case Code::prediction_threshold: return "the prediction threshold is reached";
     case Code::player_disconnected: return "the player is disconnected";
-    case Code::invalid_request: return "invalid settings";
+    case Code::invalid_request: return "invalid settings, or an invalid guess";
     case Code::local_input_missing: return "a local input is missing";
     case Code::input_twice: return "the input was given already";
     case Code::gap: return "an earlier input is missing";
@@ -55,10 +64,18 @@ inline const char *message(Code code) {
     case Code::queue_full: return "the input queue is full";
     case Code::frame_limit: return "the frame limit is reached";
     case Code::no_memory: return "out of memory";
+    case Code::stranger: return "the job's states are not of this session";
+    case Code::too_far: return "the guess goes too far";
+    case Code::late: return "the job comes too late";
+    case Code::orphan: return "the job's start is not kept any more";
+    case Code::dead: return "the guess is wrong";
+    case Code::tree_full: return "no more states of jobs can be kept";
     case Code::log_full: return "the log is full";
+    case Code::no_plan: return "there was no rollback yet";
+    case Code::full: return "too many jobs are out";
+    case Code::no_job: return "there is no such job";
     case Code::is_closed: return "the session is closed";
     case Code::pending: return "requests were not taken yet";
-    case Code::no_plan: return "there was no rollback yet";
     case Code::nothing: return "there is no such thing";
     case Code::too_short: return "the buffer is too short";
     }
@@ -127,7 +144,49 @@ public:
             carry_out(static_cast<const Request &>(request));
     }
 
+    // A guess: if this player gave these words next, up to the frame `until`. Gives each request of its job to `carry_out`, which
+    // may carry it out at once, or put it aside for another thread. The answer is nothing if there is no frame to run.
+    template <class CarryOut>
+    Code guess(std::uint8_t player, const std::uint32_t *words, std::size_t count, std::uint32_t until, std::uint32_t &job,
+               CarryOut &&carry_out) {
+        Code code = Code(fazgrond_guess(handle.get(), player, words, count, until, &job));
+        take_requests([&](const Request &request) {
+            // A guess that is refused half-way leaves requests of no job.
+            if (code == Code::ok || request.kind < FAZGROND_JOB_LOAD)
+                carry_out(request);
+        });
+        return code;
+    }
+
+    // Takes in the states of a job whose requests are all carried out, and says how many of them are kept.
+    Code graft(std::uint32_t job, std::uint32_t *added = nullptr) {
+        std::uint32_t kept = 0;
+        Code code = Code(fazgrond_graft(handle.get(), job, &kept));
+        if (code == Code::ok && added != nullptr)
+            *added = kept;
+        return code;
+    }
+
+    // Gives a job up. None of its requests may be carried out any more.
+    Code forget(std::uint32_t job) { return Code(fazgrond_forget(handle.get(), job)); }
+
+    // From now on nothing is saved in a slot from this one on.
+    Code limit_slots(std::uint32_t slots) { return Code(fazgrond_limit_slots(handle.get(), slots)); }
+
     Code reserve_log(std::uint32_t events) { return Code(fazgrond_reserve_log(handle.get(), events)); }
+
+    // The log has all accepted calls, in their order.
+    std::optional<std::size_t> log_length() { return asked<std::size_t>(fazgrond_log_length); }
+
+    std::optional<Entry> log_entry(std::size_t place) { return asked<Entry>(fazgrond_log_entry, place); }
+
+    // By how many frames this machine is behind the other one, and the other behind this one.
+    Code note_advantages(std::int32_t local, std::int32_t remote) {
+        return Code(fazgrond_note_advantages(handle.get(), local, remote));
+    }
+
+    // How many frames this machine should wait.
+    std::optional<std::uint32_t> frames_ahead() { return asked<std::uint32_t>(fazgrond_frames_ahead); }
 
     // The text of the last rollback's claim, if the answer is ok.
     Code claim(std::string &text) {

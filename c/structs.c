@@ -32,3 +32,9 @@ HAS(fazgrond_reached, 12);
 AT(fazgrond_reached, frame, 0);
 AT(fazgrond_reached, from, 4);
 AT(fazgrond_reached, rerun, 8);
+
+HAS(fazgrond_entry, 16);
+AT(fazgrond_entry, kind, 0);
+AT(fazgrond_entry, player, 4);
+AT(fazgrond_entry, frame, 8);
+AT(fazgrond_entry, word, 12);

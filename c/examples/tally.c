@@ -80,6 +80,7 @@ int main(void) {
     fazgrond_row row;
 
     must(fazgrond_open(&session, &settings));
+    game.state = game.saved[0] = 0; /* the opening */
     advance(&game, &session);
     advance(&game, &session);
 

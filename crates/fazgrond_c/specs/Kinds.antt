@@ -3,10 +3,13 @@ use Rattle.std.specs.Prelude.{◌≡◌, ◌⊎◌, ℕ, ◌+◌, ◌-◌, List,
 use Rattle.roll_frame.specs.Packed.{bits_of}
 use Rattle.roll_frame.specs.Words.{word_of}
 use Rattle.roll_frame.specs.declared.profile.Profile.TheVariants.{Ggpo, Wide}
+use Rattle.roll_frame.specs.declared.entry.Entry.{Entry}
+use Rattle.roll_frame.specs.declared.entry.Entry.TheVariants.{Local, Remote, Disconnect, Sync, Advance, Graft, Partial}
 use Rattle.roll_frame.specs.declared.row.Cell.{Cell}
 use Rattle.roll_frame.specs.declared.settings.Settings.{Settings}
 use Rattle.roll_requests.specs.declared.request.Request.{Request}
-use Rattle.roll_requests.specs.declared.request.Request.TheVariants.{Load, Save, Advance, Free}
+use Rattle.roll_requests.specs.declared.request.Request.TheVariants.{Load, Save, Advance, Free, LoadAside, SaveAside, AdvanceAside}
+use Rattle.fazgrond_c.specs.declared.kinds.EntryOut.{EntryOut}
 use Rattle.fazgrond_c.specs.declared.kinds.RequestOut.{RequestOut}
 use Rattle.fazgrond_c.specs.declared.kinds.RowOut.{RowOut}
 use Rattle.fazgrond_c.specs.declared.kinds.SettingsIn.{SettingsIn}
@@ -27,6 +30,19 @@ request_out (Load slot) = record { kind = 1; slot = slot; row = no_row }
 request_out (Save slot) = record { kind = 2; slot = slot; row = no_row }
 request_out (Advance row) = record { kind = 3; slot = 0; row = row_out row }
 request_out (Free slot) = record { kind = 4; slot = slot; row = no_row }
+request_out (LoadAside slot) = record { kind = 5; slot = slot; row = no_row }
+request_out (SaveAside slot) = record { kind = 6; slot = slot; row = no_row }
+request_out (AdvanceAside row) = record { kind = 7; slot = 0; row = row_out row }
+
+-- an entry of the log; of a graft only that it is one
+abbrev pub entry_out : Entry → EntryOut
+entry_out (Local player word) = record { kind = 1; player = player; frame = 0; word = word }
+entry_out (Remote player frame word) = record { kind = 2; player = player; frame = frame; word = word }
+entry_out (Disconnect player) = record { kind = 3; player = player; frame = 0; word = 0 }
+entry_out Sync = record { kind = 4; player = 0; frame = 0; word = 0 }
+entry_out Advance = record { kind = 5; player = 0; frame = 0; word = 0 }
+entry_out (Graft ticket route) = record { kind = 6; player = 0; frame = 0; word = 0 }
+entry_out (Partial to made) = record { kind = 7; player = 0; frame = to; word = made }
 
 -- the settings that were given
 pub record AreGiven (given : SettingsIn) (settings : Settings) : Type 0 where

@@ -1,3 +1,4 @@
 pub mod Holds
 pub mod Kinds
 pub mod Made
+pub mod Jobs

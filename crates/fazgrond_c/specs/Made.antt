@@ -1,5 +1,6 @@
 -- What a call through a handle comes to.
 use Rattle.std.specs.Prelude.{◌≡◌, ◌≢◌, ◌⊎◌, ℕ, ℤ, List, ◌++◌, drop, length, max, nat_lt, IsSomeAnd, if◌then◌else◌, pos, Result, Ok, Err, IfOk, IfErr, Option, Some, None, IfSome, MatchOption}
+use Rattle.roll_frame.specs.Advice.{noted}
 use Rattle.roll_frame.specs.Codes.{code_of}
 use Rattle.roll_frame.specs.Core.{Core, settled}
 use Rattle.roll_frame.specs.Timeline.{row_at}
@@ -139,3 +140,9 @@ pub record IsHandedBy (old new : Option Live) (before after : List RequestOut) (
   pub closed : old ≡ None → (new ≡ None) × ((count ≡ 0) × (after ≡ before))
   pub handed : IfSome old (λ live. IsSomeAnd new (λ now.
       (now.session ≡ live.session) × AreHanded live.given now.given count before after))
+
+-- the advantages of both sides are noted
+pub record IsNotedBy (old new : Option Live) (local remote : ℤ) (code : ℤ) : Type 0 where
+  pub closed : old ≡ None → (code ≡ pos 201) × (new ≡ None)
+  pub noted : IfSome old (λ live. (code ≡ pos 0)
+      × (new ≡ Some (record live { advice = noted live.advice local remote })))

@@ -1,9 +1,12 @@
 //! What C sees.
 ghost use Rattle.std.specs.Prelude.{◌≡◌, IfSome};
-ghost use Rattle.fazgrond_c.specs.Kinds.{no_row, request_out, row_out, AreGiven};
+ghost use Rattle.roll_session.specs.Calls.{entry_of};
+ghost use Rattle.roll_session.specs.Logs.{logged_entry};
+ghost use Rattle.fazgrond_c.specs.Kinds.{entry_out, no_row, request_out, row_out, AreGiven};
 
 use roll_frame::{PLAYER_LIMIT, Profile, Row, Settings};
 use roll_requests::Request;
+use roll_session::{Call, Logged};
 
 /// How a session is opened.
 #[repr(C)]
@@ -81,7 +84,8 @@ impl RowOut {
     }
 }
 
-/// A request: 1 loads a slot, 2 saves into a slot, 3 advances with a row, 4 frees a slot.
+/// A request: 1 loads a slot, 2 saves into a slot, 3 advances with a row, 4 frees a slot. 5, 6 and 7 are the first three for
+/// the state that is run aside.
 #[repr(C)]
 #[derive(Drop)]
 pub struct RequestOut {
@@ -104,6 +108,13 @@ impl RequestOut {
                 row: RowOut::of(row),
             },
             Request::Free { slot } => RequestOut::of_slot(4, *slot),
+            Request::LoadAside { slot } => RequestOut::of_slot(5, *slot),
+            Request::SaveAside { slot } => RequestOut::of_slot(6, *slot),
+            Request::AdvanceAside { row } => RequestOut {
+                kind: 7,
+                slot: 0,
+                row: RowOut::of(row),
+            },
         }
     }
 
@@ -125,4 +136,55 @@ pub struct ReachedOut {
     pub frame: u32,
     pub from: u32,
     pub rerun: u32,
+}
+
+/// An entry of the log: 1 is a local word, 2 a remote one, 3 a disconnect, 4 a sync, 5 an advance, 6 a graft, and 7 a roll to
+/// `frame` that was cut short after so many states as `word` says.
+#[repr(C)]
+#[derive(Drop)]
+pub struct EntryOut {
+    pub kind: u32,
+    pub player: u32,
+    pub frame: u32,
+    pub word: u32,
+}
+
+impl EntryOut {
+    /// An entry.
+    pub fn of(entry: &Logged<'_>) -> EntryOut
+        ensures { result ≡ entry_out (logged_entry entry.now) }
+    {
+        match entry {
+            Logged::Call(call) => EntryOut::of_call(*call),
+            Logged::Graft { .. } => EntryOut::new(6, 0, 0, 0),
+            Logged::Partial { to, made } => EntryOut::new(7, 0, *to, *made),
+        }
+    }
+
+    fn of_call(call: Call) -> EntryOut
+        ensures { result ≡ entry_out (entry_of call) }
+    {
+        match call {
+            Call::Local { player, word } => EntryOut::new(1, player, 0, word),
+            Call::Remote {
+                player,
+                frame,
+                word,
+            } => EntryOut::new(2, player, frame, word),
+            Call::Disconnect { player } => EntryOut::new(3, player, 0, 0),
+            Call::Sync => EntryOut::new(4, 0, 0, 0),
+            Call::Advance => EntryOut::new(5, 0, 0, 0),
+        }
+    }
+
+    fn new(kind: u32, player: u8, frame: u32, word: u32) -> EntryOut
+        ensures { result ≡ record { kind = kind; player = player; frame = frame; word = word } }
+    {
+        EntryOut {
+            kind,
+            player: u32::from(player),
+            frame,
+            word,
+        }
+    }
 }

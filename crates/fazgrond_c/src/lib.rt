@@ -1,7 +1,7 @@
 //! Rollback sessions for games in other languages: the session says what the game is to do.
 #![tactic(auto)]
 
-ghost use Rattle.std.specs.Prelude.{◌≡◌, ◌≢◌, ◌++◌, drop, List, length, option_and_then, option_map, pos, MatchOption, None, Some, if◌then◌else◌};
+ghost use Rattle.std.specs.Prelude.{◌≡◌, ◌≢◌, ◌++◌, drop, List, length, option_and_then, option_map, pos, slice_get, MatchOption, None, Some, if◌then◌else◌};
 ghost use Rattle.roll_frame.specs.Core.{settled as settled_frame};
 ghost use Rattle.roll_frame.specs.Inputs.{player_at};
 ghost use Rattle.roll_inputs.specs.Boards.{confirmed_word};
@@ -13,15 +13,18 @@ mod hold;
 mod kinds;
 mod live;
 
-ghost use Rattle.fazgrond_c.specs.Made.{code_in, flag_of, reached_in, settled_row, IsAnsweredBy, IsClaimed, IsHandedBy, IsOpenedBy, IsReserved, IsWrittenBy, Reads, ReadsSome};
-ghost use Rattle.fazgrond_c.specs.Kinds.{row_out};
+ghost use Rattle.fazgrond_c.specs.Made.{code_in, flag_of, reached_in, settled_row, IsAnsweredBy, IsClaimed, IsHandedBy, IsNotedBy, IsOpenedBy, IsReserved, IsWrittenBy, Reads, ReadsSome};
+ghost use Rattle.fazgrond_c.specs.Jobs.{added_in, code_of_graft, code_of_guess, number_in, IsForgottenBy, IsGraftedBy, IsGuessed, IsGuessedBy};
+ghost use Rattle.fazgrond_c.specs.Kinds.{entry_out, row_out};
+ghost use Rattle.roll_frame.specs.Advice.{advice_of};
 
 use calls::call;
 pub use calls::{CLOSED, NOTHING, PENDING, TOO_SHORT};
 pub use handle::Handle;
-pub use kinds::{ReachedOut, RequestOut, RowOut, SettingsIn};
+pub use kinds::{EntryOut, ReachedOut, RequestOut, RowOut, SettingsIn};
 pub use live::Live;
 use roll_frame::{Refusal, Reply, Row};
+use roll_requests::limit_slots;
 use roll_session::Call;
 use std::alloc::Global;
 
@@ -168,6 +171,77 @@ pub extern "C" fn fazgrond_take_requests(
     count
 }
 
+/// A guess: its job is asked for, and numbered.
+#[unsafe(no_mangle)]
+pub extern "C" fn fazgrond_guess(
+    alloc: Global,
+    handle: &mut Handle,
+    player: u8,
+    words: &[u32],
+    until: u32,
+    job: &mut u32,
+) -> i32
+    ensures { IsGuessedBy handle.old.hold.value handle.new.hold.value player words.now until
+        job.old job.new result }
+{
+    let Some(mut live) = handle.take(alloc) else {
+        return CLOSED;
+    };
+    let code = guess(alloc, &mut live, player, words, until, job);
+    handle.put(live);
+    code
+}
+
+/// Takes in the branch of a job that was carried out.
+#[unsafe(no_mangle)]
+pub extern "C" fn fazgrond_graft(
+    alloc: Global,
+    handle: &mut Handle,
+    job: u32,
+    added: &mut u32,
+) -> i32
+    ensures { IsGraftedBy handle.old.hold.value handle.new.hold.value job added.old added.new
+        result }
+{
+    let Some(mut live) = handle.take(alloc) else {
+        return CLOSED;
+    };
+    if !live.is_idle() {
+        handle.put(live);
+        return PENDING;
+    }
+    let outcome = live.graft(job);
+    handle.put(live);
+    grafted(added, outcome)
+}
+
+/// Gives a job up.
+#[unsafe(no_mangle)]
+pub extern "C" fn fazgrond_forget(alloc: Global, handle: &mut Handle, job: u32) -> i32
+    ensures { IsForgottenBy handle.old.hold.value handle.new.hold.value job result }
+{
+    let Some(mut live) = handle.take(alloc) else {
+        return CLOSED;
+    };
+    let there = live.forget(job);
+    handle.put(live);
+    if there { 0 } else { Refusal::NoJob.code() }
+}
+
+/// From now on no state is saved in a slot from this one on.
+#[unsafe(no_mangle)]
+pub extern "C" fn fazgrond_limit_slots(alloc: Global, handle: &mut Handle, slots: u32) -> i32
+    ensures kept { handle.new.hold.value ≡ handle.old.hold.value }
+    ensures code { MatchOption handle.old.hold.value (result ≡ pos 201) (λ live. result ≡ pos 0) }
+{
+    let Some(mut live) = handle.take(alloc) else {
+        return CLOSED;
+    };
+    limit_slots(alloc, &mut live.session, slots);
+    handle.put(live);
+    0
+}
+
 /// Makes room for so many more events.
 #[unsafe(no_mangle)]
 pub extern "C" fn fazgrond_reserve_log(alloc: Global, handle: &mut Handle, events: u32) -> i32
@@ -298,6 +372,81 @@ pub extern "C" fn fazgrond_input_frame(
     written(frame, there)
 }
 
+/// How many entries the log has.
+#[unsafe(no_mangle)]
+pub extern "C" fn fazgrond_log_length(
+    alloc: Global,
+    handle: &mut Handle,
+    entries: &mut usize,
+) -> i32
+    ensures { Reads (λ live. length live.session.log) handle.old.hold.value
+        handle.new.hold.value entries.old entries.new result }
+{
+    let Some(live) = handle.take(alloc) else {
+        return CLOSED;
+    };
+    *entries = live.session.log().len();
+    handle.put(live);
+    0
+}
+
+/// An entry of the log.
+#[unsafe(no_mangle)]
+pub extern "C" fn fazgrond_log_entry(
+    alloc: Global,
+    handle: &mut Handle,
+    place: usize,
+    entry: &mut EntryOut,
+) -> i32
+    ensures { ReadsSome (λ live. option_map entry_out (slice_get live.session.log place))
+        handle.old.hold.value handle.new.hold.value entry.old entry.new result }
+{
+    let Some(live) = handle.take(alloc) else {
+        return CLOSED;
+    };
+    let there = entry_at(&live, place);
+    handle.put(live);
+    match there {
+        Some(there) => {
+            *entry = there;
+            0
+        }
+        None => NOTHING,
+    }
+}
+
+/// Notes by how many frames this machine is behind the other, and the other behind this one.
+#[unsafe(no_mangle)]
+pub extern "C" fn fazgrond_note_advantages(
+    alloc: Global,
+    handle: &mut Handle,
+    local: i32,
+    remote: i32,
+) -> i32
+    ensures { IsNotedBy handle.old.hold.value handle.new.hold.value local remote result }
+{
+    let Some(mut live) = handle.take(alloc) else {
+        return CLOSED;
+    };
+    live.advice.note(local, remote);
+    handle.put(live);
+    0
+}
+
+/// How many frames this machine should wait.
+#[unsafe(no_mangle)]
+pub extern "C" fn fazgrond_frames_ahead(alloc: Global, handle: &mut Handle, frames: &mut u32) -> i32
+    ensures { Reads (λ live. advice_of live.advice) handle.old.hold.value
+        handle.new.hold.value frames.old frames.new result }
+{
+    let Some(live) = handle.take(alloc) else {
+        return CLOSED;
+    };
+    *frames = live.advice.frames_ahead();
+    handle.put(live);
+    0
+}
+
 /// The text of the claim of the last rollback, if the buffer has room for it; how long it is in any case.
 #[unsafe(no_mangle)]
 pub extern "C" fn fazgrond_claim(
@@ -321,6 +470,14 @@ pub extern "C" fn fazgrond_claim(
         }
         Err(why) => why.code(),
     }
+}
+
+/// An entry of a session's log, if there is one at this place.
+fn entry_at(live: &Live, place: usize) -> Option<EntryOut>
+    ensures { result ≡ option_map entry_out (slice_get live.now.session.log place) }
+{
+    let entry = live.session.log().get(place)?;
+    Some(EntryOut::of(&entry))
 }
 
 /// Writes bytes to the front of a buffer, if it has room for them.
@@ -356,6 +513,51 @@ fn written(out: &mut u32, number: Option<u32>) -> i32
             0
         }
         None => NOTHING,
+    }
+}
+
+/// Makes a guess, and writes the number of its job, if there is a job.
+fn guess(
+    alloc: Global,
+    live: &mut Live,
+    player: u8,
+    words: &[u32],
+    until: u32,
+    job: &mut u32,
+) -> i32
+    ensures { IsGuessed live.old live.new player words.now until job.old job.new result }
+{
+    let outcome = live.guess(alloc, player, words, until);
+    numbered(job, outcome)
+}
+
+/// Writes the number of a guess's job, if there is a job.
+fn numbered(job: &mut u32, outcome: Result<Option<u32>, Refusal>) -> i32
+    ensures code { result ≡ code_of_guess outcome }
+    ensures written { job.new ≡ number_in outcome job.old }
+{
+    match outcome {
+        Ok(Some(number)) => {
+            *job = number;
+            0
+        }
+        Ok(None) => NOTHING,
+        Err(why) => why.code(),
+    }
+}
+
+/// Writes how many states a graft added, if it was accepted.
+fn grafted(added: &mut u32, outcome: Result<Reply, Refusal>) -> i32
+    ensures code { result ≡ code_of_graft outcome }
+    ensures written { added.new ≡ added_in outcome added.old }
+{
+    match outcome {
+        Ok(Reply::Grafted { added: count }) => {
+            *added = count;
+            0
+        }
+        Ok(Reply::Refused(why)) | Err(why) => why.code(),
+        Ok(_) => 0,
     }
 }
 

@@ -1,29 +1,27 @@
--- What is noted of the replies to a script's commands.
-use Rattle.std.specs.Prelude.{◌≡◌, ◌⊎◌, ◌+◌, ℕ, List, [], ◌∷◌, ◌++◌}
-use Rattle.prog_replies.specs.Output.{Playing, Texts, after_command, written_by}
+-- What is noted of a script's commands that are refused.
+use Rattle.std.specs.Prelude.{◌≡◌, ◌+◌, ℕ, List, [], ◌∷◌, ◌++◌, Option, Some, None}
+use Rattle.prog_replies.specs.Output.{Playing, after_command, refusal_by}
 use Rattle.prog_scripts.specs.declared.command.Command.{Command}
 use Rattle.roll_frame.specs.Games.{Game}
 use Rattle.roll_frame.specs.declared.refusal.Refusal.{Refusal}
 use Rattle.roll_frame.specs.declared.settings.Settings.{Settings}
-use Rattle.prog_explain.specs.Refused.{IsListed, refused_note, refused_reply}
+use Rattle.prog_explain.specs.Refused.{refused_note}
 
--- a reply is no refusal
-abbrev pub IsNoRefusal : List ℕ → Type 0
-IsNoRefusal reply = (why : Refusal) → IsListed why → reply ≡ refused_reply why → ⊥
+-- what is noted of this line: nothing, unless it was refused
+abbrev pub IsNoted : ℕ → Option Refusal → List ℕ → Type 0
+IsNoted line None note = note ≡ []
+IsNoted line (Some why) note = (meaning : List ℕ) × (note ≡ refused_note line why meaning)
 
--- what is noted of the reply to the command in this line: nothing, unless it is a refusal
-abbrev pub IsNoted : ℕ → List ℕ → List ℕ → Type 0
-IsNoted line reply note =
-    ((note ≡ []) × IsNoRefusal reply)
-    ⊎ ((why : Refusal) × (meaning : List ℕ) × IsListed why × (reply ≡ refused_reply why) × (note ≡ refused_note line why meaning))
-
--- what is noted of replies, of which the first is to the command in this line
-abbrev pub AreNoted : ℕ → List (List ℕ) → List ℕ → Type 0
+-- what is noted of lines from this one on
+abbrev pub AreNoted : ℕ → List (Option Refusal) → List ℕ → Type 0
 AreNoted line [] notes = notes ≡ []
-AreNoted line (reply ∷ replies) notes = (note : List ℕ) × (rest : List ℕ) × IsNoted line reply note × AreNoted (line + 1) replies rest × (notes ≡ note ++ rest)
+AreNoted line (why ∷ whys) notes =
+    (note : List ℕ) × (rest : List ℕ) × IsNoted line why note × AreNoted (line + 1) whys rest
+    × (notes ≡ note ++ rest)
 
--- the replies to commands, one by one
-abbrev pub replies_from : Texts → Settings → Game → Playing → List Command → List (List ℕ)
-replies_from texts settings game playing [] = []
-replies_from texts settings game playing (command ∷ commands) =
-    written_by texts settings game playing command ∷ replies_from texts settings game (after_command settings game playing command) commands
+-- why commands are refused, one by one
+abbrev pub refusals_by : Settings → Game → Playing → List Command → List (Option Refusal)
+refusals_by settings game playing [] = []
+refusals_by settings game playing (command ∷ commands) =
+    refusal_by settings game playing command
+    ∷ refusals_by settings game (after_command settings game playing command) commands

@@ -1,22 +1,24 @@
 //! What the program does with a text if more is asked for than its answers.
-ghost use Rattle.std.specs.Prelude.{◌≡◌, ◌≤◌, ◌<◌, ◌⊎◌, ◌+◌, ◌++◌, ◌^◌, ℕ, List, IfErr, IfSome, MatchOption, OnOk, length};
+ghost use Rattle.std.specs.Prelude.{◌≡◌, ◌≢◌, ◌≤◌, ◌<◌, ◌⊎◌, ◌+◌, ◌++◌, ◌^◌, ℕ, List, IfErr, IfSome, MatchOption, OnOk, Some, length};
 ghost use Rattle.std.specs.String.{string_bytes};
 ghost use Rattle.roll_text.specs.declared.streams.TheConstants.{TEXT_LIMIT};
+ghost use Rattle.roll_synctest.specs.Tests.{start_refusal as test_refusal};
 ghost use Rattle.prog_scripts.specs.Faults.{TakesAtMost};
 ghost use Rattle.prog_scripts.specs.Plays.{IsPlay, play_of};
 ghost use Rattle.roll_cli.specs.Programs.{Ends};
 ghost use Rattle.roll_cli.specs.Playings.{game_of};
-ghost use Rattle.prog_explain.specs.Noted.{AreNoted, IsNoted, replies_from};
+ghost use Rattle.prog_explain.specs.Noted.{AreNoted, IsNoted, refusals_by};
 ghost use Rattle.prog_parts.specs.declared.fault.PlayFault.TheVariants.{Write as CannotWrite};
 
-use crate::refusals::{push_refused, refusal_in};
+use crate::refusals::push_refused;
 use prog_parts::{Ending, GameName, PlayFault, Task};
-use prog_scripts::{Command, Script, diagnose};
+use prog_scripts::{Command, RowsFile, Script, diagnose};
 use roll_cli::{Playing, run};
 use roll_duel::Duel;
 use roll_frame::Refusal;
-use roll_game::{Shown, Tally};
+use roll_game::{RawGame, Shown, Tally};
 use roll_session::Session;
+use roll_synctest::SyncTest;
 use roll_text::{ReadFault, read_all};
 use std::alloc::{AllocError, Global};
 use std::fmt::Write as _;
@@ -50,9 +52,11 @@ pub fn explain<R: Read, W: Write>(
     writer: &mut W,
     notes: &mut Notes,
 ) -> Ending
-    ensures ends { IfSome (R.remaining reader.old) (λ text. Ends task text (W.contents writer.old) (W.contents writer.new) result) }
+    ensures ends { IfSome (R.remaining reader.old)
+        (λ text. Ends task text (W.contents writer.old) (W.contents writer.new) result) }
     ensures status { MatchOption result.fault (result.status ≤ 1) (λ fault. result.status ≡ 2) }
-    ensures untouched { IfSome result.fault (λ fault. (fault ≡ CannotWrite) ⊎ (writer.new ≡ writer.old)) }
+    ensures untouched { IfSome result.fault
+        (λ fault. (fault ≡ CannotWrite) ⊎ (writer.new ≡ writer.old)) }
     ensures taken { TakesAtMost (TEXT_LIMIT + 1) (R.remaining reader.old) (R.remaining reader.new) }
 {
     match read_all(alloc, reader) {
@@ -83,7 +87,8 @@ fn explain_text<W: Write>(
     requires { length text.now ≤ TEXT_LIMIT }
     ensures ends { Ends task text.now (W.contents writer.old) (W.contents writer.new) result }
     ensures status { MatchOption result.fault (result.status ≤ 1) (λ fault. result.status ≡ 2) }
-    ensures untouched { IfSome result.fault (λ fault. (fault ≡ CannotWrite) ⊎ (writer.new ≡ writer.old)) }
+    ensures untouched { IfSome result.fault
+        (λ fault. (fault ≡ CannotWrite) ⊎ (writer.new ≡ writer.old)) }
 {
     let mut reader = text;
     let ending = run(alloc, task, &mut reader, writer);
@@ -125,7 +130,7 @@ fn note_refusals(
             let script = Script::read(alloc, text)?;
             note_played(alloc, notes, game, &script)
         }
-        Task::SyncTest { .. } => note_tested(alloc, notes, task, text),
+        Task::SyncTest { game, frames } => note_tested(alloc, notes, game, frames, text),
         Task::Certify => Ok(()),
     }
 }
@@ -134,17 +139,52 @@ fn note_refusals(
 fn note_tested(
     alloc: Global,
     notes: &mut String,
-    task: Task,
+    game: GameName,
+    frames: u32,
     text: &[u8],
 ) -> Result<(), PlayFault> {
-    let mut written = Vec::new(alloc);
-    let ending = run(alloc, task, &mut &text[..], &mut written);
-    if let Some(fault) = ending.fault {
-        return Err(fault);
+    match game {
+        GameName::Tally => note_test(alloc, notes, Tally::new(), Tally::opening(), frames),
+        GameName::Duel => {
+            let file = RowsFile::read(alloc, text)?;
+            match Duel::new(alloc, file.players) {
+                Ok(duel) => {
+                    let opening = duel.opening()?;
+                    note_test(alloc, notes, duel, opening, frames)
+                }
+                Err(why) => note_not_started(notes, why),
+            }
+        }
     }
-    if let Some(why) = refusal_in(&written) {
-        push_refused(notes, 1, why)?;
+}
+
+/// Notes why a sync test of so many frames didn't start, if it didn't.
+fn note_test<G: RawGame + Drop>(
+    alloc: Global,
+    notes: &mut String,
+    game: G,
+    opening: G::Snapshot,
+    frames: u32,
+) -> Result<(), PlayFault>
+    ensures { OnOk result ((note : List ℕ) × IsNoted 1 (test_refusal frames) note
+        × (string_bytes notes.new ≡ string_bytes notes.old ++ note)) }
+{
+    match SyncTest::new(alloc, game, opening, frames) {
+        Ok(_) => Ok(()),
+        Err(fault) => note_not_started(notes, fault.why),
     }
+}
+
+/// Notes why there is nothing to play or to test, unless memory was refused.
+fn note_not_started(notes: &mut String, why: Refusal) -> Result<(), PlayFault>
+    ensures memory { OnOk result (why ≢ Refusal.NoMemory) }
+    ensures noted { OnOk result ((note : List ℕ) × IsNoted 1 (Some why) note
+        × (string_bytes notes.new ≡ string_bytes notes.old ++ note)) }
+{
+    if why == Refusal::NoMemory {
+        return Err(PlayFault::NoMemory);
+    }
+    push_refused(notes, 1, why)?;
     Ok(())
 }
 
@@ -166,8 +206,7 @@ fn note_played(
         GameName::Duel => {
             let ships = script.header.players as u8;
             let (Ok(duel), Ok(helper)) = (Duel::new(alloc, ships), Duel::new(alloc, ships)) else {
-                push_refused(notes, 1, Refusal::PlayerOutOfRange)?;
-                return Ok(());
+                return note_not_started(notes, Refusal::PlayerOutOfRange);
             };
             let opening = duel.opening()?;
             note_session(alloc, notes, script, duel, opening, helper)
@@ -193,8 +232,7 @@ fn note_session<G: Shown + Drop>(
             let mut playing = Playing::new(alloc, session, helper);
             note_all(alloc, notes, &mut playing, &script.commands)
         }
-        Err(fault) if fault.why == Refusal::NoMemory => Err(PlayFault::NoMemory),
-        Err(fault) => Ok(push_refused(notes, 1, fault.why)?),
+        Err(fault) => note_not_started(notes, fault.why),
     }
 }
 
@@ -206,7 +244,9 @@ fn note_all<G: Shown>(
     commands: &[Command],
 ) -> Result<(), PlayFault>
     requires { length playing.old.now.jobs + length commands.now < 2 ^ 32 }
-    ensures noted { OnOk result ((more : List ℕ) × AreNoted 2 (replies_from G.text_of playing.old.settings (game_of G.step playing.old) playing.old.now commands.now) more
+    ensures noted { OnOk result ((more : List ℕ)
+        × AreNoted 2 (refusals_by playing.old.settings (game_of G.step playing.old)
+        playing.old.now commands.now) more
         × (string_bytes notes.new ≡ string_bytes notes.old ++ more)) }
     ensures fault { IfErr result (λ fault. fault ≡ PlayFault.NoMemory) }
 {
@@ -215,17 +255,18 @@ fn note_all<G: Shown>(
     for command in commands {
         line += 1;
         reply.clear();
-        playing.play(alloc, &mut reply, command)?;
-        note_reply(notes, line, &reply)?;
+        let why = playing.play(alloc, &mut reply, command)?;
+        note_refusal(notes, line, why)?;
     }
     Ok(())
 }
 
-/// Notes the refusal that the reply to the command in a line tells, if it tells one.
-fn note_reply(notes: &mut String, line: u64, reply: &[u8]) -> Result<(), AllocError>
-    ensures { OnOk result ((note : List ℕ) × IsNoted line reply.now note × (string_bytes notes.new ≡ string_bytes notes.old ++ note)) }
+/// Notes why the command in a line was refused, if it was.
+fn note_refusal(notes: &mut String, line: u64, why: Option<Refusal>) -> Result<(), AllocError>
+    ensures { OnOk result ((note : List ℕ) × IsNoted line why note
+        × (string_bytes notes.new ≡ string_bytes notes.old ++ note)) }
 {
-    match refusal_in(reply) {
+    match why {
         Some(why) => push_refused(notes, line, why),
         None => Ok(()),
     }

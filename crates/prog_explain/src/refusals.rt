@@ -1,12 +1,9 @@
 //! The numbers of the refusals.
-ghost use Rattle.std.specs.Prelude.{◌≡◌, ◌≢◌, ◌++◌, ℕ, List, MatchOption, OnOk};
+ghost use Rattle.std.specs.Prelude.{◌≡◌, ◌++◌, ℕ, List, OnOk};
 ghost use Rattle.std.specs.String.{string_bytes};
-ghost use Rattle.roll_frame.specs.Codes.{code_of};
-ghost use Rattle.roll_text.specs.Text.{Reads};
-ghost use Rattle.prog_explain.specs.Refused.{IsListed, refused_note, refused_reply};
+ghost use Rattle.prog_explain.specs.Refused.{refused_note};
 
 use roll_frame::Refusal;
-use roll_text::number;
 use std::alloc::AllocError;
 use std::fmt::Write;
 
@@ -49,32 +46,17 @@ pub fn push_refusals(out: &mut String) -> Result<(), AllocError> {
 
 /// Writes a line on the refusal of the command in the line of this number.
 pub fn push_refused(notes: &mut String, line: u64, why: Refusal) -> Result<(), AllocError>
-    ensures { OnOk result ((meaning : List ℕ) × (string_bytes notes.new ≡ string_bytes notes.old ++ refused_note line why meaning)) }
+    ensures { OnOk result ((meaning : List ℕ)
+        × (string_bytes notes.new ≡ string_bytes notes.old ++ refused_note line why meaning)) }
 {
     let meaning = format!(in *notes.allocator(); "{why:?}: {why}")?;
     push_note(notes, line, why, meaning.as_str())
 }
 
 fn push_note(notes: &mut String, line: u64, why: Refusal, meaning: &str) -> Result<(), AllocError>
-    ensures { OnOk result (string_bytes notes.new ≡ string_bytes notes.old ++ refused_note line why meaning.now) }
+    ensures { OnOk result (string_bytes notes.new
+        ≡ string_bytes notes.old ++ refused_note line why meaning.now) }
 {
     let code = why.code().unsigned_abs();
     writeln!(notes, "line {line}: refused {code}: {meaning}")
-}
-
-/// The refusal that a reply tells.
-pub fn refusal_in(reply: &[u8]) -> Option<Refusal>
-    ensures { Reads IsListed refused_reply reply.now result }
-{
-    let code = number(reply.strip_prefix(b"refused ")?.strip_suffix(b"\n")?)?;
-    with_code(code)
-}
-
-fn with_code(code: u32) -> Option<Refusal>
-    ensures { MatchOption result ((why : Refusal) → IsListed why → code_of why ≢ code) (λ why. IsListed why × (code_of why ≡ code)) }
-{
-    REFUSALS
-        .iter()
-        .copied()
-        .find(|why| i64::from(why.code()) == i64::from(code))
 }

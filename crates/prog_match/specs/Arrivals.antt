@@ -14,7 +14,8 @@ pub record IsSent (packets : List Packet) (frame words late : ℕ) : Type 0 wher
 pub record HasCome (packets : List Packet) (now frame words : ℕ) : Type 0 where
   pub late : ℕ
   pub sent : IsSent packets frame words late
-  pub in_order : (earlier w k : ℕ) → earlier ≤ frame → IsSent packets earlier w k → earlier + k ≤ now
+  pub in_order : (earlier w k : ℕ) → earlier ≤ frame → IsSent packets earlier w k
+      → earlier + k ≤ now
 
 -- so many words are there, where the packets are those of all frames before this one: what one of the packets that have
 -- come tells, or none, and none that has come tells more

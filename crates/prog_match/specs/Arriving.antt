@@ -17,11 +17,15 @@ state_of packet age = state_by packet.late age
 -- each of the first packets has come or was lost, and the most words that one of them tells
 pub record IsGoing (packets : List Packet) (front : Front) : Type 0 where
   pub within : front.passed ≤ length packets
-  pub come : (frame w k : ℕ) → frame < front.passed → IsSent packets frame w k → frame + k ≤ length packets
-  pub some : (front.words ≡ 0) ⊎ ((frame : ℕ) × (k : ℕ) × (frame < front.passed) × IsSent packets frame front.words k)
+  pub come : (frame w k : ℕ) → frame < front.passed → IsSent packets frame w k
+      → frame + k ≤ length packets
+  pub some : (front.words ≡ 0)
+      ⊎ ((frame : ℕ) × (k : ℕ) × (frame < front.passed) × IsSent packets frame front.words k)
   pub most : (frame w k : ℕ) → frame < front.passed → IsSent packets frame w k → w ≤ front.words
 
 -- and the next one, if there is one, is still under way
 pub record IsPassed (packets : List Packet) (front : Front) : Type 0 where
   pub going : IsGoing packets front
-  pub next : (front.passed ≡ length packets) ⊎ ((w : ℕ) × (k : ℕ) × IsSent packets front.passed w k × (length packets < front.passed + k))
+  pub next : (front.passed ≡ length packets)
+      ⊎ ((w : ℕ) × (k : ℕ) × IsSent packets front.passed w k
+      × (length packets < front.passed + k))

@@ -14,4 +14,6 @@ after_draw g = (pcg32 g).1
 -- for how many frames a packet is under way, at most so many, which is drawn first; none where it is lost, as so many of a
 -- hundred are
 abbrev pub lateness : Lcg → ℕ → ℕ → Option ℕ
-lateness g most lost = if nat_lt (number_below (after_draw g) 100) lost then None else Some (number_below g (min (most + 1) (2 ^ 32 - 1)))
+lateness g most lost =
+    if nat_lt (number_below (after_draw g) 100) lost then None
+    else Some (number_below g (min (most + 1) (2 ^ 32 - 1)))

@@ -10,7 +10,8 @@ use Rattle.prog_match.specs.Policy.{word_at}
 
 -- the events that tell a player's words of so many frames, from one on
 abbrev pub told : ℕ → List ℕ → ℕ → ℕ → List CoreEvent
-told player words from count = map (λ frame. plain (Remote player frame (word_at words frame))) (range_with_len from count)
+told player words from count =
+    map (λ frame. plain (Remote player frame (word_at words frame))) (range_with_len from count)
 
 -- what a session has come to once it was told all of a player's words that are there
 abbrev pub core_told : Step → Seen → ℕ → List ℕ → ℕ → Core
@@ -24,4 +25,7 @@ sync_cost core = cost core core.frame
 
 -- how many frames the sync runs of a side that hears so many words; none where it knows them all, and doesn't sync
 abbrev pub heard_by : Step → Seen → ℕ → List ℕ → ℕ → Option ℕ
-heard_by step s player words there = if nat_lt (known_of s.core player) there then Some (sync_cost (core_told step s player words there)) else None
+heard_by step s player words there =
+    if nat_lt (known_of s.core player) there
+    then Some (sync_cost (core_told step s player words there))
+    else None

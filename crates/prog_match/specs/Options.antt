@@ -12,4 +12,8 @@ IsPlayable options = (options.lost ≤ 99) × (0 < options.hold) × (0 < options
 abbrev pub side_settings : MatchOptions → ℕ → ℕ → Settings
 side_settings options me bits =
     let plain : Settings = plain_settings 2 bits in
-    record plain { delays = slice_set plain.delays (me - 1) options.delay; threshold = options.threshold; limit = options.frames }
+    record plain {
+      delays = slice_set plain.delays (me - 1) options.delay;
+      threshold = options.threshold;
+      limit = options.frames;
+    }

@@ -25,4 +25,5 @@ frames_to now = range_with_len 0 now
 
 -- those that are run again: all from the first wrong one on
 abbrev pub run_again : List ℕ → ℕ → ℕ → ℕ → List ℕ
-run_again words before heard now = drop (position_or_len (was_wrong words before heard) (frames_to now)) (frames_to now)
+run_again words before heard now =
+    drop (position_or_len (was_wrong words before heard) (frames_to now)) (frames_to now)

@@ -57,7 +57,8 @@ module _ {G S N : Type 0} where
 
   -- a side before the first frame, whose player has this number, and whose opening has this value. It knows nothing of the
   -- other's words, whichever these are
-  pub record IsSideAtStart (options : MatchOptions) (number : ℕ) (value : Value) (side : Side G S N) : Type 0 where
+  pub record IsSideAtStart (options : MatchOptions) (number : ℕ) (value : Value)
+      (side : Side G S N) : Type 0 where
     pub me : side.me ≡ number
     pub other : side.other ≡ 3 - number
     pub limit : side.session.settings.limit ≡ options.frames

@@ -22,7 +22,7 @@ a_roll : (players : ℕ) (last : Option Roll) (plan : Plan) → false ≡ is_non
 a_roll players None plan e h = absurd (false≢true e)
 a_roll players (Some roll) plan e h = (roll, refl, h)
 
-no_rows : {S : Type 0} (value : S → List ℕ) (step : List ℕ → List Cell → List ℕ) (x : List ℕ) (shown : Option Rows) → Shows value step x shown None → shown ≡ None
+pub no_rows : {S : Type 0} (value : S → List ℕ) (step : List ℕ → List Cell → List ℕ) (x : List ℕ) (shown : Option Rows) → Shows value step x shown None → shown ≡ None
 no_rows value step x None h = refl
 no_rows value step x (Some rows) h = absurd h
 

@@ -1,11 +1,11 @@
 //! What is written of a session.
-ghost use Rattle.std.specs.Prelude.{◌≡◌, ◌≢◌, ◌⊎◌, ◌++◌, IfErr, IfOk, OnOk, codes, is_none};
+ghost use Rattle.std.specs.Prelude.{◌≡◌, ◌≢◌, ◌⊎◌, ◌++◌, IfErr, IfOk, OnOk, codes};
 ghost use Rattle.prog_parts.specs.declared.fault.PlayFault.TheVariants.{NoMemory, Write as CannotWrite};
 ghost use Rattle.std.specs.Fmt.{decimal};
 ghost use Rattle.roll_session.specs.Seen.{game_of};
 ghost use Rattle.roll_text.specs.Lines.{ended};
 ghost use Rattle.prog_scripts.specs.Engines.{Outputs};
-ghost use Rattle.prog_replies.specs.Output.{IsRefusedAlone, claim_text, frame_line, refused_line, reply_line};
+ghost use Rattle.prog_replies.specs.Output.{IsRefusedAlone, claim_refusal, claim_text, frame_line, refused_line, reply_line};
 
 use prog_parts::PlayFault;
 use roll_frame::{Refusal, Reply};
@@ -15,7 +15,7 @@ use roll_text::{push_number, push_signed, write_all};
 use std::alloc::{AllocError, Global};
 use std::io::Write;
 
-/// Writes the claim of the last roll, or the refusal if there is none, and answers whether it was refused.
+/// Writes the claim of the last roll, or the refusal if there is none, and answers why it was refused, if it was.
 ///
 /// # Errors
 ///
@@ -25,21 +25,21 @@ pub fn push_claim<G: Shown>(
     alloc: Global,
     out: &mut Vec<u8>,
     session: &Session<G>,
-) -> Result<bool, PlayFault>
+) -> Result<Option<Refusal>, PlayFault>
     ensures written { OnOk result
         (out.new.items ≡ out.old.items ++ claim_text session.now.settings session.now.core) }
-    ensures refused { IfOk result (λ refused. refused ≡ is_none session.now.core.last) }
+    ensures refused { IfOk result (λ why. why ≡ claim_refusal session.now.core) }
     ensures fault { IfErr result (λ fault. fault ≡ PlayFault.NoMemory) }
 {
     match session.claim(alloc) {
         Ok(claim) => {
             let text = roll_cert::write(alloc, &claim)?;
             out.extend_from_slice(&text)?;
-            Ok(false)
+            Ok(None)
         }
         Err(Refusal::NoPlan) => {
             push_reply(out, session, Reply::Refused(Refusal::NoPlan))?;
-            Ok(true)
+            Ok(Some(Refusal::NoPlan))
         }
         Err(_) => Err(PlayFault::NoMemory),
     }

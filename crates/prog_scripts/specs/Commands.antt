@@ -13,17 +13,20 @@ IsCommand (Remote player frame word) = IsWord player × IsWord frame × IsWord w
 IsCommand (Disconnect player) = IsWord player
 IsCommand Sync = Unit {0}
 IsCommand Advance = Unit {0}
-IsCommand (Guess player until words) = IsWord player × IsWord until × IsList words.items × (length words.items ≤ PATH_LIMIT)
+IsCommand (Guess player until words) =
+    IsWord player × IsWord until × IsList words.items × (length words.items ≤ PATH_LIMIT)
 IsCommand (Extend job) = IsWord job
 IsCommand Claim = Unit {0}
 
 abbrev pub fields_of : Command → List (List ℕ)
 fields_of (Local player word) = codes "L" ∷ decimal player ∷ decimal word ∷ []
-fields_of (Remote player frame word) = codes "R" ∷ decimal player ∷ decimal frame ∷ decimal word ∷ []
+fields_of (Remote player frame word) =
+    codes "R" ∷ decimal player ∷ decimal frame ∷ decimal word ∷ []
 fields_of (Disconnect player) = codes "D" ∷ decimal player ∷ []
 fields_of Sync = codes "S" ∷ []
 fields_of Advance = codes "A" ∷ []
-fields_of (Guess player until words) = codes "G" ∷ decimal player ∷ decimal until ∷ list_of words.items ∷ []
+fields_of (Guess player until words) =
+    codes "G" ∷ decimal player ∷ decimal until ∷ list_of words.items ∷ []
 fields_of (Extend job) = codes "B" ∷ decimal job ∷ []
 fields_of Claim = codes "C" ∷ []
 

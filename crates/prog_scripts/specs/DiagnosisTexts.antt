@@ -14,8 +14,10 @@ why_text TooLarge = codes "over 4,294,967,295"
 
 abbrev pub length_text : ℕ → ℕ → ℕ → List ℕ
 length_text found least most =
-    if least == most then decimal found ++ (codes " in a list; " ++ (decimal least ++ codes " were expected"))
-    else decimal found ++ (codes " in a list; " ++ (decimal least ++ (codes " to " ++ (decimal most ++ codes " were expected"))))
+    if least == most
+    then decimal found ++ (codes " in a list; " ++ (decimal least ++ codes " were expected"))
+    else decimal found ++ (codes " in a list; "
+    ++ (decimal least ++ (codes " to " ++ (decimal most ++ codes " were expected"))))
 
 -- nothing is claimed of the texts in which a field of the line stands
 abbrev pub diagnosis_text : Diagnosis → Option (List ℕ)
@@ -26,10 +28,15 @@ diagnosis_text Blank = Some (codes "is empty")
 diagnosis_text (ExtraSpace column) = Some (codes "a space too many at column " ++ decimal column)
 diagnosis_text AfterEnd = Some (codes "the claim ends before this line")
 diagnosis_text (UnknownCommand found) = None
-diagnosis_text (FieldCount found wanted) = Some (decimal found ++ (codes " fields; " ++ (decimal wanted ++ codes " were expected")))
+diagnosis_text (FieldCount found wanted) =
+    Some (decimal found ++ (codes " fields; " ++ (decimal wanted ++ codes " were expected")))
 diagnosis_text (Word found wanted) = None
 diagnosis_text (Number found why) = None
-diagnosis_text (OutOfRange found least most) = Some (decimal found ++ (codes " is out of range: " ++ (decimal least ++ (codes " to " ++ (decimal most ++ codes " was expected")))))
+diagnosis_text (OutOfRange found least most) =
+    Some (decimal found ++ (codes " is out of range: "
+    ++ (decimal least ++ (codes " to " ++ (decimal most ++ codes " was expected")))))
 diagnosis_text (ListLength found least most) = Some (length_text found least most)
-diagnosis_text (NotRising found before) = Some (decimal found ++ (codes " after " ++ (decimal before ++ codes " in a list that has to rise")))
+diagnosis_text (NotRising found before) =
+    Some (decimal found ++ (codes " after "
+    ++ (decimal before ++ codes " in a list that has to rise")))
 diagnosis_text Other = Some (codes "another line was expected")

@@ -22,7 +22,14 @@ pub record Setup : Type 0 where
 
 abbrev pub setup_of : Header → Setup
 setup_of header =
-    record { version = header.version; players = header.players; local = header.local.items; delays = header.delays.items; masks = header.masks.items; threshold = header.threshold }
+    record {
+      version = header.version;
+      players = header.players;
+      local = header.local.items;
+      delays = header.delays.items;
+      masks = header.masks.items;
+      threshold = header.threshold;
+    }
 
 -- each number is above the one before it, the first above least, and none is above 8
 abbrev pub IsRising : ℕ → List ℕ → Type 0
@@ -55,8 +62,9 @@ mask_fields (mask ∷ masks) = codes "mask" ∷ list_of (mask ∷ masks) ∷ []
 
 abbrev pub header_fields : Setup → List (List ℕ)
 header_fields setup =
-    codes "roll" ∷ version_field setup.version ∷ codes "players" ∷ decimal setup.players ∷ codes "local" ∷ list_of setup.local
-    ∷ codes "delay" ∷ list_of setup.delays ∷ (mask_fields setup.masks ++ codes "threshold" ∷ decimal setup.threshold ∷ [])
+    codes "roll" ∷ version_field setup.version ∷ codes "players" ∷ decimal setup.players
+    ∷ codes "local" ∷ list_of setup.local ∷ codes "delay" ∷ list_of setup.delays
+    ∷ (mask_fields setup.masks ++ codes "threshold" ∷ decimal setup.threshold ∷ [])
 
 -- a header's line, without its end
 unfoldable pub header_of : Setup → List ℕ

@@ -36,7 +36,9 @@ pub record AreCommands (text : List ℕ) (commands : List Command) : Type 0 wher
 -- the command in the first line of a text, and what follows that line; none where no command's line comes first
 abbrev pub CutsCommand : List ℕ → Option (Command × List ℕ) → Type 0
 CutsCommand text (Some cut) = IsCommand cut.0 × (text ≡ ended (line_of cut.0) ++ cut.1)
-CutsCommand text None = (command : Command) (after : List ℕ) → IsCommand command → text ≡ ended (line_of command) ++ after → ⊥
+CutsCommand text None =
+    (command : Command) (after : List ℕ) → IsCommand command
+    → text ≡ ended (line_of command) ++ after → ⊥
 
 -- a header's line comes first, and then the lines of commands alone
 pub record IsOutlined (setup : Setup) (rest text : List ℕ) : Type 0 where

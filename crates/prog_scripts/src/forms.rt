@@ -1,5 +1,5 @@
 //! What is wrong with a line of a script, a file of rows or a claim.
-ghost use Rattle.std.specs.Prelude.{◌≡◌, ◌≢◌, ◌-◌, [], IfSome, None, drop, length, slice_index_or, true};
+ghost use Rattle.std.specs.Prelude.{◌≡◌, ◌≢◌, ◌-◌, [], IfSome, None, drop, slice_index_or, true};
 ghost use Rattle.roll_text.specs.Lines.{lines_of};
 ghost use Rattle.prog_parts.specs.declared.ending.GameName.{GameName};
 ghost use Rattle.prog_scripts.specs.Diagnoses.{IsCommandForm, IsCommandLine, IsOfTask, IsSaidOf, IsTrueInside, IsTrueOf, fields};

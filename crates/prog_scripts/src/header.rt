@@ -189,9 +189,10 @@ fn from_values(
     threshold: &[u8],
 ) -> Result<Option<Header>, AllocError>
     ensures sound { IfOk result (λ header. IfSome header (λ header. IsSetup (setup_of header))) }
-    ensures complete { (setup : Setup) → IsSetup setup → version ≡ setup.version → players.now
-        ≡ decimal setup.players → local.now ≡ list_of setup.local
-        → delays.now ≡ list_of setup.delays → masks.now ≡ list_of setup.masks → threshold.now ≡ decimal setup.threshold
+    ensures complete { (setup : Setup) → IsSetup setup → version ≡ setup.version
+        → players.now ≡ decimal setup.players → local.now ≡ list_of setup.local
+        → delays.now ≡ list_of setup.delays → masks.now ≡ list_of setup.masks
+        → threshold.now ≡ decimal setup.threshold
         → IfOk result (λ header. option_map setup_of header ≡ Some setup) }
 {
     let Some(players) = number(players) else {

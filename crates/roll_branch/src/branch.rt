@@ -7,7 +7,7 @@ use roll_frame::{Boxed, Route};
 use roll_game::Game;
 use std::marker::Model;
 
-/// Rows that were run from a saved state, with the state after each. Only `extend` makes one.
+/// Rows that were run from a saved state, with the state after each. A job becomes one by `extend`, or by its states.
 #[derive(Drop)]
 pub struct Branch<G: Game> {
     pub(crate) ticket: u64,

@@ -1,6 +1,8 @@
 //! What is to be run.
 ghost use Rattle.std.specs.Prelude.{◌≡◌, ◌↔◌, ◌≤◌, [], length, vec_capacity, IsNone, IfSome};
+ghost use Rattle.roll_branch.specs.Routed.{AreStates};
 
+use crate::branch::Branch;
 use roll_frame::{Boxed, Route};
 use roll_game::Game;
 use std::marker::Model;
@@ -69,5 +71,25 @@ impl<G: Game> Job<G> {
         ensures { result.now ≡ self.now.route }
     {
         self.route.get()
+    }
+
+    /// The saved state that it is to run from.
+    pub fn start(&self) -> &G::Snapshot
+        ensures { G.snapshot_value result.now ≡ self.now.from }
+    {
+        &self.from
+    }
+
+    /// The job's branch, for whoever runs its rows otherwise than by `extend`: these are the states after each.
+    pub fn grown(self, states: Vec<G::Snapshot>) -> Branch<G>
+        requires { AreStates G.snapshot_value G.step self.from self.route.rows.items states.items }
+        ensures { result ≡ self }
+    {
+        Branch {
+            ticket: self.ticket,
+            route: self.route,
+            from: self.from,
+            states,
+        }
     }
 }

@@ -19,7 +19,7 @@ use Rattle.roll_session.specs.declared.event.Call.{Call}
 use Rattle.prog_scripts.specs.declared.command.Command.{Command}
 use Rattle.prog_scripts.specs.declared.command.Command.TheVariants.{Local as Gives, Remote as Tells, Disconnect as Leaves, Sync as Syncs, Advance as Advances, Guess, Extend, Claim}
 use Rattle.prog_replies.specs.Calls.{narrowed, call_of}
-use Rattle.prog_replies.specs.Output.{Playing, Texts, after_command, event_text, guessed, is_refused, refused_by, reply_line, written_by}
+use Rattle.prog_replies.specs.Output.{Playing, Texts, after_command, event_text, guessed, refusal_by, refusal_in, reply_line, written_by}
 use Rattle.roll_text.specs.Lines.{ended}
 
 -- a number past all players' becomes 0
@@ -77,14 +77,14 @@ abbrev pub IsEvents : Texts → Settings → Game → Playing → Command → Co
 IsEvents texts settings game playing command event =
     (record playing { core = after settings game playing.core event } ≡ after_command settings game playing command)
     × (event_text texts settings game playing.core event ≡ written_by texts settings game playing command)
-    × (is_refused (reply settings game playing.core event) ≡ refused_by settings game playing command)
+    × (refusal_in (reply settings game playing.core event) ≡ refusal_by settings game playing command)
 
 alike_events : (texts : Texts) (settings : Settings) (game : Game) (playing : Playing) (a b : Entry) → AreAlike settings game playing.core a b
     → (record playing { core = after settings game playing.core (plain a) } ≡ record playing { core = after settings game playing.core (plain b) })
     × (event_text texts settings game playing.core (plain a) ≡ event_text texts settings game playing.core (plain b))
-    × (is_refused (reply settings game playing.core (plain a)) ≡ is_refused (reply settings game playing.core (plain b)))
+    × (refusal_in (reply settings game playing.core (plain a)) ≡ refusal_in (reply settings game playing.core (plain b)))
 alike_events texts settings game playing a b alike =
-    (λ i. record playing { core = alike.same_core i }, λ i. ended (reply_line texts game (alike.same_core i) (alike.same_reply i)), ap is_refused alike.same_reply)
+    (λ i. record playing { core = alike.same_core i }, λ i. ended (reply_line texts game (alike.same_core i) (alike.same_reply i)), ap refusal_in alike.same_reply)
 
 module _ (texts : Texts) (settings : Settings) (game : Game) (playing : Playing) (few : length playing.core.players ≤ PLAYER_LIMIT) where
   narrowed_events : (entry : ℕ → Entry) → ((p : ℕ) → player_at playing.core.players p ≡ None → IsNobodys settings game playing.core (entry p)) → (p : ℕ) → AreAlike settings game playing.core (entry (narrowed p)) (entry p)

@@ -1,6 +1,7 @@
 -- What becomes of a guess of a script, by what its session answers.
 use Rattle.std.proofs.Common.{◌≡◌, ℕ, List, refl, sym, ap, ◌∙◌, subst, length, Option, None}
-use Rattle.std.specs.Prelude.{◌≢◌, unwrap_or, is_err, Result, Ok, Err}
+use Rattle.std.specs.Prelude.{◌≢◌, unwrap_or, Result, Ok, Err}
+use Rattle.std.specs.Result.{result_err}
 use Rattle.roll_branch.specs.Routed.{Routed}
 use Rattle.roll_frame.specs.declared.refusal.Refusal.{Refusal}
 use Rattle.roll_frame.specs.declared.refusal.Refusal.TheVariants.{NoMemory}
@@ -22,12 +23,12 @@ module _ (step : Step) (old : Played) (s : Seen) (jobs : List (Option Routed)) (
     by_session : (result : Result (Option Routed) Refusal) → guessed s.settings (game_of step (played_of s jobs)) s.core p words until ≡ result → Becomes result
     by_session result e = subst (λ (v : Played). guessed v.settings (game_of step v) v.now.core p words until ≡ result) is e
 
-    -- a line of a guess, and whether it is refused
+    -- a line of a guess, and why it is refused
     pub guess_written : (result : Result (Option Routed) Refusal) → Becomes result → guess_line (length jobs) result ≡ guess_line (length old.now.jobs) (guessed old.settings (game_of step old) old.now.core p words until)
     guess_written result e = ap (λ n. guess_line n result) (ap (λ (v : Played). length v.now.jobs) is) ∙ ap (guess_line (length old.now.jobs)) (sym e)
 
-    pub guess_refused : (result : Result (Option Routed) Refusal) → Becomes result → is_err result ≡ is_err (guessed old.settings (game_of step old) old.now.core p words until)
-    guess_refused result e = ap is_err (sym e)
+    pub guess_refused : (result : Result (Option Routed) Refusal) → Becomes result → result_err result ≡ result_err (guessed old.settings (game_of step old) old.now.core p words until)
+    guess_refused result e = ap result_err (sym e)
 
     -- nothing but the game's counts and the jobs changed
     pub guess_played : (result : Result (Option Routed) Refusal) → Becomes result → (new : Seen) → new ≡ record s { counts = new.counts }

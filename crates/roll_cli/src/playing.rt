@@ -1,9 +1,10 @@
 //! Scripts that are being played.
-ghost use Rattle.std.specs.Prelude.{◌≡◌, List, ◌<◌, ◌+◌, ◌^◌, ◌++◌, [], IfErr, IfOk, OnOk, is_err, length, slice_set, None};
+ghost use Rattle.std.specs.Prelude.{◌≡◌, List, ◌<◌, ◌+◌, ◌^◌, ◌++◌, [], IfErr, IfOk, OnOk, length, slice_set, None};
+ghost use Rattle.std.specs.Result.{result_err};
 ghost use Rattle.roll_frame.specs.Events.{after, reply};
 ghost use Rattle.roll_session.specs.Calls.{asked};
 ghost use Rattle.roll_text.specs.Lines.{ended};
-ghost use Rattle.prog_replies.specs.Output.{after_command, event_text, guess_line, guessed, is_refused as refuses, job_at, refusals_from, refused_by, with_job, written_by, written_from};
+ghost use Rattle.prog_replies.specs.Output.{after_command, event_text, guess_line, guessed, job_at, refusal_by, refusal_in, refusals_from, with_job, written_by, written_from};
 ghost use Rattle.roll_cli.specs.Playings.{game_of};
 ghost use Rattle.prog_scripts.specs.Plays.{AreCommands};
 ghost use Rattle.prog_scripts.specs.declared.command.Command.{Command};
@@ -97,7 +98,7 @@ impl<G: Shown> Playing<G> {
             let Some((command, after)) = first_command(alloc, rest)? else {
                 unreachable!()
             };
-            if self.play(alloc, out, &command)? {
+            if self.play(alloc, out, &command)?.is_some() {
                 refused += 1;
             }
             rest = after;
@@ -105,7 +106,7 @@ impl<G: Shown> Playing<G> {
         Ok(refused)
     }
 
-    /// Plays a command, writes its reply, and answers whether it was refused.
+    /// Plays a command, writes its reply, and answers why it was refused, if it was.
     ///
     /// # Errors
     ///
@@ -116,7 +117,7 @@ impl<G: Shown> Playing<G> {
         alloc: Global,
         out: &mut Vec<u8>,
         command: &Command,
-    ) -> Result<bool, PlayFault>
+    ) -> Result<Option<Refusal>, PlayFault>
         requires { length self.old.now.jobs < 2 ^ 32 }
         ensures played { OnOk result
             (self.new ≡ record self.old {
@@ -128,7 +129,7 @@ impl<G: Shown> Playing<G> {
             ++ written_by G.text_of self.old.settings
             (game_of G.step self.old) self.old.now command.now) }
         ensures refused { IfOk result
-            (λ refused. refused ≡ refused_by self.old.settings
+            (λ why. why ≡ refusal_by self.old.settings
             (game_of G.step self.old) self.old.now command.now) }
         ensures fault { IfErr result (λ fault. fault ≡ PlayFault.NoMemory) }
     {
@@ -147,9 +148,13 @@ impl<G: Shown> Playing<G> {
         }
     }
 
-    /// Does what is asked for, writes the reply, and answers whether it was refused.
+    /// Does what is asked for, writes the reply, and answers why it was refused, if it was.
     #[inline(always)]
-    fn answer(&mut self, out: &mut Vec<u8>, request: Request<G>) -> Result<bool, PlayFault>
+    fn answer(
+        &mut self,
+        out: &mut Vec<u8>,
+        request: Request<G>,
+    ) -> Result<Option<Refusal>, PlayFault>
         ensures played { OnOk result
             (self.new ≡ record self.old {
               now = record self.old.now {
@@ -162,18 +167,18 @@ impl<G: Shown> Playing<G> {
             ++ event_text G.text_of self.old.settings (game_of G.step self.old) self.old.now.core
             (asked request)) }
         ensures refused { IfOk result
-            (λ refused. refused ≡ refuses
+            (λ why. why ≡ refusal_in
             (reply self.old.settings (game_of G.step self.old) self.old.now.core (asked request))) }
         ensures fault { IfErr result (λ fault. fault ≡ PlayFault.NoMemory) }
     {
         let reply = self.session.perform(request)?;
         push_reply(out, &self.session, reply)?;
-        Ok(is_refused(&reply))
+        Ok(refusal_of(&reply))
     }
 
     /// Takes a job, runs it, and asks for its branch to be taken in.
     #[inline(never)]
-    fn extend(&mut self, out: &mut Vec<u8>, number: u32) -> Result<bool, PlayFault>
+    fn extend(&mut self, out: &mut Vec<u8>, number: u32) -> Result<Option<Refusal>, PlayFault>
         ensures played { OnOk result
             (self.new ≡ record self.old {
               now = after_command self.old.settings
@@ -184,13 +189,13 @@ impl<G: Shown> Playing<G> {
             ++ written_by G.text_of self.old.settings (game_of G.step self.old) self.old.now
             (Command.Extend number)) }
         ensures refused { IfOk result
-            (λ refused. refused ≡ refused_by self.old.settings
+            (λ why. why ≡ refusal_by self.old.settings
             (game_of G.step self.old) self.old.now (Command.Extend number)) }
         ensures fault { IfErr result (λ fault. fault ≡ PlayFault.NoMemory) }
     {
         let Some(job) = take_job(&mut self.jobs, number as usize) else {
             push_reply(out, &self.session, Reply::Refused(Refusal::NoJob))?;
-            return Ok(true);
+            return Ok(Some(Refusal::NoJob));
         };
         let Done::Grown(branch) = extend(&mut self.helper, job) else {
             return Err(PlayFault::NoMemory);
@@ -207,7 +212,7 @@ impl<G: Shown> Playing<G> {
         player: u8,
         words: &[u32],
         until: u32,
-    ) -> Result<bool, PlayFault>
+    ) -> Result<Option<Refusal>, PlayFault>
         requires { length self.old.now.jobs < 2 ^ 32 }
         ensures played { OnOk result
             (self.new ≡ record self.old {
@@ -222,7 +227,7 @@ impl<G: Shown> Playing<G> {
             (guessed self.old.settings
             (game_of G.step self.old) self.old.now.core player words.now until))) }
         ensures refused { IfOk result
-            (λ refused. refused ≡ is_err
+            (λ why. why ≡ result_err
             (guessed self.old.settings
             (game_of G.step self.old) self.old.now.core player words.now until)) }
         ensures fault { IfErr result (λ fault. fault ≡ PlayFault.NoMemory) }
@@ -231,16 +236,16 @@ impl<G: Shown> Playing<G> {
             Ok(Some(job)) => {
                 push_job(out, self.jobs.len() as u32, job.route().rows.len() as u32)?;
                 self.jobs.push(Some(job))?;
-                Ok(false)
+                Ok(None)
             }
             Ok(None) => {
                 out.extend_from_slice(b"kept\n")?;
-                Ok(false)
+                Ok(None)
             }
             Err(Refusal::NoMemory) => Err(PlayFault::NoMemory),
             Err(why) => {
                 push_reply(out, &self.session, Reply::Refused(why))?;
-                Ok(true)
+                Ok(Some(why))
             }
         }
     }
@@ -254,9 +259,13 @@ fn take_job<G: Game>(jobs: &mut Vec<Option<Job<G>>>, number: usize) -> Option<Jo
     jobs.get_mut(number)?.take()
 }
 
+/// The refusal that a reply is, if it is one.
 #[inline(always)]
-fn is_refused(reply: &Reply) -> bool
-    ensures { result ≡ refuses reply.now }
+fn refusal_of(reply: &Reply) -> Option<Refusal>
+    ensures { result ≡ refusal_in reply.now }
 {
-    matches!(reply, Reply::Refused(_))
+    match reply {
+        Reply::Refused(why) => Some(*why),
+        _ => None,
+    }
 }

@@ -1,5 +1,5 @@
 -- An absorb stands for the branches that it grafted.
-use Rattle.std.proofs.Common.{◌≡◌, ◌∙◌, List, [], ◌∷◌, ◌++◌, map, Bool, true, false, cond, refl, ap, subst, sym}
+use Rattle.std.proofs.Common.{◌≡◌, ◌∙◌, List, [], ◌∷◌, ◌++◌, map, Bool, true, false, cond, refl, ap, subst}
 use Rattle.roll_branch.specs.Routed.{Routed}
 use Rattle.roll_branch.specs.declared.branch.Done.{Done}
 use Rattle.roll_branch.specs.declared.branch.Done.TheVariants.{Grown, Refused as HasNone}

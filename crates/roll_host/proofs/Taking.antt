@@ -1,6 +1,8 @@
 -- Items of one link, one after another.
-use Rattle.std.proofs.Common.{◌≡◌, ◌⊎◌, ◌∙◌, ℕ, ◌+◌, ◌≤◌, List, [], ◌∷◌, ◌++◌, length, refl, ap, sym, subst, arith, Option, None, append-nil, append_assoc, length-append, inl}
-use Rattle.std.specs.Prelude.{IfNone}
+use Rattle.std.proofs.Common.{◌≡◌, ◌⊎◌, ◌∙◌, ℕ, ◌+◌, ◌≤◌, List, [], ◌∷◌, ◌++◌, length, refl, ap, sym, subst, arith, Option, None, Some, append-nil, append_assoc, length-append, inl}
+use Rattle.std.specs.Prelude.{IfNone, is_some}
+use Rattle.std.specs.Int.{from_bool}
+use Rattle.std.specs.Option.{option_or}
 use Rattle.roll_frame.specs.declared.refusal.Refusal.{Refusal}
 use Rattle.roll_link.specs.Linked.{Linked, left}
 use Rattle.roll_link.specs.declared.remote.Remote.{Remote}
@@ -28,43 +30,47 @@ taken_more a b c xs ys s t =
     }
 
 -- some items of a link were applied
-pub record Going (step : Step) (old : Seen) (before : Linked) (new : Seen) (after : Linked) (applied refused : ℕ) : Type 0 where
+pub record Going (step : Step) (old : Seen) (before : Linked) (new : Seen) (after : Linked) (applied refused : ℕ) (why : Option Refusal) : Type 0 where
   pub items : List Remote
   pub taken : AreTaken before after items
-  pub heard : AreHeard step old new items refused
+  pub heard : AreHeard step old new items refused why
   pub count : applied ≡ length items
 
+pub once : (why : Option Refusal) → from_bool (is_some why) ≤ 1
+once None = omega arith
+once (Some why) = omega arith
+
 module _ (step : Step) (old : Seen) (before : Linked) where
-  pub going_none : Going step old before old before 0 0
+  pub going_none : Going step old before old before 0 0 None
   going_none = record { items = []; taken = taken_none before; heard = heard_none step old; count = refl }
 
-  pub going_more : (mid : Seen) (link : Linked) (new : Seen) (after : Linked) (m p q : ℕ) → Going step old before mid link m p → Applies step mid link new after q → Going step old before new after (m + 1) (p + q)
-  going_more mid link new after m p q g one =
+  pub going_more : (mid : Seen) (link : Linked) (new : Seen) (after : Linked) (m p : ℕ) (v w : Option Refusal) → Going step old before mid link m p v → Applies step mid link new after w → Going step old before new after (m + 1) (p + from_bool (is_some w)) (option_or w v)
+  going_more mid link new after m p v w g one =
       record {
         items = g.items ++ one.item ∷ [];
         taken = taken_more before link after g.items (one.item ∷ []) g.taken one.taken;
-        heard = heard_more step old mid new g.items (one.item ∷ []) p q g.heard one.heard;
+        heard = heard_more step old mid new g.items (one.item ∷ []) p (from_bool (is_some w)) v w g.heard one.heard;
         count = omega (arith, g.count, length-append g.items (one.item ∷ []));
       }
 
   -- and no more of them
-  pub pumped : (mid : Seen) (link : Linked) (new : Seen) (after : Linked) (m p : ℕ) (why : Option Refusal) → Going step old before mid link m p → new ≡ mid → AreTaken link after [] → m ≤ TURN_LIMIT
-      → IfNone why ((m ≡ TURN_LIMIT) ⊎ (left after ≡ [])) → HoldsFor step new after.held why → PumpsLink step old before new after (record { applied = m; refused = p; held = why })
-  pumped mid link new after m p why g same t most least holds =
-      let heard : AreHeard step old new g.items p = subst (λ (s : Seen). AreHeard step old s g.items p) (sym same) g.heard in
+  pub pumped : (mid : Seen) (link : Linked) (new : Seen) (after : Linked) (m p : ℕ) (refusal held : Option Refusal) → Going step old before mid link m p refusal → new ≡ mid → AreTaken link after [] → m ≤ TURN_LIMIT
+      → IfNone held ((m ≡ TURN_LIMIT) ⊎ (left after ≡ [])) → HoldsFor step new after.held held → PumpsLink step old before new after (record { applied = m; refused = p; refusal = refusal; held = held })
+  pumped mid link new after m p refusal held g same t most least holds =
+      let heard : AreHeard step old new g.items p refusal = subst (λ (s : Seen). AreHeard step old s g.items p refusal) (sym same) g.heard in
       record {
         items = g.items;
         turn = record {
           taken = subst (AreTaken before after) (append-nil g.items) (taken_more before link after g.items [] g.taken t);
           played = heard.played;
           most = omega (arith, g.count, most);
-          least = subst (λ n. IfNone why ((n ≡ TURN_LIMIT) ⊎ (left after ≡ []))) g.count least;
+          least = subst (λ n. IfNone held ((n ≡ TURN_LIMIT) ⊎ (left after ≡ []))) g.count least;
           holds = holds;
         };
         heard = heard;
         count = g.count;
       }
 
-  pub pumped_none : (mid : Seen) (link : Linked) (m p : ℕ) → Going step old before mid link m p → m ≡ TURN_LIMIT → link.held ≡ None → PumpsLink step old before mid link (record { applied = m; refused = p; held = None })
-  pumped_none mid link m p g many free =
-      pumped mid link mid link m p None g refl (taken_none link) (omega (arith, many)) (inl many) (rw free tt)
+  pub pumped_none : (mid : Seen) (link : Linked) (m p : ℕ) (refusal : Option Refusal) → Going step old before mid link m p refusal → m ≡ TURN_LIMIT → link.held ≡ None → PumpsLink step old before mid link (record { applied = m; refused = p; refusal = refusal; held = None })
+  pumped_none mid link m p refusal g many free =
+      pumped mid link mid link m p refusal None g refl (taken_none link) (omega (arith, many)) (inl many) (rw free tt)

@@ -44,7 +44,7 @@ pub record IsLinkTurn (step : Step) (old new : Seen) (turn : LinkTurn) : Type 0 
 pub record PumpsLink (step : Step) (old : Seen) (before : Linked) (new : Seen) (after : Linked) (pumped : Pumped) : Type 0 where
   pub items : List Remote
   pub turn : IsLinkTurn step old new (record { before = before; after = after; items = items; held = pumped.held })
-  pub heard : AreHeard step old new items pumped.refused
+  pub heard : AreHeard step old new items pumped.refused pumped.refusal
   pub count : pumped.applied ≡ length items
 
 -- turns one after another
@@ -67,6 +67,6 @@ pub record IsPumped (step : Step) (old : Seen) (links : List Linked) (new : Seen
   pub before_are : map (λ turn. turn.before) turns ≡ links
   pub after_are : map (λ turn. turn.after) turns ≡ links_after
   pub are_turns : AreLinkTurns step old turns new
-  pub heard : AreHeard step old new (items_of turns) pumped.refused
+  pub heard : AreHeard step old new (items_of turns) pumped.refused pumped.refusal
   pub count : pumped.applied ≡ length (items_of turns)
   pub held_is : pumped.held ≡ last_held turns

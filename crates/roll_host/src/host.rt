@@ -120,8 +120,8 @@ impl<G: Game> Host<G> {
     }
 
     /// Applies what came by the links, in their order, at most 64 items of each, as `remote_input` would. An item that is
-    /// refused for good counts as applied; one that is refused as `QueueFull`, `LogFull` or `NoMemory` is held, its link
-    /// stops, and the next pump tries it first.
+    /// refused for good counts as applied, and the last such refusal is told; one that is refused as `QueueFull`, `LogFull`
+    /// or `NoMemory` is held, its link stops, and the next pump tries it first.
     pub fn pump(&mut self) -> Pumped
         ensures pumped { IsPumped G.step self.old.session self.old.links
             self.new.session self.new.links result }

@@ -1,10 +1,10 @@
 //! Items of links become events of a session.
-ghost use Rattle.std.specs.Prelude.{◌≡◌, ◌≤◌, ◌*◌, ◌⊎◌, ◌∷◌, [], length, IfOk, IfErr, OnErr, IfSome};
-ghost use Rattle.roll_host.specs.Heard.{can_wait, AreHeard, IsHeldFor};
+ghost use Rattle.std.specs.Prelude.{◌≡◌, ◌≤◌, length, IfOk, IfErr, OnErr};
+ghost use Rattle.roll_host.specs.Heard.{can_wait, IsHeard, IsHeldFor};
 ghost use Rattle.roll_host.specs.Pumps.{IsPumped, PumpsLink};
 ghost use Rattle.roll_host.specs.Hosted.{rings_of};
-ghost use Rattle.roll_host.specs.Outcomes.{IsOutcome, refused_by};
-ghost use Rattle.roll_host.specs.declared.limits.TheConstants.{LINK_LIMIT as LINKS, TURN_LIMIT as MOST};
+ghost use Rattle.roll_host.specs.Outcomes.{IsOutcome};
+ghost use Rattle.roll_host.specs.declared.limits.TheConstants.{LINK_LIMIT as LINKS};
 
 use crate::limits::TURN_LIMIT;
 use roll_frame::Refusal;
@@ -19,6 +19,8 @@ pub struct Pumped {
     pub applied: u32,
     /// How many of them were refused, and so changed nothing.
     pub refused: u32,
+    /// Why the last refused item was refused, if any was.
+    pub refusal: Option<Refusal>,
     /// Why the last link that holds an item does.
     pub held: Option<Refusal>,
 }
@@ -26,8 +28,8 @@ pub struct Pumped {
 /// What was done with a link's next item.
 #[derive(Clone, Copy)]
 enum Outcome {
-    /// It was applied, and refused so many times, 0 or 1.
-    Applied(u32),
+    /// It was applied, and refused for this, if it was.
+    Applied(Option<Refusal>),
     /// It is held.
     Held(Refusal),
     /// There was none.
@@ -44,31 +46,28 @@ fn can_wait(why: Refusal) -> bool
     )
 }
 
-/// Makes one item an event, and says how often it was refused, or why it is to be held.
-fn hear<G: Game>(session: &mut Session<G>, item: Remote) -> Result<u32, Refusal>
-    ensures heard { IfOk result
-        (λ refused. AreHeard G.step session.old session.new (item ∷ []) refused) }
-    ensures few { IfOk result (λ refused. refused ≤ 1) }
+/// Makes one item an event, and says why it was refused, if it was; or else why it is to be held.
+fn hear<G: Game>(session: &mut Session<G>, item: Remote) -> Result<Option<Refusal>, Refusal>
+    ensures heard { IfOk result (IsHeard G.step session.old session.new item) }
     ensures held { IfErr result (IsHeldFor G.step session.new item) }
     ensures unchanged { OnErr result (session.new ≡ session.old) }
 {
     match session.remote_input(item.player, item.frame, item.word) {
-        Ok(_) => Ok(0),
+        Ok(_) => Ok(None),
         Err(why) if can_wait(why) => Err(why),
-        Err(_) => Ok(1),
+        Err(why) => Ok(Some(why)),
     }
 }
 
 /// Takes a link's next item.
 fn take_next<G: Game>(session: &mut Session<G>, link: &mut Link) -> Outcome
     ensures outcome { IsOutcome G.step session.old link.old session.new link.new result }
-    ensures few { IfSome (refused_by result) (λ refused. refused ≤ 1) }
 {
     let Some(item) = link.next() else {
         return Outcome::Empty;
     };
     match hear(session, item) {
-        Ok(refused) => Outcome::Applied(refused),
+        Ok(refusal) => Outcome::Applied(refusal),
         Err(why) => {
             link.hold(item);
             Outcome::Held(why)
@@ -83,16 +82,19 @@ fn pump_link<G: Game>(session: &mut Session<G>, link: &mut Link) -> Pumped
 {
     let mut applied = 0;
     let mut refused = 0;
+    let mut refusal = None;
     for _ in 0..TURN_LIMIT {
         match take_next(session, link) {
-            Outcome::Applied(more) => {
+            Outcome::Applied(why) => {
                 applied += 1;
-                refused += more;
+                refused += u32::from(why.is_some());
+                refusal = why.or(refusal);
             }
             Outcome::Held(why) => {
                 return Pumped {
                     applied,
                     refused,
+                    refusal,
                     held: Some(why),
                 };
             }
@@ -102,6 +104,7 @@ fn pump_link<G: Game>(session: &mut Session<G>, link: &mut Link) -> Pumped
     Pumped {
         applied,
         refused,
+        refusal,
         held: None,
     }
 }
@@ -114,16 +117,19 @@ pub(crate) fn pump_links<G: Game>(session: &mut Session<G>, links: &mut [Link]) 
 {
     let mut applied = 0;
     let mut refused = 0;
+    let mut refusal = None;
     let mut held = None;
     for place in 0..links.len() {
         let more = pump_link(session, &mut links[place]);
         applied += more.applied;
         refused += more.refused;
+        refusal = more.refusal.or(refusal);
         held = more.held.or(held);
     }
     Pumped {
         applied,
         refused,
+        refusal,
         held,
     }
 }

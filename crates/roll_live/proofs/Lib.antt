@@ -1,5 +1,4 @@
-pub mod Logged
-pub mod Judged
+pub mod Replied
 pub mod Printed
 pub mod Played
 pub mod Headlines

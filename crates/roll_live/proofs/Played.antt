@@ -1,13 +1,14 @@
 -- Commands that were played live, one after another.
-use Rattle.std.proofs.Common.{◌≡◌, ◌∙◌, ℕ, ◌+◌, List, [], ◌∷◌, ◌++◌, length, Bool, false, cond, refl, ap, sym, subst, arith, append-nil}
+use Rattle.std.proofs.Common.{◌≡◌, ◌∙◌, ℕ, ◌+◌, List, [], ◌∷◌, ◌++◌, length, Bool, false, cond, refl, ap, sym, subst, arith, append-nil, Option}
 use Rattle.std.specs.List.{flat_map}
 use Rattle.std.specs.Prelude.{is_err, OnOk, Result, Ok, Err}
 use Rattle.std.proofs.lemmas.Grind.{flat_map-append}
 use Rattle.std.proofs.lemmas.List.{map-append}
 use Rattle.std.proofs.lemmas.List.Sums.{sum_by-append}
+use Rattle.roll_frame.specs.declared.refusal.Refusal.{Refusal}
 use Rattle.roll_host.specs.Heard.{AreHeard}
-use Rattle.roll_host.proofs.Hearing.{heard_more}
 use Rattle.roll_link.specs.declared.remote.Remote.{Remote}
+use Rattle.roll_session.proofs.Runs.{played_none}
 use Rattle.roll_session.specs.Seen.{Seen, Step}
 use Rattle.prog_replies.specs.Output.{Texts}
 use Rattle.prog_scripts.specs.declared.command.Command.{Command}
@@ -20,13 +21,14 @@ succeeded (Ok x) P e h = h
 succeeded (Err y) P e h = absurd (cc e)
 
 module _ (step : Step) where
-  -- items that were heard after none
-  pub heard_later : (old mid new : Seen) (items : List Remote) (refused : ℕ) → AreHeard step old mid [] 0 → AreHeard step mid new items refused → AreHeard step old new items refused
-  heard_later old mid new items refused a b = let n : 0 + refused ≡ refused = omega arith in subst (AreHeard step old new items) n (heard_more step old mid new [] items 0 refused a b)
+  -- items that were heard from the same session
+  pub heard_since : (old mid new : Seen) (items : List Remote) (refused : ℕ) (why : Option Refusal) → mid ≡ old → AreHeard step mid new items refused why → AreHeard step old new items refused why
+  heard_since old mid new items refused why same h = subst (λ (s : Seen). AreHeard step s new items refused why) same h
 
-  pub nothing_heard : (old mid new : Seen) (items : List Remote) (refused : ℕ) → AreHeard step old mid [] 0 → AreHeard step mid new items refused → length items ≡ 0 → AreHeard step old new [] 0
-  nothing_heard old mid new [] refused a b e = let n : refused ≡ 0 = b.refusals in subst (AreHeard step old new []) n (heard_later old mid new [] refused a b)
-  nothing_heard old mid new (item ∷ items) refused a b e = absurd (omega (arith, e))
+  -- no items leave the session as it was
+  pub nothing_heard : (old new : Seen) (items : List Remote) (refused : ℕ) (why : Option Refusal) → AreHeard step old new items refused why → length items ≡ 0 → new ≡ old
+  nothing_heard old new [] refused why h e = h.played.seen ∙ sym (played_none step old).seen
+  nothing_heard old new (item ∷ items) refused why h e = absurd (omega (arith, e))
 
 module _ (step : Step) (texts : Texts) where
   told_push : (old mid new : Seen) (tellings : List Telling) (command : Command) (line : Line) → AreTold step texts old tellings mid → IsTold step texts mid new command line

@@ -1,4 +1,3 @@
-pub mod Items
 pub mod Told
 pub mod Tellings
 pub mod Headlines

@@ -1,5 +1,5 @@
 -- What each command of a script makes of a session that is played live, and what it writes.
-use Rattle.std.specs.Prelude.{◌≡◌, ◌≤◌, ◌<◌, ℕ, ◌+◌, List, [], ◌∷◌, ◌++◌, codes, length, map, Bool, false, nat_lt}
+use Rattle.std.specs.Prelude.{◌≡◌, ◌≤◌, ◌<◌, ℕ, ◌+◌, List, [], ◌∷◌, ◌++◌, codes, length, map, Bool, true, false, nat_lt, Option, None, Some}
 use Rattle.std.specs.Fmt.{decimal}
 use Rattle.std.specs.Option.{option_map_or}
 use Rattle.roll_branch.specs.Routed.{Routed}
@@ -8,8 +8,9 @@ use Rattle.roll_frame.specs.Events.{CoreEvent, reply}
 use Rattle.roll_frame.specs.Games.{Game}
 use Rattle.roll_frame.specs.Paths.{run}
 use Rattle.roll_frame.specs.declared.entry.Entry.TheVariants.{Local, Disconnect, Sync, Advance}
+use Rattle.roll_frame.specs.declared.refusal.Refusal.{Refusal}
 use Rattle.roll_frame.specs.declared.reply.Reply.{Reply}
-use Rattle.roll_frame.specs.declared.reply.Reply.TheVariants.{Synchronized, Reached}
+use Rattle.roll_frame.specs.declared.reply.Reply.TheVariants.{Refused, Taken, Repeated, Synchronized, Reached}
 use Rattle.roll_game.specs.declared.counts.Counts.{Counts}
 use Rattle.roll_host.specs.Heard.{event_of, AreHeard}
 use Rattle.roll_link.specs.declared.remote.Remote.{Remote}
@@ -21,7 +22,6 @@ use Rattle.prog_replies.specs.Calls.{narrowed}
 use Rattle.prog_replies.specs.Output.{Texts, is_refused, reply_line}
 use Rattle.prog_scripts.specs.declared.command.Command.{Command}
 use Rattle.prog_scripts.specs.declared.command.Command.TheVariants.{Local as Gives, Remote as Tells, Disconnect as Leaves, Sync as Syncs, Advance as Advances, Guess, Extend, Claim}
-use Rattle.roll_live.specs.Items.{item_refusal, item_reply}
 use Rattle.roll_live.specs.declared.playing.TheConstants.{AHEAD_LIMIT}
 
 -- the frame, and the state shown
@@ -60,6 +60,13 @@ abbrev pub items_of : Command → List Remote
 items_of (Tells p f word) = item_of p f word ∷ []
 items_of command = []
 
+-- the reply to an item that was applied, by whether the log grew, and by the last refusal among the
+-- replies, if there is one
+abbrev pub item_reply : Bool → Option Refusal → Reply
+item_reply true refusal = Taken
+item_reply false None = Repeated
+item_reply false (Some why) = Refused why
+
 -- the counts, with others of copies, and of refusals
 abbrev pub guessed_counts : Counts → Counts → Counts
 guessed_counts counts others = record counts { copies = others.copies; refusals = others.refusals }
@@ -71,17 +78,17 @@ module _ (step : Step) (texts : Texts) where
     pub replied : IsReplied step old new event said
     pub line_is : line ≡ said_line texts (game_of step new) new.core said
 
-  -- an item was sent, and a pump applied what had come. The reply is told by the log; where nothing
-  -- else had come, it is what the session replies to the item
+  -- an item was sent, and a pump applied what had come. The reply is told by whether the log grew,
+  -- and by the last refusal; where nothing else had come, it is what the session replies to the item
   pub record IsHeard (old new : Seen) (item : Remote) (line : Line) : Type 0 where
     pub near : item.frame < old.core.frame + AHEAD_LIMIT
     pub items : List Remote
     pub refused : ℕ
-    pub heard : AreHeard step old new items refused
+    pub why : Option Refusal
+    pub heard : AreHeard step old new items refused why
     pub some : 1 ≤ length items
     pub said : Reply
-    pub said_is : said ≡ item_reply (nat_lt (length old.log) (length new.log)) refused
-        (item_refusal new.settings new.log item)
+    pub said_is : said ≡ item_reply (nat_lt (length old.log) (length new.log)) why
     pub same : items ≡ item ∷ []
         → said ≡ reply old.settings (game_of step old) old.core (event_of item)
     pub line_is : line ≡ said_line texts (game_of step new) new.core said

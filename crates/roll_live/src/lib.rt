@@ -2,11 +2,9 @@
 #![tactic(auto)]
 
 mod engine;
-mod item;
 mod output;
 mod playing;
 mod program;
 
 pub use engine::live;
-pub use item::item_refusal;
 pub use program::{Live, run};

@@ -10,14 +10,13 @@ ghost use Rattle.roll_session.specs.Calls.{event_of as event_of_call, grafting};
 ghost use Rattle.prog_replies.specs.Output.{is_refused as refuses};
 ghost use Rattle.roll_live.specs.Lives.{IsFarAt};
 ghost use Rattle.roll_live.specs.Tellings.{IsLive};
-ghost use Rattle.roll_live.specs.Told.{guessed_counts, items_of, IsAsked, IsFar, IsHeard, IsTold};
+ghost use Rattle.roll_live.specs.Told.{guessed_counts, item_reply as replied_by, items_of, IsAsked, IsFar, IsHeard, IsTold};
 
-use crate::item::item_reply;
 use crate::output::push_line;
 use prog_parts::PlayFault;
 use prog_replies::{call, player_number};
 use prog_scripts::Command;
-use roll_frame::Reply;
+use roll_frame::{Refusal, Reply};
 use roll_game::{Game, Shown};
 use roll_host::{Host, HostReply, HostRequest};
 use roll_link::{LinkSender, Remote};
@@ -167,19 +166,19 @@ impl<G: Shown> Playing<G> {
             return Err(PlayFault::Unreadable(line));
         }
         let logged = self.host.session().log().len();
-        let refused = self.apply(rt, item)?;
+        let refusal = self.apply(rt, item)?;
         let session = self.host.session();
-        let said = item_reply(session, logged, refused, item);
+        let said = item_reply(session.log().len() > logged, refusal);
         push_line(out, session, said)?;
         Ok(is_refused(&said))
     }
 
-    /// Sends an item, and pumps until something is applied, which nothing else can be. Answers how many items were refused.
-    fn apply<RT: Wait>(&mut self, rt: &RT, item: Remote) -> Result<u32, PlayFault>
+    /// Sends an item, and pumps until something is applied, which nothing else can be. Answers why it was refused, if it was.
+    fn apply<RT: Wait>(&mut self, rt: &RT, item: Remote) -> Result<Option<Refusal>, PlayFault>
         ensures sent { OnOk result (self.new.sender.sent ≡ self.old.sender.sent ++ item ∷ []) }
         ensures heard { IfOk result
-            (λ refused. (items : List Item)
-            × AreHeard G.step self.old.host.session self.new.host.session items refused
+            (λ why. (items : List Item) × (refused : ℕ)
+            × AreHeard G.step self.old.host.session self.new.host.session items refused why
             × (1 ≤ length items)) }
         ensures fault { IfErr result (λ fault. fault ≡ PlayFault.NoMemory) }
         ensures places { places_of self.new.host.pool ≡ places_of self.old.host.pool }
@@ -193,7 +192,7 @@ impl<G: Shown> Playing<G> {
                 return Err(PlayFault::NoMemory);
             }
             if did.applied > 0 {
-                return Ok(did.refused);
+                return Ok(did.refusal);
             }
         }
         unreachable!()
@@ -219,6 +218,19 @@ impl<G: Shown> Playing<G> {
         ensures places { places_of self.new.host.pool ≡ places_of self.old.host.pool }
     {
         self.host.absorb();
+    }
+}
+
+/// The reply to an item that was applied, by whether the log grew, and by the refusal that the pump told, if it told one.
+fn item_reply(has_grown: bool, refusal: Option<Refusal>) -> Reply
+    ensures { result ≡ replied_by has_grown refusal }
+{
+    if has_grown {
+        return Reply::Taken;
+    }
+    match refusal {
+        Some(why) => Reply::Refused(why),
+        None => Reply::Repeated,
     }
 }
 

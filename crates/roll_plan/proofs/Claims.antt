@@ -16,7 +16,7 @@ use Rattle.roll_laws.proofs.Fair.{Wide, IsFair, fair_is_right}
 use Rattle.roll_laws.proofs.Saved.{In, has_in, longest_at_least, longest_is, IsLength, in_map, map_in}
 use Rattle.roll_tree.specs.SavedStates.{path_of}
 use Rattle.roll_frame.proofs.Beginnings.{begins-behind}
-use Rattle.roll_plan.specs.Plans.{Made, IsClaimOf, roll_of}
+use Rattle.roll_plan.specs.Plans.{PlannedRoll, IsClaimOf, roll_of}
 use Rattle.roll_plan.specs.Fields.{IsFit}
 use Rattle.roll_plan.proofs.Settled.{on, order_on}
 
@@ -45,7 +45,7 @@ wide_on : (n : ℕ) (settled path : Rows) → Wide n settled → Wide n path →
 wide_on n [] path v w = w
 wide_on n (row ∷ settled) path v w = (v.0, wide_on n settled path v.1 w)
 
-module _ (players : ℕ) (made : Made) (fit : IsFit players made) where
+module _ (players : ℕ) (made : PlannedRoll) (fit : IsFit players made) where
   wide_of : (rows : Rows) → AreRowsOf players rows → Wide players rows
   wide_of rows all = recursion_from_All (λ row. length row ≡ players) rows all
 
@@ -62,7 +62,7 @@ module _ (players : ℕ) (made : Made) (fit : IsFit players made) where
       none (row ∷ rows) = refl
   start_in n is (inr found) = found
 
-  fair_on : (settled : Rows) → length settled ≡ made.base → Wide players settled → IsFair players (roll_of settled made)
+  fair_on : (settled : Rows) → length settled ≡ made.settled → Wide players settled → IsFair players (roll_of settled made)
   fair_on settled e w =
       let start = start_in (longest made.kept made.time) refl (longest_is made.kept made.time) in
       record {
@@ -78,7 +78,7 @@ module _ (players : ℕ) (made : Made) (fit : IsFit players made) where
         kept_low = λ q i. let r = map_in (on settled) q made.kept i in omega (arith, ap length r.2, length-append settled r.0, e);
         kept_settled = λ q i.
             let r = map_in (on settled) q made.kept i in
-            ap (take made.base) r.2 ∙ ap (λ n. take n (on settled r.0)) (sym e) ∙ take-append_seam settled r.0 ∙ sym (ap (λ n. take n (on settled made.time)) (sym e) ∙ take-append_seam settled made.time);
+            ap (take made.settled) r.2 ∙ ap (λ n. take n (on settled r.0)) (sym e) ∙ take-append_seam settled r.0 ∙ sym (ap (λ n. take n (on settled made.time)) (sym e) ∙ take-append_seam settled made.time);
         kept_off = λ q i deep within.
             let r = map_in (on settled) q made.kept i in
             off r.0 r.1 (omega (arith, deep, ap length r.2, length-append settled r.0, e, fit.from_is)) q r.2;
@@ -92,25 +92,25 @@ module _ (players : ℕ) (made : Made) (fit : IsFit players made) where
           go (inl b) = absurd (let l : length p ≤ longest made.kept made.time = longest_at_least made.kept made.time p i (sym (begins-behind settled made.time p) ∙ subst (λ (x : Rows). begins_with (on settled made.time) x ≡ true) same b) in omega arith)
 
   -- the claim of a plan is right
-  pub made_is_right : (claim : Claim) → IsClaimOf players made claim → IsRight claim
-  made_is_right claim is =
-      let settled : Rows = blank players made.base in
-      let e : length settled ≡ made.base = length-blank players made.base in
-      subst IsRight (sym (is settled e)) (fair_is_right players (roll_of settled made) (fair_on settled e (wide_blank players made.base)))
+  pub planned_is_right : (claim : Claim) → IsClaimOf players made claim → IsRight claim
+  planned_is_right claim is =
+      let settled : Rows = blank players made.settled in
+      let e : length settled ≡ made.settled = length-blank players made.settled in
+      subst IsRight (sym (is settled e)) (fair_is_right players (roll_of settled made) (fair_on settled e (wide_blank players made.settled)))
 
 -- the claim that is made of a plan's parts
-pub claim_on : (players : ℕ) (made : Made) (settled : Rows) (claim : Claim) → length settled ≡ made.base → in_order made.kept ≡ made.kept
-    → claim.players ≡ players → claim.base ≡ made.base → claim.time ≡ made.time → claim.kept ≡ map (path_of made.base) made.kept → claim.from ≡ made.from → claim.differs ≡ (claim_of players (roll_of settled made)).differs
+pub claim_on : (players : ℕ) (made : PlannedRoll) (settled : Rows) (claim : Claim) → length settled ≡ made.settled → in_order made.kept ≡ made.kept
+    → claim.players ≡ players → claim.base ≡ made.settled → claim.time ≡ made.time → claim.kept ≡ map (path_of made.settled) made.kept → claim.from ≡ made.from → claim.differs ≡ (claim_of players (roll_of settled made)).differs
     → claim ≡ claim_of players (roll_of settled made)
 claim_on players made settled claim e ordered p b t k f d =
     λ i. record { players = p i; base = b i; time = (t ∙ sym (own made.time)) i; kept = (k ∙ sym paths) i; from = f i; differs = d i }
   where
-    own : (path : Rows) → drop made.base (on settled path) ≡ path
+    own : (path : Rows) → drop made.settled (on settled path) ≡ path
     own path = ap (λ n. drop n (on settled path)) (sym e) ∙ drop-append_seam settled path
 
-    each : (ps : List Rows) → map (path_from made.base) (map (on settled) ps) ≡ map (path_of made.base) ps
+    each : (ps : List Rows) → map (path_from made.settled) (map (on settled) ps) ≡ map (path_of made.settled) ps
     each [] = refl
-    each (q ∷ qs) = λ i. path_of made.base (own q i) ∷ each qs i
+    each (q ∷ qs) = λ i. path_of made.settled (own q i) ∷ each qs i
 
-    paths : map (path_from made.base) (in_order (map (on settled) made.kept)) ≡ map (path_of made.base) made.kept
-    paths = ap (map (path_from made.base)) (order_on settled made.kept ∙ ap (map (on settled)) ordered) ∙ each made.kept
+    paths : map (path_from made.settled) (in_order (map (on settled) made.kept)) ≡ map (path_of made.settled) made.kept
+    paths = ap (map (path_from made.settled)) (order_on settled made.kept ∙ ap (map (on settled)) ordered) ∙ each made.kept

@@ -7,29 +7,29 @@ use Rattle.roll_frame.specs.declared.claim.Differ.{Differ}
 use Rattle.roll_frame.specs.Claims.{least_place, differ_of, differs_from}
 use Rattle.roll_frame.proofs.Places.{least_place-behind}
 use Rattle.std.proofs.lemmas.List.{take_more}
-use Rattle.roll_plan.specs.Plans.{Made, roll_of}
+use Rattle.roll_plan.specs.Plans.{PlannedRoll, roll_of}
 use Rattle.roll_plan.specs.Ranks.{entries_by}
 use Rattle.roll_plan.proofs.Settled.{on}
 
 -- whether a plan passes over a path
-abbrev pub passes : Made → Rows → Bool
-passes made path = nat_lt made.from (made.base + length path) && nat_le (made.base + length path) (made.base + length made.time)
+abbrev pub passes : PlannedRoll → Rows → Bool
+passes made path = nat_lt made.from (made.settled + length path) && nat_le (made.settled + length path) (made.settled + length made.time)
 
 -- the entry of a kept path at this place, where it is passed over
-abbrev pub entry_for : Made → ℕ → Rows → Option Differ
+abbrev pub entry_for : PlannedRoll → ℕ → Rows → Option Differ
 entry_for made state path =
-    cond (passes made path) (option_map (λ place. record { state = state; frame = place.0; player = place.1 }) (least_place made.base path made.time)) None
+    cond (passes made path) (option_map (λ place. record { state = state; frame = place.0; player = place.1 }) (least_place made.settled path made.time)) None
 
-entry_on : (made : Made) (settled : Rows) (state : ℕ) (path : Rows) → length settled ≡ made.base → differ_of (roll_of settled made) state (on settled path) ≡ entry_for made state path
+entry_on : (made : PlannedRoll) (settled : Rows) (state : ℕ) (path : Rows) → length settled ≡ made.settled → differ_of (roll_of settled made) state (on settled path) ≡ entry_for made state path
 entry_on made settled state path e =
-    let long : (rows : Rows) → length (on settled rows) ≡ made.base + length rows = λ rows. length-append settled rows ∙ ap (λ n. n + length rows) e in
-    let base : 0 + length settled ≡ made.base = omega (arith, e) in
-    let places : least_place 0 (on settled path) (on settled made.time) ≡ least_place made.base path made.time = least_place-behind settled path made.time 0 ∙ ap (λ n. least_place n path made.time) base in
+    let long : (rows : Rows) → length (on settled rows) ≡ made.settled + length rows = λ rows. length-append settled rows ∙ ap (λ n. n + length rows) e in
+    let base : 0 + length settled ≡ made.settled = omega (arith, e) in
+    let places : least_place 0 (on settled path) (on settled made.time) ≡ least_place made.settled path made.time = least_place-behind settled path made.time 0 ∙ ap (λ n. least_place n path made.time) base in
     (λ i. cond (nat_lt made.from (long path i) && nat_le (long path i) (long made.time i)) (option_map (λ place. record { state = state; frame = place.0; player = place.1 }) (least_place 0 (on settled path) (on settled made.time))) None)
     ∙ ap (λ o. cond (passes made path) (option_map (λ place. record { state = state; frame = place.0; player = place.1 }) o) None) places
 
 -- they are those of the plan's roll, whatever the settled rows
-pub entries_on : (made : Made) (settled : Rows) (state : ℕ) (paths : List Rows) → length settled ≡ made.base → differs_from (roll_of settled made) state (map (on settled) paths) ≡ entries_by (entry_for made) state paths
+pub entries_on : (made : PlannedRoll) (settled : Rows) (state : ℕ) (paths : List Rows) → length settled ≡ made.settled → differs_from (roll_of settled made) state (map (on settled) paths) ≡ entries_by (entry_for made) state paths
 entries_on made settled state [] e = refl
 entries_on made settled state (path ∷ paths) e =
     ap (λ o. cons_option o (differs_from (roll_of settled made) (suc state) (map (on settled) paths))) (entry_on made settled state path e)

@@ -17,9 +17,9 @@ use Rattle.roll_tree.specs.SavedStates.{SavedStates, path_of, paths_of, time_to}
 use Rattle.roll_frame.specs.declared.limits.TheConstants.{PATH_LIMIT, PLAYER_LIMIT}
 use Rattle.roll_frame.proofs.Beginnings.{longest_within}
 use Rattle.roll_frame.proofs.Sorting.{order_again}
-use Rattle.roll_plan.specs.Fields.{IsFit, IsLast, made_in}
+use Rattle.roll_plan.specs.Fields.{IsFit, IsLast, planned_in}
 use Rattle.roll_plan.specs.declared.planner.Planner.TheInside.{Inside}
-use Rattle.roll_plan.specs.Plans.{CanPlan, IsPlanOf, Made, made_of, roll_of}
+use Rattle.roll_plan.specs.Plans.{CanPlan, IsPlanOf, PlannedRoll, planned_roll, roll_of}
 use Rattle.roll_plan.specs.Ranks.{entries_by, marked_for}
 use Rattle.roll_plan.specs.Spelled.{spelled}
 use Rattle.roll_plan.proofs.Entries.{entries_on, entry_for}
@@ -72,7 +72,7 @@ module _ {S : Type 0} (players start to : ℕ) (t : SavedStates S) (can : CanPla
   end_is = omega (arith, length-take (to - t.base) t.time, can.from, can.known)
 
   -- by the marks, an entry is that of the plan
-  marked_is : (state : ℕ) (path : Rows) → marked_for t start to state (path_of t.base path) ≡ entry_for (made_of t rows) state path
+  marked_is : (state : ℕ) (path : Rows) → marked_for t start to state (path_of t.base path) ≡ entry_for (planned_roll t rows) state path
   marked_is state path =
       ap (λ n. cond (nat_lt n end && nat_le end to) (named (least_place t.base path t.time)) None) starts
       ∙ ap (λ n. cond (nat_lt from end && nat_le end n) (named (least_place t.base path t.time)) None) (sym end_is)
@@ -95,14 +95,14 @@ module _ {S : Type 0} (players start to : ℕ) (t : SavedStates S) (can : CanPla
       go true false e = refl
       go false b e = refl
 
-  all_marked : (state : ℕ) (paths : List Rows) → entries_by (marked_for t start to) state (map (path_of t.base) paths) ≡ entries_by (entry_for (made_of t rows)) state paths
+  all_marked : (state : ℕ) (paths : List Rows) → entries_by (marked_for t start to) state (map (path_of t.base) paths) ≡ entries_by (entry_for (planned_roll t rows)) state paths
   all_marked state [] = refl
   all_marked state (path ∷ paths) =
       ap (λ o. cons_option o (entries_by (marked_for t start to) (suc state) (map (path_of t.base) paths))) (marked_is state path)
-      ∙ ap (cons_option (entry_for (made_of t rows) state path)) (all_marked (suc state) paths)
+      ∙ ap (cons_option (entry_for (planned_roll t rows) state path)) (all_marked (suc state) paths)
 
-  made_is_fit : 1 ≤ players → players ≤ PLAYER_LIMIT → length t.time ≤ PATH_LIMIT → contains (paths_of t) [] ≡ true → IsFit players (made_of t rows)
-  made_is_fit some few short root =
+  planned_is_fit : 1 ≤ players → players ≤ PLAYER_LIMIT → length t.time ≤ PATH_LIMIT → contains (paths_of t) [] ≡ true → IsFit players (planned_roll t rows)
+  planned_is_fit some few short root =
       record {
         some = some;
         few = few;
@@ -117,11 +117,11 @@ module _ {S : Type 0} (players start to : ℕ) (t : SavedStates S) (can : CanPla
 
   -- the entries that were made by the marks are those of the plan's claim
   entries_are : (settled : Rows) → length settled ≡ t.base
-      → entries_by (marked_for t start to) 0 (map (path_of t.base) (in_order (paths_of t))) ≡ (claim_of players (roll_of settled (made_of t rows))).differs
+      → entries_by (marked_for t start to) 0 (map (path_of t.base) (in_order (paths_of t))) ≡ (claim_of players (roll_of settled (planned_roll t rows))).differs
   entries_are settled e =
       all_marked 0 (in_order (paths_of t))
-      ∙ sym (entries_on (made_of t rows) settled 0 (in_order (paths_of t)) e)
-      ∙ sym (ap (differs_from (roll_of settled (made_of t rows)) 0) (order_on settled (in_order (paths_of t)) ∙ ap (map (on settled)) (order_again (paths_of t))))
+      ∙ sym (entries_on (planned_roll t rows) settled 0 (in_order (paths_of t)) e)
+      ∙ sym (ap (differs_from (roll_of settled (planned_roll t rows)) 0) (order_on settled (in_order (paths_of t)) ∙ ap (map (on settled)) (order_again (paths_of t))))
 
   -- the roll goes on from where it starts
   pub goes_on : start ≤ to
@@ -143,10 +143,10 @@ module _ {S : Type 0} (players start to : ℕ) (t : SavedStates S) (can : CanPla
     pub rerun : p.plan.rerun ≡ p.plan.to - p.plan.from
     pub differs : p.plan.differs.items ≡ entries_by (marked_for t start to) 0 (map (path_of t.base) (in_order (paths_of t)))
 
-  pub made_is : (p : Inside) → IsDone p → made_in p ≡ made_of t rows
-  made_is p done = λ i. record { base = done.base i; kept = in_order (done.taken i); time = done.time i; from = (done.from_is ∙ starts) i }
+  pub made_is : (p : Inside) → IsDone p → planned_in p ≡ planned_roll t rows
+  made_is p done = λ i. record { settled = done.base i; kept = in_order (done.taken i); time = done.time i; from = (done.from_is ∙ starts) i }
 
-  done_plan : (p : Inside) → IsDone p → IsPlanOf players (made_of t rows) p.plan
+  done_plan : (p : Inside) → IsDone p → IsPlanOf players (planned_roll t rows) p.plan
   done_plan p done =
       record {
         to = done.to_is ∙ sym end_is;
@@ -159,7 +159,7 @@ module _ {S : Type 0} (players start to : ℕ) (t : SavedStates S) (can : CanPla
   done_last p done =
       let made = made_is p done in
       record {
-        fit = subst (λ (n : ℕ). IsFit n (made_in p)) (sym done.players_are) (subst (IsFit players) (sym made) (made_is_fit (omega (arith, done.some, done.players_are)) (omega (arith, done.few, done.players_are)) done.short done.root));
-        plan = subst (λ (n : ℕ). IsPlanOf n (made_in p) p.plan) (sym done.players_are) (subst (λ (m : Made). IsPlanOf players m p.plan) (sym made) (done_plan p done));
+        fit = subst (λ (n : ℕ). IsFit n (planned_in p)) (sym done.players_are) (subst (IsFit players) (sym made) (planned_is_fit (omega (arith, done.some, done.players_are)) (omega (arith, done.few, done.players_are)) done.short done.root));
+        plan = subst (λ (n : ℕ). IsPlanOf n (planned_in p) p.plan) (sym done.players_are) (subst (λ (m : PlannedRoll). IsPlanOf players m p.plan) (sym made) (done_plan p done));
         paths = subst (All (λ (path : Rows). length path ≤ PATH_LIMIT)) (sym done.taken) done.paths;
       }

@@ -5,31 +5,31 @@ use Rattle.roll_frame.specs.Claims.{AreRowsOf}
 use Rattle.roll_frame.specs.Order.{in_order}
 use Rattle.roll_frame.specs.Paths.{contains, longest}
 use Rattle.roll_plan.specs.Spelled.{spelled}
-use Rattle.roll_plan.specs.Plans.{Made, Planned, IsPlanOf}
+use Rattle.roll_plan.specs.Plans.{PlannedRoll, Planned, IsPlanOf}
 use Rattle.roll_plan.specs.declared.planner.Planner.TheInside.{Inside}
 
-abbrev pub made_in : Inside → Made
-made_in p = record { base = p.base; kept = in_order (spelled p.taken.items); time = p.time.items; from = p.plan.from }
+abbrev pub planned_in : Inside → PlannedRoll
+planned_in p = record { settled = p.base; kept = in_order (spelled p.taken.items); time = p.time.items; from = p.plan.from }
 
 abbrev pub planned_of : Inside → Planned
-planned_of p = record { players = p.players; last = if p.is_made then Some (made_in p) else None }
+planned_of p = record { players = p.players; last = if p.is_made then Some (planned_in p) else None }
 
 -- a claim can be made of a plan: the start is the longest kept path along its rows
-pub record IsFit (players : ℕ) (made : Made) : Type 0 where
+pub record IsFit (players : ℕ) (made : PlannedRoll) : Type 0 where
   pub some : 1 ≤ players
   pub few : players ≤ PLAYER_LIMIT
-  pub base : made.base ≤ FRAME_LIMIT
+  pub base : made.settled ≤ FRAME_LIMIT
   pub short : length made.time ≤ PATH_LIMIT
   pub time : AreRowsOf players made.time
   pub paths : All (AreRowsOf players) made.kept
   pub root : contains made.kept [] ≡ true
-  pub from_is : made.from ≡ made.base + longest made.kept made.time
+  pub from_is : made.from ≡ made.settled + longest made.kept made.time
   pub ordered : in_order made.kept ≡ made.kept
 
 -- the fields are those of the last plan
 pub record IsLast (p : Inside) : Type 0 where
-  pub fit : IsFit p.players (made_in p)
-  pub plan : IsPlanOf p.players (made_in p) p.plan
+  pub fit : IsFit p.players (planned_in p)
+  pub plan : IsPlanOf p.players (planned_in p) p.plan
   pub paths : All (λ path. length path ≤ PATH_LIMIT) (spelled p.taken.items)
 
 pub record IsPlanner (p : Inside) : Type 0 where

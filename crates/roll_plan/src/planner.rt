@@ -6,7 +6,7 @@ ghost use Rattle.roll_frame.specs.Paths.{begins_with, longest};
 ghost use Rattle.roll_tree.specs.SavedStates.{path_of, paths_of as kept_paths, state_named, time_to};
 ghost use Rattle.roll_plan.specs.Ranks.{IsKept, entries_by, entry_by_marks, marked_for, path_named};
 ghost use Rattle.roll_plan.specs.Spelled.{path_before, path_in, spelled};
-ghost use Rattle.roll_plan.specs.Plans.{CanPlan, IsClaimOf, IsPlanOf, made_of};
+ghost use Rattle.roll_plan.specs.Plans.{CanPlan, IsClaimOf, IsPlanOf, planned_roll};
 
 use crate::plan::Plan;
 use crate::rank::rank;
@@ -81,7 +81,9 @@ impl Planner {
     /// its way, and the length of its path, from frame 0.
     pub fn plan<S>(&mut self, tree: &Tree<S>, to: u32) -> (usize, u32)
         requires { CanPlan self.old.players tree.now to }
-        ensures plan { self.new ≡ record self.old { last = Some (made_of tree.now (time_to tree.now to)) } }
+        ensures plan { self.new ≡ record self.old {
+          last = Some (planned_roll tree.now (time_to tree.now to));
+        } }
         ensures node { IsSomeAnd (state_named tree.now result.0)
             (λ s. s.path ≡ take (longest (kept_paths tree.now) (time_to tree.now to)) (time_to tree.now to)) }
         ensures length { result.1 ≡ tree.now.base + longest (kept_paths tree.now) (time_to tree.now to) }
@@ -98,7 +100,9 @@ impl Planner {
     fn plan_from<S>(&mut self, tree: &Tree<S>, from: u32, to: u32)
         requires can { CanPlan self.old.players tree.now to }
         requires starts { from ≡ tree.now.base + longest (kept_paths tree.now) (time_to tree.now to) }
-        ensures { self.new ≡ record self.old { last = Some (made_of tree.now (time_to tree.now to)) } }
+        ensures { self.new ≡ record self.old {
+          last = Some (planned_roll tree.now (time_to tree.now to));
+        } }
     {
         tree.laws();
         take_down(&mut self.taken, tree);
@@ -116,7 +120,8 @@ impl Planner {
     /// The last plan. None at first, and after `forget`.
     pub fn last(&self) -> Option<&Plan>
         ensures when { is_none result ≡ is_none self.now.last }
-        ensures plan { IfSome self.now.last (λ made. IfSome result (λ plan. IsPlanOf self.now.players made plan.now)) }
+        ensures plan { IfSome self.now.last
+            (λ roll. IfSome result (λ plan. IsPlanOf self.now.players roll plan.now)) }
     {
         if self.is_made { Some(&self.plan) } else { None }
     }
@@ -134,7 +139,8 @@ impl Planner {
     ///
     /// `NoPlan` where there is no last plan, else `NoMemory` where the allocator has no room.
     pub fn claim(&self, alloc: Global) -> Result<Claim, Refusal>
-        ensures claim { IfOk result (λ claim. IfSome self.now.last (λ made. IsClaimOf self.now.players made claim)) }
+        ensures claim { IfOk result (λ claim. IfSome self.now.last
+            (λ roll. IsClaimOf self.now.players roll claim)) }
         ensures right { IfOk result (λ claim. IsRight claim) }
         ensures made { OnOk result (is_none self.now.last ≡ false) }
         ensures refused { IfErr result (λ why. why ≡ (if is_none self.now.last then Refusal.NoPlan else Refusal.NoMemory)) }
@@ -151,7 +157,8 @@ impl Planner {
     /// The claim of the last plan.
     fn copied(&self, alloc: Global) -> Result<Claim, AllocError>
         requires { is_none self.now.last ≡ false }
-        ensures { IfOk result (λ claim. IfSome self.now.last (λ made. IsClaimOf self.now.players made claim)) }
+        ensures { IfOk result (λ claim. IfSome self.now.last
+            (λ roll. IsClaimOf self.now.players roll claim)) }
     {
         let time = Items::from(Vec::from_slice(alloc, self.time.as_slice())?);
         let kept = Items::from(paths_of(alloc, self.base, &self.taken)?);

@@ -11,7 +11,7 @@ use Rattle.roll_frame.specs.Paths.{run}
 use Rattle.roll_requests.specs.declared.name.Name.{Name}
 use Rattle.roll_requests.specs.declared.recorder.Point.{Point}
 use Rattle.roll_requests.specs.declared.request.Request.{Request}
-use Rattle.roll_requests.specs.declared.request.Request.TheVariants.{Load, Save, Advance, Free}
+use Rattle.roll_requests.specs.declared.request.Request.TheVariants.{Load, Save, Advance, Free, LoadAside, SaveAside, AdvanceAside}
 use Rattle.roll_session.specs.Held.{Shows}
 use Rattle.roll_requests.specs.Carried.{Elsewhere, carried, carried_all, carried_out, first}
 use Rattle.roll_requests.specs.Leading.{AreNamed, AreRuns, LeadsTo, rows_there}
@@ -21,7 +21,7 @@ use Rattle.roll_requests.specs.Tables.{AreNames, Listed, next_name, opening_name
 module _ {V W : Type 0} (f : V → W) where
   -- the states elsewhere, seen by a function
   abbrev pub mapped : Elsewhere V → Elsewhere W
-  mapped there = record { current = f there.current; slots = λ k. option_map f (there.slots k) }
+  mapped there = record { current = f there.current; aside = f there.aside; slots = λ k. option_map f (there.slots k) }
 
   mapped_or : (o : Option V) (d : V) → f (unwrap_or o d) ≡ unwrap_or (option_map f o) (f d)
   mapped_or None d = refl
@@ -33,18 +33,24 @@ module _ {V W : Type 0} (f : V → W) where
 
   mapped_first : (opening : V) → mapped (first opening) ≡ first (f opening)
   mapped_first opening =
-      λ i. record { current = f opening; slots = λ k. mapped_cond (eqb k 0) (Some opening) None i }
+      λ i. record { current = f opening; aside = f opening; slots = λ k. mapped_cond (eqb k 0) (Some opening) None i }
 
   module _ (step : V → List Cell → V) (step' : W → List Cell → W) (same : (v : V) (row : List Cell) → f (step v row) ≡ step' (f v) row) where
     mapped_carried : (request : Request) (there : Elsewhere V) → mapped (carried step request there) ≡ carried step' request (mapped there)
     mapped_carried (Load slot) there =
-        λ i. record { current = mapped_or (there.slots slot) there.current i; slots = λ k. option_map f (there.slots k) }
+        λ i. record { current = mapped_or (there.slots slot) there.current i; aside = f there.aside; slots = λ k. option_map f (there.slots k) }
     mapped_carried (Save slot) there =
-        λ i. record { current = f there.current; slots = λ k. mapped_cond (eqb k slot) (Some there.current) (there.slots k) i }
+        λ i. record { current = f there.current; aside = f there.aside; slots = λ k. mapped_cond (eqb k slot) (Some there.current) (there.slots k) i }
     mapped_carried (Advance row) there =
-        λ i. record { current = same there.current row i; slots = λ k. option_map f (there.slots k) }
+        λ i. record { current = same there.current row i; aside = f there.aside; slots = λ k. option_map f (there.slots k) }
     mapped_carried (Free slot) there =
-        λ i. record { current = f there.current; slots = λ k. mapped_cond (eqb k slot) None (there.slots k) i }
+        λ i. record { current = f there.current; aside = f there.aside; slots = λ k. mapped_cond (eqb k slot) None (there.slots k) i }
+    mapped_carried (LoadAside slot) there =
+        λ i. record { current = f there.current; aside = mapped_or (there.slots slot) there.aside i; slots = λ k. option_map f (there.slots k) }
+    mapped_carried (SaveAside slot) there =
+        λ i. record { current = f there.current; aside = f there.aside; slots = λ k. mapped_cond (eqb k slot) (Some there.aside) (there.slots k) i }
+    mapped_carried (AdvanceAside row) there =
+        λ i. record { current = f there.current; aside = same there.aside row i; slots = λ k. option_map f (there.slots k) }
 
     mapped_all : (requests : List Request) (there : Elsewhere V) → mapped (carried_all step requests there) ≡ carried_all step' requests (mapped there)
     mapped_all [] there = refl
@@ -63,6 +69,7 @@ runs_there step opening requests =
 pub are_runs : (requests : List Request) → AreRuns requests
 are_runs requests = record {
   current = λ step opening. ap (λ (e : Elsewhere Value). e.current) (sym (runs_there step opening requests));
+  aside = λ step opening. ap (λ (e : Elsewhere Value). e.aside) (sym (runs_there step opening requests));
   slots = λ step opening slot. ap (λ (e : Elsewhere Value). e.slots slot) (sym (runs_there step opening requests));
 }
 
@@ -80,6 +87,9 @@ are_named listed kept names = record {
   current = ∥∥₁_elim names (Coded-set (coded_list coded_ℕ) _ _) (λ n.
       ap (λ (e : Elsewhere Value). e.current) (named_there listed.requests)
       ∙ ap (λ (e : Elsewhere Name). e.current.digest) (sym (whole_names listed kept n)));
+  aside = ∥∥₁_elim names (Coded-set (coded_list coded_ℕ) _ _) (λ n.
+      ap (λ (e : Elsewhere Value). e.aside) (named_there listed.requests)
+      ∙ ap (λ (e : Elsewhere Name). e.aside.digest) (sym (whole_names listed kept n)));
   slots = λ slot. ∥∥₁_elim names (Coded-set (coded_option (coded_list coded_ℕ)) _ _) (λ n.
       ap (λ (e : Elsewhere Value). e.slots slot) (named_there listed.requests)
       ∙ ap (λ (e : Elsewhere Name). option_map (λ (m : Name). m.digest) (e.slots slot)) (sym (whole_names listed kept n)));

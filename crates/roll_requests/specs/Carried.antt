@@ -2,11 +2,12 @@
 use Rattle.std.specs.Prelude.{ℕ, eqb, List, [], ◌∷◌, Option, Some, None, unwrap_or, if◌then◌else◌}
 use Rattle.roll_frame.specs.declared.row.Cell.{Cell}
 use Rattle.roll_requests.specs.declared.request.Request.{Request}
-use Rattle.roll_requests.specs.declared.request.Request.TheVariants.{Load, Save, Advance, Free}
+use Rattle.roll_requests.specs.declared.request.Request.TheVariants.{Load, Save, Advance, Free, LoadAside, SaveAside, AdvanceAside}
 
--- the current state elsewhere, and those in its slots
+-- the current state elsewhere, the one that is run aside, and those in the slots
 pub record Elsewhere (V : Type 0) : Type 0 where
   pub current : V
+  pub aside : V
   pub slots : ℕ → Option V
 
 module _ {V : Type 0} where
@@ -16,7 +17,7 @@ module _ {V : Type 0} where
 
   -- at first the opening is current, and in slot 0
   abbrev pub first : V → Elsewhere V
-  first opening = record { current = opening; slots = stored 0 (Some opening) (λ k. None) }
+  first opening = record { current = opening; aside = opening; slots = stored 0 (Some opening) (λ k. None) }
 
   -- what carrying out a request makes of the states elsewhere, where a row makes this of a state
   abbrev pub carried : (V → List Cell → V) → Request → Elsewhere V → Elsewhere V
@@ -26,6 +27,11 @@ module _ {V : Type 0} where
       record there { slots = stored slot (Some there.current) there.slots }
   carried step (Advance row) there = record there { current = step there.current row }
   carried step (Free slot) there = record there { slots = stored slot None there.slots }
+  carried step (LoadAside slot) there =
+      record there { aside = unwrap_or (there.slots slot) there.aside }
+  carried step (SaveAside slot) there =
+      record there { slots = stored slot (Some there.aside) there.slots }
+  carried step (AdvanceAside row) there = record there { aside = step there.aside row }
 
   -- what carrying out a list of them in order makes of those states
   abbrev pub carried_all : (V → List Cell → V) → List Request → Elsewhere V → Elsewhere V

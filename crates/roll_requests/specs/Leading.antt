@@ -28,6 +28,9 @@ pub record AreRuns (requests : List Request) : Type 0 where
   pub current : (step : Value → List Cell → Value) (opening : Value)
       → (carried_out step opening requests).current
       ≡ run step opening (rows_there requests).current
+  pub aside : (step : Value → List Cell → Value) (opening : Value)
+      → (carried_out step opening requests).aside
+      ≡ run step opening (rows_there requests).aside
   pub slots : (step : Value → List Cell → Value) (opening : Value) (slot : ℕ)
       → (carried_out step opening requests).slots slot
       ≡ option_map (run step opening) ((rows_there requests).slots slot)
@@ -35,6 +38,7 @@ pub record AreRuns (requests : List Request) : Type 0 where
 -- the table has the names of these rows
 pub record AreNamed (requests : List Request) (listed : Listed) : Type 0 where
   pub current : name_of (rows_there requests).current ≡ listed.current.digest
+  pub aside : name_of (rows_there requests).aside ≡ listed.aside.digest
   pub slots : (slot : ℕ) → option_map name_of ((rows_there requests).slots slot)
       ≡ option_map (λ name. name.digest) (taken_by listed.names slot)
 

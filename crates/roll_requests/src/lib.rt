@@ -1,6 +1,7 @@
 //! Games that are played elsewhere: what a session would do with a game becomes a list of requests.
 #![tactic(auto)]
 
+mod guesses;
 mod name;
 mod recorder;
 mod request;
@@ -9,6 +10,7 @@ mod table;
 #[cfg(test)]
 mod tests;
 
+pub use guesses::{guess, limit_slots};
 pub use name::Name;
 pub use recorder::{Point, Recorder, Saved};
 pub use request::Request;

@@ -1,11 +1,15 @@
 //! The game that a session drives in place of the one elsewhere.
-ghost use Rattle.std.specs.Prelude.{◌≡◌, ◌<◌, ◌++◌, ◌∷◌, [], length, vec_capacity, is_ok, IfOk, IsTrue, OnOk, Some};
+ghost use Rattle.std.specs.Prelude.{◌≡◌, ◌<◌, [], length, vec_capacity, is_ok, IfOk, IsTrue, OnOk, Some};
+ghost use Rattle.roll_branch.specs.Routed.{AreStates};
 ghost use Rattle.roll_game.specs.Counts.{counted, no_calls};
 ghost use Rattle.roll_requests.specs.Names.{name_of, step_of};
 ghost use Rattle.roll_requests.specs.Slots.{taken_by, IsFree};
+ghost use Rattle.roll_requests.specs.Tables.{empty_listed};
+ghost use Rattle.roll_requests.specs.declared.recorder.Saved.{Saved};
 
 use crate::name::Name;
 use crate::table::{Kept, Table};
+use roll_branch::{Branch, Job};
 use roll_frame::Row;
 use roll_game::{Call, Counts, Game, NoMemory, RawGame};
 use std::alloc::{AllocError, Global};
@@ -99,6 +103,83 @@ impl Recorder {
         &self.table
     }
 
+    /// An engine to put in a recorder's place for a moment. It takes no memory, and has no state saved.
+    pub fn idle(alloc: Global) -> Recorder
+        ensures counts { result.counts ≡ no_calls }
+        ensures table { result.table ≡ empty_listed }
+    {
+        Recorder {
+            alloc,
+            counts: Counts::new(),
+            table: Table::empty(alloc),
+            shares: Vec::new(alloc),
+        }
+    }
+
+    /// From now on it refuses to save a state in a slot from this one on.
+    pub fn set_limit(&mut self, slots: u32)
+        ensures limit { self.new.table ≡ record self.old.table { limit = slots } }
+        ensures counts { self.new.counts ≡ self.old.counts }
+    {
+        self.table.set_limit(slots);
+    }
+
+    /// Has a job run elsewhere, aside of the current state. Its branch is good once that is carried out.
+    ///
+    /// # Errors
+    ///
+    /// `AllocError` if the allocator has no room, or no slot is left. What was asked for by then stays asked for, and its slots
+    /// are freed later.
+    pub fn run(&mut self, job: Job<Recorder>) -> Result<Branch<Recorder>, AllocError>
+        ensures branch { IfOk result (λ branch. branch ≡ job) }
+        ensures current { self.new.table.current ≡ self.old.table.current }
+        ensures counts { self.new.counts ≡ self.old.counts }
+    {
+        let states = self.run_rows(job.start(), job.route().rows.as_slice())?;
+        Ok(job.grown(states))
+    }
+
+    fn run_rows(&mut self, from: &Saved, rows: &[Row]) -> Result<Vec<Saved>, AllocError>
+        ensures states { IfOk result (λ states. AreStates (λ (s : Saved). s.kept.value.name.digest)
+            step_of from.now.kept.value.name.digest rows.now states.items) }
+        ensures current { self.new.table.current ≡ self.old.table.current }
+        ensures counts { self.new.counts ≡ self.old.counts }
+    {
+        reach_aside(&mut self.table, from.slot(), from.name())?;
+        let mut states = Vec::with_capacity(self.alloc, rows.len())?;
+        for row in rows {
+            self.table.advance_aside(row)?;
+            states.push(self.put_aside()?)?;
+        }
+        Ok(states)
+    }
+
+    fn put_aside(&mut self) -> Result<Saved, AllocError>
+        ensures value { IfOk result (λ saved. saved.kept.value.name ≡ self.old.table.aside) }
+        ensures free { IfOk result
+            (λ saved. IsFree self.old.table.names saved.kept.value.slot) }
+        ensures aside { self.new.table.aside ≡ self.old.table.aside }
+        ensures current { self.new.table.current ≡ self.old.table.current }
+        ensures counts { self.new.counts ≡ self.old.counts }
+    {
+        self.shares.reserve(1)?;
+        let kept = self.table.save_aside()?;
+        self.share(kept)
+    }
+
+    /// A snapshot that has the right to a slot, which the recorder shares. There is room for one share more.
+    fn share(&mut self, kept: Kept) -> Result<Saved, AllocError>
+        requires { length self.old.shares.items < vec_capacity self.old.shares }
+        ensures value { IfOk result (λ saved. saved.kept.value ≡ kept) }
+        ensures table { self.new.table ≡ self.old.table }
+        ensures counts { self.new.counts ≡ self.old.counts }
+    {
+        let place = kept.slot() as usize;
+        let kept = shared(self.alloc, kept)?;
+        add(&mut self.shares, place, kept.clone()?);
+        Ok(Saved { kept })
+    }
+
     fn go_to(&mut self, saved: &Saved) -> Result<Point, AllocError>
         ensures value { IfOk result (λ point. point.name ≡ saved.now.kept.value.name) }
         ensures current { IfOk result (λ point. point.name ≡ self.new.table.current) }
@@ -124,10 +205,7 @@ impl Recorder {
         }
         self.shares.reserve(1)?;
         let kept = self.table.save()?;
-        let place = kept.slot() as usize;
-        let kept = shared(self.alloc, kept)?;
-        add(&mut self.shares, place, kept.clone()?);
-        Ok(Saved { kept })
+        self.share(kept)
     }
 
     fn go_on(&mut self, point: &mut Point, row: &Row) -> Result<(), AllocError>
@@ -234,6 +312,17 @@ fn reach(table: &mut Table, slot: u32, name: Name) -> Result<(), AllocError>
         return Ok(());
     }
     table.load(slot)
+}
+
+/// Makes the state of a slot the one that is run aside, if it has this name.
+fn reach_aside(table: &mut Table, slot: u32, name: Name) -> Result<(), AllocError>
+    ensures aside { OnOk result (table.new.aside ≡ name) }
+    ensures current { table.new.current ≡ table.old.current }
+{
+    if !is_name(table.name_in(slot), name) {
+        return Err(AllocError);
+    }
+    table.load_aside(slot)
 }
 
 fn is_name(there: Option<Name>, name: Name) -> bool

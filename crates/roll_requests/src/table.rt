@@ -1,8 +1,8 @@
 //! The states elsewhere, by their names, and what is asked of the game there.
-ghost use Rattle.std.specs.Prelude.{◌≡◌, ◌≤◌, ◌<◌, ◌++◌, ◌∷◌, [], length, vec_capacity, IfOk, OnOk, OnErr, Some, None, true};
+ghost use Rattle.std.specs.Prelude.{◌≡◌, ◌≤◌, ◌<◌, length, vec_capacity, IfOk, OnOk, OnErr, Some, None, true};
 ghost use Rattle.roll_requests.specs.Leading.{AreNamed};
 ghost use Rattle.roll_requests.specs.Slots.{taken_by, with_state, without, IsFree};
-ghost use Rattle.roll_requests.specs.Tables.{asked, begun, opening_name, GivesBack, TakesOne};
+ghost use Rattle.roll_requests.specs.Tables.{asked, begun, empty_listed, first_listed, opening_name, GivesBack, TakesOne};
 
 use crate::name::Name;
 use crate::request::Request;
@@ -38,26 +38,29 @@ impl Kept {
 #[derive(Drop)]
 pub struct Table {
     keeps: bool,
+    /// How many slots there may be.
+    limit: u32,
     current: Name,
+    aside: Name,
     names: Vec<Option<Name>>,
     requests: Vec<Request>,
 }
 
 impl Model for Table {
-    ghost use Rattle.roll_requests.specs.Tables.{AreNames, Listed};
+    ghost use Rattle.roll_requests.specs.Tables.{AreNames, Listed, listed_in};
 
     ghost Value = { Listed };
 
-    ghost view = { λ t. record { keeps = t.keeps; current = t.current; names = t.names.items; requests = t.requests.items } };
+    ghost view = { listed_in };
 
-    ghost invariant = { λ t. ∥ AreNames (record { keeps = t.keeps; current = t.current; names = t.names.items; requests = t.requests.items }) ∥₁ };
+    ghost invariant = { λ t. ∥ AreNames (listed_in t) ∥₁ };
 }
 
 impl Table {
     /// The opening is current, and in slot 0, to which the right comes with the table. The list of requests is kept whole,
     /// or begun anew by each `begin`.
     pub fn new(alloc: Global, keeps: bool) -> Result<(Table, Kept), AllocError>
-        ensures table { IfOk result (λ made. made.0 ≡ record { keeps = keeps; current = opening_name; names = Some opening_name ∷ []; requests = [] }) }
+        ensures table { IfOk result (λ made. made.0 ≡ first_listed keeps) }
         ensures kept { IfOk result (λ made. made.1 ≡ record { slot = 0; name = opening_name }) }
     {
         let name = Name::opening();
@@ -65,11 +68,35 @@ impl Table {
         names.push(Some(name))?;
         let table = Table {
             keeps,
+            limit: u32::MAX,
             current: name,
+            aside: name,
             names,
             requests: Vec::new(alloc),
         };
         Ok((table, Kept { slot: 0, name }))
+    }
+
+    /// The table of a game elsewhere that has given its slot 0 back. It takes no memory.
+    pub fn empty(alloc: Global) -> Table
+        ensures { result ≡ empty_listed }
+    {
+        let name = Name::opening();
+        Table {
+            keeps: false,
+            limit: u32::MAX,
+            current: name,
+            aside: name,
+            names: Vec::new(alloc),
+            requests: Vec::new(alloc),
+        }
+    }
+
+    /// From now on only slots below this one are taken.
+    pub fn set_limit(&mut self, limit: u32)
+        ensures { self.new ≡ record self.old { limit = limit } }
+    {
+        self.limit = limit;
     }
 
     /// The name of the state that is current once the requests are carried out.
@@ -137,17 +164,14 @@ impl Table {
         ensures asked { IfOk result (λ kept. self.new ≡ asked (Request.Save kept.slot) self.old) }
         ensures name { IfOk result (λ kept. kept.name ≡ self.old.current) }
         ensures free { IfOk result (λ kept. IsFree self.old.names kept.slot) }
+        ensures low { IfOk result (λ kept. kept.slot < self.old.limit) }
         ensures right { IfOk result (λ kept. TakesOne self.old.names kept self.new.names) }
         ensures refused { OnErr result (self.new ≡ self.old) }
     {
-        let place = free_place(&self.names);
-        let Ok(slot) = u32::try_from(place) else {
-            return Err(AllocError);
-        };
-        self.names.reserve(1)?;
-        self.requests.push(Request::Save { slot })?;
+        let slot = free_slot(&mut self.names, self.limit)?;
         let name = self.current;
-        take(&mut self.names, place, name);
+        self.requests.push(Request::Save { slot })?;
+        take(&mut self.names, slot as usize, name);
         Ok(Kept { slot, name })
     }
 
@@ -158,6 +182,44 @@ impl Table {
     {
         self.requests.push(Request::Advance { row: *row })?;
         self.current = self.current.next(row);
+        Ok(())
+    }
+
+    /// Asks for the state of a slot to be run aside.
+    pub fn load_aside(&mut self, slot: u32) -> Result<(), AllocError>
+        ensures asked { OnOk result (self.new ≡ asked (Request.LoadAside slot) self.old) }
+        ensures refused { OnErr result (self.new ≡ self.old) }
+    {
+        let name = self.name_in(slot).unwrap_or(self.aside);
+        self.requests.push(Request::LoadAside { slot })?;
+        self.aside = name;
+        Ok(())
+    }
+
+    /// Asks for the state that is run aside to be saved, as `save` does for the current one.
+    pub fn save_aside(&mut self) -> Result<Kept, AllocError>
+        ensures asked { IfOk result
+            (λ kept. self.new ≡ asked (Request.SaveAside kept.slot) self.old) }
+        ensures name { IfOk result (λ kept. kept.name ≡ self.old.aside) }
+        ensures free { IfOk result (λ kept. IsFree self.old.names kept.slot) }
+        ensures low { IfOk result (λ kept. kept.slot < self.old.limit) }
+        ensures right { IfOk result (λ kept. TakesOne self.old.names kept self.new.names) }
+        ensures refused { OnErr result (self.new ≡ self.old) }
+    {
+        let slot = free_slot(&mut self.names, self.limit)?;
+        let name = self.aside;
+        self.requests.push(Request::SaveAside { slot })?;
+        take(&mut self.names, slot as usize, name);
+        Ok(Kept { slot, name })
+    }
+
+    /// Asks for the state that is run aside to be advanced.
+    pub fn advance_aside(&mut self, row: &Row) -> Result<(), AllocError>
+        ensures asked { OnOk result (self.new ≡ asked (Request.AdvanceAside row.now) self.old) }
+        ensures refused { OnErr result (self.new ≡ self.old) }
+    {
+        self.requests.push(Request::AdvanceAside { row: *row })?;
+        self.aside = self.aside.next(row);
         Ok(())
     }
 
@@ -184,6 +246,24 @@ fn free_place(names: &Vec<Option<Name>>) -> usize
         }
     }
     names.len()
+}
+
+/// The least slot that is free, if there may be one more, with room for one name more.
+fn free_slot(names: &mut Vec<Option<Name>>, limit: u32) -> Result<u32, AllocError>
+    ensures free { IfOk result (IsFree names.old.items) }
+    ensures low { IfOk result (λ slot. slot < limit) }
+    ensures room { OnOk result (length names.new.items < vec_capacity names.new) }
+    ensures same { names.new.items ≡ names.old.items }
+{
+    let place = free_place(names);
+    let Ok(slot) = u32::try_from(place) else {
+        return Err(AllocError);
+    };
+    if slot >= limit {
+        return Err(AllocError);
+    }
+    names.reserve(1)?;
+    Ok(slot)
 }
 
 /// Gives a place a name, or adds one past the last, for which there is room.

@@ -18,7 +18,7 @@ use Rattle.roll_frame.specs.declared.refusal.Refusal.TheVariants.{LocalInputMiss
 use Rattle.roll_frame.specs.declared.settings.Settings.{Settings}
 use Rattle.roll_frame.proofs.Refused.{all_fail, first_refusal-behind}
 use Rattle.roll_laws.proofs.Rolls.{roll_of}
-use Rattle.roll_plan.specs.Plans.{Planned, made_of}
+use Rattle.roll_plan.specs.Plans.{Planned, planned_roll}
 use Rattle.roll_game.specs.Counts.{rolled}
 use Rattle.roll_game.specs.declared.counts.Counts.{Counts}
 use Rattle.roll_session.specs.Answered.{counts_by}
@@ -30,7 +30,7 @@ use Rattle.roll_session.specs.Held.{HasRoom, IsSession, Shows, planned_of}
 use Rattle.roll_session.specs.Logs.{Filed}
 use Rattle.roll_session.specs.Saves.{HaveValues, Standing, rows_to, settled_by, settling, stepped_inputs, taken_inputs, deepest_toward}
 use Rattle.roll_session.specs.Seen.{Step, plain}
-use Rattle.roll_session.specs.Standing.{made_from}
+use Rattle.roll_session.specs.Standing.{as_planned}
 use Rattle.roll_session.proofs.Between.{IsBetween, can_settle}
 use Rattle.roll_session.proofs.Holding.{accepted, can_be_partial_advance, can_be_partial_sync, partial_accepted, first_refusal-front}
 use Rattle.roll_session.proofs.Rolled.{Added, between_after_advance, between_after_partial, between_after_sync, cost_is, depth_is, frame_is, near, paths_fit, roll_fits, roll_plan, session_event, shown_value, time_fits}
@@ -119,9 +119,9 @@ module _ {S N : Type 0} {state_value : S → Value} {snapshot_value : N → Valu
       roll_cases (λ (e : Call). Shows state_value step opening (applied core (entry_of e)).shown (Some state)) core call to is_to
       (λ e. v ∙ ap (λ (n : ℕ). run step opening (timeline core.players n)) e) (λ e. v ∙ ap (λ (n : ℕ). run step opening (timeline core.players n)) e)
 
-  planned_by : (call : Call) (to : ℕ) → IsRollTo core call to → (planned : Planned) → planned ≡ record { players = settings.players; last = Some (made_from (roll_of core to)) } → planned ≡ planned_of settings (applied core (entry_of call))
+  planned_by : (call : Call) (to : ℕ) → IsRollTo core call to → (planned : Planned) → planned ≡ record { players = settings.players; last = Some (as_planned (roll_of core to)) } → planned ≡ planned_of settings (applied core (entry_of call))
   planned_by call to is_to planned v =
-      let plan : ℕ → Planned = λ (n : ℕ). record { players = settings.players; last = Some (made_from (roll_of core n)) } in
+      let plan : ℕ → Planned = λ (n : ℕ). record { players = settings.players; last = Some (as_planned (roll_of core n)) } in
       roll_cases (λ (e : Call). planned ≡ planned_of settings (applied core (entry_of e))) core call to is_to (λ e. v ∙ ap plan e) (λ e. v ∙ ap plan e)
 
   -- what the game was asked for
@@ -189,7 +189,7 @@ module _ {S N : Type 0} {state_value : S → Value} {snapshot_value : N → Valu
 
       pub rolled_next : (after cut settled : Standing N) (planned : Planned) (state : S) → HasAdded to (to - saves.inputs.settled - deepest_toward saves to) after → cut.inputs ≡ stepped_inputs after.inputs (entry_of call) → cut.tree ≡ after.tree → IsSettled cut settled
           → ((x : Value) → HaveValues snapshot_value step x (timeline saves.inputs.players saves.inputs.settled) saves.tree.states → state_value state ≡ run step x (timeline saves.inputs.players to))
-          → saves.tree.base ≡ saves.inputs.settled → planned ≡ record planner { last = Some (made_of saves.tree (rows_to saves.inputs to)) } → IsSession state_value snapshot_value step opening settings (log ++ entry_of call ∷ []) settled planned (Some state)
+          → saves.tree.base ≡ saves.inputs.settled → planned ≡ record planner { last = Some (planned_roll saves.tree (rows_to saves.inputs to)) } → IsSession state_value snapshot_value step opening settings (log ++ entry_of call ∷ []) settled planned (Some state)
       rolled_next after cut settled planned state a inputs tree now value base plan =
           session_event s (event_of call) cut settled planned (Some state) (accepted settings game core (event_of call) not_repeat fine) (rolled_by call to is_to after cut a inputs tree) now.inputs now.states
           (shows_by call to is_to state (shown_value s to state value))

@@ -23,11 +23,11 @@ use Rattle.roll_frame.specs.declared.path.Path.{Path}
 use Rattle.roll_laws.proofs.Fair.{IsFair}
 use Rattle.roll_laws.proofs.Rolls.{last_is_fair}
 use Rattle.roll_plan.proofs.Settled.{on, order_on}
-use Rattle.roll_plan.specs.Plans.{IsClaimOf, IsPlanOf, Made}
+use Rattle.roll_plan.specs.Plans.{IsClaimOf, IsPlanOf, PlannedRoll}
 use Rattle.roll_plan.specs.declared.plan.Plan.{Plan}
 use Rattle.roll_tree.specs.SavedStates.{SavedStates, state_named, path_of}
 use Rattle.roll_session.specs.Planned.{IsPlanOfRoll}
-use Rattle.roll_session.specs.Standing.{from_start, made_from, settled_rows}
+use Rattle.roll_session.specs.Standing.{from_start, as_planned, settled_rows}
 use Rattle.roll_session.proofs.Between.{IsBetween, between_input}
 use Rattle.roll_session.proofs.Planning.{plan_is, seen_claim}
 use Rattle.std.specs.Prelude.{nat_le, ◌==◌}
@@ -230,13 +230,13 @@ module _ {S N : Type 0} {state_value : S → List ℕ} {snapshot_value : N → L
   pub session_plan : {A : Type 0} (now : A → Plan) (result : Option A) → IfSome planner.last (λ made. IfSome result (λ a. IsPlanOf planner.players made (now a))) → IfSome (replay settings log).last (λ roll. IfSome result (λ a. IsPlanOfRoll settings.players roll (now a)))
   session_plan now result h = go planner.last (replay settings log).last (ap (λ (p : Planned). p.last) s.plan) fair h
     where
-      some : {A : Type 0} (a : Option A) (roll : Roll) (now : A → Plan) → IsFair settings.players roll → IfSome a (λ x. IsPlanOf planner.players (made_from roll) (now x)) → IfSome a (λ x. IsPlanOfRoll settings.players roll (now x))
+      some : {A : Type 0} (a : Option A) (roll : Roll) (now : A → Plan) → IsFair settings.players roll → IfSome a (λ x. IsPlanOf planner.players (as_planned roll) (now x)) → IfSome a (λ x. IsPlanOfRoll settings.players roll (now x))
       some None roll now f h = tt
-      some (Some x) roll now f h = plan_is settings.players roll f (now x) (subst (λ n. IsPlanOf n (made_from roll) (now x)) (ap (λ (p : Planned). p.players) s.plan) h)
+      some (Some x) roll now f h = plan_is settings.players roll f (now x) (subst (λ n. IsPlanOf n (as_planned roll) (now x)) (ap (λ (p : Planned). p.players) s.plan) h)
 
-      go : (m : Option Made) (o : Option Roll) → m ≡ option_map made_from o → ((roll : Roll) → o ≡ Some roll → IsFair settings.players roll) → IfSome m (λ made. IfSome result (λ a. IsPlanOf planner.players made (now a))) → IfSome o (λ roll. IfSome result (λ a. IsPlanOfRoll settings.players roll (now a)))
+      go : (m : Option PlannedRoll) (o : Option Roll) → m ≡ option_map as_planned o → ((roll : Roll) → o ≡ Some roll → IsFair settings.players roll) → IfSome m (λ made. IfSome result (λ a. IsPlanOf planner.players made (now a))) → IfSome o (λ roll. IfSome result (λ a. IsPlanOfRoll settings.players roll (now a)))
       go m None e f h = tt
-      go m (Some roll) e f h = some result roll now (f roll refl) (subst (λ (n : Option Made). IfSome n (λ made. IfSome result (λ a. IsPlanOf planner.players made (now a)))) e h)
+      go m (Some roll) e f h = some result roll now (f roll refl) (subst (λ (n : Option PlannedRoll). IfSome n (λ made. IfSome result (λ a. IsPlanOf planner.players made (now a)))) e h)
 
   -- the snapshot of the settled state
   pub session_root : (name : ℕ) (first : N) → IsSomeAnd (state_named saves.tree name) (λ u. u.path ≡ []) → option_map (λ u. u.snapshot) (state_named saves.tree name) ≡ Some first → snapshot_value first ≡ run step opening (settled_rows (replay settings log))

@@ -17,12 +17,12 @@ use Rattle.roll_laws.proofs.Rolls.{roll_of}
 use Rattle.roll_laws.proofs.Saved.{In}
 use Rattle.roll_tree.specs.SavedStates.{SavedStates, paths_of}
 use Rattle.roll_plan.specs.declared.plan.Plan.{Plan}
-use Rattle.roll_plan.specs.Plans.{IsClaimOf, IsPlanOf, Made, made_of, roll_of as planned_roll}
+use Rattle.roll_plan.specs.Plans.{IsClaimOf, IsPlanOf, PlannedRoll, planned_roll, roll_of as roll_of_plan}
 use Rattle.roll_plan.proofs.Settled.{on, order_on}
 use Rattle.roll_frame.proofs.Timelines.{length_timeline}
 use Rattle.roll_frame.proofs.Sorting.{order_again}
 use Rattle.roll_session.specs.Planned.{IsPlanOfRoll}
-use Rattle.roll_session.specs.Standing.{from_start, made_from, rows_from, settled_rows}
+use Rattle.roll_session.specs.Standing.{from_start, as_planned, rows_from, settled_rows}
 
 -- paths from frame 0 are the paths again past the settled rows
 pub drop_from_start : (settled : Rows) (ps : List Rows) → map (drop (length settled)) (from_start settled ps) ≡ ps
@@ -37,27 +37,27 @@ rows_to players s m l = let e : s + (m - s) ≡ m = omega arith in ap (λ n. dro
 pub made_is : (players : ℕ) (core : Core) (m : ℕ) (ps : List Rows) → IsFair players (roll_of core m) → from_start (settled_rows core) ps ≡ kept core
     → depth core m ≡ settled core + longest ps (rows_from core.players (settled core) (m - settled core))
     → record {
-      base = settled core;
+      settled = settled core;
       kept = in_order ps;
       time = rows_from core.players (settled core) (m - settled core);
       from = settled core + longest ps (rows_from core.players (settled core) (m - settled core));
-    } ≡ made_from (roll_of core m)
+    } ≡ as_planned (roll_of core m)
 made_is players core m ps fair paths deep =
     let low : settled core ≤ depth core m = fair.low in
     let top : depth core m ≤ m = omega (arith, fair.top, length_timeline core.players m) in
     let rows : rows_from core.players (settled core) (m - settled core) ≡ drop (settled core) (timeline core.players m) = rows_to core.players (settled core) m (omega arith) in
     let same : ps ≡ map (drop (settled core)) (kept core) =
     sym (drop_from_start (settled_rows core) ps) ∙ ap (λ n. map (drop n) (from_start (settled_rows core) ps)) (length_timeline core.players (settled core)) ∙ ap (map (drop (settled core))) paths in
-    λ i. record { base = settled core; kept = in_order (same i); time = rows i; from = sym deep i }
+    λ i. record { settled = settled core; kept = in_order (same i); time = rows i; from = sym deep i }
 
 -- so it is the plan that is made of the tree
-pub made_of_is : {S : Type 0} (players : ℕ) (core : Core) (m : ℕ) (ps : List Rows) (t : SavedStates S) → IsFair players (roll_of core m) → from_start (settled_rows core) ps ≡ kept core
+pub planned_roll_is : {S : Type 0} (players : ℕ) (core : Core) (m : ℕ) (ps : List Rows) (t : SavedStates S) → IsFair players (roll_of core m) → from_start (settled_rows core) ps ≡ kept core
     → depth core m ≡ settled core + longest ps (rows_from core.players (settled core) (m - settled core))
     → t.base ≡ settled core → paths_of t ≡ ps
-    → made_of t (rows_from core.players (settled core) (m - settled core)) ≡ made_from (roll_of core m)
-made_of_is players core m ps t fair paths deep base own =
+    → planned_roll t (rows_from core.players (settled core) (m - settled core)) ≡ as_planned (roll_of core m)
+planned_roll_is players core m ps t fair paths deep base own =
     let rows : Rows = rows_from core.players (settled core) (m - settled core) in
-    (λ i. record { base = base i; kept = in_order (own i); time = rows; from = base i + longest (own i) rows })
+    (λ i. record { settled = base i; kept = in_order (own i); time = rows; from = base i + longest (own i) rows })
     ∙ made_is players core m ps fair paths deep
 
 wide_rows : (n : ℕ) (rows : Rows) → Wide n rows → AreRowsOf n rows
@@ -94,7 +94,7 @@ abbrev pub ordered_roll : Roll → Roll
 ordered_roll roll = record { from = roll.from; time = roll.time; settled = roll.settled; kept = in_order roll.kept }
 
 -- the roll of a roll's plan is the roll, its kept paths in order
-pub roll_is : (players : ℕ) (roll : Roll) → IsFair players roll → planned_roll (take roll.settled roll.time) (made_from roll) ≡ ordered_roll roll
+pub roll_is : (players : ℕ) (roll : Roll) → IsFair players roll → roll_of_plan (take roll.settled roll.time) (as_planned roll) ≡ ordered_roll roll
 roll_is players roll fair =
     let settled : Rows = take roll.settled roll.time in
     let time : settled ++ drop roll.settled roll.time ≡ roll.time = take-append-drop roll.settled roll.time in
@@ -121,18 +121,18 @@ claim_ordered players roll =
     }
 
 -- so its claim is the roll's
-pub planned_claim_is : (players : ℕ) (roll : Roll) → IsFair players roll → claim_of players (planned_roll (take roll.settled roll.time) (made_from roll)) ≡ claim_of players roll
+pub planned_claim_is : (players : ℕ) (roll : Roll) → IsFair players roll → claim_of players (roll_of_plan (take roll.settled roll.time) (as_planned roll)) ≡ claim_of players roll
 planned_claim_is players roll fair = ap (claim_of players) (roll_is players roll fair) ∙ claim_ordered players roll
 
 settled_long : (players : ℕ) (roll : Roll) → IsFair players roll → length (take roll.settled roll.time) ≡ roll.settled
 settled_long players roll fair = omega (arith, length-take roll.settled roll.time, fair.low, fair.top)
 
 -- the claim of a roll's plan is the roll's
-pub claim_is : (players : ℕ) (roll : Roll) → IsFair players roll → (claim : Claim) → IsClaimOf players (made_from roll) claim → claim ≡ claim_of players roll
+pub claim_is : (players : ℕ) (roll : Roll) → IsFair players roll → (claim : Claim) → IsClaimOf players (as_planned roll) claim → claim ≡ claim_of players roll
 claim_is players roll fair claim is = is (take roll.settled roll.time) (settled_long players roll fair) ∙ planned_claim_is players roll fair
 
 -- a roll's plan has its numbers, and the entries of its claim
-pub plan_is : (players : ℕ) (roll : Roll) → IsFair players roll → (plan : Plan) → IsPlanOf players (made_from roll) plan → IsPlanOfRoll players roll plan
+pub plan_is : (players : ℕ) (roll : Roll) → IsFair players roll → (plan : Plan) → IsPlanOf players (as_planned roll) plan → IsPlanOfRoll players roll plan
 plan_is players roll fair plan is =
     let past : length (drop roll.settled roll.time) ≡ length roll.time - roll.settled = length-drop roll.settled roll.time in
     let to : plan.to ≡ roll.settled + length (drop roll.settled roll.time) = is.to in
@@ -145,8 +145,8 @@ plan_is players roll fair plan is =
     }
 
 -- so is the claim that is made of it
-pub seen_claim : (players : ℕ) (core_last : Option Roll) (planned : Option Made) (claim : Claim) → planned ≡ option_map made_from core_last → ((roll : Roll) → core_last ≡ Some roll → IsFair players roll)
+pub seen_claim : (players : ℕ) (core_last : Option Roll) (planned : Option PlannedRoll) (claim : Claim) → planned ≡ option_map as_planned core_last → ((roll : Roll) → core_last ≡ Some roll → IsFair players roll)
     → IfSome planned (λ made. IsClaimOf players made claim) → IfSome core_last (λ roll. claim ≡ claim_of players roll)
 seen_claim players None planned claim e fair told = tt
 seen_claim players (Some roll) planned claim e fair told =
-    claim_is players roll (fair roll refl) claim (subst (λ (o : Option Made). IfSome o (λ made. IsClaimOf players made claim)) e told)
+    claim_is players roll (fair roll refl) claim (subst (λ (o : Option PlannedRoll). IfSome o (λ made. IsClaimOf players made claim)) e told)

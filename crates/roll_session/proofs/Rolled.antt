@@ -20,16 +20,16 @@ use Rattle.roll_laws.proofs.Few.{rolls_fit}
 use Rattle.roll_laws.proofs.Glue.{always_holds}
 use Rattle.roll_laws.proofs.KeptPaths.{window_is_bounded}
 use Rattle.roll_laws.proofs.Rolls.{next_is_fair, roll_of}
-use Rattle.roll_plan.specs.Plans.{Planned, made_of}
+use Rattle.roll_plan.specs.Plans.{Planned, planned_roll}
 use Rattle.roll_tree.specs.SavedStates.{paths_of}
 use Rattle.roll_session.specs.Held.{IsSession, Shows, planned_of}
 use Rattle.roll_session.specs.Saves.{HaveValues, Standing, rows_to, settled_by, settling, deepest_toward}
 use Rattle.roll_session.specs.Seen.{Step}
-use Rattle.roll_session.specs.Standing.{made_from, rows_from, settled_rows}
+use Rattle.roll_session.specs.Standing.{as_planned, rows_from, settled_rows}
 use Rattle.roll_session.proofs.Between.{IsBetween, between_advance, between_partial, between_sync, settled_kept}
 use Rattle.roll_session.proofs.Grows.{start_is}
 use Rattle.roll_session.proofs.Holding.{session_next}
-use Rattle.roll_session.proofs.Planning.{kept_wide, made_of_is, time_wide}
+use Rattle.roll_session.proofs.Planning.{kept_wide, planned_roll_is, time_wide}
 
 module _ {S N : Type 0} {state_value : S → Value} {snapshot_value : N → Value} {step : Step} {opening : Value} {settings : Settings} {log : List Entry} {saves : Standing N} {planner : Planned} {current : Option S} (s : IsSession state_value snapshot_value step opening settings log saves planner current) where
   settled_is : saves.inputs.settled ≡ settled (replay settings log)
@@ -68,11 +68,11 @@ module _ {S N : Type 0} {state_value : S → Value} {snapshot_value : N → Valu
 
   -- the plan that is taken down
   pub roll_plan : (m : ℕ) → (replay settings log).frame ≤ m → m ≤ (replay settings log).frame + 1 → saves.tree.base ≡ saves.inputs.settled
-      → record planner { last = Some (made_of saves.tree (rows_to saves.inputs m)) } ≡ record { players = settings.players; last = Some (made_from (roll_of (replay settings log) m)) }
+      → record planner { last = Some (planned_roll saves.tree (rows_to saves.inputs m)) } ≡ record { players = settings.players; last = Some (as_planned (roll_of (replay settings log) m)) }
   roll_plan m low high base =
-      let made = made_of_is settings.players (replay settings log) m (paths_of saves.tree) saves.tree (fair m low high) s.kept.kept_is (start_is settings (record { opening = opening; step = step }) log s.is_log (paths_of saves.tree) s.kept.kept_is m low) (base ∙ settled_is) refl in
+      let made = planned_roll_is settings.players (replay settings log) m (paths_of saves.tree) saves.tree (fair m low high) s.kept.kept_is (start_is settings (record { opening = opening; step = step }) log s.is_log (paths_of saves.tree) s.kept.kept_is m low) (base ∙ settled_is) refl in
       let rows : rows_to saves.inputs m ≡ rows_from (replay settings log).players (settled (replay settings log)) (m - settled (replay settings log)) = rw s.kept.inputs refl in
-      (λ i. record { players = sym players_are i; last = Some (made_of saves.tree (rows i)) }) ∙ ap (λ x. record { players = settings.players; last = Some x }) made
+      (λ i. record { players = sym players_are i; last = Some (planned_roll saves.tree (rows i)) }) ∙ ap (λ x. record { players = settings.players; last = Some x }) made
 
   -- what a roll did to the saved states: it added this many
   pub record Added (m made : ℕ) (after : Standing N) : Type 0 where

@@ -1,5 +1,5 @@
 -- A branch as the saved states see it.
-use Rattle.std.specs.Prelude.{◌≡◌, ◌≤◌, ◌<◌, ℕ, ◌+◌, ◌-◌, List, [], ◌∷◌, ◌++◌, length, drop, take, slice_index_or, max, not, All, Bool, nat_lt, nat_le, ◌&&◌}
+use Rattle.std.specs.Prelude.{◌≡◌, ◌≤◌, ◌<◌, ℕ, ◌+◌, ◌-◌, List, [], ◌∷◌, ◌++◌, length, drop, take, slice_index_or, max, not, All, Bool, nat_lt, nat_le, ◌&&◌, IsSomeAnd}
 use Rattle.roll_frame.specs.declared.limits.TheConstants.{PATH_LIMIT}
 use Rattle.roll_frame.specs.declared.refusal.Refusal.{Refusal}
 use Rattle.roll_frame.specs.declared.refusal.Refusal.TheVariants.{Stranger, TooFar, Late, Orphan, Dead, TreeFull}
@@ -12,9 +12,10 @@ use Rattle.roll_frame.specs.Timeline.{timeline}
 use Rattle.roll_branch.specs.Routed.{Routed}
 use Rattle.roll_inputs.specs.Boards.{Inputs}
 use Rattle.roll_laws.specs.Grafted.{possible_rows}
-use Rattle.roll_tree.specs.SavedStates.{paths_of}
+use Rattle.roll_tree.specs.SavedStates.{paths_of, state_named}
 use Rattle.roll_session.specs.Saves.{Standing}
 use Rattle.roll_session.specs.Seen.{Step}
+use Rattle.roll_session.specs.declared.place.Place.{Place}
 
 -- the rows from the path's base on
 abbrev pub rows_of_route : Route → Rows
@@ -62,6 +63,14 @@ module _ {S : Type 0} where
   -- the test whether there is room for what it adds
   abbrev pub has_no_room : ℕ → Standing S → Route → Bool
   has_no_room most s route = nat_lt 0 (count_new s route) && nat_lt most (length s.tree.states + count_new s route)
+
+  -- what a route comes to
+  pub record IsPlaceFor (s : Standing S) (route : Route) (place : Place) : Type 0 where
+    pub ahead : place.ahead.items ≡ ahead_of s.inputs route
+    pub possible : place.possible_to ≡ possible_to s.inputs route
+    pub kept : place.kept_to ≡ kept_to s route
+    pub node : IsSomeAnd (state_named s.tree place.node)
+        (λ u. u.path ≡ take (longest (paths_of s.tree) (ahead_of s.inputs route)) (ahead_of s.inputs route))
 
   -- whether the branch's state at the anchor is worth what the rows there lead to from the opening, where its first
   -- state has this value

@@ -16,7 +16,7 @@ use Rattle.roll_session.specs.Logs.{Filed}
 use Rattle.roll_session.specs.Saves.{Standing, HaveValues}
 use Rattle.roll_session.specs.Seen.{Step}
 use Rattle.roll_session.specs.declared.room.Room.{Room}
-use Rattle.roll_session.specs.Standing.{from_start, made_from, settled_rows}
+use Rattle.roll_session.specs.Standing.{from_start, as_planned, settled_rows}
 
 -- a state is shown where rows are, and has the value that they lead to
 abbrev pub Shows : {S : Type 0} → (S → Value) → Step → Value → Option Rows → Option S → Type 0
@@ -38,7 +38,7 @@ pub record IsKept {N : Type 0} (value : N → Value) (step : Step) (opening : Va
 
 -- the last plan is that of the core's last roll
 abbrev pub planned_of : Settings → Core → Planned
-planned_of settings core = record { players = settings.players; last = option_map made_from core.last }
+planned_of settings core = record { players = settings.players; last = option_map as_planned core.last }
 
 -- what the laws say of the core that a log leads to
 pub record IsSmall (settings : Settings) (log : List Entry) (core : Core) : Type 0 where

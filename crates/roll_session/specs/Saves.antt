@@ -5,7 +5,7 @@ use Rattle.std.specs.List.{list_all}
 use Rattle.roll_frame.specs.declared.row.Cell.{Cell}
 use Rattle.roll_frame.specs.declared.row.Cell.TheVariants.{Gone, Word}
 use Rattle.roll_frame.specs.Cells.{Rows, cell_eq}
-use Rattle.roll_frame.specs.Paths.{begins_with, longest, run}
+use Rattle.roll_frame.specs.Paths.{begins_with, longest, prefixes, run}
 use Rattle.roll_frame.specs.Games.{Value}
 use Rattle.roll_frame.specs.Timeline.{timeline, front}
 use Rattle.roll_inputs.specs.Boards.{Inputs, count_of, disconnect_refusal, local_refusal, remote_refusal, with_player}
@@ -81,6 +81,24 @@ module _ {S : Type 0} where
   -- each state has the value that the settled rows and its path lead to
   abbrev pub HaveValues : (S → Value) → (Value → List Cell → Value) → Value → Rows → List (Saved S) → Type 0
   HaveValues value step opening settled states = All (λ s. value s.snapshot ≡ run step opening (settled ++ s.path)) states
+
+  -- whatever the opening's value: where each old state has the value that settled rows and path lead to, each new one has
+  abbrev pub KeepsValues : (S → Value) → (Value → List Cell → Value) → Standing S → Standing S → Type 0
+  KeepsValues value step old new =
+      (opening : Value)
+      → HaveValues value step opening (timeline old.inputs.players old.inputs.settled) old.tree.states
+      → HaveValues value step opening (timeline old.inputs.players old.inputs.settled) new.tree.states
+
+  -- and this is the value that the timeline to a frame leads to
+  abbrev pub IsRunTo : (S → Value) → (Value → List Cell → Value) → Standing S → ℕ → Value → Type 0
+  IsRunTo value step s to there =
+      (opening : Value)
+      → HaveValues value step opening (timeline s.inputs.players s.inputs.settled) s.tree.states
+      → there ≡ run step opening (timeline s.inputs.players to)
+
+  -- so many states more are saved, the next ones on the timeline's way to a frame
+  abbrev pub GrowsBy : Standing S → Standing S → ℕ → ℕ → Type 0
+  GrowsBy old new to count = paths_of new.tree ≡ paths_of old.tree ++ prefixes (rows_to old.inputs to) (deepest_toward old to) count
 
   -- how many rows can be settled more: the deepest saved state on the confirmed timeline up to the frame ends them
   abbrev pub settling : Standing S → ℕ

@@ -4,7 +4,7 @@ use Rattle.roll_frame.specs.Cells.{Rows}
 use Rattle.roll_frame.specs.Core.{Core, Roll, settled}
 use Rattle.roll_frame.specs.Order.{in_order}
 use Rattle.roll_frame.specs.Timeline.{Player, timeline}
-use Rattle.roll_plan.specs.Plans.{Made}
+use Rattle.roll_plan.specs.Plans.{PlannedRoll}
 
 -- so many rows of the timeline from a frame on
 abbrev pub rows_from : List Player → ℕ → ℕ → Rows
@@ -19,10 +19,10 @@ abbrev pub from_start : Rows → List Rows → List Rows
 from_start settled paths = map (λ q. settled ++ q) paths
 
 -- a roll, from the frame on that was settled before it
-abbrev pub made_from : Roll → Made
-made_from roll =
+abbrev pub as_planned : Roll → PlannedRoll
+as_planned roll =
     record {
-      base = roll.settled;
+      settled = roll.settled;
       kept = in_order (map (drop roll.settled) roll.kept);
       time = drop roll.settled roll.time;
       from = roll.from;

@@ -1,11 +1,12 @@
 //! Where a branch runs, beside the saved states.
-ghost use Rattle.std.specs.Prelude.{◌≡◌, ◌≤◌, ◌<◌, ◌+◌, ◌-◌, ◌++◌, length, drop, take, IsSomeAnd};
+ghost use Rattle.std.specs.Prelude.{◌≡◌, ◌≤◌, ◌<◌, ◌+◌, ◌-◌, ◌++◌, length, drop, take, IfErr, IfOk, IsSomeAnd, None, OnOk, Some};
 ghost use Rattle.roll_frame.specs.Games.{Value};
 ghost use Rattle.roll_frame.specs.Grafts.{are_rows_of};
 ghost use Rattle.roll_frame.specs.Paths.{longest, prefixes};
 ghost use Rattle.roll_frame.specs.Refusals.{first_refusal};
 ghost use Rattle.roll_frame.specs.Timeline.{timeline};
-ghost use Rattle.roll_session.specs.Grafting.{ahead_of, anchor_of, branch_tests, count_new, end_of, has_no_room, is_same_there, kept_to, rows_of_route, place_tests, possible_to, start_of, KeepsWorth};
+ghost use Rattle.roll_laws.specs.Grafted.{possible_rows};
+ghost use Rattle.roll_session.specs.Grafting.{ahead_of, anchor_of, branch_tests, count_new, end_of, has_no_room, is_same_there, kept_to, place_tests, possible_to, rows_of_route, start_of, IsPlaceFor, KeepsWorth};
 ghost use Rattle.roll_session.specs.Saves.{HaveValues};
 ghost use Rattle.roll_tree.specs.SavedStates.{paths_of, state_named};
 
@@ -19,15 +20,70 @@ use std::collections::VecDeque;
 /// The most rows of a route, with those of its path.
 const ROUTE_LIMIT: usize = 32;
 
+/// What a route comes to beside the saved states.
+#[derive(Drop)]
+pub struct Place {
+    /// Its rows past the settled frame.
+    pub ahead: ArrayVec<Row, PATH_LIMIT>,
+    /// Up to which frame its rows are possible.
+    pub possible_to: u32,
+    /// How far it is kept, from frame 0.
+    pub kept_to: u32,
+    /// The deepest kept state on its way.
+    pub node: usize,
+}
+
+impl Place {
+    /// Where a route runs.
+    fn of<S>(saves: &Saves<S>, route: &Route) -> Place
+        requires base { route.now.path.base ≤ saves.now.inputs.settled }
+        requires reached { saves.now.inputs.settled ≤ end_of route.now }
+        requires near { end_of route.now ≤ saves.now.inputs.settled + PATH_LIMIT }
+        ensures { IsPlaceFor saves.now route.now result }
+    {
+        saves.laws();
+        let base = route.path.base;
+        let rows = rows_of_route(route);
+        let behind = (saves.board().settled() - base) as usize;
+        let mut ahead = ArrayVec::new();
+        ahead
+            .try_extend_from_slice(&rows.as_slice()[behind..])
+            .unwrap();
+        let (node, kept_to) = saves.tree().longest(ahead.as_slice());
+        let possible_to = base + count_possible(saves, base, rows.as_slice());
+        Place {
+            ahead,
+            possible_to,
+            kept_to,
+            node,
+        }
+    }
+}
+
 /// All rows of a route, from its base on: those of its path, and those that were run.
 fn rows_of_route(route: &Route) -> ArrayVec<Row, ROUTE_LIMIT>
     ensures { result.items ≡ rows_of_route route.now }
 {
-    let mut lead = ArrayVec::new();
-    lead.try_extend_from_slice(route.path.rows.as_slice())
+    let mut rows = ArrayVec::new();
+    rows.try_extend_from_slice(route.path.rows.as_slice())
         .unwrap();
-    lead.try_extend_from_slice(route.rows.as_slice()).unwrap();
-    lead
+    rows.try_extend_from_slice(route.rows.as_slice()).unwrap();
+    rows
+}
+
+/// How many of these rows, from a frame on, are possible, up to the first that isn't.
+fn count_possible<S>(saves: &Saves<S>, base: u32, rows: &[Row]) -> u32
+    requires low { base ≤ FRAME_LIMIT }
+    requires few { length rows.now ≤ ROUTE_LIMIT }
+    ensures count { result ≡ possible_rows base saves.now.inputs.players rows.now }
+    ensures within { result ≤ length rows.now }
+{
+    for place in 0..rows.len() {
+        if !saves.allows(base + place as u32, &rows[place]) {
+            return place as u32;
+        }
+    }
+    rows.len() as u32
 }
 
 /// Whether each row has a cell for each player.
@@ -37,35 +93,20 @@ fn are_rows_of(players: usize, rows: &[Row]) -> bool
     rows.iter().all(|row| usize::from(row.count()) == players)
 }
 
-/// Up to which frame the rows of a route are possible.
-fn possible_to<S>(saves: &Saves<S>, route: &Route) -> u32
-    requires { route.now.path.base ≤ FRAME_LIMIT }
-    ensures { result ≡ possible_to saves.now.inputs route.now }
+/// Whether each row of a route has a cell for each player.
+fn is_route_of(players: usize, route: &Route) -> bool
+    ensures { result ≡ are_rows_of players (rows_of_route route.now) }
 {
-    let lead = rows_of_route(route);
-    let base = route.path.base;
-    for place in 0..lead.len() {
-        if !saves.allows(base + place as u32, &lead[place]) {
-            return base + place as u32;
-        }
-    }
-    base + lead.len() as u32
+    are_rows_of(players, route.path.rows.as_slice()) && are_rows_of(players, route.rows.as_slice())
 }
 
-/// The rows of a route past the settled frame.
-fn ahead_of<S>(saves: &Saves<S>, route: &Route) -> ArrayVec<Row, PATH_LIMIT>
-    requires base { route.now.path.base ≤ saves.now.inputs.settled }
-    requires reached { saves.now.inputs.settled ≤ end_of route.now }
-    requires near { end_of route.now ≤ saves.now.inputs.settled + PATH_LIMIT }
-    ensures { result.items ≡ ahead_of saves.now.inputs route.now }
+/// The frame that a route starts from.
+fn start_of(route: &Route) -> u32
+    requires { route.now.path.base ≤ FRAME_LIMIT }
+    ensures start { result ≡ start_of route.now }
+    ensures near { result ≤ route.now.path.base + PATH_LIMIT }
 {
-    let lead = rows_of_route(route);
-    let behind = (saves.board().settled() - route.path.base) as usize;
-    let mut ahead = ArrayVec::new();
-    ahead
-        .try_extend_from_slice(&lead.as_slice()[behind..])
-        .unwrap();
-    ahead
+    route.path.base + route.path.rows.len() as u32
 }
 
 /// Where a branch may be new from.
@@ -73,55 +114,47 @@ fn anchor_of<S>(saves: &Saves<S>, route: &Route) -> u32
     requires { route.now.path.base ≤ FRAME_LIMIT }
     ensures { result ≡ anchor_of saves.now.inputs route.now }
 {
-    let start = route.path.base + route.path.rows.len() as u32;
-    start.max(saves.board().settled())
+    start_of(route).max(saves.board().settled())
 }
 
-/// How far a route is kept, from frame 0.
-fn kept_to<S>(saves: &Saves<S>, route: &Route) -> u32
-    requires base { route.now.path.base ≤ saves.now.inputs.settled }
-    requires reached { saves.now.inputs.settled ≤ end_of route.now }
-    requires near { end_of route.now ≤ saves.now.inputs.settled + PATH_LIMIT }
-    ensures { result ≡ kept_to saves.now route.now }
-{
-    saves.laws();
-    let ahead = ahead_of(saves, route);
-    let (_, end) = saves.tree().longest(ahead.as_slice());
-    end
-}
-
-/// Why a branch can't be grafted where it runs, if it can't.
-fn place_refusal<S>(saves: &Saves<S>, route: &Route) -> Option<Refusal>
-    ensures { result ≡ first_refusal (place_tests saves.now route.now) }
+/// Where a route runs.
+///
+/// # Errors
+///
+/// Why no branch can be grafted there.
+fn find_place<S>(saves: &Saves<S>, route: &Route) -> Result<Place, Refusal>
+    ensures fits { OnOk result (first_refusal (place_tests saves.now route.now) ≡ None) }
+    ensures place { IfOk result (IsPlaceFor saves.now route.now) }
+    ensures refused { IfErr result
+        (λ why. first_refusal (place_tests saves.now route.now) ≡ Some why) }
 {
     saves.laws();
     let settled = saves.board().settled();
-    if route.path.base > settled {
-        return Some(Refusal::Stranger);
+    if route.path.base > settled || !is_route_of(saves.board().players(), route) {
+        return Err(Refusal::Stranger);
     }
-    let lead = rows_of_route(route);
-    if !are_rows_of(saves.board().players(), lead.as_slice()) {
-        return Some(Refusal::Stranger);
-    }
-    let end = route.path.base + lead.len() as u32;
+    let end = start_of(route) + route.rows.len() as u32;
     if end > settled + PATH_LIMIT as u32 {
-        Some(Refusal::TooFar)
-    } else if end <= settled {
-        Some(Refusal::Late)
-    } else if possible_to(saves, route) < anchor_of(saves, route) {
-        Some(Refusal::Dead)
-    } else if kept_to(saves, route) < anchor_of(saves, route) {
-        Some(Refusal::Orphan)
+        return Err(Refusal::TooFar);
+    }
+    if end <= settled {
+        return Err(Refusal::Late);
+    }
+    let place = Place::of(saves, route);
+    let anchor = anchor_of(saves, route);
+    if place.possible_to < anchor {
+        Err(Refusal::Dead)
+    } else if place.kept_to < anchor {
+        Err(Refusal::Orphan)
     } else {
-        None
+        Ok(place)
     }
 }
 
 /// The saved state at a branch's anchor.
-fn anchor_node<S>(saves: &Saves<S>, route: &Route) -> usize
+fn anchor_node<S>(saves: &Saves<S>, route: &Route, place: &Place) -> usize
+    requires place { IsPlaceFor saves.now route.now place.now }
     requires base { route.now.path.base ≤ saves.now.inputs.settled }
-    requires reached { saves.now.inputs.settled ≤ end_of route.now }
-    requires near { end_of route.now ≤ saves.now.inputs.settled + PATH_LIMIT }
     requires kept { anchor_of saves.now.inputs route.now ≤ kept_to saves.now route.now }
     ensures { IsSomeAnd (state_named saves.now.tree result)
         (λ s. s.path ≡ take (anchor_of saves.now.inputs route.now - saves.now.inputs.settled)
@@ -130,17 +163,21 @@ fn anchor_node<S>(saves: &Saves<S>, route: &Route) -> usize
     saves.laws();
     let tree = saves.tree();
     tree.laws();
-    let ahead = ahead_of(saves, route);
     let past = (anchor_of(saves, route) - saves.board().settled()) as usize;
-    let (node, _) = tree.longest(&ahead.as_slice()[..past]);
+    let (node, _) = tree.longest(&place.ahead.as_slice()[..past]);
     node
 }
 
 /// Whether a branch's state at its anchor is the saved one.
-fn is_same_there<G: Game>(game: &G, saves: &Saves<G::Snapshot>, branch: &Branch<G>) -> bool
+fn is_same_there<G: Game>(
+    game: &G,
+    saves: &Saves<G::Snapshot>,
+    branch: &Branch<G>,
+    place: &Place,
+) -> bool
+    requires place { IsPlaceFor saves.now branch.now.route place.now }
     requires base { branch.now.route.path.base ≤ saves.now.inputs.settled }
     requires reached { saves.now.inputs.settled < end_of branch.now.route }
-    requires near { end_of branch.now.route ≤ saves.now.inputs.settled + PATH_LIMIT }
     requires kept { anchor_of saves.now.inputs branch.now.route
         ≤ kept_to saves.now branch.now.route }
     ensures { (opening : Value)
@@ -150,21 +187,17 @@ fn is_same_there<G: Game>(game: &G, saves: &Saves<G::Snapshot>, branch: &Branch<
 {
     saves.laws();
     let route = branch.route();
-    let start = route.path.base + route.path.rows.len() as u32;
-    let run = (anchor_of(saves, route) - start) as usize;
-    let node = anchor_node(saves, route);
+    let run = (anchor_of(saves, route) - start_of(route)) as usize;
+    let node = anchor_node(saves, route, place);
     game.same(branch.state(run), saves.tree().get(node))
 }
 
 /// Whether there is no room for what a branch adds. `most` is how many kept states branches may fill.
-fn has_no_room<S>(saves: &Saves<S>, route: &Route, most: usize) -> bool
-    requires base { route.now.path.base ≤ saves.now.inputs.settled }
-    requires reached { saves.now.inputs.settled ≤ end_of route.now }
-    requires near { end_of route.now ≤ saves.now.inputs.settled + PATH_LIMIT }
+fn has_no_room<S>(saves: &Saves<S>, route: &Route, place: &Place, most: usize) -> bool
+    requires { IsPlaceFor saves.now route.now place.now }
     ensures { result ≡ has_no_room most saves.now route.now }
 {
-    saves.laws();
-    let count = possible_to(saves, route).saturating_sub(kept_to(saves, route)) as usize;
+    let count = place.possible_to.saturating_sub(place.kept_to) as usize;
     count > 0 && saves.tree().len() + count > most
 }
 
@@ -180,12 +213,13 @@ pub fn branch_refusal<G: Game>(
         (timeline saves.now.inputs.players saves.now.inputs.settled) saves.now.tree.states → result
         ≡ first_refusal (branch_tests G.step opening most saves.now branch.now) }
 {
-    let refusal = place_refusal(saves, branch.route());
-    if refusal.is_some() {
-        refusal
-    } else if !is_same_there(game, saves, branch) {
+    let place = match find_place(saves, branch.route()) {
+        Ok(place) => place,
+        Err(why) => return Some(why),
+    };
+    if !is_same_there(game, saves, branch, &place) {
         Some(Refusal::Stranger)
-    } else if has_no_room(saves, branch.route(), most) {
+    } else if has_no_room(saves, branch.route(), &place, most) {
         Some(Refusal::TreeFull)
     } else {
         None
@@ -211,16 +245,16 @@ pub fn add_new_states<S: Drop>(saves: &mut Saves<S>, route: &Route, states: Vec<
     ensures values { KeepsWorth saves.old saves.new route.now states.items }
 {
     saves.laws();
-    let ahead = ahead_of(saves, route);
-    let end = possible_to(saves, route);
-    let start = route.path.base + route.path.rows.len() as u32;
     let settled = saves.board().settled();
-    let (first, from) = saves.tree().longest(ahead.as_slice());
-    let mut left = without_first(states, (from - start) as usize);
-    let mut at = first;
+    let place = Place::of(saves, route);
+    let from = place.kept_to;
+    let end = place.possible_to;
+    let mut left = without_first(states, (from - start_of(route)) as usize);
+    let mut at = place.node;
     for frame in from..end {
         let snapshot = left.pop_front().unwrap();
-        at = saves.add_state(at, ahead[(frame - settled) as usize], snapshot);
+        let row = place.ahead[(frame - settled) as usize];
+        at = saves.add_state(at, row, snapshot);
     }
     end - from
 }

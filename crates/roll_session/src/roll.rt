@@ -1,13 +1,10 @@
 //! The roll: from the best saved state to a frame, saving each state on the way.
-ghost use Rattle.std.specs.Prelude.{◌≡◌, ◌⊎◌, ◌<◌, ◌≤◌, ◌+◌, ◌-◌, ◌++◌, length, All, IfOk, IfErr, OnOk, OnErr, IsSomeAnd, Some, None, true, false};
+ghost use Rattle.std.specs.Prelude.{◌≡◌, ◌≤◌, ◌+◌, ◌-◌, length, All, IfOk, IfErr, OnOk, OnErr, IsSomeAnd, Some, None};
 ghost use Rattle.roll_frame.specs.Claims.{AreRowsOf};
-ghost use Rattle.roll_frame.specs.Games.{Value};
-ghost use Rattle.roll_frame.specs.Paths.{prefixes, run};
-ghost use Rattle.roll_frame.specs.Timeline.{timeline};
 ghost use Rattle.roll_game.specs.Counts.{IsRefusedAt, rolled};
-ghost use Rattle.roll_plan.specs.Plans.{made_of};
+ghost use Rattle.roll_plan.specs.Plans.{planned_roll};
 ghost use Rattle.roll_tree.specs.SavedStates.{state_named, paths_of};
-ghost use Rattle.roll_session.specs.Saves.{HaveValues, rows_to, deepest_toward};
+ghost use Rattle.roll_session.specs.Saves.{rows_to, deepest_toward, GrowsBy, IsRunTo, KeepsValues};
 ghost use Rattle.roll_session.specs.Standing.{rows_from};
 
 use crate::saves::Saves;
@@ -35,25 +32,14 @@ fn run_on<G: Game>(
     requires fits { length saves.old.tree.states + (to - from) ≤ TREE_LIMIT }
     ensures inputs { saves.new.inputs ≡ saves.old.inputs }
     ensures room { saves.new.room ≡ saves.old.room }
-    ensures paths { OnOk result
-        (paths_of saves.new.tree ≡ paths_of saves.old.tree
-        ++ prefixes (rows_to saves.old.inputs to) (deepest_toward saves.old to) (to - from)) }
-    ensures values { (opening : Value)
-        → HaveValues G.snapshot_value G.step opening
-        (timeline saves.old.inputs.players saves.old.inputs.settled) saves.old.tree.states
-        → HaveValues G.snapshot_value G.step opening
-        (timeline saves.old.inputs.players saves.old.inputs.settled) saves.new.tree.states }
+    ensures paths { OnOk result (GrowsBy saves.old saves.new to (to - from)) }
+    ensures values { KeepsValues G.snapshot_value G.step saves.old saves.new }
     ensures state { IfOk result
-        (λ state. (opening : Value)
-        → HaveValues G.snapshot_value G.step opening
-        (timeline saves.old.inputs.players saves.old.inputs.settled) saves.old.tree.states
-        → G.state_value state ≡ run G.step opening (timeline saves.old.inputs.players to)) }
+        (λ state. IsRunTo G.snapshot_value G.step saves.old to (G.state_value state)) }
     ensures counts { OnOk result
         (G.call_counts game.new ≡ rolled (to - from) (G.call_counts game.old)) }
     ensures made { IfErr result (λ made. made ≤ to - from) }
-    ensures partial { IfErr result
-        (λ made. paths_of saves.new.tree ≡ paths_of saves.old.tree
-        ++ prefixes (rows_to saves.old.inputs to) (deepest_toward saves.old to) made) }
+    ensures partial { IfErr result (GrowsBy saves.old saves.new to) }
     ensures refused { IfErr result
         (λ made. IsRefusedAt made (G.call_counts game.old) (G.call_counts game.new)) }
 {
@@ -98,33 +84,20 @@ pub fn roll<G: Game>(
     ensures from { IfOk result
         (λ rolled. rolled.from ≡ saves.old.inputs.settled + deepest_toward saves.old to) }
     ensures within { IfOk result (λ rolled. rolled.from ≤ to) }
-    ensures paths { OnOk result
-        (paths_of saves.new.tree ≡ paths_of saves.old.tree
-        ++ prefixes (rows_to saves.old.inputs to) (deepest_toward saves.old to)
+    ensures paths { OnOk result (GrowsBy saves.old saves.new to
         (to - saves.old.inputs.settled - deepest_toward saves.old to)) }
-    ensures values { (opening : Value)
-        → HaveValues G.snapshot_value G.step opening
-        (timeline saves.old.inputs.players saves.old.inputs.settled) saves.old.tree.states
-        → HaveValues G.snapshot_value G.step opening
-        (timeline saves.old.inputs.players saves.old.inputs.settled) saves.new.tree.states }
+    ensures values { KeepsValues G.snapshot_value G.step saves.old saves.new }
     ensures state { IfOk result
-        (λ rolled. (opening : Value)
-        → HaveValues G.snapshot_value G.step opening
-        (timeline saves.old.inputs.players saves.old.inputs.settled) saves.old.tree.states
-        → G.state_value rolled.state ≡ run G.step opening (timeline saves.old.inputs.players to)) }
-    ensures plan { OnOk result
-        (planner.new ≡ record planner.old {
-          last = Some
-              (made_of saves.old.tree (rows_to saves.old.inputs to));
-        }) }
+        (λ rolled. IsRunTo G.snapshot_value G.step saves.old to (G.state_value rolled.state)) }
+    ensures plan { OnOk result (planner.new ≡ record planner.old {
+      last = Some (planned_roll saves.old.tree (rows_to saves.old.inputs to));
+    }) }
     ensures counts { OnOk result
         (G.call_counts game.new ≡ rolled
         (to - saves.old.inputs.settled - deepest_toward saves.old to) (G.call_counts game.old)) }
     ensures made { IfErr result
         (λ made. made ≤ to - saves.old.inputs.settled - deepest_toward saves.old to) }
-    ensures partial { IfErr result
-        (λ made. paths_of saves.new.tree ≡ paths_of saves.old.tree
-        ++ prefixes (rows_to saves.old.inputs to) (deepest_toward saves.old to) made) }
+    ensures partial { IfErr result (GrowsBy saves.old saves.new to) }
     ensures refused { IfErr result
         (λ made. IsRefusedAt made (G.call_counts game.old) (G.call_counts game.new)) }
     ensures no_plan { OnErr result (planner.new ≡ record planner.old { last = None }) }

@@ -11,7 +11,7 @@ ghost use Rattle.roll_frame.specs.declared.entry.Entry.TheVariants.{Advance as A
 ghost use Rattle.roll_frame.specs.declared.row.Cell.TheVariants.{Gone};
 ghost use Rattle.roll_inputs.specs.Boards.{confirmed_word, disconnect_refusal, local_refusal, remote_refusal, with_player};
 ghost use Rattle.roll_laws.specs.Laws.{has_no_other};
-ghost use Rattle.roll_plan.specs.Plans.{made_of};
+ghost use Rattle.roll_plan.specs.Plans.{planned_roll};
 ghost use Rattle.roll_tree.specs.SavedStates.{CanGrow, state_named, paths_of, with_state};
 ghost use Rattle.roll_tree.specs.Marks.{AreSameBut};
 ghost use Rattle.roll_session.specs.Calls.{entry_of};
@@ -226,7 +226,7 @@ impl<S> Saves<S> {
         ensures plan { planner.new
             ≡ record planner.old {
               last = Some
-                  (made_of self.old.tree (rows_to self.old.inputs to));
+                  (planned_roll self.old.tree (rows_to self.old.inputs to));
             } }
         ensures inputs { self.new.inputs ≡ self.old.inputs }
         ensures tree { self.new.tree ≡ record self.old.tree { time = self.new.tree.time } }

@@ -18,7 +18,7 @@ ghost use Rattle.roll_session.specs.Guessing.{guess_job_of, guess_refusal_of, Is
 ghost use Rattle.roll_session.specs.Held.{Shows};
 ghost use Rattle.roll_session.specs.Planned.{IsPlanOfRoll};
 ghost use Rattle.roll_session.specs.Answered.{counts_by, replied, with_entries, IsAnswered};
-ghost use Rattle.roll_session.specs.Calls.{entry_of, event_of, grafting, heard_reply, input_reply, judged, IsAdmitted, IsAllowed, IsInput, IsRollTo};
+ghost use Rattle.roll_session.specs.Calls.{entry_of, event_of, input_reply, judged, IsAdmitted, IsAllowed, IsInput, IsRollTo};
 ghost use Rattle.roll_session.specs.Changes.{advance_refusal, after_advance, after_disconnect, after_graft, after_local, after_sync, disconnect_refusal, graft_refusal, local_refusal, reached_by, remote_refusal, reserve_refusal, sync_refusal, FitsLog, IsHeard, IsPartial, IsRefused, IsRollRefused, IsWhy};
 ghost use Rattle.roll_session.specs.Seen.{game_of, FollowsLog, IsLeast};
 ghost use Rattle.roll_session.specs.Started.{first_seen, IsGivenBack};
@@ -38,6 +38,7 @@ use roll_inputs::{Board, Heard, Source};
 use roll_plan::{Plan, Planner};
 use std::alloc::Global;
 use std::marker::Model;
+use std::mem;
 
 /// A game that is run ahead on predicted inputs, and again if they were wrong.
 #[derive(Drop)]
@@ -623,6 +624,15 @@ impl<G: Game> Session<G> {
         ensures { G.call_counts result.now ≡ self.now.counts }
     {
         &self.game
+    }
+
+    /// Puts another engine of the same game in the game's place, and hands out the one that was there: to take from it what it
+    /// has gathered beside its states, such as sounds to play.
+    pub fn swap_game(&mut self, game: G) -> G
+        ensures out { G.call_counts result ≡ self.old.counts }
+        ensures put { self.new ≡ record self.old { counts = G.call_counts game } }
+    {
+        mem::replace(&mut self.game, game)
     }
 }
 

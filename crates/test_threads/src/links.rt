@@ -152,6 +152,7 @@ fn applied(applied: u32) -> Pumped {
     Pumped {
         applied,
         refused: 0,
+        refusal: None,
         held: None,
     }
 }

@@ -11,7 +11,8 @@ pub enum Error {
     PredictionThreshold,
     /// The player has left.
     PlayerDisconnected,
-    /// The settings are out of range: a limit, a delay, or no player is local.
+    /// The settings are out of range (a limit, a delay, or no player is local), or a guess is: it has no words or over 24,
+    /// or it doesn't end 1 to 24 frames past the settled one.
     InvalidRequest,
     /// A local player's word of this frame is missing.
     LocalInputMissing,
@@ -25,22 +26,38 @@ pub enum Error {
     QueueFull,
     /// The last frame is reached.
     FrameLimit,
-    /// There was no memory.
+    /// There was no memory, or no slot below the limit.
     NoMemory,
+    /// The job's states are not of this session.
+    Stranger,
+    /// The job ends over 24 frames past the settled one.
+    TooFar,
+    /// The job has nothing past the settled frame.
+    Late,
+    /// The state that the job was run from is not kept any more.
+    Orphan,
+    /// A word has come that is not the guessed one.
+    Dead,
+    /// As many states are kept as jobs may fill.
+    TreeFull,
     /// The log is full.
     LogFull,
     /// There was no rollback yet.
     NoPlan,
+    /// 64 jobs are out.
+    Full,
+    /// There is no such job.
+    NoJob,
     /// Requests of the last roll were not taken, or not all of them were carried out.
     Pending,
 }
 
-const ALL: [(Error, i32, &str); 15] = [
+const ALL: [(Error, i32, &str); 23] = [
     (Error::InvalidPlayer, 2, "no such player, or not this kind of player"),
     (Error::PlayerOutOfRange, 3, "the number of players is out of range"),
     (Error::PredictionThreshold, 4, "the prediction threshold is reached"),
     (Error::PlayerDisconnected, 9, "the player is disconnected"),
-    (Error::InvalidRequest, 11, "invalid settings"),
+    (Error::InvalidRequest, 11, "invalid settings, or an invalid guess"),
     (Error::LocalInputMissing, 101, "a local input is missing"),
     (Error::InputTwice, 102, "the input was given already"),
     (Error::Gap, 103, "an earlier input is missing"),
@@ -48,8 +65,16 @@ const ALL: [(Error, i32, &str); 15] = [
     (Error::QueueFull, 105, "the input queue is full"),
     (Error::FrameLimit, 106, "the frame limit is reached"),
     (Error::NoMemory, 107, "out of memory"),
+    (Error::Stranger, 108, "the job's states are not of this session"),
+    (Error::TooFar, 109, "the guess goes too far"),
+    (Error::Late, 110, "the job comes too late"),
+    (Error::Orphan, 111, "the job's start is not kept any more"),
+    (Error::Dead, 112, "the guess is wrong"),
+    (Error::TreeFull, 113, "no more states of jobs can be kept"),
     (Error::LogFull, 114, "the log is full"),
     (Error::NoPlan, 117, "there was no rollback yet"),
+    (Error::Full, 119, "too many jobs are out"),
+    (Error::NoJob, 120, "there is no such job"),
     (Error::Pending, 202, "requests were not carried out yet"),
 ];
 

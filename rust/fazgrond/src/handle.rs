@@ -25,7 +25,46 @@ pub struct Reached {
     pub rerun: u32,
 }
 
-/// What the game is to do next. Its slots are places for states, counted from 0; there are at most 257.
+/// An accepted call, as the log has it.
+#[derive(Clone, Copy, PartialEq, Eq, Debug)]
+pub enum Entry {
+    /// A local player's word of the frame that the session was at.
+    Local {
+        /// The player.
+        player: u8,
+        /// The word.
+        word: u32,
+    },
+    /// A remote player's word.
+    Remote {
+        /// The player.
+        player: u8,
+        /// The frame of the word.
+        frame: u32,
+        /// The word.
+        word: u32,
+    },
+    /// A remote player left.
+    Disconnect {
+        /// The player.
+        player: u8,
+    },
+    /// A roll to the current frame.
+    Sync,
+    /// A roll to the next frame.
+    Advance,
+    /// The branch of a job was taken in.
+    Graft,
+    /// A roll that was refused when a part of it was done.
+    Partial {
+        /// The frame that it was to go to.
+        to: u32,
+        /// How many new states were saved by then.
+        saved: u32,
+    },
+}
+
+/// What the game is to do next. Its slots are places for states, counted from 0; there are at most 257, and those of jobs.
 #[derive(Clone, Copy, PartialEq, Eq, Debug)]
 pub enum Request {
     /// Make the state of this slot the current one. The slot keeps it.
@@ -36,13 +75,20 @@ pub enum Request {
     Step(Row),
     /// Nothing needs the state of this slot any more.
     Free(usize),
+    /// Make the state of this slot the job's. The slot keeps it.
+    JobLoad(usize),
+    /// Put a copy of the job's state into this slot, which is free.
+    JobSave(usize),
+    /// Advance the job's state by a frame with this row.
+    JobStep(Row),
 }
 
 /// An open session that leaves its requests to be carried out by the caller. [`Session`](crate::Session) carries them out.
 ///
 /// Before the first request the game has its opening state as the current one and in slot 0. Whatever a roll
-/// ([`synchronize_input`](Handle::synchronize_input) or [`advance_frame`](Handle::advance_frame)) answers, take all
-/// [`requests`](Handle::requests) after it, and carry them out in their order.
+/// ([`synchronize_input`](Handle::synchronize_input) or [`advance_frame`](Handle::advance_frame)) or a
+/// [`guess`](Handle::guess) answers, take all [`requests`](Handle::requests) after it, and carry them out in their order:
+/// those of a job in their own time, on any thread.
 #[derive(Debug)]
 pub struct Handle {
     // From `Box::into_raw`: the library's side must not move. A raw pointer keeps `Handle` from being `Sync`.
@@ -94,7 +140,41 @@ impl Handle {
         Ok(reached)
     }
 
-    /// The requests of the last roll that weren't taken yet.
+    /// A guess: if this player gave these words next. It asks for a job, which is to run the frames that this would make up to
+    /// the frame `until`, 8 at most, and answers its number. None if there is nothing to run: all of them are kept.
+    ///
+    /// The job's requests are one [`JobLoad`](Request::JobLoad), and a [`JobStep`](Request::JobStep) and a
+    /// [`JobSave`](Request::JobSave) for each frame. No other request writes into the slots of a job that is out, nor frees
+    /// them. If the guess is refused, such requests are to be dropped: there is no job.
+    pub fn guess(&mut self, player: u8, words: &[u32], until: u32) -> Result<Option<u32>, Error> {
+        let mut job = 0;
+        match unsafe { raw::fazgrond_guess(self.raw, player, words.as_ptr(), words.len(), until, &mut job) } {
+            raw::NOTHING => Ok(None),
+            code => said(code).map(|()| Some(job)),
+        }
+    }
+
+    /// Takes in the states of a job all of whose requests are carried out, and says how many of them are kept. Whatever the
+    /// answer but [`Error::Pending`], the number is free again.
+    pub fn graft(&mut self, job: u32) -> Result<u32, Error> {
+        let mut added = 0;
+        said(unsafe { raw::fazgrond_graft(self.raw, job, &mut added) })?;
+        Ok(added)
+    }
+
+    /// Gives a job up: none of its requests may be carried out any more, and its number is free again.
+    pub fn forget(&mut self, job: u32) -> Result<(), Error> {
+        said(unsafe { raw::fazgrond_forget(self.raw, job) })
+    }
+
+    /// From now on nothing is saved in a slot from this one on: a call that would need one is refused with
+    /// [`Error::NoMemory`].
+    pub fn limit_slots(&mut self, slots: u32) {
+        let answer = said(unsafe { raw::fazgrond_limit_slots(self.raw, slots) });
+        debug_assert!(answer.is_ok(), "an open session takes any limit");
+    }
+
+    /// The requests of the last roll, and of guesses, that weren't taken yet.
     pub fn requests(&mut self) -> Requests<'_> {
         Requests { handle: self }
     }
@@ -115,6 +195,40 @@ impl Handle {
             }
             text.resize(length, 0);
         }
+    }
+
+    /// How many entries the log has.
+    pub fn log_length(&self) -> usize {
+        answered(|out| unsafe { raw::fazgrond_log_length(self.raw, out) }).unwrap_or_default()
+    }
+
+    /// The entry at a place of the log, counted from 0. A log of calls alone is a replay: a new session with the same settings,
+    /// of which they are made in turn, accepts each of them and comes to the same.
+    pub fn log_entry(&self, place: usize) -> Option<Entry> {
+        let raw::Entry { kind, player, frame, word } =
+            answered(|out| unsafe { raw::fazgrond_log_entry(self.raw, place, out) })?;
+        let player = player as u8;
+        Some(match kind {
+            1 => Entry::Local { player, word },
+            2 => Entry::Remote { player, frame, word },
+            3 => Entry::Disconnect { player },
+            4 => Entry::Sync,
+            5 => Entry::Advance,
+            6 => Entry::Graft,
+            7 => Entry::Partial { to: frame, saved: word },
+            kind => unreachable!("an entry of the kind {kind}"),
+        })
+    }
+
+    /// Notes by how many frames this machine is behind the other one, and the other behind this one, as it told last. The last 40
+    /// pairs count.
+    pub fn note_advantages(&mut self, local: i32, remote: i32) {
+        let _open = unsafe { raw::fazgrond_note_advantages(self.raw, local, remote) };
+    }
+
+    /// How many frames this machine should wait, so that the other comes up to it: 0, or 3 to 9.
+    pub fn frames_ahead(&self) -> u32 {
+        answered(|out| unsafe { raw::fazgrond_frames_ahead(self.raw, out) }).unwrap_or_default()
     }
 
     /// The current frame.
@@ -174,6 +288,9 @@ impl Iterator for Requests<'_> {
             raw::SAVE => Request::Save(request.slot as usize),
             raw::STEP => Request::Step(request.row),
             raw::FREE => Request::Free(request.slot as usize),
+            raw::JOB_LOAD => Request::JobLoad(request.slot as usize),
+            raw::JOB_SAVE => Request::JobSave(request.slot as usize),
+            raw::JOB_STEP => Request::JobStep(request.row),
             kind => unreachable!("a request of the kind {kind}"),
         })
     }

@@ -87,17 +87,22 @@
 //! # }
 //! ```
 //!
+//! While it waits for a word, a session can [guess](Session::guess) it, and have the frames that it would make run on another
+//! thread. If the word comes so, no frame is run again.
+//!
 //! A game that wants the requests themselves, to keep its states where it likes, opens a [`Handle`] in place of a session.
 
 mod error;
 mod handle;
+mod job;
 mod raw;
 mod row;
 mod session;
 mod settings;
 
 pub use error::Error;
-pub use handle::{Handle, Heard, Reached, Request, Requests};
+pub use handle::{Entry, Handle, Heard, Reached, Request, Requests};
+pub use job::{Done, Job};
 pub use row::{Row, PLAYERS};
 pub use session::{Game, Session};
 pub use settings::Settings;

@@ -1,5 +1,6 @@
 use crate::error::Error;
-use crate::handle::{Handle, Heard, Reached, Request};
+use crate::handle::{Entry, Handle, Heard, Reached, Request};
+use crate::job::{Done, Job, Jobs};
 use crate::row::Row;
 use crate::settings::Settings;
 
@@ -21,13 +22,14 @@ pub trait Game {
 
 /// An open session that plays a game: after each roll the game's current state is that of the current frame.
 ///
-/// If a method of the game panics, the game is left between two frames, and each further roll is refused with
-/// [`Error::Pending`].
+/// If a method of the game panics, the game is left between two frames, and each further roll, guess and graft is refused
+/// with [`Error::Pending`].
 #[derive(Debug)]
 pub struct Session<G: Game> {
     handle: Handle,
     game: G,
     slots: Vec<Option<G::State>>,
+    jobs: Jobs,
     is_whole: bool,
 }
 
@@ -36,7 +38,7 @@ impl<G: Game> Session<G> {
     pub fn open(settings: &Settings, game: G) -> Result<Session<G>, Error> {
         let handle = Handle::open(settings)?;
         let slots = vec![Some(game.save())];
-        Ok(Session { handle, game, slots, is_whole: true })
+        Ok(Session { handle, game, slots, jobs: Jobs::default(), is_whole: true })
     }
 
     /// The game, to be shown.
@@ -69,6 +71,100 @@ impl<G: Game> Session<G> {
         self.roll(Handle::advance_frame)
     }
 
+    /// A guess: if this player gave these 1 to 24 words next, and held the last of them. Answers the job of running the frames
+    /// that this would make up to the frame `until`, 8 at most. None if there is nothing to run: all of them are kept.
+    ///
+    /// Run the job on a game beside the session's, at best on another thread, and hand it to [`graft`](Session::graft). If the
+    /// guess is right, the next rollback starts behind the frames that it ran.
+    ///
+    /// ```
+    /// # use fazgrond::{Error, Game, Row, Session, Settings};
+    /// # use std::thread;
+    /// /// A sum of all words.
+    /// struct Sum(u32);
+    ///
+    /// impl Game for Sum {
+    ///     type State = u32;
+    ///
+    ///     fn save(&self) -> u32 {
+    ///         self.0
+    ///     }
+    ///
+    ///     fn load(&mut self, state: &u32) {
+    ///         self.0 = *state;
+    ///     }
+    ///
+    ///     fn advance(&mut self, row: &Row) {
+    ///         self.0 += row.cells().flatten().sum::<u32>();
+    ///     }
+    /// }
+    ///
+    /// # fn main() -> Result<(), Error> {
+    /// let mut session = Session::open(&Settings::new(2, &[1]), Sum(0))?;
+    /// for _ in 0..2 {
+    ///     session.add_local_input(1, 1)?;
+    ///     session.advance_frame()?; // with player 2's words predicted as 0
+    /// }
+    ///
+    /// // What if player 2 has pressed 7 in both frames? A thread finds out, while the game may go on here.
+    /// let job = session.guess(2, &[7], 2)?.expect("two frames are to be run");
+    /// let done = thread::spawn(move || job.run(&mut Sum(0))).join().expect("a sum doesn't panic");
+    /// assert_eq!(session.graft(done)?, 2);
+    ///
+    /// // Player 2 has, and no frame is run again.
+    /// session.remote_input(2, 0, 7)?;
+    /// session.remote_input(2, 1, 7)?;
+    /// session.add_local_input(1, 1)?;
+    /// let reached = session.advance_frame()?;
+    /// assert_eq!((reached.from, reached.rerun), (2, 1));
+    /// assert_eq!(session.game().0, 3 * (1 + 7));
+    /// # Ok(())
+    /// # }
+    /// ```
+    pub fn guess(&mut self, player: u8, words: &[u32], until: u32) -> Result<Option<Job<G::State>>, Error>
+    where
+        G::State: Clone,
+    {
+        self.forget_dropped()?;
+        let answer = self.handle.guess(player, words, until);
+        let (mut start, mut rows, mut slots) = (0, Vec::new(), Vec::new());
+        // A guess that is refused half-way leaves requests too. They are not carried out.
+        for request in self.handle.requests() {
+            match request {
+                Request::JobLoad(slot) => start = slot,
+                Request::JobStep(row) => rows.push(row),
+                Request::JobSave(slot) => {
+                    *place(&mut self.slots, slot) = None;
+                    slots.push(slot);
+                }
+                other => unreachable!("a guess asks for {other:?}"),
+            }
+        }
+        let Some(number) = answer? else { return Ok(None) };
+        let ticket = self.jobs.add(number, slots);
+        let start = self.slots[start].clone().expect("a slot that a job loads is taken");
+        Ok(Some(Job { ticket, start, rows }))
+    }
+
+    /// Takes in the states of a job that was run, and says how many of them are kept. If it is refused, none is: with
+    /// [`Error::Dead`], say, since a word has come that isn't the guessed one.
+    pub fn graft(&mut self, done: Done<G::State>) -> Result<u32, Error> {
+        if !self.is_whole {
+            return Err(Error::Pending);
+        }
+        let slots = self.jobs.take(&done.ticket).ok_or(Error::NoJob)?;
+        for (slot, state) in slots.into_iter().zip(done.states) {
+            self.slots[slot] = Some(state);
+        }
+        self.handle.graft(done.ticket.number())
+    }
+
+    /// From now on at most so many states are saved, in the slots below this one: a call that would need one more is refused
+    /// with [`Error::NoMemory`]. Without guesses, the prediction threshold and three are enough.
+    pub fn limit_slots(&mut self, slots: u32) {
+        self.handle.limit_slots(slots);
+    }
+
     /// Makes room for so many more events: none of them is then refused for want of memory by the log.
     pub fn reserve_log(&mut self, events: u32) -> Result<(), Error> {
         self.handle.reserve_log(events)
@@ -77,6 +173,28 @@ impl<G: Game> Session<G> {
     /// The text of the last rollback's claim: a certificate that it couldn't start from a later state.
     pub fn claim(&self) -> Result<Vec<u8>, Error> {
         self.handle.claim()
+    }
+
+    /// How many entries the log has.
+    pub fn log_length(&self) -> usize {
+        self.handle.log_length()
+    }
+
+    /// The entry at a place of the log, counted from 0. A log of calls alone is a replay: a new session with the same settings,
+    /// of which they are made in turn, accepts each of them and comes to the same.
+    pub fn log_entry(&self, place: usize) -> Option<Entry> {
+        self.handle.log_entry(place)
+    }
+
+    /// Notes by how many frames this machine is behind the other one, and the other behind this one, as it told last. The last 40
+    /// pairs count.
+    pub fn note_advantages(&mut self, local: i32, remote: i32) {
+        self.handle.note_advantages(local, remote);
+    }
+
+    /// How many frames this machine should wait, so that the other comes up to it: 0, or 3 to 9.
+    pub fn frames_ahead(&self) -> u32 {
+        self.handle.frames_ahead()
     }
 
     /// The current frame.
@@ -111,9 +229,7 @@ impl<G: Game> Session<G> {
 
     /// Makes a call that rolls, and carries out what it asks for, even if it is refused half-way.
     fn roll<T>(&mut self, call: fn(&mut Handle) -> Result<T, Error>) -> Result<T, Error> {
-        if !self.is_whole {
-            return Err(Error::Pending);
-        }
+        self.forget_dropped()?;
         self.is_whole = false;
         let answer = call(&mut self.handle);
         for request in self.handle.requests() {
@@ -125,10 +241,19 @@ impl<G: Game> Session<G> {
                 Request::Save(slot) => *place(&mut self.slots, slot) = Some(self.game.save()),
                 Request::Step(row) => self.game.advance(&row),
                 Request::Free(slot) => self.slots[slot] = None,
+                other => unreachable!("a roll asks for {other:?}"),
             }
         }
         self.is_whole = true;
         answer
+    }
+
+    /// Gives the jobs up that were dropped, unless requests are pending.
+    fn forget_dropped(&mut self) -> Result<(), Error> {
+        if !self.is_whole {
+            return Err(Error::Pending);
+        }
+        self.jobs.dropped().into_iter().try_for_each(|number| self.handle.forget(number))
     }
 }
 

@@ -1,6 +1,5 @@
 //! A session after docs/RULES.md, with no thought of speed: it has all words, and every state that was ever saved.
 use fazgrond::{Error, Heard, Reached};
-use std::collections::HashMap;
 
 /// Each player's word, or None in place of that of one who has left.
 pub type Row = Vec<Option<u32>>;
@@ -17,6 +16,13 @@ pub struct Rules {
     pub log: u32,
 }
 
+impl Rules {
+    pub fn is_wide(&self) -> bool {
+        self.players > 4
+    }
+}
+
+#[derive(Clone)]
 struct Player {
     local: bool,
     mask: u32,
@@ -35,43 +41,86 @@ impl Player {
     }
 }
 
-/// Paths that were ever saved, as a tree: the root is the opening.
-struct Paths {
-    children: HashMap<(usize, Row), usize>,
-    saved: Vec<bool>,
+/// How a path came to be saved.
+#[derive(Clone, Copy, PartialEq)]
+enum By {
+    Roll,
+    Graft,
 }
+
+#[derive(Default)]
+struct Node {
+    children: Vec<(Row, usize)>,
+    saved: Option<By>,
+}
+
+/// Paths that were ever saved, as a tree: the root is the opening.
+struct Paths(Vec<Node>);
 
 impl Paths {
     fn new() -> Paths {
-        Paths { children: HashMap::new(), saved: vec![true] }
+        Paths(vec![Node { children: Vec::new(), saved: Some(By::Roll) }])
     }
 
-    /// The length of the longest one that begins these rows.
-    fn longest(&self, rows: &[Row]) -> usize {
-        let (mut at, mut longest) = (0, 0);
+    fn child(&self, at: usize, row: &Row) -> Option<usize> {
+        self.0[at].children.iter().find(|(there, _)| there == row).map(|(_, child)| *child)
+    }
+
+    /// The node of a path, if it begins one that was saved.
+    fn node(&self, rows: &[Row]) -> Option<usize> {
+        rows.iter().try_fold(0, |at, row| self.child(at, row))
+    }
+
+    fn is_saved(&self, rows: &[Row]) -> bool {
+        self.node(rows).is_some_and(|at| self.0[at].saved.is_some())
+    }
+
+    /// The length of the longest one that begins these rows, and its node.
+    fn longest(&self, rows: &[Row]) -> (usize, usize) {
+        let (mut at, mut longest) = (0, (0, 0));
         for (length, row) in rows.iter().enumerate() {
-            let Some(child) = self.children.get(&(at, row.clone())) else { break };
-            at = *child;
-            if self.saved[at] {
-                longest = length + 1;
+            let Some(child) = self.child(at, row) else { break };
+            at = child;
+            if self.0[at].saved.is_some() {
+                longest = (length + 1, at);
             }
         }
         longest
     }
 
-    /// Adds those that begin these rows and are longer than this.
-    fn save(&mut self, rows: &[Row], longer_than: usize) {
+    /// Adds those that begin these rows and are longer than this, but for those that are there.
+    fn save(&mut self, rows: &[Row], longer_than: usize, by: By) {
         let mut at = 0;
         for (length, row) in rows.iter().enumerate() {
-            let next = self.saved.len();
-            at = *self.children.entry((at, row.clone())).or_insert(next);
-            if at == next {
-                self.saved.push(false);
+            at = self.child(at, row).unwrap_or_else(|| {
+                let next = self.0.len();
+                self.0[at].children.push((row.clone(), next));
+                self.0.push(Node::default());
+                next
+            });
+            if length >= longer_than {
+                self.0[at].saved.get_or_insert(by);
             }
-            self.saved[at] |= length + 1 > longer_than;
         }
     }
+
+    /// How many lead on from a node, itself among them, by rows that may be.
+    fn count(&self, at: usize, frame: usize, may_be: &impl Fn(usize, &Row) -> bool) -> usize {
+        let node = &self.0[at];
+        let on = node.children.iter().filter(|(row, _)| may_be(frame, row));
+        usize::from(node.saved.is_some()) + on.map(|(_, child)| self.count(*child, frame + 1, may_be)).sum::<usize>()
+    }
 }
+
+/// What a job is to run: the path of the state that it starts from, and the next rows.
+#[derive(Clone, PartialEq, Debug)]
+pub struct Job {
+    pub start: Vec<Row>,
+    pub rows: Vec<Row>,
+}
+
+/// So many jobs can be out.
+const JOBS: usize = 64;
 
 pub struct Model {
     rules: Rules,
@@ -79,6 +128,11 @@ pub struct Model {
     frame: usize,
     paths: Paths,
     logged: u32,
+    jobs: Vec<Option<Job>>,
+    /// Where the last roll started.
+    pub from: usize,
+    /// How many rolls started from a state of a job, each state counted once.
+    pub helped: u32,
 }
 
 impl Model {
@@ -94,6 +148,9 @@ impl Model {
             frame: 0,
             paths: Paths::new(),
             logged: 0,
+            jobs: Vec::new(),
+            from: 0,
+            helped: 0,
         }
     }
 
@@ -106,7 +163,7 @@ impl Model {
     }
 
     pub fn settled(&self) -> u32 {
-        self.paths.longest(&self.timeline(self.front().min(self.frame))) as u32
+        self.paths.longest(&self.timeline(self.front().min(self.frame))).0 as u32
     }
 
     pub fn settled_row(&self, frame: u32) -> Option<Row> {
@@ -167,15 +224,82 @@ impl Model {
     }
 
     pub fn advance_frame(&mut self) -> Result<Reached, Error> {
-        refuse(self.players.iter().any(|player| player.local && !player.given), Error::LocalInputMissing)?;
+        refuse(self.lacks_words(), Error::LocalInputMissing)?;
         self.log()?;
         let frame = self.frame + 1;
-        let from = self.roll(frame);
+        self.roll(frame);
         self.frame = frame;
         for player in &mut self.players {
             player.given = false;
         }
-        Ok(Reached { frame: frame as u32, from: from as u32, rerun: (frame - from) as u32 })
+        Ok(Reached { frame: frame as u32, from: self.from as u32, rerun: (frame - self.from) as u32 })
+    }
+
+    /// A roll of which no more than so many states could be saved.
+    pub fn roll_in_part(&mut self, is_advance: bool, saved: usize) {
+        assert!(!is_advance || !self.lacks_words());
+        self.log().expect("no memory is asked for if the log is full");
+        let rows = self.timeline(self.frame + usize::from(is_advance));
+        let (from, _) = self.paths.longest(&rows);
+        assert!(from + saved < rows.len(), "a roll that saved all is no partial one");
+        self.paths.save(&rows[..from + saved], from, By::Roll);
+    }
+
+    /// Why a guess is refused, or what its job is to run, if anything.
+    pub fn guess(&self, player: u8, words: &[u32], until: u32) -> Result<Option<Job>, Error> {
+        refuse(self.jobs.iter().flatten().count() == JOBS, Error::Full)?;
+        let there = self.player(player).ok_or(Error::InvalidPlayer)?;
+        refuse(there.gone, Error::PlayerDisconnected)?;
+        refuse(words.is_empty() || words.len() > 24, Error::InvalidRequest)?;
+        let ahead = i64::from(until) - i64::from(self.settled());
+        refuse(!(1..=24).contains(&ahead) || until > self.rules.limit, Error::InvalidRequest)?;
+        let guessed = Player { words: [&there.words, words].concat(), ..*there };
+        let is_guessed = |at: usize| at + 1 == usize::from(player);
+        let cell = |frame: usize, at: usize| if is_guessed(at) { &guessed } else { &self.players[at] }.cell(frame);
+        let row = |frame: usize| (0..self.players.len()).map(|at| cell(frame, at)).collect();
+        let mut rows: Vec<Row> = (0..until as usize).map(row).collect();
+        let (start, _) = self.paths.longest(&rows);
+        rows.truncate(start + 8);
+        let on = rows.split_off(start);
+        Ok((!on.is_empty()).then_some(Job { start: rows, rows: on }))
+    }
+
+    /// Notes a job under the number that it was given, which no other job may have.
+    pub fn add_job(&mut self, number: u32, job: Job) {
+        let at = number as usize;
+        assert!(at < JOBS, "a job has the number {number}");
+        if at >= self.jobs.len() {
+            self.jobs.resize(at + 1, None);
+        }
+        assert!(self.jobs[at].is_none(), "two jobs have the number {number}");
+        self.jobs[at] = Some(job);
+    }
+
+    pub fn graft(&mut self, number: u32) -> Result<u32, Error> {
+        let Job { start, rows } = self.take_job(number)?;
+        let settled = self.settled() as usize;
+        let anchor = start.len().max(settled);
+        let whole = [start, rows].concat();
+        refuse(whole.len() > settled + 24, Error::TooFar)?;
+        refuse(whole.len() <= settled, Error::Late)?;
+        refuse(!self.is_possible(&whole[..anchor]), Error::Dead)?;
+        refuse(!self.paths.is_saved(&whole[..anchor]), Error::Orphan)?;
+        let possible = (anchor..whole.len()).take_while(|frame| self.may_be(*frame, &whole[*frame])).count();
+        let whole = &whole[..anchor + possible];
+        let added = (anchor + 1..=whole.len()).filter(|length| !self.paths.is_saved(&whole[..*length])).count();
+        let most = if self.rules.is_wide() { 224 } else { 240 };
+        refuse(added > 0 && self.kept() + added > most, Error::TreeFull)?;
+        self.log()?;
+        self.paths.save(whole, anchor, By::Graft);
+        Ok(added as u32)
+    }
+
+    pub fn forget(&mut self, number: u32) -> Result<(), Error> {
+        self.take_job(number).map(|_| ())
+    }
+
+    fn take_job(&mut self, number: u32) -> Result<Job, Error> {
+        self.jobs.get_mut(number as usize).and_then(Option::take).ok_or(Error::NoJob)
     }
 
     pub fn reserve_log(&self, events: u32) -> Result<(), Error> {
@@ -205,12 +329,38 @@ impl Model {
         Ok(())
     }
 
-    /// A roll to a frame, and where it starts.
-    fn roll(&mut self, frame: usize) -> usize {
+    fn lacks_words(&self) -> bool {
+        self.players.iter().any(|player| player.local && !player.given)
+    }
+
+    /// A roll to a frame.
+    fn roll(&mut self, frame: usize) {
         let rows = self.timeline(frame);
-        let from = self.paths.longest(&rows);
-        self.paths.save(&rows, from);
-        from
+        let (from, node) = self.paths.longest(&rows);
+        self.paths.save(&rows, from, By::Roll);
+        self.from = from;
+        if self.paths.0[node].saved.replace(By::Roll) == Some(By::Graft) {
+            self.helped += 1;
+        }
+    }
+
+    /// Whether nothing that is known contradicts a row of this frame.
+    fn may_be(&self, frame: usize, row: &Row) -> bool {
+        self.players.iter().zip(row).all(|(player, cell)| match player.words.get(frame) {
+            Some(word) => *cell == Some(*word),
+            None => !player.gone || cell.is_none(),
+        })
+    }
+
+    fn is_possible(&self, rows: &[Row]) -> bool {
+        rows.iter().enumerate().all(|(frame, row)| self.may_be(frame, row))
+    }
+
+    /// How many paths are kept.
+    fn kept(&self) -> usize {
+        let settled = self.settled() as usize;
+        let node = self.paths.node(&self.timeline(settled)).expect("the settled path is saved");
+        self.paths.count(node, settled, &|frame, row| self.may_be(frame, row))
     }
 }
 

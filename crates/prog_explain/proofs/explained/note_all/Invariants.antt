@@ -8,7 +8,7 @@ abbrev pub invariant-loop-command : goal.invariant-loop-command
 invariant-loop-command g l = record {
   settings : l.playing.settings ≡ l.fn.playing.settings;
   opening : l.playing.opening ≡ l.fn.playing.opening;
-  noted : AreNotedOf g.G.Shown.text_of l.fn.playing.settings (game_of g.G.Game.step l.fn.playing) l.fn.playing.now l.playing.now (take l.command-index l.commands) (string_bytes l.fn.notes) (string_bytes l.notes);
+  noted : AreNotedOf l.fn.playing.settings (game_of g.G.Game.step l.fn.playing) l.fn.playing.now l.playing.now (take l.command-index l.commands) (string_bytes l.fn.notes) (string_bytes l.notes);
   jobs : length l.playing.now.jobs ≤ length l.fn.playing.now.jobs + l.command-index;
   line : l.line ≡ l.command-index + 1;
 }

@@ -17,7 +17,7 @@ loop-place-preserved g c =
     let more = c.pump_link-more.result in
     let pumps : PumpsLink g.G.Game.step c.loop-place.session (get_or links k d) c.pump_link-more.new.session l more = c.pump_link-more.ensures.pumps in
     record {
-      pumped = rw c.or-held.ensures (links_more g.G.Game.step c.args.session.now c.args.links.now c.loop-place.session links c.pump_link-more.new.session l d k c.loop-place.applied c.loop-place.refused c.loop-place.held more
+      pumped = rw (c.or-refusal.ensures, c.or-held.ensures) (links_more g.G.Game.step c.args.session.now c.args.links.now c.loop-place.session links c.pump_link-more.new.session l d k c.loop-place.applied c.loop-place.refused c.loop-place.refusal c.loop-place.held more
           (omega (arith, c.loop-place.auto.links, c.loop-place-test.true)) c.loop-place-test.true (now.rest k d (omega arith)) now.pumped pumps);
       rest = λ i e h. get_or-set_other links k i l e (λ (same : i ≡ k). absurd (omega (arith, h, same))) ∙ now.rest i e (omega (arith, h));
       most = omega (arith, now.most, pumps.count, pumps.turn.most);
@@ -31,4 +31,4 @@ returns-clause-pumped g c =
     rw (before, after) at c.loop-place.invariant.pumped
 
 pub returns-clause-rings : goal.returns-clause-rings
-returns-clause-rings g c = pumped_rings g.G.Game.step c.args.session.now c.loop-place.session c.args.links.now c.loop-place.links (record { applied = c.loop-place.applied; refused = c.loop-place.refused; held = c.loop-place.held }) (returns-clause-pumped g c)
+returns-clause-rings g c = pumped_rings g.G.Game.step c.args.session.now c.loop-place.session c.args.links.now c.loop-place.links (record { applied = c.loop-place.applied; refused = c.loop-place.refused; refusal = c.loop-place.refusal; held = c.loop-place.held }) (returns-clause-pumped g c)

@@ -20,6 +20,6 @@ returns g c =
     let there = kept_front saves.tree R k (rw c.tree-tree.ensures at c.laws-2.ensures.rooted) (rw c.tree-tree.ensures at c.laws-2.ensures.closed) (rw c.tree-tree.ensures at c.laws-2.ensures.named) low in
     let found = found_at ps R k (omega (arith, low, longest_within ps R)) there in
     let part : take (c.anchor_of.result - c.settled.result) c.as_slice.result.now ≡ take k R =
-    ap (take (c.anchor_of.result - c.settled.result)) (c.as_slice.ensures.value ∙ c.ahead_of-ahead.ensures) ∙ ap (λ n. take (n - c.settled.result) R) c.anchor_of.ensures ∙ ap (λ n. take (anchor_of saves.inputs route - n) R) (c.settled.ensures ∙ ap (λ (i : Inputs). i.settled) c.board.ensures) in
+    ap (take (c.anchor_of.result - c.settled.result)) (c.as_slice.ensures.value ∙ c.requires.place.ahead) ∙ ap (λ n. take (n - c.settled.result) R) c.anchor_of.ensures ∙ ap (λ n. take (anchor_of saves.inputs route - n) R) (c.settled.ensures ∙ ap (λ (i : Inputs). i.settled) c.board.ensures) in
     let node = subst (λ (q : Rows). IsSomeAnd (state_named saves.tree c.longest-node.result.0) (λ u. u.path ≡ take (longest ps q) q)) part (rw c.tree-tree.ensures at c.longest-node.ensures.node) in
     subst (λ (q : Rows). IsSomeAnd (state_named saves.tree c.longest-node.result.0) (λ u. u.path ≡ q)) found node

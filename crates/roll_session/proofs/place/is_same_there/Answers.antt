@@ -1,4 +1,4 @@
-use Rattle.std.proofs.Common.{◌≡◌, ◌+◌, ◌-◌, ◌∙◌, ◌++◌, ap, sym, subst, arith, length, take}
+use Rattle.std.proofs.Common.{◌≡◌, ◌+◌, ◌-◌, ◌∙◌, ◌++◌, ap, sym, subst, arith, take}
 use Rattle.std.specs.Prelude.{IsSomeAnd}
 use Rattle.roll_frame.specs.declared.route.Route.{Route}
 use Rattle.roll_frame.specs.Cells.{Rows}
@@ -26,9 +26,8 @@ returns g c = λ opening values.
     ap value (sym (snapshot_is (state_named saves.tree c.anchor_node-node.result) s.0 c.get.result.now (rw c.tree.ensures at c.get.ensures) s.1))
     ∙ of_held (λ u. value u.snapshot ≡ run step opening (T ++ u.path)) saves.tree c.anchor_node-node.result s.0 values s.1 ∙ ap (λ (r : Rows). run step opening (T ++ r)) s.2 in
     let anchor : c.anchor_of.result ≡ anchor_of saves.inputs route = subst (λ (r : Route). c.anchor_of.result ≡ anchor_of saves.inputs r) c.route-route.ensures c.anchor_of.ensures in
-    let base : c.route-route.result.now.path.base ≡ route.path.base = ap (λ (r : Route). r.path.base) c.route-route.ensures in
-    let len : c.len.result ≡ length route.path.rows.items = c.len.ensures.value ∙ ap (λ (r : Route). length r.path.rows.items) c.route-route.ensures in
-    let count : c.anchor_of.result - (c.route-route.result.now.path.base + c.len.result) ≡ anchor_of saves.inputs route - start_of route = omega (arith, anchor, base, len) in
+    let start : c.start_of.result ≡ start_of route = c.start_of.ensures.start ∙ ap start_of c.route-route.ensures in
+    let count : c.anchor_of.result - c.start_of.result ≡ anchor_of saves.inputs route - start_of route = omega (arith, anchor, start) in
     let run_is : value c.state.result.now ≡ run step c.args.branch.now.from (take (anchor_of saves.inputs route - start_of route) route.rows.items) = subst (λ n. value c.state.result.now ≡ run step c.args.branch.now.from (take n route.rows.items)) count c.state.ensures in
     subst (λ v. c.same.result ≡ same_value v (run step opening (T ++ q))) run_is
     (subst (λ v. c.same.result ≡ same_value (value c.state.result.now) v) saved (same_is c.same.result (value c.state.result.now) (value c.get.result.now) c.same.ensures.0 c.same.ensures.1))

@@ -1,10 +1,10 @@
 use Rattle.std.proofs.Common.{◌∙◌, ◌≤◌, ◌++◌, ap, sym, length, subst}
 use Rattle.std.proofs.lemmas.Result.{IfOk-weaker, on_ok_weaker}
-use Rattle.std.specs.Prelude.{is_err}
+use Rattle.std.specs.Result.{result_err}
 use Rattle.roll_frame.specs.declared.limits.TheConstants.{PLAYER_LIMIT}
 use Rattle.roll_session.proofs.Following.{small_of}
 use Rattle.roll_text.specs.Lines.{ended}
-use Rattle.prog_replies.specs.Output.{after_command, guess_line, refused_by, with_job, written_by}
+use Rattle.prog_replies.specs.Output.{after_command, guess_line, refusal_by, with_job, written_by}
 use Rattle.roll_cli.specs.Playings.{Played, game_of}
 use Rattle.roll_cli.proofs.Asked.{asked_events, asked_guess}
 use Rattle.roll_cli.proofs.playing.Playing.play.Goals as goal
@@ -53,4 +53,4 @@ returns-in-Guess-clause-refused g c =
     let old = c.args.self.now in let game = game_of g.G.Game.step old in let is = c.in-Guess.is in
     let few = subst (λ (v : Played). length v.now.core.players ≤ PLAYER_LIMIT) c.self.view_is (small_of g.G.Game.step _ c.laws.ensures.log).few in
     let e = asked_guess g.G.Shown.text_of old.settings game old.now few c.player_number.result c.in-Guess.player c.deref.result.now c.in-Guess.words.items c.in-Guess.until c.player_number.ensures c.deref.ensures.value in
-    IfOk-weaker c.guess.result _ _ (λ refused h. h ∙ ap is_err e ∙ sym (ap (λ command. refused_by old.settings game old.now command) is)) c.guess.ensures.refused
+    IfOk-weaker c.guess.result _ _ (λ refused h. h ∙ ap result_err e ∙ sym (ap (λ command. refusal_by old.settings game old.now command) is)) c.guess.ensures.refused

@@ -1,7 +1,7 @@
 use Rattle.std.proofs.Common.{sym, ap, ◌∙◌, refl, map, List}
 use Rattle.roll_frame.specs.Order.{in_order}
 use Rattle.roll_tree.specs.SavedStates.{path_of}
-use Rattle.roll_plan.specs.Fields.{made_in}
+use Rattle.roll_plan.specs.Fields.{planned_in}
 use Rattle.roll_plan.specs.Plans.{Planned, IsClaimOf}
 use Rattle.roll_plan.proofs.Claims.{claim_on}
 use Rattle.roll_plan.specs.Spelled.{spelled}
@@ -19,4 +19,4 @@ returns c =
     let kept = c.from-kept.ensures ∙ c.in_ok-paths_of.ensures ∙ ap (λ (l : List Taken). map (path_of p.base) (in_order (spelled l))) c.deref.ensures.value in
     let differs = c.from-differs.ensures ∙ c.in_ok-from_slice-2.ensures.items ∙ c.deref-2.ensures.value in
     of_last p c.args.self.now (λ m. IsClaimOf c.args.self.now.players m _) (sym c.self.view_is) made
-    (λ settled e. claim_on c.args.self.now.players (made_in p) settled _ e last.fit.ordered players refl time kept refl (differs ∙ last.plan.differs settled e))
+    (λ settled e. claim_on c.args.self.now.players (planned_in p) settled _ e last.fit.ordered players refl time kept refl (differs ∙ last.plan.differs settled e))

@@ -1,5 +1,5 @@
 use Rattle.std.proofs.Common.{◌≡◌, ◌∙◌, Some, refl}
-use Rattle.roll_plan.specs.Plans.{made_of}
+use Rattle.roll_plan.specs.Plans.{planned_roll}
 use Rattle.roll_session.proofs.Rolling.{plan_fits}
 use Rattle.roll_session.proofs.Steps.{deepest_is, time_is}
 use Rattle.roll_session.proofs.saves.Saves.plan.Goals as goal
@@ -21,7 +21,7 @@ returns-clause-plan g c =
     let from = rw (← c.self.view_is) at c.requires.from in
     let base : t.base ≡ i.board.settled = (rw c.extend_time.ensures.same refl) ∙ c.self.invariant.base in
     let rows = time_is t i.board.players i.board.settled c.args.to base c.extend_time.ensures.told from c.extend_time.ensures.far in
-    rw (← c.self.view_is) (c.plan.ensures.plan ∙ (λ j. record c.args.planner.now { last = Some (made_of (c.extend_time.ensures.same j) (rows j)) }))
+    rw (← c.self.view_is) (c.plan.ensures.plan ∙ (λ j. record c.args.planner.now { last = Some (planned_roll (c.extend_time.ensures.same j) (rows j)) }))
 
 pub returns-clause-node : goal.returns-clause-node
 returns-clause-node g c =

@@ -1,0 +1,36 @@
+//! Laws of a match, over any steps of any number of machines, and any network that delivers only what was sent, as
+//! often and as late as it likes. Each is the contract of a function that makes no call.
+ghost use Rattle.roll_mesh.specs.Laws.{GoneStaysGone, NobodyIsBelievedBeyond, OwnersHaveMost, TheyAgree, TheyGetOn, WhoStaysHasAsMany};
+
+/// If a player has left one machine, each machine that this one doesn't regard as gone has just as many words of that
+/// player, then and ever after.
+pub fn who_stays_has_as_many()
+    ensures { WhoStaysHasAsMany }
+{}
+
+/// Two machines let a player leave at the same number of words, unless each regards the other as gone.
+pub fn they_agree()
+    ensures { TheyAgree }
+{}
+
+/// A machine comes to have more words of a player only by giving one of its own, or by hearing a packet of the player's
+/// owner, or of a machine that regards the owner as gone.
+pub fn nobody_is_believed_beyond()
+    ensures { NobodyIsBelievedBeyond }
+{}
+
+/// No machine has more words of a player than the player's owner.
+pub fn owners_have_most()
+    ensures { OwnersHaveMost }
+{}
+
+/// A machine that is regarded as gone stays gone, and who has left has left for ever.
+pub fn gone_stays_gone()
+    ensures { GoneStaysGone }
+{}
+
+/// Those who stay never lock one another, whatever came before: by telling, hearing and letting players leave alone
+/// they can come to where each player of a machine that doesn't stay has left each of them. Of at most 8 machines.
+pub fn they_get_on()
+    ensures { TheyGetOn }
+{}

@@ -1,0 +1,28 @@
+//! Who has what, and who has left, in a match of 2 to 8 machines: what one of them knows, by counts of words alone.
+//!
+//! A mesh takes in what packets tell, and says what to tell. It has no sockets, no clock and no words, and takes no
+//! memory.
+#![tactic(auto)]
+
+mod heard;
+mod laws;
+mod limits;
+mod machine;
+mod mesh;
+mod packet;
+mod refusal;
+mod seat;
+#[cfg(test)]
+mod tests;
+
+pub use heard::Heard;
+pub use laws::{
+    gone_stays_gone, nobody_is_believed_beyond, owners_have_most, they_agree, they_get_on,
+    who_stays_has_as_many,
+};
+pub use limits::{MACHINE_LIMIT, PLAYER_LIMIT};
+pub use machine::Machine;
+pub use mesh::Mesh;
+pub use packet::{Offer, Packet, View};
+pub use refusal::MeshRefusal;
+pub use seat::Seat;

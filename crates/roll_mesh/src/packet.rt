@@ -1,0 +1,82 @@
+//! What machines tell each other.
+ghost use Rattle.std.specs.Prelude.{◌≡◌};
+ghost use Rattle.roll_mesh.specs.Meshes.{is_had};
+ghost use Rattle.roll_mesh.specs.Machines.{covers, keeps, reaches};
+
+use crate::limits::{MACHINE_LIMIT, PLAYER_LIMIT};
+
+/// What a machine tells of itself. Machines and players are counted from 0.
+#[derive(Clone, Copy, Debug)]
+pub struct View {
+    /// Whether it regards each machine as gone, machine 0 first.
+    pub gone: [bool; MACHINE_LIMIT],
+    /// How many words of each player it has, player 0 first.
+    pub has: [u32; PLAYER_LIMIT],
+}
+
+impl View {
+    /// Whether this view says all that an older one says.
+    pub(crate) fn covers(&self, old: &View) -> bool
+        ensures { result ≡ covers old.now self.now }
+    {
+        keeps(&old.gone, &self.gone) && reaches(&old.has, &self.has)
+    }
+}
+
+/// Whether all of these machines are among the others.
+fn keeps(old: &[bool; MACHINE_LIMIT], new: &[bool; MACHINE_LIMIT]) -> bool
+    ensures { result ≡ keeps old.now new.now }
+{
+    for machine in 0..MACHINE_LIMIT {
+        if old[machine] && !new[machine] {
+            return false;
+        }
+    }
+    true
+}
+
+/// Whether there are as many words of each player, or more.
+fn reaches(old: &[u32; PLAYER_LIMIT], new: &[u32; PLAYER_LIMIT]) -> bool
+    ensures { result ≡ reaches old.now new.now }
+{
+    for player in 0..PLAYER_LIMIT {
+        if old[player] > new[player] {
+            return false;
+        }
+    }
+    true
+}
+
+/// The words of a player in a packet: of these frames, none if both are the same.
+#[derive(Clone, Copy, Debug)]
+pub struct Offer {
+    /// The frame of the first word. A player's words begin at frame 0.
+    pub first: u32,
+    /// The frame after the last word.
+    pub end: u32,
+}
+
+/// A packet as a mesh hears it: with the counts of its words alone. Machines and players are counted from 0.
+#[derive(Clone, Copy, Debug)]
+pub struct Packet {
+    /// The machine that sent it, 0 to 7.
+    pub sender: u8,
+    /// What that machine tells of itself.
+    pub view: View,
+    /// The words of each player that are in it, player 0 first.
+    pub offers: [Offer; PLAYER_LIMIT],
+}
+
+impl Packet {
+    /// Whether its sender says that it has all that it offers.
+    pub(crate) fn is_had(&self) -> bool
+        ensures { result ≡ is_had self.now }
+    {
+        for player in 0..PLAYER_LIMIT {
+            if self.offers[player].end > self.view.has[player] {
+                return false;
+            }
+        }
+        true
+    }
+}

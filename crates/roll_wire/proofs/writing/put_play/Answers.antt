@@ -1,0 +1,19 @@
+use Rattle.std.proofs.Common.{◌≡◌, ℕ, ◌<◌, ◌^◌, List, ◌++◌, subst}
+use Rattle.std.specs.Prelude.{slice_index}
+use Rattle.roll_wire.specs.Spelling.{head, runs, turn}
+use Rattle.roll_wire.proofs.Appends.{joined}
+use Rattle.roll_wire.proofs.Wholes.{turn_fits}
+use Rattle.roll_wire.proofs.writing.put_play.Goals as goal
+
+pub returns-clause-items : goal.returns-clause-items
+returns-clause-items c =
+    let p = c.args.play.now in
+    let words : c.put_words.new.out.items ≡ c.put_head.new.out.items ++ runs p.words.items =
+    rw (← c.as_slice.ensures.value) c.put_words.ensures.items in
+    joined c.args.out.now.items c.put_head.new.out.items c.put_words.new.out.items (head p.head)
+    (runs p.words.items) c.put_head.ensures.items words
+
+pub returns-clause-fits : goal.returns-clause-fits
+returns-clause-fits c = λ whole. turn_fits (turn c.args.play.now) c.put_head.ensures.fits
+    (subst (λ (ws : List ℕ). (i : ℕ) → slice_index ws i < 2 ^ 32) c.as_slice.ensures.value
+    c.put_words.ensures.fits) whole

@@ -1,0 +1,110 @@
+//! What a machine sends to another. Machines and players are counted from 0: player 0 is player 1 of a session.
+ghost use Rattle.std.specs.Prelude.{◌≡◌};
+
+use crate::limits::WORD_LIMIT;
+use arrayvec::ArrayVec;
+use roll_mesh::{Offer, PLAYER_LIMIT, Packet, View};
+
+/// Which datagram it is.
+#[derive(Clone, Copy, Debug)]
+pub struct Envelope {
+    /// The number of the match, the same at all its machines.
+    pub match_number: u64,
+    /// The machine that sent it, 0 to 7.
+    pub sender: u8,
+    /// How many datagrams the sender had sent to this receiver before.
+    pub number: u32,
+}
+
+/// What two machines compare before they play.
+#[derive(Clone, Copy, Debug)]
+pub struct Hello {
+    /// Whether the sender has heard a hello of the receiver.
+    pub heard: bool,
+    /// How many machines the match has, 2 to 8.
+    pub machines: u8,
+    /// The machine that owns each player, player 0 first; 255 if there is no such player.
+    pub owners: [u8; PLAYER_LIMIT],
+    /// A digest of all else that both sides have to have alike: the game, its opening, the session's limits.
+    pub settings: u64,
+}
+
+/// How far the sender is, and when it sent.
+#[derive(Clone, Copy, Debug)]
+pub struct Clocks {
+    /// The sender's frame.
+    pub frame: u32,
+    /// The receiver's frame in the last turn that the sender heard of it, 0 before the first.
+    pub heard_frame: u32,
+    /// The sender's clock, in milliseconds since a moment of its own choice. It begins anew after 2^32.
+    pub clock: u32,
+    /// The receiver's clock in the last turn that the sender heard of it, 0 before the first.
+    pub heard_clock: u32,
+    /// How many milliseconds ago the sender heard that one, as it sent this one.
+    pub held: u32,
+}
+
+/// The last state that the sender knows to be settled.
+#[derive(Clone, Copy, Debug)]
+pub struct Settled {
+    /// Its frame.
+    pub frame: u32,
+    /// The digest of the state, the game's own.
+    pub digest: u64,
+}
+
+/// What a turn tells, but for its words.
+#[derive(Clone, Copy, Debug)]
+pub struct Head {
+    /// How far the sender is, and when it sent.
+    pub clocks: Clocks,
+    /// Whom the sender regards as gone, and how many words of each player it has.
+    pub view: View,
+    /// The last state that the sender knows to be settled.
+    pub settled: Settled,
+    /// The frames of each player's words that are in it, player 0 first.
+    pub offers: [Offer; PLAYER_LIMIT],
+}
+
+/// What a machine sends in a turn of a match.
+#[derive(Debug, Drop)]
+pub struct Play {
+    /// All but the words.
+    pub head: Head,
+    /// The words that are offered, 208 at most: player by player, each player's from frame to frame.
+    pub words: ArrayVec<u32, WORD_LIMIT>,
+}
+
+impl Play {
+    /// What a mesh hears of it, if this machine sent it.
+    pub fn packet(&self, sender: u8) -> Packet
+        ensures { result
+            ≡ record { sender = sender; view = self.now.head.view; offers = self.now.head.offers } }
+    {
+        Packet {
+            sender,
+            view: self.head.view,
+            offers: self.head.offers,
+        }
+    }
+}
+
+/// What is in a datagram.
+#[derive(Debug, Drop)]
+pub enum Body {
+    /// Before the match is played.
+    Hello(Hello),
+    /// A turn of the match.
+    Play(Play),
+    /// The sender leaves the match: it is gone from now on.
+    Bye,
+}
+
+/// What a machine sends to another, 1,200 bytes at most.
+#[derive(Debug, Drop)]
+pub struct Datagram {
+    /// Which datagram it is.
+    pub envelope: Envelope,
+    /// What is in it.
+    pub body: Body,
+}

@@ -1,0 +1,31 @@
+//! Why bytes are no datagram.
+use thiserror::Error;
+
+/// What is wrong with the bytes: the first fault from left to right.
+#[derive(Clone, Copy, Debug, PartialEq, Eq, Error)]
+pub enum WireFault {
+    /// The bytes end within a field.
+    #[error("the datagram is cut off")]
+    Short,
+    /// They don't begin as a datagram of this version does.
+    #[error("no datagram of this version")]
+    Magic,
+    /// There is no such kind of datagram.
+    #[error("no such kind of datagram")]
+    Kind,
+    /// A flag is neither 0 nor 1.
+    #[error("a flag that is neither 0 nor 1")]
+    Flag,
+    /// A player's words end before they begin.
+    #[error("words that end before they begin")]
+    Backward,
+    /// More than 208 words are offered.
+    #[error("too many words")]
+    TooMany,
+    /// A run is longer than the words that are left, or a word that is said to change doesn't.
+    #[error("a wrong run of words")]
+    Run,
+    /// Bytes stand after the last field.
+    #[error("bytes after the last field")]
+    Trailing,
+}

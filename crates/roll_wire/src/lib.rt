@@ -1,0 +1,18 @@
+//! Datagrams of a match as bytes: one text for each datagram, and no other text is read. Takes no memory.
+#![tactic(auto)]
+
+mod datagram;
+mod fault;
+mod laws;
+mod limits;
+mod reading;
+#[cfg(test)]
+mod tests;
+mod writing;
+
+pub use datagram::{Body, Clocks, Datagram, Envelope, Head, Hello, Play, Settled};
+pub use fault::WireFault;
+pub use laws::{one_text, read_again};
+pub use limits::{DATAGRAM_LIMIT, MAGIC, WORD_LIMIT};
+pub use reading::decode;
+pub use writing::encode;

@@ -1,0 +1,349 @@
+//! Bytes to datagrams.
+ghost use Rattle.std.specs.Prelude.{◌≡◌, ◌≢◌, ◌<◌, ◌≤◌, ◌^◌, List, length, None, Ok, IfOk};
+ghost use Rattle.std.specs.Int.{w32, w64};
+ghost use Rattle.roll_mesh.specs.declared.limits.TheConstants.{MACHINE_LIMIT, PLAYER_LIMIT};
+ghost use Rattle.roll_mesh.specs.declared.packet.Offer.{Offer};
+ghost use Rattle.roll_wire.specs.Spelling.{Fits, Message, content, count_of, message, spelling, turn};
+ghost use Rattle.roll_wire.specs.Reading.{Gives, all_of, byte_at, clocks_at, content_at, envelope_at, flag_at, head_at, hello_at, is_over, magic_at, number_at, offer_at, repeated, run_at, settled_at, turn_at, view_at, word_at, words_at};
+ghost use Rattle.roll_wire.specs.declared.limits.TheConstants.{WORD_LIMIT};
+
+use crate::datagram::{Body, Clocks, Datagram, Envelope, Head, Hello, Play, Settled};
+use crate::fault::WireFault;
+use crate::limits::{MAGIC, WORD_LIMIT};
+use arrayvec::ArrayVec;
+use roll_mesh::{MACHINE_LIMIT, Offer, PLAYER_LIMIT, View};
+
+fn u32_at(bytes: &[u8]) -> Result<(u32, &[u8]), WireFault>
+    ensures { Gives (λ x. (x.0, x.1.now)) result (number_at w32 bytes.now) }
+{
+    if bytes.len() < 4 {
+        return Err(WireFault::Short);
+    }
+    let (front, rest) = bytes.split_at(4);
+    let number = u32::from_be_bytes([front[0], front[1], front[2], front[3]]);
+    Ok((number, rest))
+}
+
+fn u64_at(bytes: &[u8]) -> Result<(u64, &[u8]), WireFault>
+    ensures { Gives (λ x. (x.0, x.1.now)) result (number_at w64 bytes.now) }
+{
+    if bytes.len() < 8 {
+        return Err(WireFault::Short);
+    }
+    let (front, rest) = bytes.split_at(8);
+    let number = u64::from_be_bytes([
+        front[0], front[1], front[2], front[3], front[4], front[5], front[6], front[7],
+    ]);
+    Ok((number, rest))
+}
+
+#[tactic(auto, unfolding(crate::specs::Reading::byte_at))]
+fn byte_of(bytes: &[u8]) -> Result<(u8, &[u8]), WireFault>
+    ensures { Gives (λ x. (x.0, x.1.now)) result (byte_at bytes.now) }
+{
+    match bytes {
+        [] => Err(WireFault::Short),
+        [byte, rest @ ..] => Ok((*byte, rest)),
+    }
+}
+
+#[tactic(auto, unfolding(crate::specs::Reading::flag_at))]
+fn flag_of(bytes: &[u8]) -> Result<(bool, &[u8]), WireFault>
+    ensures { Gives (λ x. (x.0, x.1.now)) result (flag_at bytes.now) }
+{
+    match bytes {
+        [] => Err(WireFault::Short),
+        [0, rest @ ..] => Ok((false, rest)),
+        [1, rest @ ..] => Ok((true, rest)),
+        [_, ..] => Err(WireFault::Flag),
+    }
+}
+
+#[tactic(auto, unfolding(crate::specs::Reading::envelope_at))]
+fn envelope_of(bytes: &[u8]) -> Result<(Envelope, &[u8]), WireFault>
+    ensures { Gives (λ x. (x.0, x.1.now)) result (envelope_at bytes.now) }
+{
+    let (match_number, rest) = u64_at(bytes)?;
+    let (sender, rest) = byte_of(rest)?;
+    let (number, rest) = u32_at(rest)?;
+    let envelope = Envelope {
+        match_number,
+        sender,
+        number,
+    };
+    Ok((envelope, rest))
+}
+
+#[tactic(auto, unfolding(crate::specs::Reading::clocks_at))]
+fn clocks_of(bytes: &[u8]) -> Result<(Clocks, &[u8]), WireFault>
+    ensures { Gives (λ x. (x.0, x.1.now)) result (clocks_at bytes.now) }
+{
+    let (frame, rest) = u32_at(bytes)?;
+    let (heard_frame, rest) = u32_at(rest)?;
+    let (clock, rest) = u32_at(rest)?;
+    let (heard_clock, rest) = u32_at(rest)?;
+    let (held, rest) = u32_at(rest)?;
+    let clocks = Clocks {
+        frame,
+        heard_frame,
+        clock,
+        heard_clock,
+        held,
+    };
+    Ok((clocks, rest))
+}
+
+#[tactic(auto, unfolding(crate::specs::Reading::settled_at))]
+fn settled_of(bytes: &[u8]) -> Result<(Settled, &[u8]), WireFault>
+    ensures { Gives (λ x. (x.0, x.1.now)) result (settled_at bytes.now) }
+{
+    let (frame, rest) = u32_at(bytes)?;
+    let (digest, rest) = u64_at(rest)?;
+    Ok((Settled { frame, digest }, rest))
+}
+
+#[tactic(auto, unfolding(crate::specs::Reading::offer_at))]
+fn offer_of(bytes: &[u8]) -> Result<(Offer, &[u8]), WireFault>
+    ensures { Gives (λ x. (x.0, x.1.now)) result (offer_at bytes.now) }
+{
+    let (first, rest) = u32_at(bytes)?;
+    let (end, rest) = u32_at(rest)?;
+    if end < first {
+        return Err(WireFault::Backward);
+    }
+    Ok((Offer { first, end }, rest))
+}
+
+#[tactic(auto, unfolding(crate::specs::Reading::magic_at))]
+fn magic_of(bytes: &[u8]) -> Result<(u32, &[u8]), WireFault>
+    ensures { Gives (λ x. (x.0, x.1.now)) result (magic_at bytes.now) }
+{
+    let (magic, rest) = u32_at(bytes)?;
+    if magic != MAGIC {
+        return Err(WireFault::Magic);
+    }
+    Ok((magic, rest))
+}
+
+#[tactic(auto, unfolding(crate::specs::Reading::run_at))]
+fn run_of(run: Option<u8>, bytes: &[u8]) -> Result<(u8, &[u8]), WireFault>
+    ensures { Gives (λ x. (x.0, x.1.now)) result (run_at run bytes.now) }
+{
+    match run {
+        None => byte_of(bytes),
+        Some(run) => Ok((run, bytes)),
+    }
+}
+
+#[tactic(auto, unfolding(crate::specs::Reading::word_at))]
+fn word_of(before: u32, run: u8, bytes: &[u8]) -> Result<(u32, Option<u8>, &[u8]), WireFault>
+    ensures { Gives (λ x. (x.0, x.1, x.2.now)) result (word_at before run bytes.now) }
+{
+    if run > 0 {
+        return Ok((before, Some(run - 1), bytes));
+    }
+    let (word, rest) = u32_at(bytes)?;
+    if word == before {
+        return Err(WireFault::Run);
+    }
+    Ok((word, None, rest))
+}
+
+#[tactic(auto, unfolding(crate::specs::Reading::is_over))]
+fn is_over(run: Option<u8>) -> bool
+    ensures { result ≡ is_over run }
+{
+    match run {
+        None => true,
+        Some(left) => left == 0,
+    }
+}
+
+fn gone_of(bytes: &[u8]) -> Result<([bool; MACHINE_LIMIT], &[u8]), WireFault>
+    ensures { Gives (λ x. (x.0, x.1.now)) result (repeated flag_at MACHINE_LIMIT bytes.now) }
+{
+    let mut gone = [false; MACHINE_LIMIT];
+    let mut rest = bytes;
+    for machine in 0..MACHINE_LIMIT {
+        let (flag, after) = flag_of(rest)?;
+        gone[machine] = flag;
+        rest = after;
+    }
+    Ok((gone, rest))
+}
+
+fn has_of(bytes: &[u8]) -> Result<([u32; PLAYER_LIMIT], &[u8]), WireFault>
+    ensures { Gives (λ x. (x.0, x.1.now)) result (repeated (number_at w32) PLAYER_LIMIT bytes.now) }
+{
+    let mut has = [0; PLAYER_LIMIT];
+    let mut rest = bytes;
+    for player in 0..PLAYER_LIMIT {
+        let (number, after) = u32_at(rest)?;
+        has[player] = number;
+        rest = after;
+    }
+    Ok((has, rest))
+}
+
+fn offers_of(bytes: &[u8]) -> Result<([Offer; PLAYER_LIMIT], &[u8]), WireFault>
+    ensures { Gives (λ x. (x.0, x.1.now)) result (repeated offer_at PLAYER_LIMIT bytes.now) }
+{
+    let mut offers = [Offer { first: 0, end: 0 }; PLAYER_LIMIT];
+    let mut rest = bytes;
+    for player in 0..PLAYER_LIMIT {
+        let (offer, after) = offer_of(rest)?;
+        offers[player] = offer;
+        rest = after;
+    }
+    Ok((offers, rest))
+}
+
+fn owners_of(bytes: &[u8]) -> Result<([u8; PLAYER_LIMIT], &[u8]), WireFault>
+    ensures { Gives (λ x. (x.0, x.1.now)) result (repeated byte_at PLAYER_LIMIT bytes.now) }
+{
+    let mut owners = [0; PLAYER_LIMIT];
+    let mut rest = bytes;
+    for player in 0..PLAYER_LIMIT {
+        let (owner, after) = byte_of(rest)?;
+        owners[player] = owner;
+        rest = after;
+    }
+    Ok((owners, rest))
+}
+
+#[tactic(auto, unfolding(crate::specs::Reading::hello_at))]
+fn hello_of(bytes: &[u8]) -> Result<(Hello, &[u8]), WireFault>
+    ensures { Gives (λ x. (x.0, x.1.now)) result (hello_at bytes.now) }
+{
+    let (heard, rest) = flag_of(bytes)?;
+    let (machines, rest) = byte_of(rest)?;
+    let (owners, rest) = owners_of(rest)?;
+    let (settings, rest) = u64_at(rest)?;
+    let hello = Hello {
+        heard,
+        machines,
+        owners,
+        settings,
+    };
+    Ok((hello, rest))
+}
+
+#[tactic(auto, unfolding(crate::specs::Reading::view_at))]
+fn view_of(bytes: &[u8]) -> Result<(View, &[u8]), WireFault>
+    ensures { Gives (λ x. (x.0, x.1.now)) result (view_at bytes.now) }
+{
+    let (gone, rest) = gone_of(bytes)?;
+    let (has, rest) = has_of(rest)?;
+    Ok((View { gone, has }, rest))
+}
+
+#[tactic(auto, unfolding(crate::specs::Reading::head_at))]
+fn head_of(bytes: &[u8]) -> Result<(Head, &[u8]), WireFault>
+    ensures { Gives (λ x. (x.0, x.1.now)) result (head_at bytes.now) }
+{
+    let (clocks, rest) = clocks_of(bytes)?;
+    let (view, rest) = view_of(rest)?;
+    let (settled, rest) = settled_of(rest)?;
+    let (offers, rest) = offers_of(rest)?;
+    let head = Head {
+        clocks,
+        view,
+        settled,
+        offers,
+    };
+    Ok((head, rest))
+}
+
+/// How many words are offered.
+pub(crate) fn count_of(offers: &[Offer; PLAYER_LIMIT]) -> usize
+    ensures { result ≡ count_of offers.now }
+{
+    let mut count = 0;
+    for offer in offers {
+        count += offer.end.saturating_sub(offer.first) as usize;
+    }
+    count
+}
+
+fn words_of(count: usize, bytes: &[u8]) -> Result<(ArrayVec<u32, WORD_LIMIT>, &[u8]), WireFault>
+    requires { count ≤ WORD_LIMIT }
+    ensures { Gives (λ x. (x.0.items, x.1.now)) result (words_at count 0 None bytes.now) }
+{
+    let mut words = ArrayVec::new();
+    let mut rest = bytes;
+    let mut before = 0;
+    let mut run = None;
+    for _ in 0..count {
+        let (left, behind) = run_of(run, rest)?;
+        let (word, next, after) = word_of(before, left, behind)?;
+        words.push(word);
+        before = word;
+        run = next;
+        rest = after;
+    }
+    if !is_over(run) {
+        return Err(WireFault::Run);
+    }
+    Ok((words, rest))
+}
+
+#[tactic(auto, unfolding(crate::specs::Reading::turn_at))]
+fn play_of(bytes: &[u8]) -> Result<(Play, &[u8]), WireFault>
+    ensures { Gives (λ x. (turn x.0, x.1.now)) result (turn_at bytes.now) }
+{
+    let (head, rest) = head_of(bytes)?;
+    let count = count_of(&head.offers);
+    if count > WORD_LIMIT {
+        return Err(WireFault::TooMany);
+    }
+    let (words, rest) = words_of(count, rest)?;
+    Ok((Play { head, words }, rest))
+}
+
+#[tactic(auto, unfolding(crate::specs::Reading::content_at))]
+fn body_of(bytes: &[u8]) -> Result<(Body, &[u8]), WireFault>
+    ensures { Gives (λ x. (content x.0, x.1.now)) result (content_at bytes.now) }
+{
+    match bytes {
+        [] => Err(WireFault::Short),
+        [0, rest @ ..] => {
+            let (hello, rest) = hello_of(rest)?;
+            Ok((Body::Hello(hello), rest))
+        }
+        [1, rest @ ..] => {
+            let (play, rest) = play_of(rest)?;
+            Ok((Body::Play(play), rest))
+        }
+        [2, rest @ ..] => Ok((Body::Bye, rest)),
+        [_, ..] => Err(WireFault::Kind),
+    }
+}
+
+#[tactic(auto, unfolding(crate::specs::Reading::all_of))]
+fn all(bytes: &[u8]) -> Result<Datagram, WireFault>
+    ensures { Gives message result (all_of bytes.now) }
+{
+    let (_magic, rest) = magic_of(bytes)?;
+    let (envelope, rest) = envelope_of(rest)?;
+    let (body, rest) = body_of(rest)?;
+    if !rest.is_empty() {
+        return Err(WireFault::Trailing);
+    }
+    Ok(Datagram { envelope, body })
+}
+
+/// The datagram that the bytes spell, all of them.
+///
+/// # Errors
+///
+/// The first fault from left to right, if they spell none.
+pub fn decode(bytes: &[u8]) -> Result<Datagram, WireFault>
+    // What is read is spelled so.
+    ensures found { IfOk result (λ d. Fits (message d) × (bytes.now ≡ spelling (message d))) }
+    // What is spelled so is read.
+    ensures only { (m : Message) → Fits m → bytes.now ≡ spelling m → Gives message result (Ok m) }
+    // Which fault it is.
+    ensures exact { Gives message result (all_of bytes.now) }
+{
+    all(bytes)
+}
