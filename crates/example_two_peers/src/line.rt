@@ -1,77 +1,80 @@
-//! The way from one peer to the other: it stands for the network.
+//! The way from one side to the other: it stands for the network.
 use arrayvec::ArrayVec;
+use fazgrond::DATAGRAM_LIMIT;
 use std::alloc::{AllocError, Global};
 use std::collections::VecDeque;
 
-/// The most words of a packet.
-pub const PACKET_WORDS: usize = 32;
-
-/// What a peer tells the other in each turn.
-#[derive(Drop)]
-pub struct Packet {
-    /// The sender's frame, and how many frames it is behind the other.
-    pub frame: u32,
-    pub behind: i32,
-    /// How many of the other's words the sender has.
-    pub has: u32,
-    /// The sender's words that the other hasn't said that it has, and the frame of the first.
-    pub first: u32,
-    pub words: ArrayVec<u32, PACKET_WORDS>,
-}
+/// A datagram.
+pub type Bytes = ArrayVec<u8, DATAGRAM_LIMIT>;
 
 #[derive(Drop)]
 struct UnderWay {
     arrives: u32,
-    packet: Packet,
+    bytes: Bytes,
 }
 
-/// Packets come 1 to 6 turns late, in their order, and about one in five is lost. Now and then one comes that no peer sent.
+/// Datagrams come 1 to 6 turns late, so one may overtake another, and about one in five is lost. Now and then one comes that
+/// nobody sent.
 #[derive(Drop)]
 pub struct Line {
-    packets: VecDeque<UnderWay>,
+    under_way: VecDeque<UnderWay>,
 }
 
 impl Line {
+    /// Nothing is under way.
     pub fn new(alloc: Global) -> Line {
         Line {
-            packets: VecDeque::new(alloc),
+            under_way: VecDeque::new(alloc),
         }
     }
 
-    /// Sends a packet, which may be lost.
-    pub fn send(&mut self, now: u32, packet: Packet) -> Result<(), AllocError> {
-        let drawn = now.wrapping_mul(2_654_435_761) >> 16;
+    /// Sends a datagram, which may be lost.
+    pub fn send(&mut self, turn: u32, bytes: Bytes) -> Result<(), AllocError> {
+        let drawn = turn.wrapping_mul(2_654_435_761) >> 16;
         if drawn % 5 == 0 {
             return Ok(());
         }
-        let arrives = now.saturating_add(1 + drawn % 6);
+        let arrives = turn.saturating_add(1 + drawn % 6);
         if drawn % 7 == 0 {
-            let packet = strange(drawn);
-            self.packets.push_back(UnderWay { arrives, packet })?;
+            let bytes = strange(drawn, &bytes)?;
+            self.under_way.push_back(UnderWay { arrives, bytes })?;
         }
-        self.packets.push_back(UnderWay { arrives, packet })?;
+        self.under_way.push_back(UnderWay { arrives, bytes })?;
         Ok(())
     }
 
-    /// The next packet, if it has come.
-    pub fn receive(&mut self, now: u32) -> Option<Packet> {
-        if self.packets.front()?.arrives > now {
-            return None;
+    /// A datagram that has come, if there is one.
+    pub fn receive(&mut self, turn: u32) -> Option<Bytes> {
+        let place = self.come(turn)?;
+        let come = self.under_way.remove(place)?;
+        Some(come.bytes)
+    }
+
+    /// The place of the first one that has come.
+    fn come(&self, turn: u32) -> Option<usize> {
+        for place in 0..self.under_way.len() {
+            if self.under_way.get(place)?.arrives <= turn {
+                return Some(place);
+            }
         }
-        let next = self.packets.pop_front()?;
-        Some(next.packet)
+        None
     }
 }
 
-/// A packet that no peer sent: it thanks for more words than there are, or brings a word of a frame far ahead.
-fn strange(drawn: u32) -> Packet {
-    let mut words = ArrayVec::new();
-    let _ = words.try_push(drawn);
-    Packet {
-        frame: 500,
-        behind: 0,
-        has: if drawn % 2 == 0 { 4_000_000_000 } else { 0 },
-        first: 500,
-        words,
+/// A datagram that nobody sent: one of which a bit was changed, or as many bytes of no meaning.
+fn strange(drawn: u32, sent: &Bytes) -> Result<Bytes, AllocError> {
+    let mut bytes = sent.clone()?;
+    if drawn % 2 == 0 {
+        let place = drawn as usize % bytes.len().max(1);
+        if let Some(byte) = bytes.get_mut(place) {
+            *byte ^= 1;
+        }
+        return Ok(bytes);
     }
+    let mut number = drawn;
+    for byte in &mut bytes {
+        number = number.wrapping_mul(1_664_525).wrapping_add(1_013_904_223);
+        *byte = (number >> 24) as u8;
+    }
+    Ok(bytes)
 }

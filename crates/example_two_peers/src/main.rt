@@ -1,4 +1,4 @@
-//! A match of two peers in one process: each has a session of its own, and hears of the other late or not at all.
+//! A match of two machines in one process: each hears of the other late or not at all.
 #![tactic(auto)]
 
 mod line;
@@ -7,14 +7,17 @@ mod peer;
 use fazgrond::{Refusal, Session};
 use game_fighter::{Fight, Fighter};
 use line::Line;
-use peer::{LAST_FRAME, Peer, open};
+use peer::{Fault, LAST_FRAME, Side, open};
 use std::alloc::{AllocGlobal, Global};
 use std::io;
 use std::process::ExitCode;
 use std::rt::Runtime;
 
-/// How many turns later than the first peer the second one starts, in the second match.
+/// How many turns later than the first side the second one starts, in the second match.
 const LATE: u32 = 8;
+
+/// After how many turns a match is broken off.
+const MOST_TURNS: u32 = 3 * LAST_FRAME;
 
 fn main(rt: HostRuntime) -> ExitCode {
     match (run(&rt, 0), run(&rt, LATE)) {
@@ -23,10 +26,10 @@ fn main(rt: HostRuntime) -> ExitCode {
     }
 }
 
-/// Plays a match whose second peer starts so many turns late, prints how it went, and says whether the peers agree in the end.
+/// Plays a match whose second side starts so many turns late, prints how it went, and says whether the sides agree in the end.
 fn run<R: Runtime + AllocGlobal>(rt: &R, late: u32) -> io::Result<bool> {
     let (first, second) = match play(rt.alloc(), late) {
-        Ok(peers) => peers,
+        Ok(sides) => sides,
         Err(why) => {
             println!(rt; "{why}")?;
             return Ok(false);
@@ -36,11 +39,10 @@ fn run<R: Runtime + AllocGlobal>(rt: &R, late: u32) -> io::Result<bool> {
         "{late} turns late: waited {} and {}",
         first.waited, second.waited
     )?;
-    for peer in [&first, &second] {
-        print(rt, &peer.session)?;
-    }
-    let agree = agree(&first.session, &second.session);
-    Ok(agree && is_replayed(rt.alloc(), &first.session) == Ok(true))
+    let (first, second) = (first.peer.session(), second.peer.session());
+    print(rt, first)?;
+    print(rt, second)?;
+    Ok(agree(first, second) && is_replayed(rt.alloc(), first) == Ok(true))
 }
 
 /// Prints what is settled in a session.
@@ -71,16 +73,19 @@ fn is_replayed(alloc: Global, session: &Session<Fight>) -> Result<bool, Refusal>
     Ok(whole && again.settled_state() == session.settled_state())
 }
 
-/// Both peers after the match: after its last frame they go on telling each other what is missing.
-fn play(alloc: Global, late: u32) -> Result<(Peer, Peer), Refusal> {
-    let mut first = Peer::new(alloc, 1, 2, 2)?;
-    let mut second = Peer::new(alloc, 2, 1, 1)?;
+/// Both sides after the match: after its last frame they go on until each has all, and knows that the other has.
+fn play(alloc: Global, late: u32) -> Result<(Side, Side), Fault> {
+    let mut first = Side::new(alloc, 0, 2)?;
+    let mut second = Side::new(alloc, 1, 1)?;
     let mut to_first = Line::new(alloc);
     let mut to_second = Line::new(alloc);
-    for now in 0..3 * LAST_FRAME {
-        first.turn(now, &mut to_first, &mut to_second)?;
-        if now >= late {
-            second.turn(now, &mut to_second, &mut to_first)?;
+    for turn in 0..MOST_TURNS {
+        if first.is_done() && second.is_done() {
+            break;
+        }
+        first.turn(turn, &mut to_first, &mut to_second)?;
+        if turn >= late {
+            second.turn(turn, &mut to_second, &mut to_first)?;
         }
     }
     Ok((first, second))

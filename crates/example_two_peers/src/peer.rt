@@ -1,130 +1,135 @@
 //! One side of a match.
-use crate::line::{Line, PACKET_WORDS, Packet};
-use arrayvec::ArrayVec;
-use fazgrond::{Advice, Heard, Refusal, Session, Settings};
-use game_fighter::Fight;
+ghost use Rattle.std.specs.Prelude.{◌≤◌};
+
+use crate::line::{Bytes, Line};
+use fazgrond::{
+    MatchSettings, OpenRefusal, Peer, PeerEvent, PeerRefusal, Refusal, Session, Settings,
+};
+use game_fighter::{Fight, State};
 use std::alloc::Global;
+use thiserror::Error;
 
 /// The last frame of the match.
 pub const LAST_FRAME: u32 = 300;
 
-/// The most packets that a peer takes in a turn.
-const MOST_PACKETS: u32 = 100;
+/// How many milliseconds a turn takes, about.
+const TURN: u32 = 16;
 
-/// In how many frames a peer asks once for advice to wait.
-const ADVISED_EVERY: u32 = 40;
+/// The most datagrams that a side hears in a turn, and the most events.
+const MOST: u32 = 100;
 
-/// A peer, whose own player is local in its session and the other's remote.
+/// How many times a side says that it leaves, since what it says may be lost.
+const BYES: u32 = 8;
+
+/// Why a match ends early.
+#[derive(Clone, Copy, Debug, Error)]
+pub enum Fault {
+    /// It can't be opened.
+    #[error("{0}")]
+    Open(#[from] OpenRefusal),
+    /// The session refuses a call.
+    #[error("{0}")]
+    Session(#[from] Refusal),
+    /// The other side has another state of a settled frame.
+    #[error("the sides don't play the same game")]
+    Desync,
+}
+
+/// One side: a peer, and its player.
 #[derive(Drop)]
-pub struct Peer {
-    pub session: Session<Fight>,
-    me: u8,
+pub struct Side {
+    pub peer: Peer<Fight>,
+    player: u8,
+    // The other machine.
     other: u8,
-    // How many of this side's words the other said that it has.
-    acknowledged: u32,
-    advice: Advice,
-    // How many frames this side is behind the other, as far as it knows.
-    behind: i32,
-    // The frame from which on it asks for advice again.
-    ask_from: u32,
     // How many turns more this side waits for the other.
     wait: u32,
     /// How many turns this side waited, since it was ahead.
     pub waited: u32,
+    // How many times more it says that it leaves.
+    byes: u32,
 }
 
-impl Peer {
-    /// A peer at frame 0, whose player's words count so many frames after they are given.
-    pub fn new(alloc: Global, me: u8, other: u8, delay: u32) -> Result<Peer, Refusal> {
-        let settings = Settings::new(2, &[me])?.with_delay(me, delay)?;
-        Ok(Peer {
-            session: open(alloc, settings)?,
-            me,
-            other,
-            acknowledged: 0,
-            advice: Advice::new(alloc)?,
-            behind: 0,
-            ask_from: ADVISED_EVERY,
-            wait: 0,
-            waited: 0,
-        })
+impl Side {
+    /// Machine 0 or 1 at frame 0. Its player's words count so many frames after they are given.
+    pub fn new(alloc: Global, me: u8, delay: u32) -> Result<Side, Fault>
+        requires { me ≤ 1 }
+    {
+        let player = me + 1;
+        let session = open(alloc, settings(player, delay)?)?;
+        match Peer::open(alloc, session, the_match(me)) {
+            Ok(peer) => Ok(Side {
+                peer,
+                player,
+                other: 1 - me,
+                wait: 0,
+                waited: 0,
+                byes: BYES,
+            }),
+            Err(fault) => Err(fault.why.into()),
+        }
     }
 
     /// A turn of the main loop: hears what has come, plays a frame if it may, and tells the other.
-    pub fn turn(&mut self, now: u32, inbox: &mut Line, outbox: &mut Line) -> Result<(), Refusal> {
-        for _ in 0..MOST_PACKETS {
-            let Some(packet) = inbox.receive(now) else {
-                break;
+    pub fn turn(&mut self, turn: u32, inbox: &mut Line, outbox: &mut Line) -> Result<(), Fault> {
+        let now = turn.wrapping_mul(TURN);
+        self.hear(turn, now, inbox);
+        self.note_events()?;
+        self.press()?;
+        self.peer.turn(now)?;
+        let digest = digest(self.peer.session().settled_state());
+        self.peer.note_settled(digest);
+        if let Some(bytes) = self.tell(now) {
+            outbox.send(turn, bytes).map_err(Refusal::from)?;
+        }
+        Ok(())
+    }
+
+    /// Hears what has come.
+    fn hear(&mut self, turn: u32, now: u32, inbox: &mut Line) {
+        for _ in 0..MOST {
+            let Some(bytes) = inbox.receive(turn) else {
+                return;
             };
-            self.hear(&packet)?;
+            // What is ignored changed nothing.
+            let _ = self.peer.receive(&bytes, now);
         }
-        self.play()?;
-        outbox.send(now, self.packet())?;
-        Ok(())
     }
 
-    /// Takes the other's words, and rolls back where a prediction was wrong.
-    fn hear(&mut self, packet: &Packet) -> Result<(), Refusal> {
-        if !self.is_from_other(packet) {
-            return Ok(());
-        }
-        self.acknowledged = self.acknowledged.max(packet.has);
-        self.behind = behind(self.session.frame(), packet.frame);
-        self.advice.note(self.behind, packet.behind);
-        if self.take(packet)? {
-            self.session.synchronize_input()?;
-        }
-        Ok(())
-    }
-
-    /// Whether the other can have sent this. They have no words that weren't given here, and begin with none past those that
-    /// this side told them that it has.
-    fn is_from_other(&self, packet: &Packet) -> bool {
-        packet.has <= self.session.confirmed(self.me).unwrap_or(0)
-            && packet.first <= self.session.confirmed(self.other).unwrap_or(0)
-    }
-
-    /// Takes the other's words up to the first that the session refuses, and says whether one is new.
-    fn take(&mut self, packet: &Packet) -> Result<bool, Refusal> {
-        let mut news = false;
-        let mut frame = packet.first;
-        for word in packet.words.iter() {
-            match self.session.remote_input(self.other, frame, *word) {
-                Ok(heard) => news |= heard == Heard::Taken,
-                Err(why @ (Refusal::NoMemory | Refusal::LogFull)) => return Err(why),
-                // A word that is refused ends no match: the other repeats what this side doesn't have.
-                Err(_) => break,
+    /// Takes what the peer has to say. A game would also show who is there, and who has left.
+    fn note_events(&mut self) -> Result<(), Fault> {
+        for _ in 0..MOST {
+            match self.peer.next_event() {
+                Some(PeerEvent::TimeSync { frames_ahead }) => self.wait = frames_ahead,
+                Some(PeerEvent::Desync { .. }) => return Err(Fault::Desync),
+                Some(_) => {}
+                None => break,
             }
-            frame = frame.saturating_add(1);
         }
-        Ok(news)
+        Ok(())
     }
 
-    /// Plays the next frame, unless this side has to wait.
-    fn play(&mut self) -> Result<(), Refusal> {
-        let frame = self.session.frame();
+    /// Gives the word of the buttons, unless this side has to wait.
+    fn press(&mut self) -> Result<(), Refusal> {
+        let frame = self.peer.session().frame();
         if frame == LAST_FRAME || self.is_to_wait() {
             return Ok(());
         }
         match self
-            .session
-            .add_local_input(self.me, buttons(self.me, frame))
+            .peer
+            .add_local_input(self.player, buttons(self.player, frame))
         {
-            Ok(()) => {}
+            Ok(()) => Ok(()),
+            // The match hasn't begun.
+            Err(PeerRefusal::NotSynchronized) => Ok(()),
             // Too far ahead of what is confirmed.
-            Err(Refusal::PredictionThreshold) => return Ok(()),
-            Err(why) => return Err(why),
+            Err(PeerRefusal::Session(Refusal::PredictionThreshold)) => Ok(()),
+            Err(PeerRefusal::Session(why)) => Err(why),
         }
-        self.session.advance_frame()?;
-        Ok(())
     }
 
-    /// Whether the other is to catch up first. It asks once in so many frames, since the advice is the same until more is heard.
+    /// Whether the other is to catch up first.
     fn is_to_wait(&mut self) -> bool {
-        if self.session.frame() >= self.ask_from {
-            self.ask_from = self.session.frame().saturating_add(ADVISED_EVERY);
-            self.wait = self.advice.frames_ahead();
-        }
         if self.wait == 0 {
             return false;
         }
@@ -133,30 +138,38 @@ impl Peer {
         true
     }
 
-    /// What the other hasn't said that it has.
-    fn packet(&self) -> Packet {
-        let mut words = ArrayVec::new();
-        let mut frame = self.acknowledged;
-        for _ in 0..PACKET_WORDS {
-            let Some(word) = self.session.confirmed_word(self.me, frame) else {
-                break;
-            };
-            let _ = words.try_push(word);
-            frame = frame.saturating_add(1);
+    /// What to tell the other; at the end, that this side leaves.
+    fn tell(&mut self, now: u32) -> Option<Bytes> {
+        if !self.is_over() {
+            return self.peer.send(self.other, now);
         }
-        Packet {
-            frame: self.session.frame(),
-            behind: self.behind,
-            has: self.session.confirmed(self.other).unwrap_or(0),
-            first: self.acknowledged,
-            words,
+        if self.byes == 0 {
+            return None;
         }
+        self.byes -= 1;
+        Some(self.peer.bye())
+    }
+
+    /// Whether the last frame is settled here, and nothing is left to tell: the other said that it has all words of this side.
+    fn is_over(&self) -> bool {
+        self.is_settled() && self.peer.member().tell(self.other).words.is_empty()
+    }
+
+    /// Whether the last frame is settled here.
+    fn is_settled(&self) -> bool {
+        self.peer.session().settled() == LAST_FRAME
+    }
+
+    /// Whether this side has no more to do: it said that it leaves, or heard it of the other.
+    pub fn is_done(&self) -> bool {
+        self.is_settled() && (self.byes == 0 || self.peer.member().mesh().is_gone(self.other))
     }
 }
 
-/// How many frames a side is behind the other; below 0 where it is ahead.
-fn behind(own: u32, other: u32) -> i32 {
-    other.min(LAST_FRAME) as i32 - own.min(LAST_FRAME) as i32
+/// The settings of a session with one local player.
+fn settings(player: u8, delay: u32) -> Result<Settings, Refusal> {
+    let settings = Settings::new(2, &[player])?.with_delay(player, delay)?;
+    Ok(settings)
 }
 
 /// A session of the game.
@@ -165,6 +178,32 @@ pub fn open(alloc: Global, settings: Settings) -> Result<Session<Fight>, Refusal
         Ok(session) => Ok(session),
         Err(fault) => Err(fault.why),
     }
+}
+
+/// The match, as machine 0 or 1 plays it: each has one player.
+fn the_match(me: u8) -> MatchSettings {
+    MatchSettings {
+        me,
+        machines: 2,
+        owners: [0, 1, 255, 255, 255, 255, 255, 255],
+        // Whoever arranges a match draws it.
+        match_number: 0x1122_3344_5566_7788,
+        digest: digest(&Fight::opening()),
+        silent_after: 5_000,
+        notify_after: 750,
+    }
+}
+
+/// A digest of a state, by FNV-1a.
+fn digest(state: &State) -> u64 {
+    let State { one, two } = *state;
+    let places = [one.place, two.place].map(u64::from);
+    let others = [one.health, one.cool, two.health, two.cool].map(u64::from);
+    let mut digest: u64 = 0xcbf2_9ce4_8422_2325;
+    for number in places.iter().chain(&others) {
+        digest = (digest ^ *number).wrapping_mul(0x0100_0000_01b3);
+    }
+    digest
 }
 
 /// What a player presses in a frame: it stands for a controller.

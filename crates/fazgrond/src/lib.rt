@@ -6,6 +6,8 @@
 //! - **A game** says what its states are and what a row of inputs makes of them: [`game::RawGame`] and [`game::Game`]; with
 //!   [`game::Shown`] its states have a text. [`SyncTest`] finds out whether it comes out the same each time.
 //! - **A session** plays it on one thread: [`Settings`] and [`Session`]. A call that is not taken answers a [`Refusal`].
+//! - **Over a network**: a [`Peer`] is a session in a match of several machines ([`MatchSettings`]). It makes and hears datagrams,
+//!   and says what happened ([`PeerEvent`]).
 //! - **Beside other threads**: [`Host`] has a session, [`Link`]s that bring remote words from the network's thread, and the
 //!   workers of a [`Crew`], which run guesses ahead.
 //! - **Spectators** get the settled rows from a [`Feed`], and run them on any thread: [`Spectator`].
@@ -13,12 +15,11 @@
 //!
 //! A peer's main loop, in each turn:
 //!
-//! 1. For each packet that has come: [`Session::remote_input`] for each of its words, [`Advice::note`] for its lead, and then
-//!    one [`Session::synchronize_input`], which rolls back if a prediction was wrong.
-//! 2. [`Session::add_local_input`] with the word of the buttons. If it answers [`Refusal::PredictionThreshold`], the peer is too
+//! 1. [`Peer::receive`] for each datagram that has come, and [`Peer::next_event`] until there is none.
+//! 2. [`Peer::add_local_input`] with the word of the buttons. If it answers [`Refusal::PredictionThreshold`], the peer is too
 //!    far ahead, and waits.
-//! 3. [`Session::advance_frame`], and then [`Session::current`] is the state to show.
-//! 4. A packet for the other peer, with the words that it doesn't have yet.
+//! 3. [`Peer::turn`], which rolls back if a prediction was wrong. Then [`Session::current`] is the state to show.
+//! 4. [`Peer::send`] for each other machine.
 //!
 //! The program `example_two_peers` is this loop, and `example_on_threads` the one with a host; both use this crate alone.
 #![tactic(auto)]
@@ -32,6 +33,11 @@ pub use roll_frame::{
 pub use roll_game as game;
 pub use roll_host::{Absorbed, Host, HostReply, HostRequest, LINK_LIMIT, Pumped, TURN_LIMIT};
 pub use roll_link::{Finished, LINK_ROOM, Link, LinkSender, Remote, SendFault};
+pub use roll_member::{JoinRefusal, Taken};
+pub use roll_peer::{
+    Field, Ignored, MatchSettings, OpenFault, OpenRefusal, Peer, PeerEvent, PeerRefusal, Received,
+    Stage, Stats,
+};
 pub use roll_pool::{
     Crew, Gate, IssueFault, JOBS_OUT, OpenGate, Outcome, Owner, WORKER_LIMIT, WorkerEnd, start_all,
 };
@@ -42,3 +48,4 @@ pub use roll_session::{
 pub use roll_spectate::{Feed, RING_ROWS, RowReceiver, SPECTATOR_LIMIT, Spectator, SpectatorFault};
 pub use roll_synctest::{SyncTest, Verdict};
 pub use roll_text as text;
+pub use roll_wire::DATAGRAM_LIMIT;

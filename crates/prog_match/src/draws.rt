@@ -32,9 +32,14 @@ impl Model for Draws {
 
 impl Draws {
     /// The generator of a stream: PCG32 from this seed.
-    pub fn new(seed: u64, stream: Stream) -> Draws {
+    pub(crate) fn new(seed: u64, stream: Stream) -> Draws {
+        Draws::numbered(seed, stream as u64)
+    }
+
+    /// The generator of the stream with a number, from this seed. A match of two peers draws from 1 to 4.
+    pub fn numbered(seed: u64, stream: u64) -> Draws {
         Draws {
-            generator: Pcg32::new(seed, stream as u64),
+            generator: Pcg32::new(seed, stream),
         }
     }
 

@@ -17,7 +17,12 @@ mod turn;
 mod way;
 mod words;
 
+pub use agreement::{agreed, agrees};
+pub use draws::Draws;
 pub use options::{Guesses, MatchOptions};
-pub use program::{play, run};
-pub use table::Report;
+pub use playing::Engines;
+pub use policy::word_at;
+pub use program::{duel, play, push_refused, run, tally};
+pub use table::{Report, game_name};
 pub use totals::Totals;
+pub use words::drawn;

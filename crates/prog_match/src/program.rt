@@ -83,7 +83,8 @@ fn tell(alloc: Global, options: &MatchOptions, out: &mut String) -> Result<bool,
     }
 }
 
-fn push_refused(out: &mut String, why: Refusal) -> Result<(), AllocError>
+/// The line that tells a refusal.
+pub fn push_refused(out: &mut String, why: Refusal) -> Result<(), AllocError>
     ensures { OnOk result (string_bytes out.new ≡ string_bytes out.old ++ refused_line why) }
 {
     let code = why.code().unsigned_abs();
@@ -102,11 +103,12 @@ pub fn play(alloc: Global, options: &MatchOptions) -> Result<Report, Refusal>
 {
     match options.game {
         GameName::Tally => play_out(alloc, options, tally(), tally()),
-        GameName::Duel => play_out(alloc, options, duel(alloc)?, duel(alloc)?),
+        GameName::Duel => play_out(alloc, options, duel(alloc, 2)?, duel(alloc, 2)?),
     }
 }
 
-fn tally() -> Engines<Tally>
+/// Two engines of a tally, and its opening.
+pub fn tally() -> Engines<Tally>
     ensures { result.opening ≡ 0 }
 {
     Engines {
@@ -116,15 +118,16 @@ fn tally() -> Engines<Tally>
     }
 }
 
-fn duel(alloc: Global) -> Result<Engines<Duel>, Refusal>
-    ensures { IfOk result (λ engines. field_in engines.opening ≡ opening_of 2) }
+/// Two engines of a duel of so many ships, and its opening.
+pub fn duel(alloc: Global, ships: u8) -> Result<Engines<Duel>, Refusal>
+    ensures { IfOk result (λ engines. field_in engines.opening ≡ opening_of ships) }
 {
-    let game = Duel::new(alloc, 2)?;
+    let game = Duel::new(alloc, ships)?;
     let opening = game.opening()?;
     Ok(Engines {
         game,
         opening,
-        helper: Duel::new(alloc, 2)?,
+        helper: Duel::new(alloc, ships)?,
     })
 }
 

@@ -50,7 +50,8 @@ fn guesses_name(guesses: Guesses) -> &'static str {
     }
 }
 
-fn game_name(game: GameName) -> &'static str {
+/// A game's name on the command line.
+pub fn game_name(game: GameName) -> &'static str {
     match game {
         GameName::Tally => "tally",
         GameName::Duel => "duel",

@@ -415,7 +415,7 @@ steps_keep match world (step ∷ steps) inv = steps_keep match (after match worl
     (step_keeps match world step inv)
 
 -- a list of one value, read anywhere
-replicated : {X : Type 0} (n k : ℕ) (x : X) → get_or (replicate n x) k x ≡ x
+pub replicated : {X : Type 0} (n k : ℕ) (x : X) → get_or (replicate n x) k x ≡ x
 replicated n k x = go (cases_lt k n)
   where
     go : (k < n) ⊎ (n ≤ k) → get_or (replicate n x) k x ≡ x

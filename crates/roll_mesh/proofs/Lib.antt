@@ -1,5 +1,6 @@
 pub mod Places
 pub mod Changes
+pub mod Trimmed
 pub mod Moves
 pub mod Invariant
 pub mod Agreement
@@ -11,3 +12,8 @@ pub mod Turns
 pub mod Rounds
 pub mod Leaving
 pub mod Told
+pub mod Slices
+pub mod Holders
+pub mod Handed
+pub mod WordSteps
+pub mod Beginnings

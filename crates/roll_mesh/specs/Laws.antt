@@ -56,14 +56,16 @@ pub record IsBelieved (match : Match) (world later : World) (i p : ℕ) (packet 
   pub of_owner : (packet.sender ≡ owner_in match p)
       ⊎ (is_gone world packet.sender (owner_in match p) ≡ true)
 
--- machine i has more words of player p only by giving one of its own, or by hearing such a packet
+-- machine i has more words of player p only by giving one of its own, or by hearing such a packet,
+-- and then no more than it trimmed the packet to
 abbrev pub NobodyIsBelievedBeyond : Type 0
 NobodyIsBelievedBeyond =
     (match : Match) (steps : List Step) (step : Step) (i p : ℕ)
     → has_at (played match steps) i p < has_at (after match (played match steps) step) i p
     → ((step ≡ Give i p) × (owner_in match p ≡ i))
-    ⊎ ((k : ℕ) × (packet : Packet) × (step ≡ Hear i k)
+    ⊎ ((k : ℕ) × (most : List ℕ) × (packet : Packet) × (step ≡ Hear i k most)
     × (slice_get (played match steps).sent k ≡ Some packet)
+    × (has_at (after match (played match steps) step) i p ≤ slice_index most p)
     × IsBelieved match (played match steps) (after match (played match steps) step) i p packet)
 
 abbrev pub OwnersHaveMost : Type 0
@@ -84,7 +86,7 @@ abbrev pub Talks : (ℕ → Bool) → Step → Type 0
 Talks stay (Give i p) = ⊥
 Talks stay (Leave i m) = ⊥
 Talks stay (Tell i m room) = stay i ≡ true
-Talks stay (Hear i k) = stay i ≡ true
+Talks stay (Hear i k most) = stay i ≡ true
 Talks stay (Left i) = stay i ≡ true
 
 -- machines that stay: none of them regards another as gone, and each other machine is regarded as

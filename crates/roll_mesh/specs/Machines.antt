@@ -94,6 +94,17 @@ is_believed seat gone packet p =
 abbrev pub offer_at : Packet → ℕ → Offer
 offer_at packet p = slice_index_or packet.offers p none_offered
 
+-- of an offer, the words before a frame
+abbrev pub trimmed_offer : ℕ → Offer → Offer
+trimmed_offer most offer = record offer { end = min offer.end most }
+
+-- a packet with each player's words before a frame alone: what is heard by a machine that has no
+-- room for more
+unfoldable pub trimmed : List ℕ → Packet → Packet
+trimmed most packet = record packet {
+  offers = at_places (λ p. trimmed_offer (slice_index most p) (offer_at packet p)) packet.offers;
+}
+
 -- how many words of player p there are after a packet: the next ones alone are taken, and none of
 -- who has left
 unfoldable pub has_after : Seat → List Bool → Machine → Packet → ℕ → ℕ

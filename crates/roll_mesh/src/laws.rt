@@ -1,6 +1,7 @@
 //! Laws of a match, over any steps of any number of machines, and any network that delivers only what was sent, as
 //! often and as late as it likes. Each is the contract of a function that makes no call.
 ghost use Rattle.roll_mesh.specs.Laws.{GoneStaysGone, NobodyIsBelievedBeyond, OwnersHaveMost, TheyAgree, TheyGetOn, WhoStaysHasAsMany};
+ghost use Rattle.roll_mesh.specs.Words.{BeginsTheOwners, CountsAreLengths, CountsArePlayed, OwnersHaveWhatTheyGave, TheyHaveWhatWasGiven};
 
 /// If a player has left one machine, each machine that this one doesn't regard as gone has just as many words of that
 /// player, then and ever after.
@@ -14,7 +15,7 @@ pub fn they_agree()
 {}
 
 /// A machine comes to have more words of a player only by giving one of its own, or by hearing a packet of the player's
-/// owner, or of a machine that regards the owner as gone.
+/// owner, or of a machine that regards the owner as gone: then no more than it trimmed the packet to.
 pub fn nobody_is_believed_beyond()
     ensures { NobodyIsBelievedBeyond }
 {}
@@ -33,4 +34,22 @@ pub fn gone_stays_gone()
 /// they can come to where each player of a machine that doesn't stay has left each of them. Of at most 8 machines.
 pub fn they_get_on()
     ensures { TheyGetOn }
+{}
+
+/// Each machine has, of each player's words, a beginning of what the player's owner has and of what it gave: the same
+/// words in the same order.
+pub fn they_have_what_was_given()
+    ensures owners { BeginsTheOwners }
+    ensures given { TheyHaveWhatWasGiven }
+{}
+
+/// The owner of a player has of it the words that it gave, in order.
+pub fn owners_have_what_they_gave()
+    ensures { OwnersHaveWhatTheyGave }
+{}
+
+/// With the words a match goes on as it does by counts alone, and each machine has as many words as it counts.
+pub fn counts_are_of_words()
+    ensures played { CountsArePlayed }
+    ensures lengths { CountsAreLengths }
 {}

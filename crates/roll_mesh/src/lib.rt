@@ -17,7 +17,8 @@ mod tests;
 
 pub use heard::Heard;
 pub use laws::{
-    gone_stays_gone, nobody_is_believed_beyond, owners_have_most, they_agree, they_get_on,
+    counts_are_of_words, gone_stays_gone, nobody_is_believed_beyond, owners_have_most,
+    owners_have_what_they_gave, they_agree, they_get_on, they_have_what_was_given,
     who_stays_has_as_many,
 };
 pub use limits::{MACHINE_LIMIT, PLAYER_LIMIT};

@@ -213,6 +213,15 @@ impl Machine {
         has
     }
 
+    /// How many words of each player there are once it has heard a packet.
+    #[tactic(auto, unfolding(crate::specs::Machines::taken))]
+    pub(crate) fn counts_taken(&self, seat: &Seat, packet: &Packet) -> [u32; PLAYER_LIMIT]
+        ensures { result ≡ (taken seat.now packet.now self.now).has }
+    {
+        let gone = self.gone_after(seat, packet);
+        self.counts_after(seat, &gone, packet)
+    }
+
     /// Hears a packet of a machine that it listens to.
     #[tactic(auto, unfolding(crate::specs::Machines::taken))]
     pub(crate) fn take(&mut self, seat: &Seat, packet: &Packet)

@@ -1,6 +1,6 @@
 //! What one machine knows of the others.
 ghost use Rattle.std.specs.Prelude.{◌≡◌, ◌<◌, Some, None, true, false, OnOk, OnErr, IfOk, IfErr};
-ghost use Rattle.roll_mesh.specs.Machines.{give, hear, is_in, leave, left, left_at, may_leave, tell};
+ghost use Rattle.roll_mesh.specs.Machines.{give, hear, is_in, leave, left, left_at, may_leave, taken, tell};
 ghost use Rattle.roll_mesh.specs.Meshes.{give_refusal, hear_refusal, heard_as, is_had, is_seat, leave_refusal, stepped};
 ghost use Rattle.roll_mesh.specs.Worlds.{first_machine};
 
@@ -133,17 +133,8 @@ impl Mesh {
         ensures refused { IfErr result (λ why. hear_refusal self.old packet.now ≡ Some why) }
         ensures unchanged { OnErr result (self.new ≡ self.old) }
     {
-        if packet.sender >= self.seat.machines {
-            return Err(MeshRefusal::InvalidMachine);
-        }
-        if packet.sender == self.seat.me {
-            return Err(MeshRefusal::OwnMachine);
-        }
-        if is_in(&self.machine.gone, packet.sender) {
-            return Err(MeshRefusal::MachineGone);
-        }
-        if !packet.is_had() {
-            return Err(MeshRefusal::Overstated);
+        if let Some(why) = self.hear_refusal(packet) {
+            return Err(why);
         }
         let seat = self.seat;
         self.machine.take(&seat, packet);
@@ -152,6 +143,32 @@ impl Mesh {
         } else {
             Heard::Taken
         })
+    }
+
+    /// Why `hear` refuses a packet. None if it doesn't.
+    pub fn hear_refusal(&self, packet: &Packet) -> Option<MeshRefusal>
+        ensures { result ≡ hear_refusal self.now packet.now }
+    {
+        if packet.sender >= self.seat.machines {
+            Some(MeshRefusal::InvalidMachine)
+        } else if packet.sender == self.seat.me {
+            Some(MeshRefusal::OwnMachine)
+        } else if is_in(&self.machine.gone, packet.sender) {
+            Some(MeshRefusal::MachineGone)
+        } else if !packet.is_had() {
+            Some(MeshRefusal::Overstated)
+        } else {
+            None
+        }
+    }
+
+    /// How many words of each player there are once `hear` has taken a packet, player 0 first.
+    pub fn counts_after(&self, packet: &Packet) -> [u32; PLAYER_LIMIT]
+        ensures taken { result ≡ (taken self.now.seat packet.now self.now.machine).has }
+        ensures heard { hear_refusal self.now packet.now ≡ None
+            → result ≡ (hear self.now.seat packet.now self.now.machine).has }
+    {
+        self.machine.counts_taken(&self.seat, packet)
     }
 
     /// Whether the players of the machines that are gone may leave: each other machine that isn't gone has told last
@@ -183,6 +200,13 @@ impl Mesh {
         ensures { result ≡ left_at self.now.machine player }
     {
         self.machine.left_at(player)
+    }
+
+    /// Where this machine sits in the match.
+    pub fn seat(&self) -> &Seat
+        ensures { result.now ≡ self.now.seat }
+    {
+        &self.seat
     }
 
     /// How many words of each player this machine has, player 0 first.

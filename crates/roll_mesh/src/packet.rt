@@ -1,7 +1,7 @@
 //! What machines tell each other.
 ghost use Rattle.std.specs.Prelude.{◌≡◌};
 ghost use Rattle.roll_mesh.specs.Meshes.{is_had};
-ghost use Rattle.roll_mesh.specs.Machines.{covers, keeps, reaches};
+ghost use Rattle.roll_mesh.specs.Machines.{covers, keeps, reaches, trimmed, trimmed_offer};
 
 use crate::limits::{MACHINE_LIMIT, PLAYER_LIMIT};
 
@@ -56,6 +56,18 @@ pub struct Offer {
     pub end: u32,
 }
 
+impl Offer {
+    /// The words before a frame.
+    fn trimmed(self, most: u32) -> Offer
+        ensures { result ≡ trimmed_offer most self }
+    {
+        Offer {
+            first: self.first,
+            end: self.end.min(most),
+        }
+    }
+}
+
 /// A packet as a mesh hears it: with the counts of its words alone. Machines and players are counted from 0.
 #[derive(Clone, Copy, Debug)]
 pub struct Packet {
@@ -78,5 +90,21 @@ impl Packet {
             }
         }
         true
+    }
+
+    /// The packet with each player's words before a frame alone, for a machine that has no room for more: the rest come
+    /// again, since they are told until they are there.
+    pub fn trimmed(&self, most: &[u32; PLAYER_LIMIT]) -> Packet
+        ensures { result ≡ trimmed most.now self.now }
+    {
+        let mut offers = self.offers;
+        for player in 0..PLAYER_LIMIT {
+            offers[player] = self.offers[player].trimmed(most[player]);
+        }
+        Packet {
+            sender: self.sender,
+            view: self.view,
+            offers,
+        }
     }
 }

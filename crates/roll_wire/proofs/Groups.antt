@@ -1,8 +1,9 @@
 -- The groups of fields that a datagram has.
-use Rattle.std.proofs.Common.{◌≡◌, ℕ, ◌<◌, Bool, cond, ltb, List, ◌++◌, length, Result, Ok, Err, refl, sym, ap, subst, ◌∙◌, append_assoc}
-use Rattle.std.specs.Int.{w32, w64}
+use Rattle.std.proofs.Common.{◌≡◌, ℕ, ◌+◌, ◌-◌, ◌^◌, ◌≤◌, Bool, true, false, not, cond, eqb, ltb, List, ◌++◌, length, Option, Result, Ok, Err, refl, sym, ap, subst, ◌∙◌, arith}
+use Rattle.std.specs.Prelude.{IfSome}
+use Rattle.std.specs.Int.{w64}
 use Rattle.std.specs.List.{flat_map, AllByRecursion}
-use Rattle.std.proofs.lemmas.Bool.{ltb-false, le-ltb}
+use Rattle.std.proofs.lemmas.Bool.{eqb-true, lt-ltb, ltb-true}
 use Rattle.roll_mesh.specs.declared.limits.TheConstants.{MACHINE_LIMIT, PLAYER_LIMIT}
 use Rattle.roll_mesh.specs.declared.packet.Offer.{Offer}
 use Rattle.roll_mesh.specs.declared.packet.View.{View}
@@ -12,10 +13,10 @@ use Rattle.roll_wire.specs.declared.datagram.Head.{Head}
 use Rattle.roll_wire.specs.declared.datagram.Hello.{Hello}
 use Rattle.roll_wire.specs.declared.datagram.Settled.{Settled}
 use Rattle.roll_wire.specs.declared.fault.WireFault.{WireFault}
-use Rattle.roll_wire.specs.declared.fault.WireFault.TheVariants.{Backward}
-use Rattle.roll_wire.specs.Spelling.{number, long, byte, flag, envelope, hello, clocks, view, settled, offer, head, IsByte, IsNumber, IsLong, IsOffer, IsEnvelope, IsHello, IsClocks, IsSettled}
-use Rattle.roll_wire.specs.Reading.{◌>>=◌, number_at, byte_at, flag_at, repeated, envelope_at, hello_at, clocks_at, settled_at, offer_at, view_at, head_at}
-use Rattle.roll_wire.proofs.Fields.{IsBytes, IsField, Takes, bind_ok, guard_ok, both_at, both_field, seen_at, seen_field, repeated_field, number_field, long_field, byte_field, flag_field}
+use Rattle.roll_wire.specs.declared.fault.WireFault.TheVariants.{Zero, TooFar}
+use Rattle.roll_wire.specs.Spelling.{long, short, byte, flag, mask, optional, masked, envelope, hello, clocks, view, settled, offer, head, is_counted, is_offered, IsByte, IsNumber, IsLong, IsOffer, IsEnvelope, IsHead, IsHello, IsClocks, IsSettled}
+use Rattle.roll_wire.specs.Reading.{◌>>=◌, number_at, byte_at, flag_at, short_at, mask_at, optional_at, masked_at, repeated, envelope_at, hello_at, clocks_at, settled_at, counted_at, offered, offer_at, no_offer, view_at, head_at}
+use Rattle.roll_wire.proofs.Fields.{IsBytes, IsField, IsMasked, Takes, bind_ok, guard_ok, both_at, both_field, seen_at, seen_field, repeated_field, optional_field, masked_field, long_field, short_field, byte_field, flag_field, mask_field}
 
 bind_assoc : {A B C : Type 0} (r : Result A WireFault) (f : A → Result B WireFault)
     (g : B → Result C WireFault) → ((r >>= f) >>= g) ≡ (r >>= λ x. f x >>= g)
@@ -32,11 +33,11 @@ same_field fits text read other same f = record {
   again = λ x rest h. same (text x ++ rest) ∙ f.again x rest h;
 }
 
-abbrev envelope_parts : List ℕ → Result ((ℕ × (ℕ × ℕ)) × List ℕ) WireFault
-envelope_parts = both_at (number_at w64) (both_at byte_at (number_at w32))
+abbrev envelope_parts : List ℕ → Result ((ℕ × ℕ) × List ℕ) WireFault
+envelope_parts = both_at (number_at w64) byte_at
 
-abbrev envelope_of : ℕ × (ℕ × ℕ) → Envelope
-envelope_of x = record { match_number = x.0; sender = x.1.0; number = x.1.1 }
+abbrev envelope_of : ℕ × ℕ → Envelope
+envelope_of x = record { match_number = x.0; sender = x.1 }
 
 envelope_same : (bytes : List ℕ) → envelope_at bytes ≡ seen_at envelope_of envelope_parts bytes
 unfolding envelope_at
@@ -45,13 +46,9 @@ envelope_same bytes = sym (simp bind_assoc)
 pub envelope_field : IsField IsEnvelope envelope envelope_at
 envelope_field =
     same_field IsEnvelope envelope envelope_at (seen_at envelope_of envelope_parts) envelope_same
-    (seen_field envelope_of (λ e. (e.match_number, (e.sender, e.number)))
-    (λ x. IsLong x.0 × (IsByte x.1.0 × IsNumber x.1.1))
-    (λ x. long x.0 ++ (byte x.1.0 ++ number x.1.1)) envelope_parts (λ x. refl) (λ e. refl)
-    (both_field IsLong long (number_at w64) (λ x. IsByte x.0 × IsNumber x.1)
-    (λ x. byte x.0 ++ number x.1) (both_at byte_at (number_at w32)) long_field
-    (both_field IsByte byte byte_at IsNumber number (number_at w32) byte_field
-    number_field)))
+    (seen_field envelope_of (λ e. (e.match_number, e.sender)) (λ x. IsLong x.0 × IsByte x.1)
+    (λ x. long x.0 ++ byte x.1) envelope_parts (λ x. refl) (λ e. refl)
+    (both_field IsLong long (number_at w64) IsByte byte byte_at long_field byte_field))
 
 -- ---- a hello
 
@@ -99,24 +96,40 @@ abbrev Two : ℕ × ℕ → Type 0
 Two x = IsNumber x.0 × IsNumber x.1
 
 abbrev two : ℕ × ℕ → List ℕ
-two x = number x.0 ++ number x.1
+two x = short x.0 ++ short x.1
 
-two_field : IsField Two two (both_at (number_at w32) (number_at w32))
-two_field = both_field IsNumber number (number_at w32) IsNumber number (number_at w32) number_field
-    number_field
+abbrev two_at : List ℕ → Result ((ℕ × ℕ) × List ℕ) WireFault
+two_at = both_at short_at short_at
 
-abbrev clocks_parts : List ℕ → Result ((ℕ × (ℕ × (ℕ × (ℕ × ℕ)))) × List ℕ) WireFault
-clocks_parts = both_at (number_at w32) (both_at (number_at w32)
-    (both_at (number_at w32) (both_at (number_at w32) (number_at w32))))
+two_field : IsField Two two two_at
+two_field = both_field IsNumber short short_at IsNumber short short_at short_field short_field
 
-abbrev clocks_of : ℕ × (ℕ × (ℕ × (ℕ × ℕ))) → Clocks
+abbrev Four : ℕ × (ℕ × (ℕ × ℕ)) → Type 0
+Four x = IsNumber x.0 × (IsNumber x.1.0 × Two x.1.1)
+
+abbrev four : ℕ × (ℕ × (ℕ × ℕ)) → List ℕ
+four x = short x.0 ++ (short x.1.0 ++ two x.1.1)
+
+abbrev four_at : List ℕ → Result ((ℕ × (ℕ × (ℕ × ℕ))) × List ℕ) WireFault
+four_at = both_at short_at (both_at short_at two_at)
+
+four_field : IsField Four four four_at
+four_field =
+    both_field IsNumber short short_at (λ x. IsNumber x.0 × Two x.1) (λ x. short x.0 ++ two x.1)
+    (both_at short_at two_at) short_field
+    (both_field IsNumber short short_at Two two two_at short_field two_field)
+
+abbrev clocks_parts : List ℕ → Result ((ℕ × (ℕ × (ℕ × (ℕ × (ℕ × ℕ))))) × List ℕ) WireFault
+clocks_parts = both_at short_at (both_at short_at four_at)
+
+abbrev clocks_of : ℕ × (ℕ × (ℕ × (ℕ × (ℕ × ℕ)))) → Clocks
 clocks_of x = record {
-  frame = x.0;
-  heard_frame = x.1.0;
-  clock = x.1.1.0;
-  heard_clock =
-      x.1.1.1.0;
-  held = x.1.1.1.1;
+  number = x.0;
+  frame = x.1.0;
+  heard_frame = x.1.1.0;
+  clock = x.1.1.1.0;
+  heard_clock = x.1.1.1.1.0;
+  held = x.1.1.1.1.1;
 }
 
 clocks_same : (bytes : List ℕ) → clocks_at bytes ≡ seen_at clocks_of clocks_parts bytes
@@ -126,23 +139,13 @@ clocks_same bytes = sym (simp bind_assoc)
 pub clocks_field : IsField IsClocks clocks clocks_at
 clocks_field =
     same_field IsClocks clocks clocks_at (seen_at clocks_of clocks_parts) clocks_same
-    (seen_field clocks_of (λ c. (c.frame, (c.heard_frame, (c.clock, (c.heard_clock, c.held)))))
-    (λ x. IsNumber x.0 × (IsNumber x.1.0 × (IsNumber x.1.1.0
-    × (IsNumber x.1.1.1.0 × IsNumber x.1.1.1.1))))
-    (λ x. number x.0 ++ (number x.1.0 ++
-    (number x.1.1.0 ++ (number x.1.1.1.0 ++ number x.1.1.1.1)))) clocks_parts (λ x. refl)
-    (λ c. refl)
-    (both_field IsNumber number (number_at w32)
-    (λ x. IsNumber x.0 × (IsNumber x.1.0 × (IsNumber x.1.1.0 × IsNumber x.1.1.1)))
-    (λ x. number x.0 ++ (number x.1.0 ++ (number x.1.1.0 ++ number x.1.1.1)))
-    (both_at (number_at w32)
-    (both_at (number_at w32) (both_at (number_at w32) (number_at w32)))) number_field
-    (both_field IsNumber number (number_at w32)
-    (λ x. IsNumber x.0 × (IsNumber x.1.0 × IsNumber x.1.1))
-    (λ x. number x.0 ++ (number x.1.0 ++ number x.1.1))
-    (both_at (number_at w32) (both_at (number_at w32) (number_at w32))) number_field
-    (both_field IsNumber number (number_at w32) Two two (both_at (number_at w32) (number_at w32))
-    number_field two_field))))
+    (seen_field clocks_of
+    (λ c. (c.number, (c.frame, (c.heard_frame, (c.clock, (c.heard_clock, c.held))))))
+    (λ x. IsNumber x.0 × (IsNumber x.1.0 × Four x.1.1))
+    (λ x. short x.0 ++ (short x.1.0 ++ four x.1.1)) clocks_parts (λ x. refl) (λ c. refl)
+    (both_field IsNumber short short_at (λ x. IsNumber x.0 × Four x.1)
+    (λ x. short x.0 ++ four x.1) (both_at short_at four_at) short_field
+    (both_field IsNumber short short_at Four four four_at short_field four_field)))
 
 -- ---- a settled state
 
@@ -150,67 +153,138 @@ abbrev settled_of : ℕ × ℕ → Settled
 settled_of x = record { frame = x.0; digest = x.1 }
 
 settled_same : (bytes : List ℕ) → settled_at bytes ≡ seen_at settled_of
-    (both_at (number_at w32) (number_at w64)) bytes
+    (both_at short_at (number_at w64)) bytes
 unfolding settled_at
 settled_same bytes = sym (simp bind_assoc)
 
 pub settled_field : IsField IsSettled settled settled_at
 settled_field =
     same_field IsSettled settled settled_at (seen_at settled_of
-    (both_at (number_at w32) (number_at w64))) settled_same
+    (both_at short_at (number_at w64))) settled_same
     (seen_field settled_of (λ s. (s.frame, s.digest)) (λ x. IsNumber x.0 × IsLong x.1)
-    (λ x. number x.0 ++ long x.1) (both_at (number_at w32) (number_at w64)) (λ x. refl)
-    (λ s. refl)
-    (both_field IsNumber number (number_at w32) IsLong long (number_at w64) number_field
-    long_field))
+    (λ x. short x.0 ++ long x.1) (both_at short_at (number_at w64)) (λ x. refl) (λ s. refl)
+    (both_field IsNumber short short_at IsLong long (number_at w64) short_field long_field))
+
+-- ---- a number of words, where there are some
+
+counted_takes : (bytes : List ℕ) (n : ℕ) (rest : List ℕ) → IsBytes bytes
+    → counted_at bytes ≡ Ok (n, rest) → Takes bytes (short n) rest
+    × (IsNumber n × (is_counted n ≡ true))
+unfolding counted_at
+counted_takes bytes n rest b e =
+    let p = bind_ok (short_at bytes) (λ count. cond (eqb count.0 0) (Err Zero) (Ok count)) (n, rest)
+    e in
+    let g = guard_ok (eqb p.0.0 0) Zero p.0 (n, rest) p.2 in
+    let t = short_field.takes bytes p.0.0 p.0.1 b p.1 in
+    subst (λ (x : ℕ × List ℕ). Takes bytes (short x.0) x.1
+    × (IsNumber x.0 × (is_counted x.0 ≡ true))) g.1 (t.0, (t.1, ap not g.0))
+
+true_if_not : (b : Bool) → not b ≡ false → b ≡ true
+true_if_not true e = refl
+true_if_not false e = absurd cc
+
+false_if_not : (b : Bool) → not b ≡ true → b ≡ false
+false_if_not true e = absurd cc
+false_if_not false e = refl
+
+counted_again : (n : ℕ) (rest : List ℕ) → IsNumber n × (is_counted n ≡ true)
+    → counted_at (short n ++ rest) ≡ Ok (n, rest)
+unfolding counted_at
+counted_again n rest h = rw (short_field.again n rest h.0, false_if_not (eqb n 0) h.1) refl
+
+counted_field : IsField (λ (n : ℕ). IsNumber n × (is_counted n ≡ true)) short counted_at
+counted_field = record { takes = counted_takes; again = counted_again }
+
+has_masked : IsMasked IsNumber is_counted 0
+has_masked = record {
+  fits_none = omega arith;
+  none_not = refl;
+  only_none = λ n h e. eqb-true n 0 (true_if_not (eqb n 0) e);
+}
 
 -- ---- an offer
 
-both_read : {A B : Type 0} (read : List ℕ → Result (A × List ℕ) WireFault)
-    (read' : List ℕ → Result (B × List ℕ) WireFault) (bytes : List ℕ) (x : A) (then : List ℕ)
-    (y : B) (rest : List ℕ)
-    → read bytes ≡ Ok (x, then) → read' then ≡ Ok (y, rest)
-    → both_at read read' bytes ≡ Ok ((x, y), rest)
-both_read read read' bytes x then y rest e f = rw (e, f) refl
+abbrev made : ℕ → ℕ → Offer
+made first end = record { first = first; end = end }
+
+abbrev offer_parts : List ℕ → Result ((ℕ × ℕ) × List ℕ) WireFault
+offer_parts = both_at short_at byte_at
+
+parts_field : IsField (λ x. IsNumber x.0 × IsByte x.1) (λ x. short x.0 ++ byte x.1) offer_parts
+parts_field = both_field IsNumber short short_at IsByte byte byte_at short_field byte_field
+
+abbrev made_of : (ℕ × ℕ) × List ℕ → Result (Offer × List ℕ) WireFault
+made_of x = offered x.0.0 (x.0.0 + x.0.1) x.1
+
+offer_same : (bytes : List ℕ) → offer_at bytes ≡ (offer_parts bytes >>= made_of)
+unfolding offer_at
+offer_same bytes = sym (simp bind_assoc)
+
+abbrev IsMade : Offer → Type 0
+IsMade o = IsOffer o × (is_offered o ≡ true)
 
 offer_takes : (bytes : List ℕ) (o : Offer) (rest : List ℕ) → IsBytes bytes
-    → offer_at bytes ≡ Ok (o, rest) → Takes bytes (offer o) rest × IsOffer o
-unfolding offer_at
+    → offer_at bytes ≡ Ok (o, rest) → Takes bytes (offer o) rest × IsMade o
 offer_takes bytes o rest b e =
-    let p = bind_ok (number_at w32 bytes) (λ first. number_at w32 first.1 >>=
-    λ end. cond (ltb end.0 first.0) (Err Backward)
-    (Ok (record { first = first.0; end = end.0 }, end.1))) (o, rest) e in
-    let q = bind_ok (number_at w32 p.0.1) (λ end. cond (ltb end.0 p.0.0) (Err Backward)
-    (Ok (record { first = p.0.0; end = end.0 }, end.1))) (o, rest) p.2 in
-    let g = guard_ok (ltb q.0.0 p.0.0) Backward (record { first = p.0.0; end = q.0.0 }, q.0.1)
-    (o, rest) q.2 in
-    let both = both_read (number_at w32) (number_at w32) bytes p.0.0 p.0.1 q.0.0 q.0.1 p.1 q.1 in
-    let t = two_field.takes bytes (p.0.0, q.0.0) q.0.1 b both in
-    subst (λ (x : Offer × List ℕ). Takes bytes (offer x.0) x.1 × IsOffer x.0) g.1
-    (t.0, (t.1, ltb-false q.0.0 p.0.0 g.0))
+    let p = bind_ok (offer_parts bytes) made_of (o, rest) (sym (offer_same bytes) ∙ e) in
+    let first : ℕ = p.0.0.0 in
+    let count : ℕ = p.0.0.1 in
+    let t = parts_field.takes bytes p.0.0 p.0.1 b p.1 in
+    let far = inner_ok (ltb (first + count) (2 ^ 32)) TooFar
+    (cond (eqb (first + count) 0) (Err Zero)
+    (Ok (record { first = first; end = first + count }, p.0.1))) (o, rest) p.2 in
+    let g = guard_ok (eqb (first + count) 0) Zero
+    (record { first = first; end = first + count }, p.0.1) (o, rest) far.1 in
+    let back : first + count - first ≡ count = omega arith in
+    let below = ltb-true (first + count) (2 ^ 32) far.0 in
+    subst (λ (x : Offer × List ℕ). Takes bytes (offer x.0) x.1 × IsMade x.0) g.1
+    (rw back t.0, ((below, (omega arith, rw back t.1.1)), ap not g.0))
+  where
+    inner_ok : {A : Type 0} (b : Bool) (d : WireFault) (r : Result A WireFault) (y : A)
+        → cond b r (Err d) ≡ Ok y → (b ≡ true) × (r ≡ Ok y)
+    inner_ok true d r y e = (refl, e)
+    inner_ok false d r y e = absurd cc
 
-offer_again : (o : Offer) (rest : List ℕ) → IsOffer o → offer_at (offer o ++ rest) ≡ Ok (o, rest)
-unfolding offer_at
+offer_again : (o : Offer) (rest : List ℕ) → IsMade o → offer_at (offer o ++ rest) ≡ Ok (o, rest)
 offer_again o rest h =
-    let regrouped : offer o ++ rest ≡ number o.first ++ (number o.end ++ rest) =
-    append_assoc (number o.first) (number o.end) rest in
-    ap offer_at regrouped ∙ rw (
-      number_field.again o.first (number o.end ++ rest) h.0.0,
-      number_field.again o.end rest h.0.1,
-      le-ltb o.end o.first h.1,
+    let count : ℕ = o.end - o.first in
+    let order : o.first ≤ o.end = h.0.1.0 in
+    let end : o.first + count ≡ o.end = omega arith in
+    let far : ltb o.end (2 ^ 32) ≡ true = lt-ltb o.end (2 ^ 32) h.0.0 in
+    let first_fits : IsNumber o.first = omega (arith, h.0.0) in
+    offer_same (offer o ++ rest)
+    ∙ rw (
+      parts_field.again (o.first, count) rest (first_fits, h.0.1.1),
+      end,
+      far,
+      false_if_not (eqb o.end 0) h.1,
     ) refl
 
-pub offer_field : IsField IsOffer offer offer_at
+offer_field : IsField IsMade offer offer_at
 offer_field = record { takes = offer_takes; again = offer_again }
+
+offers_masked : IsMasked IsOffer is_offered no_offer
+offers_masked = record {
+  fits_none = (omega arith, (omega arith, omega arith));
+  none_not = refl;
+  only_none = λ o h e. is_none o.first o.end (eqb-true o.end 0 (true_if_not (eqb o.end 0) e)) h.1.0;
+}
+  where
+    is_none : (first end : ℕ) → end ≡ 0 → first ≤ end → made first end ≡ no_offer
+    is_none first end e l =
+        let f : first ≡ 0 = omega arith in
+        rw (f, e) refl
 
 -- ---- a view
 
+abbrev AreCounts : List ℕ → Type 0
+AreCounts ns = (length ns ≡ PLAYER_LIMIT) × AllByRecursion IsNumber ns
+
 abbrev IsView : View → Type 0
-IsView v = ((length v.gone ≡ MACHINE_LIMIT) × AllByRecursion (λ b. Unit {0}) v.gone)
-    × ((length v.has ≡ PLAYER_LIMIT) × AllByRecursion IsNumber v.has)
+IsView v = (length v.gone ≡ MACHINE_LIMIT) × AreCounts v.has
 
 abbrev view_parts : List ℕ → Result ((List Bool × List ℕ) × List ℕ) WireFault
-view_parts = both_at (repeated flag_at MACHINE_LIMIT) (repeated (number_at w32) PLAYER_LIMIT)
+view_parts = both_at mask_at (masked_at 0 counted_at)
 
 abbrev view_of : List Bool × List ℕ → View
 view_of x = record { gone = x.0; has = x.1 }
@@ -222,49 +296,69 @@ view_same bytes = sym (simp bind_assoc)
 pub view_field : IsField IsView view view_at
 view_field =
     same_field IsView view view_at (seen_at view_of view_parts) view_same
-    (seen_field view_of (λ v. (v.gone, v.has))
-    (λ x. ((length x.0 ≡ MACHINE_LIMIT) × AllByRecursion (λ b. Unit {0}) x.0)
-    × ((length x.1 ≡ PLAYER_LIMIT) × AllByRecursion IsNumber x.1))
-    (λ x. flat_map flag x.0 ++ flat_map number x.1) view_parts (λ x. refl) (λ v. refl)
-    (both_field (λ bs. (length bs ≡ MACHINE_LIMIT) × AllByRecursion (λ b. Unit {0}) bs)
-    (λ bs. flat_map flag bs) (repeated flag_at MACHINE_LIMIT)
-    (λ ns. (length ns ≡ PLAYER_LIMIT) × AllByRecursion IsNumber ns) (λ ns. flat_map number ns)
-    (repeated (number_at w32) PLAYER_LIMIT)
-    (repeated_field (λ b. Unit {0}) flag flag_at MACHINE_LIMIT flag_field)
-    (repeated_field IsNumber number (number_at w32) PLAYER_LIMIT number_field)))
+    (seen_field view_of (λ v. (v.gone, v.has)) (λ x. (length x.0 ≡ MACHINE_LIMIT) × AreCounts x.1)
+    (λ x. byte (mask x.0) ++ masked is_counted short x.1) view_parts (λ x. refl) (λ v. refl)
+    (both_field (λ bs. length bs ≡ MACHINE_LIMIT) (λ bs. byte (mask bs)) mask_at AreCounts
+    (λ ns. masked is_counted short ns) (masked_at 0 counted_at) mask_field
+    (masked_field IsNumber is_counted 0 short counted_at has_masked counted_field)))
 
 -- ---- the head
 
 abbrev AreOffers : List Offer → Type 0
 AreOffers os = (length os ≡ PLAYER_LIMIT) × AllByRecursion IsOffer os
 
-abbrev pub IsHead : Head → Type 0
-IsHead h = IsClocks h.clocks × (IsView h.view × (IsSettled h.settled × AreOffers h.offers))
+abbrev AreParts : Head → Type 0
+AreParts h = IfSome h.clocks IsClocks × (IsView h.view × (IfSome h.settled IsSettled
+    × AreOffers h.offers))
 
-abbrev head_parts : List ℕ → Result ((Clocks × (View × (Settled × List Offer))) × List ℕ) WireFault
-head_parts = both_at clocks_at
-    (both_at view_at (both_at settled_at (repeated offer_at PLAYER_LIMIT)))
+abbrev Parts : Type 0
+Parts = Option Clocks × (View × (Option Settled × List Offer))
 
-abbrev head_of : Clocks × (View × (Settled × List Offer)) → Head
+abbrev head_parts : List ℕ → Result (Parts × List ℕ) WireFault
+head_parts = both_at (optional_at clocks_at)
+    (both_at view_at (both_at (optional_at settled_at) (masked_at no_offer offer_at)))
+
+abbrev head_of : Parts → Head
 head_of x = record { clocks = x.0; view = x.1.0; settled = x.1.1.0; offers = x.1.1.1 }
 
 head_same : (bytes : List ℕ) → head_at bytes ≡ seen_at head_of head_parts bytes
 unfolding head_at
 head_same bytes = sym (simp bind_assoc)
 
-pub head_field : IsField IsHead head head_at
-head_field =
-    same_field IsHead head head_at (seen_at head_of head_parts) head_same
+parts_of_head : IsField AreParts head head_at
+parts_of_head =
+    same_field AreParts head head_at (seen_at head_of head_parts) head_same
     (seen_field head_of (λ h. (h.clocks, (h.view, (h.settled, h.offers))))
-    (λ x. IsClocks x.0 × (IsView x.1.0 × (IsSettled x.1.1.0 × AreOffers x.1.1.1)))
-    (λ x. clocks x.0 ++ (view x.1.0 ++ (settled x.1.1.0 ++ flat_map offer x.1.1.1)))
-    head_parts (λ x. refl) (λ h. refl)
-    (both_field IsClocks clocks clocks_at (λ x. IsView x.0 × (IsSettled x.1.0 × AreOffers x.1.1))
-    (λ x. view x.0 ++ (settled x.1.0 ++ flat_map offer x.1.1))
-    (both_at view_at (both_at settled_at (repeated offer_at PLAYER_LIMIT))) clocks_field
-    (both_field IsView view view_at (λ x. IsSettled x.0 × AreOffers x.1)
-    (λ x. settled x.0 ++ flat_map offer x.1)
-    (both_at settled_at (repeated offer_at PLAYER_LIMIT)) view_field
-    (both_field IsSettled settled settled_at AreOffers (λ os. flat_map offer os)
-    (repeated offer_at PLAYER_LIMIT) settled_field
-    (repeated_field IsOffer offer offer_at PLAYER_LIMIT offer_field)))))
+    (λ x. IfSome x.0 IsClocks × (IsView x.1.0 × (IfSome x.1.1.0 IsSettled × AreOffers x.1.1.1)))
+    (λ x. optional clocks x.0 ++ (view x.1.0 ++
+    (optional settled x.1.1.0 ++ masked is_offered offer x.1.1.1))) head_parts (λ x. refl)
+    (λ h. refl)
+    (both_field (λ c. IfSome c IsClocks) (λ c. optional clocks c) (optional_at clocks_at)
+    (λ x. IsView x.0 × (IfSome x.1.0 IsSettled × AreOffers x.1.1))
+    (λ x. view x.0 ++ (optional settled x.1.0 ++ masked is_offered offer x.1.1))
+    (both_at view_at (both_at (optional_at settled_at) (masked_at no_offer offer_at)))
+    (optional_field IsClocks clocks clocks_at clocks_field)
+    (both_field IsView view view_at (λ x. IfSome x.0 IsSettled × AreOffers x.1)
+    (λ x. optional settled x.0 ++ masked is_offered offer x.1)
+    (both_at (optional_at settled_at) (masked_at no_offer offer_at)) view_field
+    (both_field (λ s. IfSome s IsSettled) (λ s. optional settled s) (optional_at settled_at)
+    AreOffers (λ os. masked is_offered offer os) (masked_at no_offer offer_at)
+    (optional_field IsSettled settled settled_at settled_field)
+    (masked_field IsOffer is_offered no_offer offer offer_at offers_masked offer_field)))))
+
+pub head_field : IsField IsHead head head_at
+head_field = record {
+  takes = λ bytes h rest b e.
+      let t = parts_of_head.takes bytes h rest b e in (
+        t.0,
+        record {
+          clocks = t.1.0;
+          gone = t.1.1.0.0;
+          has = t.1.1.0.1;
+          settled = t.1.1.1.0;
+          offers = t.1.1.1.1;
+        },
+      );
+  again = λ h rest f.
+      parts_of_head.again h rest (f.clocks, ((f.gone, f.has), (f.settled, f.offers)));
+}

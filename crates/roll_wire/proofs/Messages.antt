@@ -1,8 +1,7 @@
 -- The two laws: what is read is spelled so, and what is spelled so is read.
-use Rattle.std.proofs.Common.{◌≡◌, ℕ, zero, suc, Bool, true, cond, eqb, leb, List, [], ◌∷◌, ◌++◌, length, None, Result, Ok, Err, refl, sym, ap, subst, ◌∙◌, append_assoc, arith}
+use Rattle.std.proofs.Common.{◌≡◌, ℕ, zero, suc, true, cond, eqb, leb, List, [], ◌∷◌, ◌++◌, length, None, Result, Ok, Err, refl, sym, ap, subst, ◌∙◌, append_assoc, arith}
 use Rattle.std.specs.Prelude.{IfOk}
 use Rattle.std.specs.Int.{w32}
-use Rattle.std.specs.List.{AllByRecursion}
 use Rattle.std.proofs.lemmas.Bool.{eqb-true, leb-true, le-leb}
 use Rattle.std.proofs.lemmas.List.{append-nil, nil_from_length}
 use Rattle.roll_mesh.specs.declared.packet.Offer.{Offer}
@@ -15,7 +14,7 @@ use Rattle.roll_wire.specs.declared.limits.TheConstants.{MAGIC, WORD_LIMIT}
 use Rattle.roll_wire.specs.Spelling.{Content, Greets, Plays, Leaves, Message, Turn, body, envelope, hello, message, number, head, runs, spelling, count_of, Fits, IsContent, IsTurn}
 use Rattle.roll_wire.specs.Reading.{◌>>=◌, Gives, number_at, magic_at, envelope_at, hello_at, head_at, words_at, turn_at, content_at, all_of}
 use Rattle.roll_wire.proofs.Fields.{IsBytes, IsBytes-rest, Takes, Takes-then, bind_ok, passed_ok, ok_is, number_field}
-use Rattle.roll_wire.proofs.Groups.{IsHead, envelope_field, head_field, hello_field}
+use Rattle.roll_wire.proofs.Groups.{envelope_field, head_field, hello_field}
 use Rattle.roll_wire.proofs.Words.{words_take, words_again}
 
 -- ---- what a datagram begins with
@@ -36,16 +35,6 @@ unfolding magic_at
 magic_again rest = rw (number_field.again MAGIC rest (omega arith)) refl
 
 -- ---- a turn
-
-any_flags : (bs : List Bool) → AllByRecursion (λ b. Unit {0}) bs
-any_flags [] = tt
-any_flags (b ∷ bs) = (tt, any_flags bs)
-
-head_fits : (t : Turn) → IsTurn t → IsHead t.head
-head_fits t f = (
-  f.clocks,
-  (((f.gone, any_flags t.head.view.gone), f.has), (f.settled, f.offers)),
-)
 
 abbrev turn_text : Turn → List ℕ
 turn_text t = head t.head ++ runs t.words
@@ -74,11 +63,7 @@ turn_takes bytes t rest b e =
     (ok_is made (t, rest) s.2) (
       Takes-then bytes (head q.0.0) q.0.1 (runs s.0.0) s.0.1 u.0 v.takes,
       record {
-        clocks = u.1.0;
-        gone = u.1.1.0.0.0;
-        has = u.1.1.0.1;
-        settled = u.1.1.1.0;
-        offers = u.1.1.1.1;
+        head = u.1;
         words = v.all ∙ sym c.1;
         few = leb-true (count_of q.0.0.offers) WORD_LIMIT c.0;
         are_words = v.fits;
@@ -95,7 +80,7 @@ turn_again t rest f =
     subst (λ (n : ℕ). words_at n 0 None (runs t.words ++ rest) ≡ Ok (t.words, rest)) f.words
     (words_again t.words rest f.are_words) in
     ap turn_at (append_assoc (head t.head) (runs t.words) rest)
-    ∙ rw (head_field.again t.head (runs t.words ++ rest) (head_fits t f), few, words) refl
+    ∙ rw (head_field.again t.head (runs t.words ++ rest) f.head, few, words) refl
 
 -- ---- a kind, and what follows it
 

@@ -1,7 +1,7 @@
 -- Reading from left to right, with the first fault that is met.
-use Rattle.std.specs.Prelude.{◌≡◌, ℕ, zero, suc, List, [], ◌∷◌, length, take, drop, Bool, true, false, Option, Some, None, Result, Ok, Err, nat_lt, nat_le, ◌==◌, if◌then◌else◌}
+use Rattle.std.specs.Prelude.{◌≡◌, ℕ, zero, suc, ◌+◌, ◌-◌, ◌*◌, ◌/◌, ◌%◌, ◌^◌, List, [], ◌∷◌, length, take, drop, Bool, true, false, Option, Some, None, Result, Ok, Err, nat_lt, nat_le, ◌==◌, if◌then◌else◌}
 use Rattle.std.specs.Int.{Width, w32, w64, byte_len, from_be_bytes}
-use Rattle.roll_mesh.specs.declared.limits.TheConstants.{MACHINE_LIMIT, PLAYER_LIMIT}
+use Rattle.roll_mesh.specs.declared.limits.TheConstants.{PLAYER_LIMIT}
 use Rattle.roll_mesh.specs.declared.packet.Offer.{Offer}
 use Rattle.roll_mesh.specs.declared.packet.View.{View}
 use Rattle.roll_wire.specs.declared.datagram.Clocks.{Clocks}
@@ -10,7 +10,7 @@ use Rattle.roll_wire.specs.declared.datagram.Head.{Head}
 use Rattle.roll_wire.specs.declared.datagram.Hello.{Hello}
 use Rattle.roll_wire.specs.declared.datagram.Settled.{Settled}
 use Rattle.roll_wire.specs.declared.fault.WireFault.{WireFault}
-use Rattle.roll_wire.specs.declared.fault.WireFault.TheVariants.{Short, Magic, Kind, Flag, Backward, TooMany, Run, Trailing}
+use Rattle.roll_wire.specs.declared.fault.WireFault.TheVariants.{Short, Magic, Kind, Flag, Long, Zero, TooFar, TooMany, Run, Trailing}
 use Rattle.roll_wire.specs.declared.limits.TheConstants.{MAGIC, WORD_LIMIT}
 use Rattle.roll_wire.specs.Spelling.{Content, Greets, Plays, Leaves, Fits, Message, Turn, count_of, spelling}
 
@@ -41,22 +41,80 @@ flag_at (zero ∷ rest) = Ok (false, rest)
 flag_at (suc zero ∷ rest) = Ok (true, rest)
 flag_at (suc (suc b) ∷ rest) = Err Flag
 
+-- a number in one byte, and so many more at most
+unfoldable pub digits_at : ℕ → List ℕ → Result (ℕ × List ℕ) WireFault
+digits_at zero bytes = do
+  last ← byte_at bytes
+  if nat_lt last.0 16 then Ok last else Err Long
+digits_at (suc more) bytes = do
+  byte ← byte_at bytes
+  if nat_lt byte.0 128 then Ok byte
+      else (do
+        higher ← digits_at more byte.1
+        if higher.0 == 0 then Err Long else Ok (byte.0 - 128 + 128 * higher.0, higher.1))
+
+-- a short number
+abbrev pub short_at : List ℕ → Result (ℕ × List ℕ) WireFault
+short_at bytes = digits_at 4 bytes
+
+-- whether each of so many bits is set, the lowest first
+unfoldable pub bits : ℕ → ℕ → List Bool
+bits zero m = []
+bits (suc n) m = (m % 2 == 1) ∷ bits n (m / 2)
+
+-- a mask of eight places
+unfoldable pub mask_at : List ℕ → Result (List Bool × List ℕ) WireFault
+mask_at bytes = do
+  mask ← byte_at bytes
+  Ok (bits 8 mask.0, mask.1)
+
+-- a flag, and the field if it is there
+unfoldable pub optional_at : {A : Type 0} → (List ℕ → Result (A × List ℕ) WireFault) → List ℕ
+    → Result (Option A × List ℕ) WireFault
+optional_at read bytes = do
+  is_there ← flag_at bytes
+  if is_there.0 then (do
+    field ← read is_there.1
+    Ok (Some field.0, field.1))
+      else Ok (None, is_there.1)
+
+-- a field if it is there, else what stands for one that isn't
+abbrev pub place_at : {A : Type 0} → A → (List ℕ → Result (A × List ℕ) WireFault) → Bool → List ℕ
+    → Result (A × List ℕ) WireFault
+place_at none read is_there bytes = if is_there then read bytes else Ok (none, bytes)
+
+unfoldable pub places_at : {A : Type 0} → A → (List ℕ → Result (A × List ℕ) WireFault) → List Bool
+    → List ℕ → Result (List A × List ℕ) WireFault
+places_at none read [] bytes = Ok ([], bytes)
+places_at none read (is_there ∷ others) bytes = do
+  first ← place_at none read is_there bytes
+  behind ← places_at none read others first.1
+  Ok (first.0 ∷ behind.0, behind.1)
+
+-- a mask of the fields that are there, and then each of them
+unfoldable pub masked_at : {A : Type 0} → A → (List ℕ → Result (A × List ℕ) WireFault) → List ℕ
+    → Result (List A × List ℕ) WireFault
+masked_at none read bytes = do
+  places ← mask_at bytes
+  places_at none read places.0 places.1
+
 unfoldable pub envelope_at : List ℕ → Result (Envelope × List ℕ) WireFault
 envelope_at bytes = do
   match_number ← number_at w64 bytes
   sender ← byte_at match_number.1
-  number ← number_at w32 sender.1
-  Ok (record { match_number = match_number.0; sender = sender.0; number = number.0 }, number.1)
+  Ok (record { match_number = match_number.0; sender = sender.0 }, sender.1)
 
 unfoldable pub clocks_at : List ℕ → Result (Clocks × List ℕ) WireFault
 clocks_at bytes = do
-  frame ← number_at w32 bytes
-  heard_frame ← number_at w32 frame.1
-  clock ← number_at w32 heard_frame.1
-  heard_clock ← number_at w32 clock.1
-  held ← number_at w32 heard_clock.1
+  number ← short_at bytes
+  frame ← short_at number.1
+  heard_frame ← short_at frame.1
+  clock ← short_at heard_frame.1
+  heard_clock ← short_at clock.1
+  held ← short_at heard_clock.1
   Ok (
     record {
+      number = number.0;
       frame = frame.0;
       heard_frame = heard_frame.0;
       clock = clock.0;
@@ -68,15 +126,31 @@ clocks_at bytes = do
 
 unfoldable pub settled_at : List ℕ → Result (Settled × List ℕ) WireFault
 settled_at bytes = do
-  frame ← number_at w32 bytes
+  frame ← short_at bytes
   digest ← number_at w64 frame.1
   Ok (record { frame = frame.0; digest = digest.0 }, digest.1)
 
+-- a number of words, where there are some
+unfoldable pub counted_at : List ℕ → Result (ℕ × List ℕ) WireFault
+counted_at bytes = do
+  count ← short_at bytes
+  if count.0 == 0 then Err Zero else Ok count
+
+-- an offer of these frames, unless it is (0, 0) or leads past 32 bits
+abbrev pub offered : ℕ → ℕ → List ℕ → Result (Offer × List ℕ) WireFault
+offered first end rest =
+    if nat_lt end (2 ^ 32) then (if end == 0 then Err Zero
+    else Ok (record { first = first; end = end }, rest)) else Err TooFar
+
 unfoldable pub offer_at : List ℕ → Result (Offer × List ℕ) WireFault
 offer_at bytes = do
-  first ← number_at w32 bytes
-  end ← number_at w32 first.1
-  if nat_lt end.0 first.0 then Err Backward else Ok (record { first = first.0; end = end.0 }, end.1)
+  first ← short_at bytes
+  count ← byte_at first.1
+  offered first.0 (first.0 + count.0) count.1
+
+-- no words, where none are offered
+abbrev pub no_offer : Offer
+no_offer = record { first = 0; end = 0 }
 
 -- so many of a field, one after the other
 unfoldable pub repeated : {A : Type 0} → (List ℕ → Result (A × List ℕ) WireFault) → ℕ → List ℕ
@@ -105,16 +179,16 @@ hello_at bytes = do
 
 unfoldable pub view_at : List ℕ → Result (View × List ℕ) WireFault
 view_at bytes = do
-  gone ← repeated flag_at MACHINE_LIMIT bytes
-  has ← repeated (number_at w32) PLAYER_LIMIT gone.1
+  gone ← mask_at bytes
+  has ← masked_at 0 counted_at gone.1
   Ok (record { gone = gone.0; has = has.0 }, has.1)
 
 unfoldable pub head_at : List ℕ → Result (Head × List ℕ) WireFault
 head_at bytes = do
-  clocks ← clocks_at bytes
+  clocks ← optional_at clocks_at bytes
   view ← view_at clocks.1
-  settled ← settled_at view.1
-  offers ← repeated offer_at PLAYER_LIMIT settled.1
+  settled ← optional_at settled_at view.1
+  offers ← masked_at no_offer offer_at settled.1
   Ok (
     record {
       clocks = clocks.0;
@@ -133,7 +207,7 @@ run_at (Some run) bytes = Ok (run, bytes)
 -- a word, and what is left of its run: the word before it, or a changed one, which ends the run
 unfoldable pub word_at : ℕ → ℕ → List ℕ → Result (ℕ × Option ℕ × List ℕ) WireFault
 word_at before zero bytes = do
-  word ← number_at w32 bytes
+  word ← short_at bytes
   if word.0 == before then Err Run else Ok (word.0, None, word.1)
 word_at before (suc run) bytes = Ok (before, Some run, bytes)
 

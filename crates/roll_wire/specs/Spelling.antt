@@ -1,7 +1,7 @@
--- What a datagram says, and its one spelling: numbers with the highest byte first.
-use Rattle.std.specs.Prelude.{◌≡◌, ℕ, suc, ◌-◌, ◌<◌, ◌≤◌, ◌^◌, ◌==◌, List, [], ◌∷◌, ◌++◌, length, Bool, ◌&&◌, nat_le, slice_index, if◌then◌else◌, true, ⊤}
+-- What a datagram says, and its one spelling: fixed numbers with the highest byte first, short ones with the lowest.
+use Rattle.std.specs.Prelude.{◌≡◌, ℕ, zero, suc, ◌+◌, ◌-◌, ◌*◌, ◌/◌, ◌%◌, ◌<◌, ◌≤◌, ◌^◌, ◌==◌, List, [], ◌∷◌, ◌++◌, length, map, Bool, ◌&&◌, not, nat_lt, nat_le, if◌then◌else◌, true, false, Option, Some, None, IfSome, ⊤}
 use Rattle.std.specs.List.{flat_map, list_all, sum_by, AllByRecursion}
-use Rattle.std.specs.Int.{w32, w64, to_be_bytes}
+use Rattle.std.specs.Int.{w32, w64, to_be_bytes, from_bool}
 use Rattle.roll_mesh.specs.declared.limits.TheConstants.{MACHINE_LIMIT, PLAYER_LIMIT}
 use Rattle.roll_mesh.specs.declared.packet.Offer.{Offer}
 use Rattle.roll_mesh.specs.declared.packet.View.{View}
@@ -54,28 +54,73 @@ byte n = n ∷ []
 abbrev pub flag : Bool → List ℕ
 flag b = (if b then 1 else 0) ∷ []
 
+-- a number in one byte, and so many more at most: 7 bits a byte, the lowest first, and the high bit
+-- where another byte follows
+unfoldable pub digits : ℕ → ℕ → List ℕ
+digits zero n = n ∷ []
+digits (suc more) n = if nat_lt n 128 then n ∷ [] else (128 + n % 128) ∷ digits more (n / 128)
+
+-- what has digits in one byte and so many more is below this
+unfoldable pub digits_limit : ℕ → ℕ
+digits_limit zero = 16
+digits_limit (suc more) = 128 * digits_limit more
+
+-- a number of 32 bits in 1 to 5 bytes
+abbrev pub short : ℕ → List ℕ
+short n = digits 4 n
+
+-- a bit for each place: the lowest for place 0
+unfoldable pub mask : List Bool → ℕ
+mask [] = 0
+mask (b ∷ bs) = from_bool b + 2 * mask bs
+
+-- a flag, and the field if it is there
+abbrev pub optional : {A : Type 0} → (A → List ℕ) → Option A → List ℕ
+optional text None = flag false
+optional text (Some x) = flag true ++ text x
+
+-- a field that stands only where its mask says so
+abbrev pub present : {A : Type 0} → (A → Bool) → (A → List ℕ) → A → List ℕ
+present is_there text x = if is_there x then text x else []
+
+-- a mask of the fields that are there, and then each of them
+abbrev pub masked : {A : Type 0} → (A → Bool) → (A → List ℕ) → List A → List ℕ
+masked is_there text xs = byte (mask (map is_there xs)) ++ flat_map (present is_there text) xs
+
 abbrev pub envelope : Envelope → List ℕ
-envelope e = long e.match_number ++ (byte e.sender ++ number e.number)
+envelope e = long e.match_number ++ byte e.sender
 
 abbrev pub hello : Hello → List ℕ
 hello h = flag h.heard ++ (byte h.machines ++ (flat_map byte h.owners ++ long h.settings))
 
 abbrev pub clocks : Clocks → List ℕ
 clocks c =
-    number c.frame
-    ++ (number c.heard_frame ++ (number c.clock ++ (number c.heard_clock ++ number c.held)))
+    short c.number
+    ++ (short c.frame ++ (short c.heard_frame
+    ++ (short c.clock ++ (short c.heard_clock ++ short c.held))))
+
+-- whether there are words of a player
+abbrev pub is_counted : ℕ → Bool
+is_counted n = not (n == 0)
 
 abbrev pub view : View → List ℕ
-view v = flat_map flag v.gone ++ flat_map number v.has
+view v = byte (mask v.gone) ++ masked is_counted short v.has
 
 abbrev pub settled : Settled → List ℕ
-settled s = number s.frame ++ long s.digest
+settled s = short s.frame ++ long s.digest
 
+-- whether an offer isn't (0, 0): as it doesn't end before it begins, its end tells
+abbrev pub is_offered : Offer → Bool
+is_offered o = not (o.end == 0)
+
+-- the first frame, and how many words
 abbrev pub offer : Offer → List ℕ
-offer o = number o.first ++ number o.end
+offer o = short o.first ++ byte (o.end - o.first)
 
 abbrev pub head : Head → List ℕ
-head h = clocks h.clocks ++ (view h.view ++ (settled h.settled ++ flat_map offer h.offers))
+head h =
+    optional clocks h.clocks
+    ++ (view h.view ++ (optional settled h.settled ++ masked is_offered offer h.offers))
 
 -- how often the words begin with the one before them
 abbrev pub repeats : ℕ → List ℕ → ℕ
@@ -92,7 +137,7 @@ lead before (w ∷ ws) = repeats before (w ∷ ws) ∷ []
 abbrev pub rest_of : ℕ → List ℕ → List ℕ
 rest_of before [] = []
 rest_of before (w ∷ ws) =
-    if w == before then rest_of before ws else number w ++ (lead w ws ++ rest_of w ws)
+    if w == before then rest_of before ws else short w ++ (lead w ws ++ rest_of w ws)
 
 -- words of which some may have been spelled: in the middle of a run, or at its beginning
 abbrev pub pending : Bool → ℕ → List ℕ → List ℕ
@@ -116,9 +161,12 @@ spelling m = number MAGIC ++ (envelope m.envelope ++ body m.content)
 abbrev pub count_of : List Offer → ℕ
 count_of offers = sum_by (λ o. o.end - o.first) offers
 
--- whether no player's words end before they begin
+-- whether an offer doesn't end before it begins, and a byte counts its words
+abbrev pub is_offer : Offer → Bool
+is_offer o = nat_le o.first o.end && nat_lt (o.end - o.first) 256
+
 abbrev pub are_offers : List Offer → Bool
-are_offers offers = list_all (λ o. nat_le o.first o.end) offers
+are_offers offers = list_all is_offer offers
 
 -- whether a turn has the words that it offers, and no more than fit
 abbrev pub is_turn : Turn → Bool
@@ -141,7 +189,7 @@ abbrev pub IsLong : ℕ → Type 0
 IsLong n = n < 2 ^ 64
 
 abbrev pub IsEnvelope : Envelope → Type 0
-IsEnvelope e = IsLong e.match_number × (IsByte e.sender × IsNumber e.number)
+IsEnvelope e = IsLong e.match_number × IsByte e.sender
 
 abbrev pub IsHello : Hello → Type 0
 IsHello h =
@@ -150,37 +198,27 @@ IsHello h =
 
 abbrev pub IsClocks : Clocks → Type 0
 IsClocks c =
-    IsNumber c.frame
-    × (IsNumber c.heard_frame × (IsNumber c.clock × (IsNumber c.heard_clock × IsNumber c.held)))
+    IsNumber c.number
+    × (IsNumber c.frame × (IsNumber c.heard_frame
+    × (IsNumber c.clock × (IsNumber c.heard_clock × IsNumber c.held))))
 
 abbrev pub IsSettled : Settled → Type 0
 IsSettled s = IsNumber s.frame × IsLong s.digest
 
 abbrev pub IsOffer : Offer → Type 0
-IsOffer o = (IsNumber o.first × IsNumber o.end) × (o.first ≤ o.end)
+IsOffer o = IsNumber o.end × ((o.first ≤ o.end) × IsByte (o.end - o.first))
 
--- an offer of numbers, and so many words, each at its place
-abbrev pub AreNumbers : Offer → Type 0
-AreNumbers o = IsNumber o.first × IsNumber o.end
-
-abbrev pub AreWords : ℕ → List ℕ → Type 0
-AreWords n ws = (length ws ≡ n) × ((i : ℕ) → i < n → IsNumber (slice_index ws i))
-
--- what is known of each head
-pub record IsWritten (h : Head) : Type 0 where
-  pub clocks : IsClocks h.clocks
+-- a head that has a spelling
+pub record IsHead (h : Head) : Type 0 where
+  pub clocks : IfSome h.clocks IsClocks
   pub gone : length h.view.gone ≡ MACHINE_LIMIT
-  pub has : AreWords PLAYER_LIMIT h.view.has
-  pub settled : IsSettled h.settled
-  pub offers : (length h.offers ≡ PLAYER_LIMIT) × AllByRecursion AreNumbers h.offers
+  pub has : (length h.view.has ≡ PLAYER_LIMIT) × AllByRecursion IsNumber h.view.has
+  pub settled : IfSome h.settled IsSettled
+  pub offers : (length h.offers ≡ PLAYER_LIMIT) × AllByRecursion IsOffer h.offers
 
 -- a turn that has a spelling
 pub record IsTurn (t : Turn) : Type 0 where
-  pub clocks : IsClocks t.head.clocks
-  pub gone : length t.head.view.gone ≡ MACHINE_LIMIT
-  pub has : (length t.head.view.has ≡ PLAYER_LIMIT) × AllByRecursion IsNumber t.head.view.has
-  pub settled : IsSettled t.head.settled
-  pub offers : (length t.head.offers ≡ PLAYER_LIMIT) × AllByRecursion IsOffer t.head.offers
+  pub head : IsHead t.head
   pub words : length t.words ≡ count_of t.head.offers
   pub few : count_of t.head.offers ≤ WORD_LIMIT
   pub are_words : AllByRecursion IsNumber t.words

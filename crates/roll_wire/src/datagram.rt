@@ -12,8 +12,6 @@ pub struct Envelope {
     pub match_number: u64,
     /// The machine that sent it, 0 to 7.
     pub sender: u8,
-    /// How many datagrams the sender had sent to this receiver before.
-    pub number: u32,
 }
 
 /// What two machines compare before they play.
@@ -32,15 +30,18 @@ pub struct Hello {
 /// How far the sender is, and when it sent.
 #[derive(Clone, Copy, Debug)]
 pub struct Clocks {
+    /// How many datagrams the sender had sent to this receiver before.
+    pub number: u32,
     /// The sender's frame.
     pub frame: u32,
-    /// The receiver's frame in the last turn that the sender heard of it, 0 before the first.
+    /// Where the sender thinks that the receiver is: its frame in the last clocks that the sender heard of it, and as
+    /// many frames more as the sender has played since. The sender's own frame before the first.
     pub heard_frame: u32,
     /// The sender's clock, in milliseconds since a moment of its own choice. It begins anew after 2^32.
     pub clock: u32,
-    /// The receiver's clock in the last turn that the sender heard of it, 0 before the first.
+    /// The receiver's clock in the last clocks that the sender heard of it, 0 before the first.
     pub heard_clock: u32,
-    /// How many milliseconds ago the sender heard that one, as it sent this one.
+    /// How many milliseconds ago the sender heard those, as it sent these.
     pub held: u32,
 }
 
@@ -56,12 +57,12 @@ pub struct Settled {
 /// What a turn tells, but for its words.
 #[derive(Clone, Copy, Debug)]
 pub struct Head {
-    /// How far the sender is, and when it sent.
-    pub clocks: Clocks,
+    /// How far the sender is, and when it sent, if that is told.
+    pub clocks: Option<Clocks>,
     /// Whom the sender regards as gone, and how many words of each player it has.
     pub view: View,
-    /// The last state that the sender knows to be settled.
-    pub settled: Settled,
+    /// The last state that the sender knows to be settled, if that is told.
+    pub settled: Option<Settled>,
     /// The frames of each player's words that are in it, player 0 first.
     pub offers: [Offer; PLAYER_LIMIT],
 }
@@ -71,7 +72,7 @@ pub struct Head {
 pub struct Play {
     /// All but the words.
     pub head: Head,
-    /// The words that are offered, 208 at most: player by player, each player's from frame to frame.
+    /// The words that are offered, 160 at most: player by player, each player's from frame to frame.
     pub words: ArrayVec<u32, WORD_LIMIT>,
 }
 

@@ -16,10 +16,16 @@ pub enum WireFault {
     /// A flag is neither 0 nor 1.
     #[error("a flag that is neither 0 nor 1")]
     Flag,
-    /// A player's words end before they begin.
-    #[error("words that end before they begin")]
-    Backward,
-    /// More than 208 words are offered.
+    /// A short number has more bytes than it needs, or more than 32 bits.
+    #[error("a short number that is too long")]
+    Long,
+    /// A mask has the place of a player of whom there is nothing.
+    #[error("nothing where a mask says that something is")]
+    Zero,
+    /// The frame after a player's last word has more than 32 bits.
+    #[error("words past the last frame")]
+    TooFar,
+    /// More than 160 words are offered.
     #[error("too many words")]
     TooMany,
     /// A run is longer than the words that are left, or a word that is said to change doesn't.

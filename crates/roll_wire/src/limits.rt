@@ -3,6 +3,6 @@
 /// What a datagram begins with: `FZG1`, whose last letter is the version.
 pub const MAGIC: u32 = 0x465A_4731;
 /// The most words in a datagram: whatever they are, so many fit.
-pub const WORD_LIMIT: usize = 208;
+pub const WORD_LIMIT: usize = 160;
 /// The most bytes of a datagram.
 pub const DATAGRAM_LIMIT: usize = 1_200;

@@ -1,17 +1,17 @@
 //! Bytes to datagrams.
 ghost use Rattle.std.specs.Prelude.{◌≡◌, ◌≢◌, ◌<◌, ◌≤◌, ◌^◌, List, length, None, Ok, IfOk};
 ghost use Rattle.std.specs.Int.{w32, w64};
-ghost use Rattle.roll_mesh.specs.declared.limits.TheConstants.{MACHINE_LIMIT, PLAYER_LIMIT};
+ghost use Rattle.roll_mesh.specs.declared.limits.TheConstants.{PLAYER_LIMIT};
 ghost use Rattle.roll_mesh.specs.declared.packet.Offer.{Offer};
-ghost use Rattle.roll_wire.specs.Spelling.{Fits, Message, content, count_of, message, spelling, turn};
-ghost use Rattle.roll_wire.specs.Reading.{Gives, all_of, byte_at, clocks_at, content_at, envelope_at, flag_at, head_at, hello_at, is_over, magic_at, number_at, offer_at, repeated, run_at, settled_at, turn_at, view_at, word_at, words_at};
+ghost use Rattle.roll_wire.specs.Spelling.{Fits, Message, content, count_of, digits_limit, message, spelling, turn};
+ghost use Rattle.roll_wire.specs.Reading.{Gives, all_of, bits, byte_at, clocks_at, content_at, counted_at, digits_at, envelope_at, flag_at, head_at, hello_at, is_over, magic_at, mask_at, masked_at, no_offer, number_at, offer_at, optional_at, place_at, repeated, run_at, settled_at, short_at, turn_at, view_at, word_at, words_at};
 ghost use Rattle.roll_wire.specs.declared.limits.TheConstants.{WORD_LIMIT};
 
 use crate::datagram::{Body, Clocks, Datagram, Envelope, Head, Hello, Play, Settled};
 use crate::fault::WireFault;
 use crate::limits::{MAGIC, WORD_LIMIT};
 use arrayvec::ArrayVec;
-use roll_mesh::{MACHINE_LIMIT, Offer, PLAYER_LIMIT, View};
+use roll_mesh::{Offer, PLAYER_LIMIT, View};
 
 fn u32_at(bytes: &[u8]) -> Result<(u32, &[u8]), WireFault>
     ensures { Gives (λ x. (x.0, x.1.now)) result (number_at w32 bytes.now) }
@@ -59,17 +59,67 @@ fn flag_of(bytes: &[u8]) -> Result<(bool, &[u8]), WireFault>
     }
 }
 
+/// A number in one byte, and so many more at most.
+#[tactic(auto, unfolding(crate::specs::Reading::digits_at, crate::specs::Spelling::digits_limit))]
+fn digits_of(more: u8, bytes: &[u8]) -> Result<(u32, &[u8]), WireFault>
+    requires { more ≤ 4 }
+    ensures gives { Gives (λ x. (x.0, x.1.now)) result (digits_at more bytes.now) }
+    ensures below { IfOk result (λ x. x.0 < digits_limit more) }
+{
+    let (byte, rest) = byte_of(bytes)?;
+    if more == 0 {
+        return if byte < 16 {
+            Ok((u32::from(byte), rest))
+        } else {
+            Err(WireFault::Long)
+        };
+    }
+    if byte < 128 {
+        return Ok((u32::from(byte), rest));
+    }
+    let (higher, rest) = digits_of(more - 1, rest)?;
+    if higher == 0 {
+        return Err(WireFault::Long);
+    }
+    Ok((u32::from(byte) - 128 + 128 * higher, rest))
+}
+
+fn short_of(bytes: &[u8]) -> Result<(u32, &[u8]), WireFault>
+    ensures { Gives (λ x. (x.0, x.1.now)) result (short_at bytes.now) }
+{
+    digits_of(4, bytes)
+}
+
+/// Whether each bit of a mask is set, the lowest first.
+fn bits_of(mask: u8) -> [bool; PLAYER_LIMIT]
+    ensures { result ≡ bits 8 mask }
+{
+    let mut bits = [false; PLAYER_LIMIT];
+    let mut left = mask;
+    for place in 0..PLAYER_LIMIT {
+        bits[place] = left % 2 == 1;
+        left /= 2;
+    }
+    bits
+}
+
+#[tactic(auto, unfolding(crate::specs::Reading::mask_at))]
+fn mask_of(bytes: &[u8]) -> Result<([bool; PLAYER_LIMIT], &[u8]), WireFault>
+    ensures { Gives (λ x. (x.0, x.1.now)) result (mask_at bytes.now) }
+{
+    let (mask, rest) = byte_of(bytes)?;
+    Ok((bits_of(mask), rest))
+}
+
 #[tactic(auto, unfolding(crate::specs::Reading::envelope_at))]
 fn envelope_of(bytes: &[u8]) -> Result<(Envelope, &[u8]), WireFault>
     ensures { Gives (λ x. (x.0, x.1.now)) result (envelope_at bytes.now) }
 {
     let (match_number, rest) = u64_at(bytes)?;
     let (sender, rest) = byte_of(rest)?;
-    let (number, rest) = u32_at(rest)?;
     let envelope = Envelope {
         match_number,
         sender,
-        number,
     };
     Ok((envelope, rest))
 }
@@ -78,12 +128,14 @@ fn envelope_of(bytes: &[u8]) -> Result<(Envelope, &[u8]), WireFault>
 fn clocks_of(bytes: &[u8]) -> Result<(Clocks, &[u8]), WireFault>
     ensures { Gives (λ x. (x.0, x.1.now)) result (clocks_at bytes.now) }
 {
-    let (frame, rest) = u32_at(bytes)?;
-    let (heard_frame, rest) = u32_at(rest)?;
-    let (clock, rest) = u32_at(rest)?;
-    let (heard_clock, rest) = u32_at(rest)?;
-    let (held, rest) = u32_at(rest)?;
+    let (number, rest) = short_of(bytes)?;
+    let (frame, rest) = short_of(rest)?;
+    let (heard_frame, rest) = short_of(rest)?;
+    let (clock, rest) = short_of(rest)?;
+    let (heard_clock, rest) = short_of(rest)?;
+    let (held, rest) = short_of(rest)?;
     let clocks = Clocks {
+        number,
         frame,
         heard_frame,
         clock,
@@ -93,25 +145,83 @@ fn clocks_of(bytes: &[u8]) -> Result<(Clocks, &[u8]), WireFault>
     Ok((clocks, rest))
 }
 
+#[tactic(auto, unfolding(crate::specs::Reading::optional_at))]
+fn optional_clocks_of(bytes: &[u8]) -> Result<(Option<Clocks>, &[u8]), WireFault>
+    ensures { Gives (λ x. (x.0, x.1.now)) result (optional_at clocks_at bytes.now) }
+{
+    let (is_there, rest) = flag_of(bytes)?;
+    if !is_there {
+        return Ok((None, rest));
+    }
+    let (clocks, rest) = clocks_of(rest)?;
+    Ok((Some(clocks), rest))
+}
+
 #[tactic(auto, unfolding(crate::specs::Reading::settled_at))]
 fn settled_of(bytes: &[u8]) -> Result<(Settled, &[u8]), WireFault>
     ensures { Gives (λ x. (x.0, x.1.now)) result (settled_at bytes.now) }
 {
-    let (frame, rest) = u32_at(bytes)?;
+    let (frame, rest) = short_of(bytes)?;
     let (digest, rest) = u64_at(rest)?;
     Ok((Settled { frame, digest }, rest))
+}
+
+#[tactic(auto, unfolding(crate::specs::Reading::optional_at))]
+fn optional_settled_of(bytes: &[u8]) -> Result<(Option<Settled>, &[u8]), WireFault>
+    ensures { Gives (λ x. (x.0, x.1.now)) result (optional_at settled_at bytes.now) }
+{
+    let (is_there, rest) = flag_of(bytes)?;
+    if !is_there {
+        return Ok((None, rest));
+    }
+    let (settled, rest) = settled_of(rest)?;
+    Ok((Some(settled), rest))
+}
+
+#[tactic(auto, unfolding(crate::specs::Reading::counted_at))]
+fn counted_of(bytes: &[u8]) -> Result<(u32, &[u8]), WireFault>
+    ensures { Gives (λ x. (x.0, x.1.now)) result (counted_at bytes.now) }
+{
+    let (count, rest) = short_of(bytes)?;
+    if count == 0 {
+        return Err(WireFault::Zero);
+    }
+    Ok((count, rest))
+}
+
+/// A player's number of words: 0 if it isn't there.
+fn player_has_of(is_there: bool, bytes: &[u8]) -> Result<(u32, &[u8]), WireFault>
+    ensures { Gives (λ x. (x.0, x.1.now)) result (place_at 0 counted_at is_there bytes.now) }
+{
+    if !is_there {
+        return Ok((0, bytes));
+    }
+    counted_of(bytes)
 }
 
 #[tactic(auto, unfolding(crate::specs::Reading::offer_at))]
 fn offer_of(bytes: &[u8]) -> Result<(Offer, &[u8]), WireFault>
     ensures { Gives (λ x. (x.0, x.1.now)) result (offer_at bytes.now) }
 {
-    let (first, rest) = u32_at(bytes)?;
-    let (end, rest) = u32_at(rest)?;
-    if end < first {
-        return Err(WireFault::Backward);
+    let (first, rest) = short_of(bytes)?;
+    let (count, rest) = byte_of(rest)?;
+    let Some(end) = first.checked_add(u32::from(count)) else {
+        return Err(WireFault::TooFar);
+    };
+    if end == 0 {
+        return Err(WireFault::Zero);
     }
     Ok((Offer { first, end }, rest))
+}
+
+/// A player's offer: of no words if it isn't there.
+fn player_offer_of(is_there: bool, bytes: &[u8]) -> Result<(Offer, &[u8]), WireFault>
+    ensures { Gives (λ x. (x.0, x.1.now)) result (place_at no_offer offer_at is_there bytes.now) }
+{
+    if !is_there {
+        return Ok((Offer { first: 0, end: 0 }, bytes));
+    }
+    offer_of(bytes)
 }
 
 #[tactic(auto, unfolding(crate::specs::Reading::magic_at))]
@@ -142,7 +252,7 @@ fn word_of(before: u32, run: u8, bytes: &[u8]) -> Result<(u32, Option<u8>, &[u8]
     if run > 0 {
         return Ok((before, Some(run - 1), bytes));
     }
-    let (word, rest) = u32_at(bytes)?;
+    let (word, rest) = short_of(bytes)?;
     if word == before {
         return Err(WireFault::Run);
     }
@@ -159,39 +269,28 @@ fn is_over(run: Option<u8>) -> bool
     }
 }
 
-fn gone_of(bytes: &[u8]) -> Result<([bool; MACHINE_LIMIT], &[u8]), WireFault>
-    ensures { Gives (λ x. (x.0, x.1.now)) result (repeated flag_at MACHINE_LIMIT bytes.now) }
-{
-    let mut gone = [false; MACHINE_LIMIT];
-    let mut rest = bytes;
-    for machine in 0..MACHINE_LIMIT {
-        let (flag, after) = flag_of(rest)?;
-        gone[machine] = flag;
-        rest = after;
-    }
-    Ok((gone, rest))
-}
-
+#[tactic(auto, unfolding(crate::specs::Reading::masked_at))]
 fn has_of(bytes: &[u8]) -> Result<([u32; PLAYER_LIMIT], &[u8]), WireFault>
-    ensures { Gives (λ x. (x.0, x.1.now)) result (repeated (number_at w32) PLAYER_LIMIT bytes.now) }
+    ensures { Gives (λ x. (x.0, x.1.now)) result (masked_at 0 counted_at bytes.now) }
 {
+    let (places, mut rest) = mask_of(bytes)?;
     let mut has = [0; PLAYER_LIMIT];
-    let mut rest = bytes;
     for player in 0..PLAYER_LIMIT {
-        let (number, after) = u32_at(rest)?;
-        has[player] = number;
+        let (count, after) = player_has_of(places[player], rest)?;
+        has[player] = count;
         rest = after;
     }
     Ok((has, rest))
 }
 
+#[tactic(auto, unfolding(crate::specs::Reading::masked_at))]
 fn offers_of(bytes: &[u8]) -> Result<([Offer; PLAYER_LIMIT], &[u8]), WireFault>
-    ensures { Gives (λ x. (x.0, x.1.now)) result (repeated offer_at PLAYER_LIMIT bytes.now) }
+    ensures { Gives (λ x. (x.0, x.1.now)) result (masked_at no_offer offer_at bytes.now) }
 {
+    let (places, mut rest) = mask_of(bytes)?;
     let mut offers = [Offer { first: 0, end: 0 }; PLAYER_LIMIT];
-    let mut rest = bytes;
     for player in 0..PLAYER_LIMIT {
-        let (offer, after) = offer_of(rest)?;
+        let (offer, after) = player_offer_of(places[player], rest)?;
         offers[player] = offer;
         rest = after;
     }
@@ -232,7 +331,7 @@ fn hello_of(bytes: &[u8]) -> Result<(Hello, &[u8]), WireFault>
 fn view_of(bytes: &[u8]) -> Result<(View, &[u8]), WireFault>
     ensures { Gives (λ x. (x.0, x.1.now)) result (view_at bytes.now) }
 {
-    let (gone, rest) = gone_of(bytes)?;
+    let (gone, rest) = mask_of(bytes)?;
     let (has, rest) = has_of(rest)?;
     Ok((View { gone, has }, rest))
 }
@@ -241,9 +340,9 @@ fn view_of(bytes: &[u8]) -> Result<(View, &[u8]), WireFault>
 fn head_of(bytes: &[u8]) -> Result<(Head, &[u8]), WireFault>
     ensures { Gives (λ x. (x.0, x.1.now)) result (head_at bytes.now) }
 {
-    let (clocks, rest) = clocks_of(bytes)?;
+    let (clocks, rest) = optional_clocks_of(bytes)?;
     let (view, rest) = view_of(rest)?;
-    let (settled, rest) = settled_of(rest)?;
+    let (settled, rest) = optional_settled_of(rest)?;
     let (offers, rest) = offers_of(rest)?;
     let head = Head {
         clocks,

@@ -8,76 +8,136 @@ use arrayvec::ArrayVec;
 use roll_mesh::{Offer, PLAYER_LIMIT, View};
 use std::test::Fail;
 
-const HELLO: [u8; 36] = [
-    0x46, 0x5a, 0x47, 0x31, 0x11, 0x22, 0x33, 0x44, 0x55, 0x66, 0x77, 0x88, 0x01, 0x00, 0x00, 0x00,
-    0x00, 0x00, 0x01, 0x02, 0x00, 0x01, 0xff, 0xff, 0xff, 0xff, 0xff, 0xff, 0x01, 0x23, 0x45, 0x67,
-    0x89, 0xab, 0xcd, 0xef,
+const HELLO: [u8; 32] = [
+    0x46, 0x5a, 0x47, 0x31, 0x11, 0x22, 0x33, 0x44, 0x55, 0x66, 0x77, 0x88, 0x01, 0x00, 0x01, 0x02,
+    0x00, 0x01, 0xff, 0xff, 0xff, 0xff, 0xff, 0xff, 0x01, 0x23, 0x45, 0x67, 0x89, 0xab, 0xcd, 0xef,
 ];
 
-const PLAY: [u8; 164] = [
-    0x46, 0x5a, 0x47, 0x31, 0x11, 0x22, 0x33, 0x44, 0x55, 0x66, 0x77, 0x88, 0x01, 0x00, 0x00, 0x00,
-    0x82, 0x01, 0x00, 0x00, 0x00, 0x78, 0x00, 0x00, 0x00, 0x76, 0x00, 0x00, 0x07, 0xe0, 0x00, 0x00,
-    0x07, 0xc0, 0x00, 0x00, 0x00, 0x10, 0x00, 0x00, 0x00, 0x00, 0x00, 0x00, 0x00, 0x00, 0x00, 0x00,
-    0x00, 0x77, 0x00, 0x00, 0x00, 0x7b, 0x00, 0x00, 0x00, 0x00, 0x00, 0x00, 0x00, 0x00, 0x00, 0x00,
-    0x00, 0x00, 0x00, 0x00, 0x00, 0x00, 0x00, 0x00, 0x00, 0x00, 0x00, 0x00, 0x00, 0x00, 0x00, 0x00,
-    0x00, 0x6e, 0xfe, 0xdc, 0xba, 0x98, 0x76, 0x54, 0x32, 0x10, 0x00, 0x00, 0x00, 0x00, 0x00, 0x00,
-    0x00, 0x00, 0x00, 0x00, 0x00, 0x75, 0x00, 0x00, 0x00, 0x7b, 0x00, 0x00, 0x00, 0x00, 0x00, 0x00,
-    0x00, 0x00, 0x00, 0x00, 0x00, 0x00, 0x00, 0x00, 0x00, 0x00, 0x00, 0x00, 0x00, 0x00, 0x00, 0x00,
-    0x00, 0x00, 0x00, 0x00, 0x00, 0x00, 0x00, 0x00, 0x00, 0x00, 0x00, 0x00, 0x00, 0x00, 0x00, 0x00,
-    0x00, 0x00, 0x00, 0x00, 0x00, 0x00, 0x00, 0x00, 0x00, 0x00, 0x02, 0x00, 0x00, 0x00, 0x05, 0x02,
-    0x00, 0x00, 0x00, 0x07,
+const PLAY: [u8; 45] = [
+    0x46, 0x5a, 0x47, 0x31, 0x11, 0x22, 0x33, 0x44, 0x55, 0x66, 0x77, 0x88, 0x01, 0x01, 0x01, 0x82,
+    0x01, 0x78, 0x76, 0xe0, 0x0f, 0xc0, 0x0f, 0x10, 0x00, 0x03, 0x77, 0x7b, 0x01, 0x6e, 0xfe, 0xdc,
+    0xba, 0x98, 0x76, 0x54, 0x32, 0x10, 0x02, 0x75, 0x06, 0x02, 0x05, 0x02, 0x07,
 ];
 
-const BYE: [u8; 18] = [
-    0x46, 0x5a, 0x47, 0x31, 0x11, 0x22, 0x33, 0x44, 0x55, 0x66, 0x77, 0x88, 0x01, 0x00, 0x00, 0x00,
-    0x83, 0x02,
+const HELD: [u8; 32] = [
+    0x46, 0x5a, 0x47, 0x31, 0x11, 0x22, 0x33, 0x44, 0x55, 0x66, 0x77, 0x88, 0x01, 0x01, 0x00, 0x00,
+    0x03, 0x9f, 0x9c, 0x01, 0xa3, 0x9c, 0x01, 0x00, 0x02, 0x9d, 0x9c, 0x01, 0x06, 0x00, 0x05, 0x05,
 ];
 
-fn datagram(number: u32, body: Body) -> Datagram {
+const BYE: [u8; 14] = [
+    0x46, 0x5a, 0x47, 0x31, 0x11, 0x22, 0x33, 0x44, 0x55, 0x66, 0x77, 0x88, 0x01, 0x02,
+];
+
+const NO_OFFER: Offer = Offer { first: 0, end: 0 };
+
+type Words = ArrayVec<u32, WORD_LIMIT>;
+
+fn datagram(body: Body) -> Datagram {
     Datagram {
         envelope: Envelope {
             match_number: 0x1122_3344_5566_7788,
             sender: 1,
-            number,
         },
         body,
     }
 }
 
-/// A turn whose words are those of player 1.
-fn turn(first: u32, end: u32, words: ArrayVec<u32, WORD_LIMIT>) -> Body {
-    let mut offers = [Offer { first: 0, end: 0 }; PLAYER_LIMIT];
+fn words_of(values: &[u32]) -> Words {
+    let mut words = ArrayVec::new();
+    for value in values {
+        if !words.is_full() {
+            words.push(*value);
+        }
+    }
+    words
+}
+
+/// A turn whose words are those of player 1, without clocks and settled state.
+fn plain(has: [u32; 2], first: u32, end: u32, words: Words) -> Body {
+    let mut offers = [NO_OFFER; PLAYER_LIMIT];
     offers[1] = Offer { first, end };
     let head = Head {
-        clocks: Clocks {
-            frame: 120,
-            heard_frame: 118,
-            clock: 2016,
-            heard_clock: 1984,
-            held: 16,
-        },
+        clocks: None,
         view: View {
             gone: [false; 8],
-            has: [119, 123, 0, 0, 0, 0, 0, 0],
+            has: [has[0], has[1], 0, 0, 0, 0, 0, 0],
         },
-        settled: Settled {
-            frame: 110,
-            digest: 0xfedc_ba98_7654_3210,
-        },
+        settled: None,
         offers,
     };
     Body::Play(Play { head, words })
 }
 
-/// As many words, each of them another one than the one before.
-fn changing(count: u32) -> ArrayVec<u32, WORD_LIMIT> {
+/// The turn of the example at frame 120.
+fn full() -> Body {
+    let mut offers = [NO_OFFER; PLAYER_LIMIT];
+    offers[1] = Offer {
+        first: 117,
+        end: 123,
+    };
+    let head = Head {
+        clocks: Some(Clocks {
+            number: 130,
+            frame: 120,
+            heard_frame: 118,
+            clock: 2016,
+            heard_clock: 1984,
+            held: 16,
+        }),
+        view: View {
+            gone: [false; 8],
+            has: [119, 123, 0, 0, 0, 0, 0, 0],
+        },
+        settled: Some(Settled {
+            frame: 110,
+            digest: 0xfedc_ba98_7654_3210,
+        }),
+        offers,
+    };
+    let words = words_of(&[0, 0, 5, 5, 5, 7]);
+    Body::Play(Play { head, words })
+}
+
+/// As many words, each of them of 32 bits, and another one than the one before.
+fn changing(count: u32) -> Words {
     let mut words = ArrayVec::new();
     for place in 0..count {
         if !words.is_full() {
-            words.push(place + 1);
+            words.push(u32::MAX - place % 2);
         }
     }
     words
+}
+
+/// The turn whose text is the longest.
+fn greatest() -> Body {
+    let offer = Offer {
+        first: 4_000_000_000,
+        end: 4_000_000_020,
+    };
+    let head = Head {
+        clocks: Some(Clocks {
+            number: u32::MAX,
+            frame: u32::MAX,
+            heard_frame: u32::MAX,
+            clock: u32::MAX,
+            heard_clock: u32::MAX,
+            held: u32::MAX,
+        }),
+        view: View {
+            gone: [true; 8],
+            has: [u32::MAX; 8],
+        },
+        settled: Some(Settled {
+            frame: u32::MAX,
+            digest: u64::MAX,
+        }),
+        offers: [offer; PLAYER_LIMIT],
+    };
+    Body::Play(Play {
+        head,
+        words: changing(160),
+    })
 }
 
 /// Whether a datagram has this text, and is read from it.
@@ -99,57 +159,76 @@ fn the_examples(rt: HostRuntime) -> Result<(), Fail> {
         owners: [0, 1, 255, 255, 255, 255, 255, 255],
         settings: 0x0123_4567_89ab_cdef,
     };
-    let mut words = ArrayVec::new();
-    for word in [0, 0, 5, 5, 5, 7] {
-        if !words.is_full() {
-            words.push(word);
-        }
-    }
-    assert!(rt; is_text(&datagram(0, Body::Hello(hello)), HELLO.as_slice()));
-    assert!(rt; is_text(&datagram(130, turn(117, 123, words)), PLAY.as_slice()));
-    assert!(rt; is_text(&datagram(131, Body::Bye), BYE.as_slice()));
+    let held = plain([19_999, 20_003], 19_997, 20_003, words_of(&[5; 6]));
+    assert!(rt; is_text(&datagram(Body::Hello(hello)), HELLO.as_slice()));
+    assert!(rt; is_text(&datagram(full()), PLAY.as_slice()));
+    assert!(rt; is_text(&datagram(held), HELD.as_slice()));
+    assert!(rt; is_text(&datagram(Body::Bye), BYE.as_slice()));
     Ok(())
 }
 
 #[test]
 fn the_greatest(rt: HostRuntime) -> Result<(), Fail> {
-    let greatest = datagram(0, turn(0, 208, changing(208)));
+    let greatest = datagram(greatest());
     let text = encode(&greatest).ok_or("it has a text")?;
-    assert_eq!(rt; text.len(), 1_194);
+    assert_eq!(rt; text.len(), 1_110);
     assert!(rt; text.len() <= DATAGRAM_LIMIT);
     assert!(rt; is_text(&greatest, text.as_slice()));
-    assert!(rt; encode(&datagram(0, turn(0, 209, changing(208)))).is_none());
-    assert!(rt; encode(&datagram(0, turn(1, 0, changing(0)))).is_none());
     Ok(())
 }
 
 #[test]
+fn has_no_text(rt: HostRuntime) -> Result<(), Fail> {
+    assert!(rt; encode(&datagram(plain([0, 0], 0, 160, changing(160)))).is_some());
+    assert!(rt; encode(&datagram(plain([0, 0], 0, 161, changing(160)))).is_none());
+    assert!(rt; encode(&datagram(plain([0, 0], 0, 416, changing(160)))).is_none());
+    assert!(rt; encode(&datagram(plain([0, 0], 1, 0, changing(0)))).is_none());
+    Ok(())
+}
+
+/// The fault of an example one byte of which is another.
+fn fault_of<const N: usize>(text: [u8; N], place: usize, byte: u8) -> Option<WireFault> {
+    let mut text = text;
+    if place < N {
+        text[place] = byte;
+    }
+    decode(text.as_slice()).err()
+}
+
+#[test]
 fn refuses(rt: HostRuntime) -> Result<(), Fail> {
-    let mut kind = BYE;
-    kind[17] = 3;
-    let mut version = BYE;
-    version[3] = 0x32;
-    let mut flag = HELLO;
-    flag[18] = 2;
-    let mut backward = PLAY;
-    backward[105] = 0x74;
-    let mut many = PLAY;
-    many[104] = 1;
-    let mut run = PLAY;
-    run[154] = 7;
-    let mut same = PLAY;
-    same[163] = 5;
-    assert_eq!(rt; decode(&BYE[..17]).err(), Some(WireFault::Short));
+    assert_eq!(rt; decode(&BYE[..13]).err(), Some(WireFault::Short));
+    assert_eq!(rt; decode(&PLAY[..44]).err(), Some(WireFault::Short));
     assert_eq!(rt; decode(&PLAY[1..]).err(), Some(WireFault::Magic));
-    assert_eq!(rt; decode(version.as_slice()).err(), Some(WireFault::Magic));
-    assert_eq!(rt; decode(kind.as_slice()).err(), Some(WireFault::Kind));
-    assert_eq!(rt; decode(flag.as_slice()).err(), Some(WireFault::Flag));
-    assert_eq!(rt;
-        decode(backward.as_slice()).err(),
-        Some(WireFault::Backward)
-    );
-    assert_eq!(rt; decode(many.as_slice()).err(), Some(WireFault::TooMany));
-    assert_eq!(rt; decode(run.as_slice()).err(), Some(WireFault::Run));
-    assert_eq!(rt; decode(same.as_slice()).err(), Some(WireFault::Run));
+    assert_eq!(rt; fault_of(BYE, 3, 0x32), Some(WireFault::Magic));
+    assert_eq!(rt; fault_of(BYE, 13, 3), Some(WireFault::Kind));
+    assert_eq!(rt; fault_of(HELLO, 14, 2), Some(WireFault::Flag));
+    assert_eq!(rt; fault_of(PLAY, 14, 2), Some(WireFault::Flag));
+    assert_eq!(rt; fault_of(PLAY, 28, 2), Some(WireFault::Flag));
+    assert_eq!(rt; fault_of(PLAY, 16, 0), Some(WireFault::Long));
+    assert_eq!(rt; fault_of(PLAY, 26, 0), Some(WireFault::Zero));
+    assert_eq!(rt; fault_of(PLAY, 40, 161), Some(WireFault::TooMany));
+    assert_eq!(rt; fault_of(PLAY, 41, 7), Some(WireFault::Run));
+    assert_eq!(rt; fault_of(PLAY, 44, 5), Some(WireFault::Run));
+    assert_eq!(rt; fault_of(HELLO, 13, 2), Some(WireFault::Trailing));
+    Ok(())
+}
+
+#[test]
+fn refuses_offers(rt: HostRuntime) -> Result<(), Fail> {
+    let mut nothing = PLAY;
+    nothing[39] = 0;
+    nothing[40] = 0;
+    let mut last = HELD;
+    for place in 25..29 {
+        last[place] = 0xff;
+    }
+    last[29] = 0x0f;
+    last[30] = 1;
+    let mut wide = last;
+    wide[29] = 0x10;
+    assert_eq!(rt; decode(nothing.as_slice()).err(), Some(WireFault::Zero));
+    assert_eq!(rt; decode(last.as_slice()).err(), Some(WireFault::TooFar));
+    assert_eq!(rt; decode(wide.as_slice()).err(), Some(WireFault::Long));
     Ok(())
 }

@@ -1,12 +1,13 @@
 -- How the program ends at words that fail.
-use Rattle.std.proofs.Common.{◌≡◌, ap, arith, inl, inr, subst, [], ◌∷◌}
+use Rattle.std.proofs.Common.{◌≡◌, ap, arith, inl, inr, subst, List, [], ◌∷◌}
+use Rattle.clap.specs.Walk.{Row}
 use Rattle.clap.specs.Kinds.{HasKind, IsAmong, Kinds}
 use Rattle.clap.specs.Values.{kind_of}
 use Rattle.clap.specs.declared.error.Error.{Error}
 use Rattle.clap.specs.declared.error.kind.ErrorKind.{ErrorKind}
 use Rattle.prog_parts.specs.declared.ending.Ending.{Ending}
-use Rattle.rollduel.specs.Endings.{EndsMatch, EndsRefused, IsPrinted, IsTold, IsToldOfOne}
-use Rattle.rollduel.specs.Requests.{Asked, IfMatch, live, «match», on_text}
+use Rattle.rollduel.specs.Endings.{EndsMatch, EndsPeers, EndsRefused, IsPrinted, IsTold, IsToldOfOne}
+use Rattle.rollduel.specs.Requests.{Asked, IfMatch, IfPeers, live, «match», on_text, peers}
 
 told_of_one : (kinds : Kinds) (kind : ErrorKind) (ending : Ending) → IsAmong kind kinds → IsTold kind ending → IsToldOfOne kinds ending
 told_of_one [] kind ending among told = absurd among
@@ -30,6 +31,16 @@ match_fails : (asked : Asked) (ending : Ending) → (ending.status ≡ 0 → ⊥
 match_fails (on_text path task explain) ending never = tt
 match_fails (live path how) ending never = tt
 match_fails («match» options) ending never = λ well. absurd (never well)
+match_fails peers ending never = tt
 
 pub match_refused : (asked : Asked) (kinds : Kinds) (error : Error) (ending : Ending) → HasKind kinds error → IsPrinted (kind_of error) ending → kinds ≡ [] → IfMatch asked (EndsMatch ending)
 match_refused asked kinds error ending fails printed none = match_fails asked ending (never_well kinds error ending fails printed none)
+
+peers_fail : (rows : List Row) (asked : Asked) (ending : Ending) → (ending.status ≡ 0 → ⊥) → IfPeers asked (EndsPeers rows ending)
+peers_fail rows (on_text path task explain) ending never = tt
+peers_fail rows (live path how) ending never = tt
+peers_fail rows («match» options) ending never = tt
+peers_fail rows peers ending never = λ well. absurd (never well)
+
+pub peers_refused : (rows : List Row) (asked : Asked) (kinds : Kinds) (error : Error) (ending : Ending) → HasKind kinds error → IsPrinted (kind_of error) ending → kinds ≡ [] → IfPeers asked (EndsPeers rows ending)
+peers_refused rows asked kinds error ending fails printed none = peers_fail rows asked ending (never_well kinds error ending fails printed none)

@@ -12,7 +12,7 @@ use Rattle.prog_parts.specs.declared.task.Task.TheVariants.{Play, SyncTest, Cert
 use Rattle.prog_match.specs.declared.options.Guesses.TheVariants.{Off, Turns}
 use Rattle.rollduel.specs.Commands.{Choices, app_with, rollduel_app}
 use Rattle.rollduel.specs.Endings.{EndsRefused}
-use Rattle.rollduel.specs.Requests.{asked_by, live, «match», on_text}
+use Rattle.rollduel.specs.Requests.{asked_by, live, «match», on_text, peers}
 
 pub simple : (games guesses : Choices) → is_simple (app_with games guesses) ≡ true
 simple games guesses = refl
@@ -88,6 +88,10 @@ pub plays_a_match_so : asked_by (codes "rollduel" ∷ codes "match" ∷ codes "-
 unfolding clap_on_literals
 plays_a_match_so = refl
 
+pub plays_peers : asked_by (codes "rollduel" ∷ codes "match" ∷ codes "--peers" ∷ codes "3" ∷ codes "--stop" ∷ codes "1:30" ∷ codes "--stop=2:40" ∷ []) ≡ peers
+unfolding clap_on_literals
+plays_peers = refl
+
 pub takes_nothing : takes rollduel_app (codes "rollduel" ∷ []) ≡ true
 unfolding clap_on_literals
 takes_nothing = refl
@@ -139,6 +143,10 @@ nine_frames_fault = refl
 pub five_workers_fault : fault_of rollduel_app (codes "rollduel" ∷ codes "live" ∷ codes "a" ∷ codes "--workers" ∷ codes "5" ∷ []) ≡ ValueValidation ∷ []
 unfolding clap_on_literals
 five_workers_fault = refl
+
+pub nine_peers_fault : fault_of rollduel_app (codes "rollduel" ∷ codes "match" ∷ codes "--peers" ∷ codes "9" ∷ []) ≡ ValueValidation ∷ []
+unfolding clap_on_literals
+nine_peers_fault = refl
 
 pub stray_file_fault : fault_of rollduel_app (codes "rollduel" ∷ codes "match" ∷ codes "a.roll" ∷ []) ≡ UnknownArgument ∷ []
 unfolding clap_on_literals

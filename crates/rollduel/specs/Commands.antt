@@ -3,7 +3,7 @@ use Rattle.std.specs.Prelude.{◌≡◌, ◌^◌, ◌-◌, ℕ, List, [], ◌∷
 use Rattle.std.specs.Borrow.{Bor}
 use Rattle.clap.specs.Simple.{App, new_app, new_rule, on_top, with_rule, with_subcommand}
 use Rattle.clap.specs.Walk.{Rule, Text, texts}
-use Rattle.clap.specs.declared.builder.action.ArgAction.TheVariants.{SetTrue}
+use Rattle.clap.specs.declared.builder.action.ArgAction.TheVariants.{Append, SetTrue}
 use Rattle.clap.specs.declared.builder.value_parser.ValueParser.TheVariants as parser
 
 -- the texts that an option takes, where they stand in memory
@@ -53,6 +53,22 @@ number_rule name default least most = record (new_rule name) {
   parser = Some (parser.Unsigned least most);
 }
 
+-- an option that takes such a number, and needn't be given
+abbrev pub free_number_rule : Text → ℕ → ℕ → Rule
+free_number_rule name least most = record (new_rule name) {
+  long = Some name;
+  value_names = 1;
+  parser = Some (parser.Unsigned least most);
+}
+
+-- --stop M:FRAME, which may be given several times
+abbrev pub stop_rule : Rule
+stop_rule = record (new_rule (codes "stop")) {
+  long = Some (codes "stop");
+  value_names = 1;
+  action = Some Append;
+}
+
 -- --explain
 abbrev pub explain_rule : Rule
 explain_rule = record (new_rule (codes "explain")) { long = Some (codes "explain"); action = Some SetTrue }
@@ -77,11 +93,17 @@ line_app = with_rules (new_app (codes "match")) (
     number_rule (codes "lost") (codes "0") 0 99 ∷
     number_rule (codes "hold") (codes "10") 1 1000000 ∷ [])
 
-abbrev pub match_app : Choices → Choices → App
-match_app games guesses = with_rules line_app (
+-- and as far as a match of two peers goes
+abbrev pub two_peers_app : Choices → Choices → App
+two_peers_app games guesses = with_rules line_app (
     number_rule (codes "delay") (codes "0") 0 255 ∷
     number_rule (codes "threshold") (codes "8") 0 255 ∷
     guesses_rule guesses ∷ game_rule games ∷ [])
+
+abbrev pub match_app : Choices → Choices → App
+match_app games guesses = with_rules (two_peers_app games guesses) (
+    free_number_rule (codes "peers") 2 8 ∷ stop_rule ∷
+    free_number_rule (codes "hostile") 0 (2 ^ 64 - 1) ∷ [])
 
 abbrev pub synctest_app : Choices → App
 synctest_app games = with_rules (new_app (codes "synctest")) (file_rule ∷ game_rule games ∷ number_rule (codes "frames") (codes "1") 1 8 ∷ explain_rule ∷ [])

@@ -6,8 +6,12 @@ use Rattle.clap.specs.declared.error.kind.ErrorKind.TheVariants.{DisplayHelp, Di
 use Rattle.prog_parts.specs.declared.fault.PlayFault.{PlayFault}
 use Rattle.prog_parts.specs.declared.fault.PlayFault.TheVariants.{NoMemory, Read, Write}
 use Rattle.prog_parts.specs.declared.ending.Ending.{Ending}
+use Rattle.clap.specs.Walk.{Row}
 use Rattle.prog_match.specs.Options.{IsPlayable}
 use Rattle.prog_match.specs.declared.options.MatchOptions.{MatchOptions}
+use Rattle.prog_peers.specs.Agreement.{HasAgreed}
+use Rattle.prog_peers.specs.declared.options.PeersOptions.{PeersOptions}
+use Rattle.rollduel.specs.Requests.{AreNamed}
 
 -- the program ends with a fault
 abbrev pub faulted : PlayFault → Ending
@@ -20,6 +24,11 @@ HasStatus ending = MatchOption ending.fault (ending.status ≤ 2) (λ fault. end
 -- a match ends well only where it could be played
 abbrev pub EndsMatch : Ending → MatchOptions → Type 0
 EndsMatch ending options = ending.status ≡ 0 → IsPlayable options
+
+-- a match of several machines ends well only where it is one that these arguments name, and its machines have agreed
+abbrev pub EndsPeers : List Row → Ending → Type 0
+EndsPeers rows ending = ending.status ≡ 0
+    → (options : PeersOptions) × AreNamed rows options × HasAgreed options
 
 -- the status after help, or after a fault of usage
 abbrev pub usage_status : ErrorKind → ℕ

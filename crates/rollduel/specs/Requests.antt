@@ -1,10 +1,11 @@
 -- What the words ask for.
-use Rattle.std.specs.Prelude.{◌≤◌, ◌^◌, ◌&&◌, ℕ, Bool, false, List, Option, None, Some, ⊤, codes, if◌then◌else◌, nat_le, nat_lt}
+use Rattle.std.specs.Prelude.{◌≡◌, ◌≤◌, ◌^◌, ◌&&◌, ◌||◌, ℕ, Bool, false, List, [], Option, None, Some, ⊤, codes, if◌then◌else◌, is_some, nat_le, nat_lt, option_map, unwrap_or, IfOk}
+use Rattle.std.specs.Option.{option_map_or}
 use Rattle.std.specs.Str.{bytes_eq}
 use Rattle.std.specs.Str.Parse.{digits_value, without_leading_plus}
 use Rattle.clap.specs.Simple.{subcommand_of}
 use Rattle.clap.specs.ValueTests.{is_numeral}
-use Rattle.clap.specs.Walk.{Row, Text, byte_or_zero, first_of}
+use Rattle.clap.specs.Walk.{Row, Text, all_of, byte_or_zero, first_of}
 use Rattle.prog_parts.specs.declared.ending.GameName.{GameName}
 use Rattle.prog_parts.specs.declared.ending.GameName.TheVariants.{Tally, Duel}
 use Rattle.prog_parts.specs.declared.task.Task.{Task}
@@ -13,6 +14,9 @@ use Rattle.roll_live.specs.declared.program.Live.{Live}
 use Rattle.prog_match.specs.declared.options.Guesses.{Guesses}
 use Rattle.prog_match.specs.declared.options.Guesses.TheVariants.{Off, Words, Turns}
 use Rattle.prog_match.specs.declared.options.MatchOptions.{MatchOptions}
+use Rattle.prog_peers.specs.Options.{fault_of}
+use Rattle.prog_peers.specs.Stops.{no_stops, NamesStops}
+use Rattle.prog_peers.specs.declared.options.PeersOptions.{PeersOptions}
 use Rattle.rollduel.specs.Commands.{rollduel_app}
 use Rattle.rollduel.specs.declared.command_line.Input.{Input}
 use Rattle.rollduel.specs.declared.command_line.Input.TheVariants.{Standard, File}
@@ -90,26 +94,52 @@ options_named value = record {
 }
 
 -- what is asked for: something with a text, the path of which is none where it is standard input, and whether that is
--- to be explained; a script that is played live; or a match
+-- to be explained; a script that is played live; a match of two peers; or one of several machines
 pub data Asked : Type 0 where
   on_text : Option Text → Task → Bool → Asked
   live : Option Text → Live → Asked
   «match» : MatchOptions → Asked
+  peers : Asked
 
 abbrev pub asked_of : Request → Asked
 asked_of (request.Text asked) = on_text (path_of asked.input) asked.task asked.explain
 asked_of (request.Live input how) = live (path_of input) how
 asked_of (request.Match options) = «match» options
+asked_of (request.Peers options) = peers
 
 -- there are 1 to 4 workers
 abbrev pub HasWorkers : Request → Type 0
 HasWorkers (request.Live input how) = (1 ≤ how.workers) × (how.workers ≤ 4)
 HasWorkers _ = ⊤
 
+-- whether the words name a match of several machines
+abbrev pub names_peers : (Text → Option Text) → Bool
+names_peers value =
+    is_some (value (codes "peers")) || (is_some (value (codes "stop")) || is_some (value (codes "hostile")))
+
+abbrev pub match_named : (Text → Option Text) → Asked
+match_named value = if names_peers value then peers else «match» (options_named value)
+
+-- the values of --stop
+abbrev pub stop_texts : List Row → List Text
+stop_texts rows = unwrap_or (all_of (codes "stop") rows) []
+
+-- the options of a match of several machines are those that the arguments name, and such a match is played
+pub record AreNamed (rows : List Row) (options : PeersOptions) : Type 0 where
+  pub machines : options.machines ≡ number_named 8 (first_of (codes "peers") rows)
+  pub common : options.common ≡ options_named (λ name. first_of name rows)
+  pub stops : NamesStops no_stops (stop_texts rows) options.stops
+  pub hostile : options.hostile ≡ option_map (number_in 64) (first_of (codes "hostile") rows)
+  pub fine : fault_of options ≡ None
+
+abbrev pub HasOptions : List Row → Request → Type 0
+HasOptions rows (request.Peers options) = IfOk options (AreNamed rows)
+HasOptions rows _ = ⊤
+
 -- what the command of this name asks for
 abbrev pub asked_named : Text → (Text → Option Text) → Asked
 asked_named name value = if bytes_eq name (codes "live") then live (path_named (value (codes "FILE"))) (live_named value)
-    else (if bytes_eq name (codes "match") then «match» (options_named value)
+    else (if bytes_eq name (codes "match") then match_named value
     else on_text (path_named (value (codes "FILE"))) (task_named name (value (codes "game")) (value (codes "frames"))) (is_named (value (codes "explain"))))
 
 -- what a command with these arguments asks for, or no command
@@ -120,6 +150,10 @@ asked_in (Some met) = asked_named met.0 (λ name. first_of name met.1)
 -- what the words ask for, of which the first is the program's name
 abbrev pub asked_by : List Text → Asked
 asked_by words = asked_in (subcommand_of rollduel_app words)
+
+-- the arguments of the command that the words name
+abbrev pub rows_by : List Text → List Row
+rows_by words = option_map_or (λ met. met.1) (subcommand_of rollduel_app words) []
 
 -- a fact where something with a text is asked for
 abbrev pub IfText : Asked → (Option Text → Task → Type 0) → Type 0
@@ -135,3 +169,8 @@ IfLive _ P = ⊤
 abbrev pub IfMatch : Asked → (MatchOptions → Type 0) → Type 0
 IfMatch («match» options) P = P options
 IfMatch _ P = ⊤
+
+-- a fact where a match of several machines is asked for
+abbrev pub IfPeers : Asked → Type 0 → Type 0
+IfPeers peers P = P
+IfPeers _ P = ⊤

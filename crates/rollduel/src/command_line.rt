@@ -1,20 +1,23 @@
 //! What the words of the command line ask for.
-ghost use Rattle.std.specs.Prelude.{◌≡◌, ◌≤◌, codes, IfErr, IfOk, map, string_bytes, true};
+ghost use Rattle.std.specs.Prelude.{◌≡◌, ◌≤◌, codes, IfErr, IfOk, is_some, map, option_map, string_bytes, true};
+ghost use Rattle.prog_peers.specs.Stops.{no_stops, NamesStops};
 ghost use Rattle.clap.specs.Faults.{fault_of};
 ghost use Rattle.clap.specs.Kinds.{FailsBy};
-ghost use Rattle.clap.specs.Words.{first_value, found_of, kind_of, takes};
+ghost use Rattle.clap.specs.Words.{first_value, found_of, kind_of, rows_of, takes};
 ghost use Rattle.clap.specs.declared.error.kind.ErrorKind.TheVariants.{OutOfMemory};
 ghost use Rattle.rollduel.specs.Commands.{rollduel_app};
-ghost use Rattle.rollduel.specs.Requests.{HasWorkers, asked_by, asked_named, asked_of, frames_named, game_named, guesses_named, is_named, live_named, number_named, options_named, path_named, path_of, task_named, workers_named};
+ghost use Rattle.rollduel.specs.Requests.{AreNamed, HasOptions, HasWorkers, asked_by, asked_named, asked_of, frames_named, game_named, guesses_named, is_named, live_named, match_named, number_in, number_named, options_named, path_named, path_of, rows_by, stop_texts, task_named, workers_named};
 
 use crate::commands::{
-    DELAY, EXPLAIN, FILE, FRAMES, GAME, GUESSES, HOLD, LATE, LOST, SEED, THRESHOLD, WORKERS, games,
-    guesses, program_command,
+    DELAY, EXPLAIN, FILE, FRAMES, GAME, GUESSES, HOLD, HOSTILE, LATE, LOST, PEERS, SEED, STOP,
+    THRESHOLD, WORKERS, games, guesses, program_command,
 };
 use clap::{ArgMatches, Error};
 use prog_match::{Guesses, MatchOptions};
 use prog_parts::{GameName, Task};
+use prog_peers::{PeersFault, PeersOptions, read_stops};
 use roll_live::Live;
+use roll_mesh::MACHINE_LIMIT;
 use std::alloc::Global;
 
 /// What is to be done.
@@ -24,8 +27,10 @@ pub enum Request<'a> {
     Text(TextRequest<'a>),
     /// A script is to be played live.
     Live { input: Input<'a>, live: Live },
-    /// A match is to be played, of which nothing is read.
+    /// A match of two peers is to be played, of which nothing is read.
     Match(MatchOptions),
+    /// A match of several machines is to be played, or why it can't be.
+    Peers(Result<PeersOptions, PeersFault>),
 }
 
 /// What is to be done with a text.
@@ -49,6 +54,7 @@ pub enum Input<'a> {
 /// for: `script` is what it tells of scripts.
 pub fn read<'a>(alloc: Global, words: &'a [String], script: &'a str) -> Result<Request<'a>, Error>
     ensures request { IfOk result (λ request. asked_of request ≡ asked_by (map string_bytes words.now)) }
+    ensures options { IfOk result (HasOptions (rows_by (map string_bytes words.now))) }
     ensures workers { IfOk result HasWorkers }
     ensures taken { IfErr result (λ error. takes rollduel_app (map string_bytes words.now) ≡ true → kind_of error ≡ OutOfMemory) }
     ensures kinds { FailsBy (fault_of rollduel_app (map string_bytes words.now)) result }
@@ -68,6 +74,7 @@ pub fn read<'a>(alloc: Global, words: &'a [String], script: &'a str) -> Result<R
 /// The request of the command of this name.
 fn request_of<'a>(name: &str, found: &ArgMatches<'a>) -> Request<'a>
     ensures asked { asked_of result ≡ asked_named name.now (first_value (found_of found.now)) }
+    ensures options { HasOptions (rows_of (found_of found.now)) result }
     ensures workers { HasWorkers result }
 {
     match name {
@@ -75,7 +82,7 @@ fn request_of<'a>(name: &str, found: &ArgMatches<'a>) -> Request<'a>
             input: input_of(found),
             live: live_of(found),
         },
-        "match" => Request::Match(options_of(found)),
+        "match" => match_of(found),
         _ => Request::Text(TextRequest {
             input: input_of(found),
             task: task_of(name, found),
@@ -104,6 +111,61 @@ fn live_of(found: &ArgMatches<'_>) -> Live
     Live {
         game: game_of(found),
         workers: workers_of(found),
+    }
+}
+
+/// The request of the command `match`.
+fn match_of<'a>(found: &ArgMatches<'a>) -> Request<'a>
+    ensures asked { asked_of result ≡ match_named (first_value (found_of found.now)) }
+    ensures options { HasOptions (rows_of (found_of found.now)) result }
+{
+    if is_given(found, PEERS) || is_given(found, STOP) || is_given(found, HOSTILE) {
+        Request::Peers(peers_of(found))
+    } else {
+        Request::Match(options_of(found))
+    }
+}
+
+fn is_given(found: &ArgMatches<'_>, name: &str) -> bool
+    ensures { result ≡ is_some (first_value (found_of found.now) name.now) }
+{
+    found.get_str(name).is_some()
+}
+
+/// The options of a match of several machines, or why none is played so.
+fn peers_of(found: &ArgMatches<'_>) -> Result<PeersOptions, PeersFault>
+    ensures { IfOk result (AreNamed (rows_of (found_of found.now))) }
+{
+    if !is_given(found, PEERS) {
+        return Err(PeersFault::NoPeers);
+    }
+    let options = PeersOptions {
+        machines: byte_of(found, PEERS),
+        common: options_of(found),
+        stops: stops_of(found)?,
+        hostile: hostile_of(found),
+    };
+    match options.fault() {
+        None => Ok(options),
+        Some(fault) => Err(fault),
+    }
+}
+
+fn stops_of(found: &ArgMatches<'_>) -> Result<[Option<u32>; MACHINE_LIMIT], PeersFault>
+    ensures { IfOk result (NamesStops no_stops (stop_texts (rows_of (found_of found.now)))) }
+{
+    match found.get_strs(STOP) {
+        Some(texts) => read_stops(texts),
+        None => Ok([None; MACHINE_LIMIT]),
+    }
+}
+
+fn hostile_of(found: &ArgMatches<'_>) -> Option<u64>
+    ensures { result ≡ option_map (number_in 64) (first_value (found_of found.now) (codes "hostile")) }
+{
+    match found.get_str(HOSTILE) {
+        Some(value) => Some(value.parse::<u64>().unwrap_or(0)),
+        None => None,
     }
 }
 

@@ -2,7 +2,7 @@
 ghost use Rattle.std.specs.Prelude.{◌≡◌, false, IfOk};
 ghost use Rattle.clap.specs.declared.builder.command.Command.TheViews.{out-Command as fields_of};
 ghost use Rattle.clap.specs.Words.{app_of, new_app, rule_of};
-ghost use Rattle.rollduel.specs.Commands.{AreGames, AreGuesses, app_with, certify_app, explain_rule, file_rule, game_rule, guesses_rule, line_app, live_app, match_app, number_rule, play_app, synctest_app};
+ghost use Rattle.rollduel.specs.Commands.{AreGames, AreGuesses, app_with, certify_app, explain_rule, file_rule, free_number_rule, game_rule, guesses_rule, line_app, live_app, match_app, number_rule, play_app, stop_rule, synctest_app, two_peers_app};
 
 use crate::help;
 use clap::builder::ValueParser;
@@ -34,6 +34,12 @@ pub const DELAY: &str = "delay";
 pub const THRESHOLD: &str = "threshold";
 
 pub const GUESSES: &str = "guesses";
+
+pub const PEERS: &str = "peers";
+
+pub const STOP: &str = "stop";
+
+pub const HOSTILE: &str = "hostile";
 
 /// What `--game` takes.
 pub fn games() -> &'static [&'static str]
@@ -99,6 +105,21 @@ fn match_command<'a>(
     guesses: &'a [&'a str],
 ) -> Result<Command<'a>, AllocError>
     ensures app { IfOk result (λ command. app_of command ≡ match_app games.entry guesses.entry) }
+    ensures local { IfOk result (λ command. (fields_of command).has_globals ≡ false) }
+{
+    two_peers_command(alloc, games, guesses)?
+        .arg(free_number_arg(alloc, PEERS, "N", 2, 8, help::PEERS))?
+        .arg(stop_arg(alloc))?
+        .arg(free_number_arg(alloc, HOSTILE, "SEED", 0, u64::MAX, help::HOSTILE))
+}
+
+/// The command of a match, as far as a match of two peers goes.
+fn two_peers_command<'a>(
+    alloc: Global,
+    games: &'a [&'a str],
+    guesses: &'a [&'a str],
+) -> Result<Command<'a>, AllocError>
+    ensures app { IfOk result (λ command. app_of command ≡ two_peers_app games.entry guesses.entry) }
     ensures local { IfOk result (λ command. (fields_of command).has_globals ≡ false) }
 {
     line_command(alloc)?
@@ -199,6 +220,37 @@ fn number_arg<'a>(
         .value_parser(ValueParser::unsigned(least, most))
         .default_value(default)
         .help(help)
+}
+
+/// `--name N`, a number from `least` to `most`, which needn't be given.
+fn free_number_arg<'a>(
+    alloc: Global,
+    name: &'a str,
+    value: &'a str,
+    least: u64,
+    most: u64,
+    help: &'a str,
+) -> Arg<'a>
+    ensures rule { rule_of result ≡ free_number_rule name.entry.now least most }
+    ensures local { result.global ≡ false }
+{
+    Arg::new(alloc, name)
+        .long(name)
+        .value_name(value)
+        .value_parser(ValueParser::unsigned(least, most))
+        .help(help)
+}
+
+/// `--stop M:FRAME`, which may be given several times.
+fn stop_arg<'a>(alloc: Global) -> Arg<'a>
+    ensures rule { rule_of result ≡ stop_rule }
+    ensures local { result.global ≡ false }
+{
+    Arg::new(alloc, STOP)
+        .long(STOP)
+        .value_name("M:FRAME")
+        .action(ArgAction::Append)
+        .help(help::STOP)
 }
 
 fn explain_arg<'a>(alloc: Global) -> Arg<'a>

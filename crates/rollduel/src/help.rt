@@ -185,8 +185,29 @@ It prints, and after it the line for scripts:
 
   both sides agree up to frame 60: 666666
 
-Exit status: 0; 1 where the answer is `refused 11` or `refused 114`, or the peers differ or a claim is
-wrong, neither of which can be; 2 where memory runs out, or the table can't be written.";
+With `--peers N` it is a match of N machines with a player each, numbered from 0, as over a network: each
+hears datagrams, gives its word, takes a turn, and sends to each other, 60 times a second. A datagram
+comes 1 to L + 1 ticks late, P in 100 are lost, and 5 in 100 of the others come twice, all out of order.
+`--stop M:FRAME` has machine M go silent for ever at that frame: the others notice after a second, let
+its player leave, and play on. Two tables have a line for each machine: what it played and sent, and what
+was measured. The last line says whether all that stay agree: the same settled rows, the same state, and
+each player gone at the same frame. There are no guesses then.
+
+With `--hostile SEED` 50 hostile datagrams come before each real one: noise, real ones with a bit
+changed, sealed for another match, or of machines that are gone, and old real ones again. The first table
+and the last line are the same as without. Old ones of machines that stay are heard again, so what was
+measured may differ.
+
+Exit status: 0; 1 where the answer is `refused 11` or `refused 114`, where the peers differ or a claim is
+wrong, neither of which can be, or where machines that stay don't agree, or not in time; 2 where memory
+runs out, the table can't be written, or the words ask for no match.";
+
+pub const PEERS: &str = "Plays a match of so many machines instead, 2 to 8, by datagrams";
+
+pub const STOP: &str =
+    "Machine M goes silent for ever at this frame; for several machines it is given several times";
+
+pub const HOSTILE: &str = "Hostile datagrams come too, drawn from this seed";
 
 pub const LENGTH: &str = "How many frames each peer plays, up to 1048576";
 

@@ -1,6 +1,6 @@
 //! The program `rollduel`: plays scripts and prints what the session shows, plays matches, tests games, and checks claims.
 //!
-//! The work is done in `roll_cli`, `prog_explain`, `roll_live` and `prog_match`. Here are the command line, the streams and the exit status.
+//! The work is done in `roll_cli`, `prog_explain`, `roll_live`, `prog_match` and `prog_peers`. Here are the command line, the streams and the exit status.
 #![tactic(auto)]
 
 ghost use Rattle.std.specs.Fn.{FnOnceReturnsAt};
@@ -11,8 +11,8 @@ ghost use Rattle.clap.specs.Kinds.{FailsBy};
 ghost use Rattle.clap.specs.Words.{kind_of};
 ghost use Rattle.prog_parts.specs.declared.fault.PlayFault.TheVariants.{NoMemory, Read as CannotRead, Write as CannotWrite};
 ghost use Rattle.rollduel.specs.Commands.{rollduel_app};
-ghost use Rattle.rollduel.specs.Endings.{HasStatus, EndsMatch, EndsOn, EndsOnFile, EndsRefused, IsPrinted};
-ghost use Rattle.rollduel.specs.Requests.{IfLive, IfMatch, IfText, asked_by};
+ghost use Rattle.rollduel.specs.Endings.{HasStatus, EndsMatch, EndsPeers, EndsOn, EndsOnFile, EndsRefused, IsPrinted};
+ghost use Rattle.rollduel.specs.Requests.{IfLive, IfMatch, IfPeers, IfText, asked_by, rows_by};
 ghost use Rattle.roll_cli.specs.Programs.{Ends};
 ghost use Rattle.roll_live.specs.Lives.{Ends as EndsLive};
 
@@ -77,6 +77,7 @@ where
     T: AllocGlobal + Threads + Wait + Copy + Send + 'static,
     ensures refused { EndsRefused (fault_of rollduel_app (map string_bytes words.now)) result }
     ensures match_ends { fault_of rollduel_app (map string_bytes words.now) ≡ [] → IfMatch (asked_by (map string_bytes words.now)) (EndsMatch result) }
+    ensures peers_ends { fault_of rollduel_app (map string_bytes words.now) ≡ [] → IfPeers (asked_by (map string_bytes words.now)) (EndsPeers (rows_by (map string_bytes words.now)) result) }
     ensures status { HasStatus result }
 {
     let opener = |path: &str| fs::open(rt, path);
@@ -134,6 +135,7 @@ where
     ensures match_ends { IfOk result (λ ending. IfMatch (asked_by (map string_bytes words.now)) (EndsMatch ending)) }
     ensures match_streams { IfOk result (λ ending. IfMatch (asked_by (map string_bytes words.now)) (λ options.
         (standard.new ≡ standard.old) × IfSome ending.fault (λ fault. (fault ≡ CannotWrite) ⊎ (writer.new ≡ writer.old)))) }
+    ensures peers_ends { IfOk result (λ ending. IfPeers (asked_by (map string_bytes words.now)) (EndsPeers (rows_by (map string_bytes words.now)) ending)) }
     ensures status { IfOk result (λ ending. HasStatus ending) }
     ensures untouched { IfErr result (λ error. (standard.new ≡ standard.old) × (writer.new ≡ writer.old)) }
     ensures kinds { FailsBy (fault_of rollduel_app (map string_bytes words.now)) result }
@@ -151,6 +153,8 @@ where
             Ok(ending)
         }
         Request::Match(options) => Ok(prog_match::run(alloc, &options, writer)),
+        Request::Peers(Ok(options)) => Ok(prog_peers::run(alloc, &options, writer)),
+        Request::Peers(Err(fault)) => Ok(work::refuse(fault, notes)),
     }
 }
 

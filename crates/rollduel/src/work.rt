@@ -9,6 +9,7 @@ ghost use Rattle.rollduel.specs.Requests.{path_of};
 use crate::command_line::{Input, TextRequest};
 use prog_explain::Notes;
 use prog_parts::{Ending, PlayFault};
+use prog_peers::PeersFault;
 use roll_live::Live;
 use std::alloc::{AllocGlobal, Global};
 use std::fmt::{Display, Write as _};
@@ -62,6 +63,17 @@ pub fn answer<S: Read, N: FnOnce(), F: Read + Drop, W: Write, O: FnOnce(&str) ->
 /// Notes what is wrong with a file, whose name may hold anything: what a terminal would obey is escaped.
 fn note_of_file(notes: &mut Notes, path: &str, why: impl Display + Drop) {
     notes.is_cut |= writeln!(notes.text, "{}: {why}", path.escape_debug()).is_err();
+}
+
+/// Tells why a match isn't played: a fault of usage.
+pub fn refuse(fault: PeersFault, notes: &mut Notes) -> Ending
+    ensures { result ≡ record { status = 2; fault = None } }
+{
+    notes.is_cut |= writeln!(notes.text, "error: {fault}").is_err();
+    Ending {
+        status: 2,
+        fault: None,
+    }
 }
 
 /// Does what is asked for with the text that a reader holds.

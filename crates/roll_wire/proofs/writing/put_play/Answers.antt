@@ -2,8 +2,11 @@ use Rattle.std.proofs.Common.{◌≡◌, ℕ, ◌<◌, ◌^◌, List, ◌++◌, 
 use Rattle.std.specs.Prelude.{slice_index}
 use Rattle.roll_wire.specs.Spelling.{head, runs, turn}
 use Rattle.roll_wire.proofs.Appends.{joined}
-use Rattle.roll_wire.proofs.Wholes.{turn_fits}
+use Rattle.roll_wire.proofs.Wholes.{offers_of_turn, turn_fits}
 use Rattle.roll_wire.proofs.writing.put_play.Goals as goal
+
+pub put_head-requires-clause-offers : goal.put_head-requires-clause-offers
+put_head-requires-clause-offers c = offers_of_turn (turn c.args.play.now) c.requires.whole
 
 pub returns-clause-items : goal.returns-clause-items
 returns-clause-items c =
@@ -14,6 +17,6 @@ returns-clause-items c =
     (runs p.words.items) c.put_head.ensures.items words
 
 pub returns-clause-fits : goal.returns-clause-fits
-returns-clause-fits c = λ whole. turn_fits (turn c.args.play.now) c.put_head.ensures.fits
+returns-clause-fits c = turn_fits (turn c.args.play.now) c.put_head.ensures.fits
     (subst (λ (ws : List ℕ). (i : ℕ) → slice_index ws i < 2 ^ 32) c.as_slice.ensures.value
-    c.put_words.ensures.fits) whole
+    c.put_words.ensures.fits) c.requires.whole

@@ -6,7 +6,7 @@ use Rattle.clap.specs.Matches.{found_of}
 use Rattle.clap.specs.Simple.{is_simple, subcommand_of}
 use Rattle.clap.specs.Takes.{takes}
 use Rattle.rollduel.specs.Requests.{asked_in}
-use Rattle.rollduel.proofs.AskedLemmas.{asked_of_found, met, not_met}
+use Rattle.rollduel.proofs.AskedLemmas.{asked_of_found, met, not_met, options_met}
 use Rattle.rollduel.proofs.FaultPlaces.{fault_same}
 use Rattle.rollduel.proofs.Places.{subcommand_same}
 use Rattle.rollduel.proofs.TakenPlaces.{takes_same}
@@ -49,3 +49,13 @@ returns-clause-request c =
     ap asked_in (not_met parse.matches c.in-None.ensures.rows
     ∙ (parse.ensures.matches (ap is_simple c.in_ok-command.ensures)).1 ∙ ap (λ a. subcommand_of a words) c.in_ok-command.ensures
     ∙ subcommand_same c.games.result c.guesses.result c.games.ensures c.guesses.ensures words)
+
+pub returns-in-Some-clause-options : goal.returns-in-Some-clause-options
+returns-in-Some-clause-options c =
+    let words = map string_bytes c.args.words.now in
+    let parse = c.in_ok-matches in
+    options_met c.request_of.result c.in-Some.name.now _ _
+    (met parse.matches c.in-Some.name.now _ c.in-Some.ensures.name c.in-Some.ensures.rows
+    ∙ (parse.ensures.matches (ap is_simple c.in_ok-command.ensures)).1 ∙ ap (λ a. subcommand_of a words) c.in_ok-command.ensures
+    ∙ subcommand_same c.games.result c.guesses.result c.games.ensures c.guesses.ensures words)
+    c.request_of.ensures.options

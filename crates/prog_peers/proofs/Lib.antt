@@ -1,0 +1,4 @@
+pub mod Agreed
+pub mod Alls
+pub mod Named
+pub mod Numbers

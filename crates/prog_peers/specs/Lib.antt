@@ -1,0 +1,5 @@
+pub mod Agreement
+pub mod Digests
+pub mod Networks
+pub mod Options
+pub mod Stops

@@ -1,0 +1,206 @@
+//! Datagrams that are made to deceive a machine.
+
+use crate::network::Letter;
+use crate::options::PeersOptions;
+use prog_match::Draws;
+use roll_mesh::MACHINE_LIMIT;
+use sha2::{Digest, Sha256};
+use std::alloc::{AllocError, Global};
+
+/// How many real datagrams are kept, to be sent again.
+const KEPT: usize = 64;
+/// The most bytes of a datagram that is drawn.
+const MOST_BYTES: u32 = 1_300;
+/// The number of the stream that the enemy of machine 0 draws from; the others follow.
+const FIRST_STREAM: u64 = 48;
+
+/// How a datagram is made to deceive.
+#[derive(Clone, Copy, Debug, PartialEq, Eq)]
+pub enum Trick {
+    /// It is drawn.
+    Noise,
+    /// A real one, with a bit changed.
+    Changed,
+    /// A real one, sealed for another match.
+    Foreign,
+    /// A real one of a machine that is gone.
+    Gone,
+    /// A real one that came before. It may be heard again.
+    Again,
+}
+
+/// A real datagram that has come.
+#[derive(Drop)]
+struct Past {
+    from: u8,
+    bytes: Vec<u8>,
+}
+
+/// The real datagrams that came last.
+#[derive(Drop)]
+struct Kept {
+    pasts: Vec<Past>,
+    /// The place of the oldest, once there are as many as are kept.
+    oldest: usize,
+}
+
+impl Kept {
+    fn new(alloc: Global) -> Kept {
+        Kept {
+            pasts: Vec::new(alloc),
+            oldest: 0,
+        }
+    }
+
+    /// Keeps one more, in place of the oldest where there are many.
+    fn keep(&mut self, past: Past) -> Result<(), AllocError> {
+        if self.pasts.len() < KEPT {
+            return match self.pasts.push(past) {
+                Ok(()) => Ok(()),
+                Err(_) => Err(AllocError),
+            };
+        }
+        if self.oldest < self.pasts.len() {
+            self.pasts[self.oldest] = past;
+        }
+        self.oldest = (self.oldest % KEPT + 1) % KEPT;
+        Ok(())
+    }
+
+    /// One of them.
+    fn draw(&self, draws: &mut Draws) -> Option<&Past> {
+        let count = self.pasts.len().min(KEPT) as u32;
+        if count == 0 {
+            return None;
+        }
+        self.pasts.get(draws.below(count) as usize)
+    }
+}
+
+/// Who makes such datagrams for a machine.
+#[derive(Drop)]
+pub struct Enemy {
+    draws: Draws,
+    /// The number of another match.
+    other_match: u64,
+    /// Datagrams of machines that stay.
+    lasting: Kept,
+    /// Datagrams of machines that go silent.
+    parting: Kept,
+    bytes: Vec<u8>,
+}
+
+impl Enemy {
+    /// The enemy of a machine, which has seen nothing yet.
+    pub fn new(alloc: Global, seed: u64, machine: u8, match_number: u64) -> Enemy {
+        Enemy {
+            draws: Draws::numbered(seed, FIRST_STREAM + u64::from(machine)),
+            other_match: match_number.wrapping_add(1),
+            lasting: Kept::new(alloc),
+            parting: Kept::new(alloc),
+            bytes: Vec::new(alloc),
+        }
+    }
+
+    /// Sees a datagram that came to its machine.
+    pub fn see(
+        &mut self,
+        alloc: Global,
+        options: &PeersOptions,
+        letter: &Letter,
+    ) -> Result<(), AllocError> {
+        let from = letter.route.from;
+        let past = Past {
+            from,
+            bytes: Vec::from_slice(alloc, &letter.bytes)?,
+        };
+        if options.stays(from) {
+            self.lasting.keep(past)
+        } else {
+            self.parting.keep(past)
+        }
+    }
+
+    /// Makes one, for a machine that regards these machines as gone, and says which trick it is.
+    pub fn make(&mut self, gone: &[bool; MACHINE_LIMIT]) -> Result<Trick, AllocError> {
+        self.bytes.clear();
+        match self.draws.below(5) {
+            0 => self.copy_changed(),
+            1 => self.copy_foreign(),
+            2 => self.copy_gone(gone),
+            3 => self.copy_again(),
+            _ => self.draw_noise(),
+        }
+    }
+
+    /// What was made last.
+    pub fn bytes(&self) -> &[u8] {
+        self.bytes.as_slice()
+    }
+
+    fn draw_noise(&mut self) -> Result<Trick, AllocError> {
+        let count = self.draws.below(MOST_BYTES + 1);
+        for _ in 0..count / 4 + 1 {
+            let word = self.draws.below(u32::MAX);
+            self.bytes.extend_from_slice(&word.to_be_bytes())?;
+        }
+        self.bytes.truncate(count as usize);
+        Ok(Trick::Noise)
+    }
+
+    /// Copies a datagram of a machine that stays, or draws one where there is none.
+    fn copy(&mut self) -> Result<bool, AllocError> {
+        match self.lasting.draw(&mut self.draws) {
+            Some(past) => {
+                self.bytes.extend_from_slice(&past.bytes)?;
+                Ok(true)
+            }
+            None => Ok(false),
+        }
+    }
+
+    fn copy_again(&mut self) -> Result<Trick, AllocError> {
+        if self.copy()? {
+            Ok(Trick::Again)
+        } else {
+            self.draw_noise()
+        }
+    }
+
+    fn copy_changed(&mut self) -> Result<Trick, AllocError> {
+        if !self.copy()? {
+            return self.draw_noise();
+        }
+        let count = self.bytes.len().min(MOST_BYTES as usize) as u32;
+        if count > 0 {
+            let place = self.draws.below(count) as usize;
+            let bit = self.draws.below(8);
+            if let Some(byte) = self.bytes.get_mut(place) {
+                *byte ^= 1 << bit;
+            }
+        }
+        Ok(Trick::Changed)
+    }
+
+    fn copy_foreign(&mut self) -> Result<Trick, AllocError> {
+        if !self.copy()? {
+            return self.draw_noise();
+        }
+        if self.bytes.len() >= 12 {
+            self.bytes[4..12].copy_from_slice(&self.other_match.to_be_bytes());
+            let digest = Sha256::digest(self.bytes.as_slice());
+            self.bytes[4..12].copy_from_slice(&digest[..8]);
+        }
+        Ok(Trick::Foreign)
+    }
+
+    fn copy_gone(&mut self, gone: &[bool; MACHINE_LIMIT]) -> Result<Trick, AllocError> {
+        if let Some(past) = self.parting.draw(&mut self.draws) {
+            if gone.get(usize::from(past.from)) == Some(&true) {
+                self.bytes.extend_from_slice(&past.bytes)?;
+                return Ok(Trick::Gone);
+            }
+        }
+        self.draw_noise()
+    }
+}

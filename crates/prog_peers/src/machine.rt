@@ -1,0 +1,352 @@
+//! One machine of a match, and what it does in a tick.
+ghost use Rattle.std.specs.Prelude.{◌≡◌, ◌↔◌, IfOk, IsTrue, OnOk};
+ghost use Rattle.prog_match.specs.Options.{IsPlayable};
+ghost use Rattle.prog_peers.specs.Agreement.{IsOver};
+
+use crate::digest::digest_of;
+use crate::enemy::{Enemy, Trick};
+use crate::network::{Letter, Network, Route};
+use crate::options::PeersOptions;
+use prog_match::{Draws, Engines, drawn, word_at};
+use roll_frame::{Refusal, Settings, SettingsFault};
+use roll_game::Shown;
+use roll_mesh::MACHINE_LIMIT;
+use roll_peer::{MatchSettings, OpenRefusal, Peer, PeerEvent, PeerRefusal};
+use roll_session::Session;
+use std::alloc::Global;
+
+/// After how many milliseconds of silence a machine is regarded as gone.
+const SILENT_AFTER: u32 = 1_000;
+/// After how many milliseconds of silence that is told.
+const NOTIFY_AFTER: u32 = 300;
+/// The number of the stream from which the words of machine 0 are drawn; the others follow.
+const FIRST_STREAM: u64 = 16;
+/// How many hostile datagrams come before each real one.
+const HOSTILE: u32 = 50;
+/// The most events that wait at a peer.
+const EVENT_LIMIT: u32 = 64;
+
+/// What is counted of a machine.
+#[derive(Clone, Copy, Debug, Default, PartialEq, Eq)]
+pub struct Counts {
+    /// Real datagrams that it sent, and their bytes.
+    pub sent: u64,
+    pub bytes: u64,
+    /// Real datagrams that came and weren't heard.
+    pub ignored: u64,
+    /// Hostile datagrams that came.
+    pub hostile: u64,
+    /// Those of them that were heard: old ones, which come again.
+    pub again: u64,
+    /// Those of them that were heard, and should not have been.
+    pub fooled: u64,
+    /// How often another machine told of another state than this one had.
+    pub desyncs: u64,
+}
+
+/// A machine.
+#[derive(Drop)]
+pub struct Machine<G: Shown> {
+    pub peer: Peer<G>,
+    /// A second engine of the game, which tells states as text.
+    pub helper: G,
+    pub me: u8,
+    /// Its words of all frames.
+    pub words: Vec<u32>,
+    /// Whether it has gone silent.
+    pub is_silent: bool,
+    pub counts: Counts,
+    /// How many frames are settled whose state was digested last.
+    noted: u32,
+    enemy: Option<Enemy>,
+}
+
+impl<G: Shown + Drop> Machine<G> {
+    /// A machine before the first tick.
+    pub fn new(
+        alloc: Global,
+        options: &PeersOptions,
+        me: u8,
+        engines: Engines<G>,
+    ) -> Result<Machine<G>, Refusal>
+        ensures { IfOk result (λ machine. machine.me ≡ me) }
+    {
+        let settings = session_settings(options, me)?;
+        let Engines {
+            game,
+            opening,
+            helper,
+        } = engines;
+        let session = match Session::start(alloc, game, opening, settings) {
+            Ok(session) => session,
+            Err(fault) => return Err(fault.why),
+        };
+        let mut draws = Draws::numbered(options.common.seed, FIRST_STREAM + u64::from(me));
+        let words = drawn(alloc, &mut draws, &options.common)?;
+        let enemy = match options.hostile {
+            Some(seed) => Some(Enemy::new(alloc, seed, me, options.common.seed)),
+            None => None,
+        };
+        Ok(Machine {
+            peer: open(alloc, session, match_settings(options, me))?,
+            helper,
+            me,
+            words,
+            is_silent: false,
+            counts: Counts::default(),
+            noted: 0,
+            enemy,
+        })
+    }
+
+    /// Whether it has played its last frame, and all words up to it are known.
+    pub fn is_over(&self) -> bool
+        ensures { IsTrue result ↔ IsOver self.now.peer.member.session }
+    {
+        let session = self.peer.session();
+        let last = session.settings().limit;
+        last <= session.frame() && last <= session.settled()
+    }
+
+    /// A tick: it hears what has come, plays on, and sends to each other machine. From the frame at which it stops it does
+    /// nothing.
+    pub fn tick(
+        &mut self,
+        alloc: Global,
+        options: &PeersOptions,
+        network: &mut Network,
+        tick: u32,
+    ) -> Result<(), Refusal>
+        ensures { self.new.me ≡ self.old.me }
+    {
+        if let Some(frame) = options.stop(self.me) {
+            self.is_silent |= frame <= self.peer.session().frame();
+        }
+        if self.is_silent {
+            return Ok(());
+        }
+        let now = clock(tick);
+        self.hear_all(alloc, options, network.letters(), tick)?;
+        self.play(now)?;
+        self.note_settled(alloc)?;
+        self.note_events();
+        self.send_all(alloc, options, network, tick)
+    }
+
+    /// Hears the datagrams for it that have come by a tick, and hostile ones before each.
+    fn hear_all(
+        &mut self,
+        alloc: Global,
+        options: &PeersOptions,
+        letters: &[Letter],
+        tick: u32,
+    ) -> Result<(), Refusal>
+        ensures { self.new.me ≡ self.old.me }
+    {
+        for letter in letters {
+            if letter.route.to == self.me && letter.due <= tick {
+                self.hear_hostile(clock(tick))?;
+                self.hear(alloc, options, letter, clock(tick))?;
+            }
+        }
+        Ok(())
+    }
+
+    /// Hears a datagram.
+    fn hear(
+        &mut self,
+        alloc: Global,
+        options: &PeersOptions,
+        letter: &Letter,
+        now: u32,
+    ) -> Result<(), Refusal>
+        ensures { self.new.me ≡ self.old.me }
+    {
+        if self.peer.receive(&letter.bytes, now).is_err() {
+            self.counts.ignored = self.counts.ignored.saturating_add(1);
+        }
+        if let Some(enemy) = &mut self.enemy {
+            enemy.see(alloc, options, letter)?;
+        }
+        Ok(())
+    }
+
+    /// Hears what its enemy makes, if it has one.
+    fn hear_hostile(&mut self, now: u32) -> Result<(), Refusal>
+        ensures { self.new.me ≡ self.old.me }
+    {
+        let Some(enemy) = &mut self.enemy else {
+            return Ok(());
+        };
+        let gone = who_is_gone(&self.peer);
+        for _ in 0..HOSTILE {
+            let trick = enemy.make(&gone)?;
+            let heard = self.peer.receive(enemy.bytes(), now).is_ok();
+            self.counts.note_hostile(trick, heard);
+        }
+        Ok(())
+    }
+
+    /// Gives its word, if it is taken, and takes a turn.
+    fn play(&mut self, now: u32) -> Result<(), Refusal>
+        ensures { self.new.me ≡ self.old.me }
+    {
+        let session = self.peer.session();
+        if session.frame() < session.settings().limit {
+            let player = self.me.saturating_add(1);
+            let word = word_at(&self.words, session.confirmed(player).unwrap_or(0));
+            match self.peer.add_local_input(player, word) {
+                Ok(()) => {}
+                Err(PeerRefusal::NotSynchronized) => {}
+                Err(PeerRefusal::Session(Refusal::PredictionThreshold)) => {}
+                Err(PeerRefusal::Session(why)) => return Err(why),
+            }
+        }
+        self.peer.turn(now)?;
+        Ok(())
+    }
+
+    /// Notes the digest of its settled state, if more is settled than before.
+    fn note_settled(&mut self, alloc: Global) -> Result<(), Refusal>
+        ensures { self.new.me ≡ self.old.me }
+    {
+        let settled = self.peer.session().settled();
+        if settled == self.noted {
+            return Ok(());
+        }
+        let text = self.settled_text(alloc)?;
+        self.peer.note_settled(digest_of(&text));
+        self.noted = settled;
+        Ok(())
+    }
+
+    /// The text of its settled state.
+    pub fn settled_text(&mut self, alloc: Global) -> Result<Vec<u8>, Refusal>
+        ensures { self.new.me ≡ self.old.me }
+    {
+        let state = self.helper.load(self.peer.session().settled_state())?;
+        let mut text = Vec::new(alloc);
+        self.helper.text(&state, &mut text)?;
+        Ok(text)
+    }
+
+    /// Takes what its peer tells.
+    fn note_events(&mut self)
+        ensures { self.new.me ≡ self.old.me }
+    {
+        for _ in 0..EVENT_LIMIT {
+            match self.peer.next_event() {
+                None => return,
+                Some(PeerEvent::Desync { .. }) => {
+                    self.counts.desyncs = self.counts.desyncs.saturating_add(1);
+                }
+                Some(_) => {}
+            }
+        }
+    }
+
+    /// Sends to each other machine.
+    fn send_all(
+        &mut self,
+        alloc: Global,
+        options: &PeersOptions,
+        network: &mut Network,
+        tick: u32,
+    ) -> Result<(), Refusal>
+        ensures { self.new.me ≡ self.old.me }
+    {
+        for to in 0..options.machines {
+            if let Some(bytes) = self.peer.send(to, clock(tick)) {
+                self.counts.note_sent(bytes.len() as u64);
+                let route = Route { from: self.me, to };
+                network.send(alloc, &options.common, route, tick, &bytes)?;
+            }
+        }
+        Ok(())
+    }
+}
+
+impl Counts {
+    /// A datagram of so many bytes was sent.
+    fn note_sent(&mut self, bytes: u64) {
+        self.sent = self.sent.saturating_add(1);
+        self.bytes = self.bytes.saturating_add(bytes);
+    }
+
+    /// A hostile datagram came, and was heard or not.
+    fn note_hostile(&mut self, trick: Trick, heard: bool) {
+        self.hostile = self.hostile.saturating_add(1);
+        if heard && trick == Trick::Again {
+            self.again = self.again.saturating_add(1);
+        } else if heard {
+            self.fooled = self.fooled.saturating_add(1);
+        }
+    }
+}
+
+/// The milliseconds from the first tick to another, of which there are 60 a second.
+fn clock(tick: u32) -> u32 {
+    (u64::from(tick) * 50 / 3).min(u64::from(u32::MAX)) as u32
+}
+
+/// Which machines a peer regards as gone.
+fn who_is_gone<G: Shown>(peer: &Peer<G>) -> [bool; MACHINE_LIMIT] {
+    let mut gone = [false; MACHINE_LIMIT];
+    for machine in 0..MACHINE_LIMIT {
+        gone[machine] = peer.member().mesh().is_gone(machine as u8);
+    }
+    gone
+}
+
+/// What a machine's session is opened with.
+fn session_settings(options: &PeersOptions, me: u8) -> Result<Settings, Refusal>
+    ensures { OnOk result (IsPlayable options.now.common) }
+{
+    let common = &options.common;
+    if common.lost > 99 || common.hold == 0 || common.frames == 0 {
+        return Err(Refusal::InvalidRequest);
+    }
+    Ok(plain_settings(options, me.saturating_add(1))?)
+}
+
+/// The same, where the network and the words are those of a match.
+fn plain_settings(options: &PeersOptions, player: u8) -> Result<Settings, SettingsFault> {
+    Settings::new(options.machines, &[player])?
+        .with_delay(player, options.common.delay)?
+        .with_threshold(options.common.threshold)?
+        .with_frame_limit(options.common.frames)
+}
+
+/// The match, as a machine plays it.
+fn match_settings(options: &PeersOptions, me: u8) -> MatchSettings {
+    let mut owners = [255; MACHINE_LIMIT];
+    for machine in 0..options.machines {
+        if usize::from(machine) < MACHINE_LIMIT {
+            owners[usize::from(machine)] = machine;
+        }
+    }
+    MatchSettings {
+        me,
+        machines: options.machines,
+        owners,
+        match_number: options.common.seed,
+        digest: u64::from(options.common.frames),
+        silent_after: SILENT_AFTER,
+        notify_after: NOTIFY_AFTER,
+    }
+}
+
+/// A session joins the match.
+fn open<G: Shown + Drop>(
+    alloc: Global,
+    session: Session<G>,
+    settings: MatchSettings,
+) -> Result<Peer<G>, Refusal> {
+    match Peer::open(alloc, session, settings) {
+        Ok(peer) => Ok(peer),
+        Err(fault) => match fault.why {
+            OpenRefusal::Join(_) => Err(Refusal::InvalidRequest),
+            OpenRefusal::NoMemory => Err(Refusal::NoMemory),
+        },
+    }
+}

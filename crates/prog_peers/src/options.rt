@@ -1,0 +1,159 @@
+//! What a match of several machines is played with, and why one isn't played.
+ghost use Rattle.std.specs.Prelude.{◌≡◌};
+ghost use Rattle.prog_peers.specs.Options.{fault_of, has_staying, is_odd_stop, lacks_ships, makes_guesses, odd_stop_of, stays, stop_fault_at, stop_of};
+
+use prog_match::{Guesses, MatchOptions};
+use prog_parts::GameName;
+use roll_mesh::MACHINE_LIMIT;
+use thiserror::Error;
+
+/// The most machines that a duel has room for.
+const SHIP_LIMIT: u8 = 4;
+
+/// How a match of several machines is played.
+#[derive(Clone, Copy, Debug, PartialEq, Eq)]
+pub struct PeersOptions {
+    /// How many machines there are, 2 to 8. Machine m, counted from 0, has player m + 1.
+    pub machines: u8,
+    /// What is said as for a match of two peers: of datagrams in place of words, and without guesses.
+    pub common: MatchOptions,
+    /// The frame at which a machine goes silent for ever, machine 0 first; none for one that stays.
+    pub stops: [Option<u32>; MACHINE_LIMIT],
+    /// The seed of the hostile datagrams; none where there are no such datagrams.
+    pub hostile: Option<u64>,
+}
+
+/// Why a match of several machines isn't played.
+#[derive(Clone, Copy, Debug, PartialEq, Eq, Error)]
+pub enum PeersFault {
+    /// There are 2 to 8 machines.
+    #[error("--peers takes 2 to 8")]
+    Machines,
+    /// A duel has no ship for a fifth machine.
+    #[error("--game duel has ships for 4 machines at most")]
+    Ships,
+    /// There are no guesses in such a match.
+    #[error("--guesses can't be used with --peers")]
+    Guesses,
+    /// There is nobody to go silent, or to be deceived.
+    #[error("--stop and --hostile can't be used without --peers")]
+    NoPeers,
+    /// What is to stop has another form.
+    #[error("--stop takes MACHINE:FRAME, as 2:30")]
+    Unreadable,
+    /// There is no such machine.
+    #[error("--stop {machine}: there is no such machine, for they are counted from 0")]
+    NoMachine {
+        /// The machine.
+        machine: u32,
+    },
+    /// A machine stops once.
+    #[error("--stop {machine}: this machine is named twice")]
+    Twice {
+        /// The machine.
+        machine: u8,
+    },
+    /// A machine can't stop before the first frame, or after the last.
+    #[error("--stop {machine}: the frame has to be from 1 to the match's last")]
+    Frame {
+        /// The machine.
+        machine: u8,
+    },
+    /// Some machine has to stay.
+    #[error("--stop: at least one machine has to stay")]
+    NobodyStays,
+}
+
+impl PeersOptions {
+    /// The frame at which a machine goes silent, if it does.
+    pub fn stop(&self, machine: u8) -> Option<u32>
+        ensures { result ≡ stop_of self.now machine }
+    {
+        match self.stops.get(usize::from(machine)) {
+            Some(stop) => *stop,
+            None => None,
+        }
+    }
+
+    /// Whether a machine never goes silent.
+    pub fn stays(&self, machine: u8) -> bool
+        ensures { result ≡ stays self.now machine }
+    {
+        match self.stops.get(usize::from(machine)) {
+            Some(stop) => stop.is_none(),
+            None => false,
+        }
+    }
+
+    /// Whether some machine never goes silent.
+    fn has_staying(&self) -> bool
+        ensures { result ≡ has_staying self.now }
+    {
+        (0..self.machines).any(|machine| self.stays(machine))
+    }
+
+    /// Why no match is played so, if none is.
+    pub fn fault(&self) -> Option<PeersFault>
+        ensures { result ≡ fault_of self.now }
+    {
+        if self.machines < 2 || usize::from(self.machines) > MACHINE_LIMIT {
+            Some(PeersFault::Machines)
+        } else if makes_guesses(self.common.guesses) {
+            Some(PeersFault::Guesses)
+        } else if lacks_ships(self.common.game, self.machines) {
+            Some(PeersFault::Ships)
+        } else if !self.has_staying() {
+            Some(PeersFault::NobodyStays)
+        } else {
+            let machine = self.odd_stop()?;
+            Some(self.stop_fault(machine))
+        }
+    }
+
+    /// The first machine that is to stop and can't.
+    fn odd_stop(&self) -> Option<u8>
+        ensures { result ≡ odd_stop_of self.now }
+    {
+        (0..MACHINE_LIMIT as u8).find(|machine| self.is_odd_stop(*machine))
+    }
+
+    /// Whether a machine is to stop and can't: there is none, or the match has no such frame.
+    fn is_odd_stop(&self, machine: u8) -> bool
+        ensures { result ≡ is_odd_stop self.now machine }
+    {
+        match self.stop(machine) {
+            Some(frame) => { self.machines <= machine || frame < 1 || self.common.frames < frame }
+            None => false,
+        }
+    }
+
+    /// What is wrong with the stop of such a machine.
+    fn stop_fault(&self, machine: u8) -> PeersFault
+        ensures { result ≡ stop_fault_at self.now machine }
+    {
+        if self.machines <= machine {
+            PeersFault::NoMachine {
+                machine: u32::from(machine),
+            }
+        } else {
+            PeersFault::Frame { machine }
+        }
+    }
+}
+
+/// Whether any guesses are made.
+fn makes_guesses(guesses: Guesses) -> bool
+    ensures { result ≡ makes_guesses guesses }
+{
+    !matches!(guesses, Guesses::Off)
+}
+
+/// Whether a game hasn't room for so many machines.
+fn lacks_ships(game: GameName, machines: u8) -> bool
+    ensures { result ≡ lacks_ships game machines }
+{
+    match game {
+        GameName::Duel => SHIP_LIMIT < machines,
+        GameName::Tally => false,
+    }
+}

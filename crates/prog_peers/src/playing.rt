@@ -1,0 +1,102 @@
+//! A match, from its first tick to its last.
+ghost use Rattle.std.specs.Prelude.{◌≡◌, [], IfOk, IsTrue, OnOk, map};
+ghost use Rattle.std.specs.List.{All};
+ghost use Rattle.prog_peers.specs.Agreement.{IfStays, IsOver};
+ghost use Rattle.prog_peers.specs.declared.playing.End.TheVariants.{Over as IsEnded};
+
+use crate::machine::Machine;
+use crate::network::Network;
+use crate::options::PeersOptions;
+use prog_match::Draws;
+use roll_frame::Refusal;
+use roll_game::Shown;
+use std::alloc::Global;
+
+/// The number of the stream from which is drawn what becomes of datagrams.
+const NETWORK_STREAM: u64 = 32;
+
+/// The machines of a match, machine 0 first, and the network between them.
+#[derive(Drop)]
+pub struct Table<G: Shown> {
+    pub machines: Vec<Machine<G>>,
+    network: Network,
+}
+
+/// How a match ended.
+#[derive(Clone, Copy, Debug, PartialEq, Eq)]
+pub enum End {
+    /// Each machine that stays has played all frames, and knows all words.
+    Over,
+    /// Some machine has not, after many times as many ticks as there are frames.
+    Late,
+}
+
+impl<G: Shown + Drop> Table<G> {
+    /// A match of no machine yet.
+    pub fn new(alloc: Global, options: &PeersOptions) -> Table<G>
+        ensures { result.machines.items ≡ [] }
+    {
+        let draws = Draws::numbered(options.common.seed, NETWORK_STREAM);
+        Table {
+            machines: Vec::new(alloc),
+            network: Network::new(alloc, draws),
+        }
+    }
+
+    /// Plays on until all machines that stay are there, or for so many ticks that they never will be.
+    pub fn play(&mut self, alloc: Global, options: &PeersOptions) -> Result<End, Refusal>
+        ensures kept { OnOk result (map (λ m. m.me) self.new.machines.items
+            ≡ map (λ m. m.me) self.old.machines.items) }
+        ensures over { IfOk result (λ end. end ≡ IsEnded → All (λ machine. IfStays options.now
+            (λ member. IsOver member.session)
+            (record { me = machine.me; member = machine.peer.member })) self.new.machines.items) }
+    {
+        for tick in 0..most_ticks(options.common.frames) {
+            if self.is_over(options) {
+                return Ok(End::Over);
+            }
+            self.tick(alloc, options, tick)?;
+        }
+        Ok(End::Late)
+    }
+
+    /// Whether each machine that stays has played its last frame, and knows all words up to it.
+    fn is_over(&self, options: &PeersOptions) -> bool
+        ensures { IsTrue result → All (λ machine. IfStays options.now
+            (λ member. IsOver member.session)
+            (record { me = machine.me; member = machine.peer.member })) self.now.machines.items }
+    {
+        for machine in &self.machines {
+            if !is_over_if_it_stays(options, machine) {
+                return false;
+            }
+        }
+        true
+    }
+
+    /// A tick of all machines. What comes in it is gone from the network.
+    fn tick(&mut self, alloc: Global, options: &PeersOptions, tick: u32) -> Result<(), Refusal>
+        ensures { OnOk result (map (λ m. m.me) self.new.machines.items
+            ≡ map (λ m. m.me) self.old.machines.items) }
+    {
+        for place in 0..self.machines.len() {
+            self.machines[place].tick(alloc, options, &mut self.network, tick)?;
+        }
+        self.network.pass(tick);
+        Ok(())
+    }
+}
+
+/// Whether a machine has played its last frame and knows all words up to it, or doesn't stay.
+fn is_over_if_it_stays<G: Shown + Drop>(options: &PeersOptions, machine: &Machine<G>) -> bool
+    ensures { IsTrue result → IfStays options.now (λ member. IsOver member.session)
+        (record { me = machine.now.me; member = machine.now.peer.member }) }
+{
+    !options.stays(machine.me) || machine.is_over()
+}
+
+/// After how many ticks no match of so many frames goes on: four times those that it takes, and those of 2 minutes more.
+fn most_ticks(frames: u32) -> u32 {
+    let seconds = u64::from(frames) / 60 + 120;
+    (seconds * 60 * 4).min(u64::from(u32::MAX)) as u32
+}

@@ -1,0 +1,146 @@
+//! A match from its options to what is written of it.
+ghost use Rattle.std.specs.Prelude.{◌≡◌, ◌⊎◌, ◌≤◌, ◌++◌, ◌∷◌, [], IfErr, IfOk, IfSome, IsTrue, MatchOption, None, OnOk, map};
+ghost use Rattle.prog_parts.specs.declared.fault.PlayFault.TheVariants.{Write as CannotWrite};
+ghost use Rattle.prog_peers.specs.Agreement.{HasAgreed};
+ghost use Rattle.prog_peers.specs.Options.{fault_of};
+ghost use Rattle.prog_peers.specs.declared.playing.End.TheVariants.{Over as IsEnded};
+ghost use Rattle.std.specs.List.{range_with_len};
+
+use crate::machine::Machine;
+use crate::options::PeersOptions;
+use crate::playing::Table;
+use crate::report::{Report, sum_up};
+use crate::table::push_report;
+use prog_match::{Engines, duel, push_refused, tally};
+use prog_parts::{Ending, GameName, PlayFault};
+use roll_duel::Duel;
+use roll_frame::Refusal;
+use roll_game::{Shown, Tally};
+use roll_text::write_all;
+use std::alloc::Global;
+use std::io::Write;
+
+/// Plays a match, and writes its tables and its last line. The status is 0 only if all is well. Options that no match is
+/// played with are answered `refused 11`.
+pub fn run<W: Write>(alloc: Global, options: &PeersOptions, writer: &mut W) -> Ending
+    ensures status { MatchOption result.fault (result.status ≤ 1) (λ fault. result.status ≡ 2) }
+    ensures played { result.status ≡ 0 → fault_of options.now ≡ None }
+    ensures agreed { result.status ≡ 0 → HasAgreed options.now }
+    ensures untouched { IfSome result.fault
+        (λ fault. (fault ≡ CannotWrite) ⊎ (writer.new ≡ writer.old)) }
+{
+    match perform(alloc, options, writer) {
+        Ok(true) => Ending {
+            status: 0,
+            fault: None,
+        },
+        Ok(false) => Ending {
+            status: 1,
+            fault: None,
+        },
+        Err(fault) => Ending::from(fault),
+    }
+}
+
+/// Plays a match and writes what came of it, and answers whether all is well.
+fn perform<W: Write>(
+    alloc: Global,
+    options: &PeersOptions,
+    writer: &mut W,
+) -> Result<bool, PlayFault>
+    ensures played { IfOk result (λ well. IsTrue well → fault_of options.now ≡ None) }
+    ensures agreed { IfOk result (λ well. IsTrue well → HasAgreed options.now) }
+    ensures untouched { IfErr result (λ fault. (fault ≡ CannotWrite) ⊎ (writer.new ≡ writer.old)) }
+{
+    let mut out = String::new(alloc);
+    let well = tell(alloc, options, &mut out)?;
+    write_all(writer, out.as_bytes())?;
+    Ok(well)
+}
+
+/// Plays a match and tells what came of it, and answers whether all is well.
+fn tell(alloc: Global, options: &PeersOptions, out: &mut String) -> Result<bool, PlayFault>
+    ensures played { IfOk result (λ well. IsTrue well → fault_of options.now ≡ None) }
+    ensures agreed { IfOk result (λ well. IsTrue well → HasAgreed options.now) }
+{
+    match play(alloc, options) {
+        Ok(report) => {
+            push_report(out, options, &report)?;
+            Ok(report.is_well())
+        }
+        Err(Refusal::NoMemory) => Err(PlayFault::NoMemory),
+        Err(why) => {
+            push_refused(out, why)?;
+            Ok(false)
+        }
+    }
+}
+
+/// Plays a match, and answers how it came out.
+fn play(alloc: Global, options: &PeersOptions) -> Result<Report, Refusal>
+    ensures played { OnOk result (fault_of options.now ≡ None) }
+    ensures agreed { IfOk result (λ report. report.end ≡ IsEnded → IsTrue report.agree
+        → HasAgreed options.now) }
+{
+    if options.fault().is_some() {
+        return Err(Refusal::InvalidRequest);
+    }
+    match options.common.game {
+        GameName::Tally => play_tally(alloc, options),
+        GameName::Duel => play_duel(alloc, options),
+    }
+}
+
+fn play_tally(alloc: Global, options: &PeersOptions) -> Result<Report, Refusal>
+    ensures { IfOk result (λ report. report.end ≡ IsEnded → IsTrue report.agree
+        → HasAgreed options.now) }
+{
+    let mut table: Table<Tally> = Table::new(alloc, options);
+    for me in 0..options.machines {
+        seat(alloc, options, &mut table, me, tally())?;
+    }
+    play_out(alloc, options, &mut table)
+}
+
+fn play_duel(alloc: Global, options: &PeersOptions) -> Result<Report, Refusal>
+    ensures { IfOk result (λ report. report.end ≡ IsEnded → IsTrue report.agree
+        → HasAgreed options.now) }
+{
+    let mut table: Table<Duel> = Table::new(alloc, options);
+    for me in 0..options.machines {
+        let engines = duel(alloc, options.machines)?;
+        seat(alloc, options, &mut table, me, engines)?;
+    }
+    play_out(alloc, options, &mut table)
+}
+
+/// A machine takes its place.
+fn seat<G: Shown + Drop>(
+    alloc: Global,
+    options: &PeersOptions,
+    table: &mut Table<G>,
+    me: u8,
+    engines: Engines<G>,
+) -> Result<(), Refusal>
+    ensures { OnOk result (map (λ m. m.me) table.new.machines.items
+        ≡ map (λ m. m.me) table.old.machines.items ++ me ∷ []) }
+{
+    let machine = Machine::new(alloc, options, me, engines)?;
+    table.machines.push(machine)?;
+    Ok(())
+}
+
+/// Plays a match whose machines have taken their places.
+fn play_out<G: Shown + Drop>(
+    alloc: Global,
+    options: &PeersOptions,
+    table: &mut Table<G>,
+) -> Result<Report, Refusal>
+    requires { map (λ m. m.me) table.old.machines.items
+        ≡ range_with_len 0 options.now.machines }
+    ensures { IfOk result (λ report. report.end ≡ IsEnded → IsTrue report.agree
+        → HasAgreed options.now) }
+{
+    let end = table.play(alloc, options)?;
+    sum_up(alloc, options, table, end)
+}

@@ -1,0 +1,173 @@
+//! How a match came out.
+ghost use Rattle.std.specs.Prelude.{◌≡◌, ◌<◌, length, IfOk, IfSome, IsTrue};
+ghost use Rattle.std.specs.List.{All};
+ghost use Rattle.prog_peers.specs.Agreement.{AreAlike, IfStays};
+ghost use Rattle.prog_peers.specs.declared.playing.End.TheVariants.{Over as IsEnded};
+ghost use Rattle.roll_member.specs.Joined.{Joined};
+
+use crate::agreement::all_agree;
+use crate::machine::{Counts, Machine};
+use crate::options::PeersOptions;
+use crate::playing::{End, Table};
+use arrayvec::ArrayVec;
+use roll_frame::Refusal;
+use roll_game::Shown;
+use roll_mesh::MACHINE_LIMIT;
+use std::alloc::Global;
+
+/// What a machine and its peer measured of the datagrams of all others.
+#[derive(Clone, Copy, Debug, Default, PartialEq, Eq)]
+pub struct Measured {
+    /// Datagrams that were heard.
+    pub received: u64,
+    /// Datagrams that were lost, or are late.
+    pub lost: u64,
+    /// The milliseconds of all round trips that were measured last, and how many machines these are of.
+    pub trips: u64,
+    pub measured: u64,
+}
+
+/// What came of a machine.
+#[derive(Clone, Copy, Debug, Default, PartialEq, Eq)]
+pub struct Outcome {
+    pub machine: u8,
+    pub frames: u32,
+    pub settled: u32,
+    /// Frames that its game ran again.
+    pub rerun: u64,
+    /// The frame at which its player left, for the machines that stay.
+    pub left: Option<u32>,
+    pub counts: Counts,
+    pub measured: Measured,
+}
+
+/// How a match came out.
+#[derive(Drop)]
+pub struct Report {
+    pub outcomes: ArrayVec<Outcome, MACHINE_LIMIT>,
+    pub end: End,
+    /// How many machines stay.
+    pub staying: usize,
+    /// Whether they agree.
+    pub agree: bool,
+    /// How many rows are settled at the first machine that stays, and the text of the state after them.
+    pub settled: u32,
+    pub state: Vec<u8>,
+}
+
+impl Report {
+    /// Whether all is well: the match is over, the machines that stay agree, and none was deceived or saw another state.
+    pub fn is_well(&self) -> bool
+        ensures { IsTrue result → (self.now.end ≡ IsEnded) × IsTrue self.now.agree }
+    {
+        matches!(self.end, End::Over) && self.agree && self.is_honest()
+    }
+
+    /// Whether no machine heard what was no datagram of the match, or was told of another state than its own.
+    pub fn is_honest(&self) -> bool {
+        for outcome in &self.outcomes {
+            if outcome.counts.fooled > 0 || outcome.counts.desyncs > 0 {
+                return false;
+            }
+        }
+        true
+    }
+}
+
+/// Sums up how a match came out.
+pub fn sum_up<G: Shown + Drop>(
+    alloc: Global,
+    options: &PeersOptions,
+    table: &mut Table<G>,
+    end: End,
+) -> Result<Report, Refusal>
+    ensures end { IfOk result (λ report. report.end ≡ end) }
+    ensures alike { IfOk result (λ report. IsTrue report.agree → (first : Joined) × All
+        (λ machine. IfStays options.now (AreAlike G.step first)
+        (record { me = machine.me; member = machine.peer.member })) table.old.machines.items) }
+{
+    let Some(place) = first_that_stays(options, &table.machines) else {
+        return Err(Refusal::InvalidRequest);
+    };
+    let first = &table.machines[place];
+    let agree = all_agree(options, &table.machines, first);
+    let outcomes = each_outcome(&table.machines, first);
+    let settled = first.peer.session().settled();
+    let staying = count_staying(options, &table.machines);
+    let state = table.machines[place].settled_text(alloc)?;
+    Ok(Report {
+        outcomes,
+        end,
+        staying,
+        agree,
+        settled,
+        state,
+    })
+}
+
+/// How many machines stay.
+fn count_staying<G: Shown>(options: &PeersOptions, machines: &[Machine<G>]) -> usize {
+    machines
+        .iter()
+        .filter(|machine| options.stays(machine.me))
+        .count()
+}
+
+/// The place of the first machine that stays.
+fn first_that_stays<G: Shown>(options: &PeersOptions, machines: &[Machine<G>]) -> Option<usize>
+    ensures { IfSome result (λ place. place < length machines.now) }
+{
+    for place in 0..machines.len() {
+        if options.stays(machines[place].me) {
+            return Some(place);
+        }
+    }
+    None
+}
+
+/// What came of each machine, where it is one of them that tells at which frame each player left.
+fn each_outcome<G: Shown>(
+    machines: &[Machine<G>],
+    first: &Machine<G>,
+) -> ArrayVec<Outcome, MACHINE_LIMIT> {
+    let mut outcomes = ArrayVec::new();
+    for machine in machines {
+        let _ = outcomes.try_push(outcome_of(machine, first));
+    }
+    outcomes
+}
+
+/// What came of a machine.
+fn outcome_of<G: Shown>(machine: &Machine<G>, first: &Machine<G>) -> Outcome {
+    let session = machine.peer.session();
+    let frames = session.frame();
+    Outcome {
+        machine: machine.me,
+        frames,
+        settled: session.settled(),
+        rerun: session
+            .game()
+            .counts()
+            .turns
+            .saturating_sub(u64::from(frames)),
+        left: first.peer.member().mesh().left(machine.me),
+        counts: machine.counts,
+        measured: measure(machine),
+    }
+}
+
+/// What a machine measured of the others.
+fn measure<G: Shown>(machine: &Machine<G>) -> Measured {
+    let mut all = Measured::default();
+    for other in 0..MACHINE_LIMIT as u8 {
+        if let Some(stats) = machine.peer.stats(other) {
+            all.received = all.received.saturating_add(u64::from(stats.received));
+            all.lost = all.lost.saturating_add(u64::from(stats.lost));
+            if let Some(trip) = stats.round_trip {
+                all.trips = all.trips.saturating_add(u64::from(trip));
+                all.measured = all.measured.saturating_add(1);
+            }
+        }
+    }
+    all
+}

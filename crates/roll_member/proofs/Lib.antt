@@ -1,0 +1,7 @@
+pub mod Joining
+pub mod Players
+pub mod Taking
+pub mod Tied
+pub mod Rooms
+pub mod Partings
+pub mod Holding

@@ -1,0 +1,641 @@
+-- What keeps a session tied to its mesh.
+use Rattle.std.proofs.Common.{◌≡◌, ◌∙◌, ◌⊎◌, ℕ, ◌+◌, ◌<◌, ◌≤◌, List, [], ◌∷◌, ◌++◌, drop, take, append-nil, cond, length-append, arith, length, refl, ap, sym, subst, Bool, true, false, Option, Some, None, Result, Ok, Err, inl, inr}
+use Rattle.std.specs.Prelude.{is_none, is_some, not, nat_lt, ◌-◌, ◌||◌, IfErr, OnOk, OnErr, max, nat_le, slice_index, slice_index_or, slice_set, ◌==◌, ◌&&◌, if◌then◌else◌}
+use Rattle.roll_frame.specs.Inputs.{local_tests, of_player, player_at, with_given, with_none_given}
+use Rattle.roll_frame.specs.Timeline.{Player}
+use Rattle.roll_session.specs.Changes.{advance_refusal, after_advance, after_local, local_refusal, IsRollRefused}
+use Rattle.roll_session.specs.declared.event.Reached.{Reached}
+use Rattle.roll_member.specs.Leaving.{DisconnectsAll}
+use Rattle.roll_member.specs.declared.leaving.Left.{Left}
+use Rattle.roll_member.proofs.Players.{none_given, test_changed, words_at, words_changed, words_in}
+use Rattle.std.specs.Bool.{beq}
+use Rattle.std.specs.Option.{option_map, option_map_or}
+use Rattle.roll_member.specs.declared.join.JoinRefusal.TheVariants.{InvalidSeat, Players, Started}
+use Rattle.roll_mesh.specs.declared.limits.TheConstants.{MACHINE_LIMIT, PLAYER_LIMIT}
+use Rattle.roll_mesh.specs.declared.machine.Machine.{Machine}
+use Rattle.roll_mesh.specs.declared.packet.Packet.{Packet}
+use Rattle.roll_mesh.specs.declared.seat.Seat.{Seat}
+use Rattle.roll_mesh.specs.Words.{give_word, hear_words, joined_words, with_machine, Holder}
+use Rattle.roll_member.proofs.Holding.{same_places, taken_between}
+use Rattle.roll_mesh.specs.Machines.{at_places, none_offered, give, gone_after, has_after, hear, is_believed, is_in, is_fenced, leave, left, left_at, offer_at, owner_of, taken, trimmed}
+use Rattle.roll_mesh.specs.Meshes.{heard_as, hear_refusal, is_seat, stepped, Seated}
+use Rattle.roll_mesh.specs.declared.refusal.MeshRefusal.{MeshRefusal}
+use Rattle.roll_mesh.proofs.Changes.{give_changes, hear_changes, leave_changes, leave_has, none_some, left_changes, left_has, Change, Leaves}
+use Rattle.roll_mesh.specs.Worlds.{first_machine, Match}
+use Rattle.roll_member.proofs.Partings.{gone_only, locals_stay, words_stay}
+use Rattle.std.proofs.lemmas.Bool.{and_parts, cases_eq, cases_lt, lt-leb, eq-eqb, eqb-true, false≢true, ne_eqb, not-false, not-true}
+use Rattle.std.proofs.lemmas.List.{length-set, get_or-replicate, get_or_past, get_or-set_other, get_or-set_same}
+use Rattle.roll_frame.proofs.Refused.{all_fail}
+use Rattle.roll_frame.specs.declared.refusal.Refusal.TheVariants.{LogFull}
+use Rattle.roll_inputs.proofs.Players.{found, is_at, IsAt}
+use Rattle.roll_mesh.proofs.Places.{all_below, at_place, filled, length_places}
+use Rattle.roll_mesh.proofs.Trimmed.{trimmed_heard}
+use Rattle.roll_session.specs.Headline.{words_of}
+use Rattle.roll_session.specs.Seen.{Seen, Step}
+use Rattle.roll_member.specs.Joined.{held, are_fresh, are_seated, is_fresh_at, is_gone_at, is_local_at, is_seated_at, join_refusal, AreCounts, IsTied, IsTiedAt}
+use Rattle.roll_member.specs.Taking.{news_at, Hearing, KeepsPlayers, TakesAll}
+use Rattle.roll_member.proofs.Taking.{fed, fed_few, news_length, IsFed}
+use Rattle.roll_frame.specs.declared.refusal.Refusal.{Refusal}
+
+-- the match of a seat
+abbrev match_of : Seat → Match
+match_of seat = record { owners = seat.owners; machines = seat.machines }
+
+-- a step that keeps the players, and whom has left
+pub tied_after : (old new : Seen) (mesh after : Seated) → IsTied old mesh → KeepsPlayers old new
+    → is_in after.machine.gone after.seat.me ≡ false
+    → length after.machine.has ≡ PLAYER_LIMIT → AreCounts new after.machine.has → after.seat ≡ mesh.seat
+    → after.machine.left ≡ mesh.machine.left
+    → ((p n : ℕ) → p < PLAYER_LIMIT → left_at mesh.machine p ≡ Some n
+    → slice_index after.machine.has p ≡ slice_index mesh.machine.has p) → IsTied new after
+tied_after old new mesh after tied players here sized counts seat left keeps = record {
+  here = here;
+  sized = sized;
+  players = λ p lt.
+      let t = tied.players p lt in
+      let at : left_at after.machine p ≡ left_at mesh.machine p = ap (λ l. left_at (record mesh.machine { left = l }) p) left in
+      record {
+        count = counts p lt;
+        own = players.local (p + 1) ∙ t.own ∙ ap (λ s. owner_of s p == s.me) (sym seat);
+        gone = λ h. ap (λ o. is_some o) at ∙ t.gone (sym (players.gone (p + 1)) ∙ h);
+        stays = λ n h. let was = sym at ∙ h in keeps p n lt was ∙ t.stays n was;
+        remote = λ h. players.local (p + 1) ∙ t.remote (sym (ap (λ o. is_some o) at) ∙ h);
+      };
+}
+
+pub hear_left : (seat : Seat) (packet : Packet) (machine : Machine)
+    → (hear seat packet machine).left ≡ machine.left
+unfolding taken
+hear_left seat packet machine = go (is_fenced seat machine packet.sender)
+  where
+    go : (b : Bool) → (if b then machine else taken seat packet machine).left ≡ machine.left
+    go true = refl
+    go false = refl
+
+-- no words are taken of who has left
+pub taken_left : (seat : Seat) (packet : Packet) (machine : Machine) (p n : ℕ)
+    → p < length machine.has → left_at machine p ≡ Some n
+    → slice_index (taken seat packet machine).has p ≡ slice_index machine.has p
+unfolding taken has_after
+taken_left seat packet machine p n lt h =
+    at_place (has_after seat (gone_after seat machine packet) machine packet) machine.has p 0 lt
+    ∙ rw h refl
+
+-- no words are taken that begin later than with the next one
+pub taken_late : (seat : Seat) (packet : Packet) (machine : Machine) (p : ℕ)
+    → p < length machine.has → slice_index machine.has p < (offer_at packet p).first
+    → slice_index (taken seat packet machine).has p ≡ slice_index machine.has p
+unfolding taken has_after
+taken_late seat packet machine p l less =
+    at_place (has_after seat (gone_after seat machine packet) machine packet) machine.has p 0 l
+    ∙ rw (lt-leb (offer_at packet p).first (slice_index machine.has p) less)
+    (none (is_none (left_at machine p)) (is_believed seat (gone_after seat machine packet) packet p)
+    (max (slice_index machine.has p) (offer_at packet p).end) (slice_index machine.has p))
+  where
+    none : (a b : Bool) (x y : ℕ) → (if a && b && false then x else y) ≡ y
+    none true true x y = refl
+    none true false x y = refl
+    none false b x y = refl
+
+-- hearing takes no word away
+pub taken_up : (seat : Seat) (packet : Packet) (machine : Machine) (p : ℕ)
+    → p < length machine.has
+    → slice_index machine.has p ≤ slice_index (taken seat packet machine).has p
+unfolding taken has_after
+taken_up seat packet machine p lt =
+    let has = slice_index machine.has p in
+    let end = (offer_at packet p).end in
+    let gone = gone_after seat machine packet in
+    rw (at_place (has_after seat gone machine packet) machine.has p 0 lt)
+    (go (is_none (left_at machine p) && is_believed seat gone packet p
+    && nat_le (offer_at packet p).first has) has end)
+  where
+    go : (b : Bool) (has end : ℕ) → has ≤ (if b then max has end else has)
+    go true has end = omega arith
+    go false has end = omega arith
+
+-- a holder that heard a packet, and has these words
+heard_holder : (seat : Seat) (reached : List ℕ) (packet : Packet) (words : List (List ℕ))
+    (holder : Holder) (now : List (List ℕ))
+    → now ≡ at_places (λ p. joined_words (offer_at packet p).first (slice_index holder.mesh.has p)
+    (slice_index (hear seat (trimmed reached packet) holder.mesh).has p) (slice_index_or words p [])
+    (slice_index_or holder.words p [])) holder.mesh.has
+    → record { mesh = hear seat (trimmed reached packet) holder.mesh; words = now }
+    ≡ hear_words seat reached (record { packet = packet; words = words }) holder
+unfolding hear_words
+heard_holder seat reached packet words holder now e =
+    ap (λ ws. record { mesh = hear seat (trimmed reached packet) holder.mesh; words = ws }) e
+
+-- the mesh hears of a packet what the session took of it, and they stay tied
+module _ (step : Step) (s0 s1 : Seen) (mesh : Seated) (packet : Packet) (words : List (List ℕ))
+    (why : Option Refusal) (reached : List ℕ) where
+  abbrev pub heard_up_to : Seated
+  heard_up_to = stepped (λ seat machine. hear seat (trimmed reached packet) machine) mesh
+
+  pub record IsHeardUpTo : Type 0 where
+    pub has : heard_up_to.machine.has ≡ reached
+    pub tied : IsTied s1 heard_up_to
+    pub held_is : held (record { session = s1; mesh = heard_up_to })
+        ≡ hear_words mesh.seat reached (record { packet = packet; words = words })
+        (held (record { session = s0; mesh = mesh }))
+
+  pub heard_step : IsTied s0 mesh → hear_refusal mesh packet ≡ None
+      → length mesh.machine.has ≡ PLAYER_LIMIT → length reached ≡ PLAYER_LIMIT
+      → TakesAll step (record {
+        offers = packet.offers;
+        words = words;
+        has = mesh.machine.has;
+        most = (taken mesh.seat packet mesh.machine).has;
+      }) s0 PLAYER_LIMIT s1 why → AreCounts s1 reached → IsHeardUpTo
+  heard_step tied fine sized many takes counts = record {
+    has = has;
+    tied = tied_after s0 s1 mesh heard_up_to tied f.players here (ap (λ (ns : List ℕ). length ns) has ∙ many)
+        (λ p lt. ap (λ ns. slice_index ns p) has ∙ counts p lt) refl
+        (hear_left mesh.seat (trimmed reached packet) mesh.machine)
+        (λ p n lt left. ap (λ ns. slice_index ns p) has ∙ stays p n lt left);
+    held_is = heard_holder mesh.seat reached packet words (held (record { session = s0; mesh = mesh }))
+        (at_places (λ p. words_of s1 (p + 1)) heard_up_to.machine.has)
+        (same_places (λ p. words_of s1 (p + 1))
+        (λ p. joined_words (offer_at packet p).first (slice_index mesh.machine.has p)
+        (slice_index heard_up_to.machine.has p) (slice_index_or words p [])
+        (slice_index_or (at_places (λ q. words_of s0 (q + 1)) mesh.machine.has) p []))
+        heard_up_to.machine.has mesh.machine.has
+        (ap (λ (ns : List ℕ). length ns) has ∙ many ∙ sym sized) joined);
+  }
+    where
+      here : is_in heard_up_to.machine.gone mesh.seat.me ≡ false
+      here = (hear_changes (match_of mesh.seat) (trimmed reached packet ∷ []) mesh.seat.me
+          (trimmed reached packet) mesh.machine (inl refl)).unfenced tied.here
+
+      most : List ℕ
+      most = (taken mesh.seat packet mesh.machine).has
+
+      h : Hearing
+      h = record { offers = packet.offers; words = words; has = mesh.machine.has; most = most }
+
+      f : IsFed h s0 PLAYER_LIMIT s1
+      f = fed step h s0 PLAYER_LIMIT s1 why takes
+
+      bounds : (p : ℕ) → p < PLAYER_LIMIT → (slice_index mesh.machine.has p ≤ slice_index reached p)
+          × (slice_index reached p ≤ slice_index most p)
+      bounds p lt =
+          let w = f.words_are p lt in
+          let was = (tied.players p lt).count in
+          let up = taken_up mesh.seat packet mesh.machine p (omega (arith, lt, sized)) in
+          let few = news_length (slice_index_or packet.offers p none_offered) (slice_index_or words p [])
+          (slice_index mesh.machine.has p) (slice_index most p) up in
+          let b = fed_few (words_of s1 (p + 1)) (words_of s0 (p + 1)) (news_at h p) w.0 (slice_index most p) w.1
+          (omega (arith, up, was)) (omega (arith, few, was)) in
+          (omega (arith, b.0, was, counts p lt), omega (arith, b.1, counts p lt))
+
+      has : heard_up_to.machine.has ≡ reached
+      has = trimmed_heard mesh reached packet fine (many ∙ sym sized)
+          (λ p lt. (bounds p (omega (arith, lt, sized))).0)
+          (λ p lt. (bounds p (omega (arith, lt, sized))).1)
+
+      joined : (p : ℕ) → p < length mesh.machine.has
+          → words_of s1 (p + 1)
+          ≡ joined_words (offer_at packet p).first (slice_index mesh.machine.has p)
+          (slice_index heard_up_to.machine.has p) (slice_index_or words p [])
+          (slice_index_or (at_places (λ q. words_of s0 (q + 1)) mesh.machine.has) p [])
+      joined p l =
+          let lt : p < PLAYER_LIMIT = omega (arith, l, sized) in
+          let w = f.words_are p lt in
+          let was = (tied.players p lt).count in
+          let first : ℕ = (offer_at packet p).first in
+          let offered : List ℕ = slice_index_or words p [] in
+          let now : slice_index heard_up_to.machine.has p
+          ≡ slice_index mesh.machine.has p + length (take w.0 (news_at h p)) =
+          ap (λ ns. slice_index ns p) has ∙ counts p lt
+          ∙ ap (λ (ws : List ℕ). length ws) w.1
+          ∙ length-append (words_of s0 (p + 1)) (take w.0 (news_at h p))
+          ∙ ap (λ n. n + length (take w.0 (news_at h p))) (sym was) in
+          w.1 ∙ ap (λ ws. words_of s0 (p + 1) ++ ws)
+          (taken_between offered first (slice_index mesh.machine.has p) (slice_index most p) w.0
+          (λ less. omega (arith, less, taken_late mesh.seat packet mesh.machine p l less))
+          ∙ ap (λ n. drop (slice_index mesh.machine.has p - first) (take (n - first) offered)) (sym now))
+          ∙ ap (λ ws. ws ++ drop (slice_index mesh.machine.has p - first)
+          (take (slice_index heard_up_to.machine.has p - first) offered))
+          (sym (at_place (λ q. words_of s0 (q + 1)) mesh.machine.has p [] l))
+
+      stays : (p n : ℕ) → p < PLAYER_LIMIT → left_at mesh.machine p ≡ Some n
+          → slice_index reached p ≡ slice_index mesh.machine.has p
+      stays p n lt left =
+          let same = taken_left mesh.seat packet mesh.machine p n (omega (arith, lt, sized)) left in
+          let b = bounds p lt in
+          omega (arith, b.0, b.1, same)
+
+pub taken_length : (seat : Seat) (packet : Packet) (machine : Machine)
+    → length (taken seat packet machine).has ≡ length machine.has
+unfolding taken
+taken_length seat packet machine =
+    length_places (has_after seat (gone_after seat machine packet) machine packet) machine.has
+
+pub same_heard : (mesh : Seated) (most : List ℕ) (packet : Packet)
+    → heard_as mesh (trimmed most packet) ≡ heard_as mesh packet
+unfolding trimmed
+same_heard mesh most packet = refl
+
+leave_left : (seat : Seat) (m : ℕ) (machine : Machine) → (leave seat m machine).left ≡ machine.left
+unfolding leave
+leave_left seat m machine = go (m == seat.me)
+  where
+    go : (b : Bool) → (if b then machine else record machine { gone = slice_set machine.gone m true }).left
+        ≡ machine.left
+    go true = refl
+    go false = refl
+
+keeps_same : (s : Seen) → KeepsPlayers s s
+keeps_same s = record { local = λ p. refl; gone = λ p. refl }
+
+-- a machine is regarded as gone, or isn't
+pub leave_tied : (s : Seen) (old new : Seated) (m : ℕ) (result : Result Unit MeshRefusal)
+    → OnOk result (new ≡ stepped (λ seat here. leave seat m here) old) → OnErr result (new ≡ old)
+    → IsTied s old → IsTied s new
+leave_tied s old new m (Err why) left same tied = subst (IsTied s) (sym same) tied
+leave_tied s old new m (Ok done) left same tied =
+    subst (IsTied s) (sym left)
+    (tied_after s s old (stepped (λ seat here. leave seat m here) old) tied (keeps_same s)
+    ((leave_changes (match_of old.seat) [] old.seat.me m old.machine).unfenced tied.here)
+    (ap (λ (ns : List ℕ). length ns) (leave_has old.seat m old.machine) ∙ tied.sized)
+    (λ p lt. ap (λ ns. slice_index ns p) (leave_has old.seat m old.machine) ∙ (tied.players p lt).count) refl
+    (leave_left old.seat m old.machine)
+    (λ p n lt h. ap (λ ns. slice_index ns p) (leave_has old.seat m old.machine)))
+
+-- ---- the session's own calls
+
+-- a session whose words and players are as they were stays tied
+pub tied_still : (old new : Seen) (mesh : Seated) → ((p : ℕ) → words_of new p ≡ words_of old p)
+    → KeepsPlayers old new → IsTied old mesh → IsTied new mesh
+tied_still old new mesh words players tied =
+    tied_after old new mesh mesh tied players tied.here tied.sized
+    (λ p lt. (tied.players p lt).count ∙ ap (λ (ws : List ℕ). length ws) (sym (words (p + 1)))) refl refl
+    (λ p n lt h. refl)
+
+-- a session whose players are these
+tied_players : (old new : Seen) (mesh : Seated) → new.core.players ≡ old.core.players
+    → IsTied old mesh → IsTied new mesh
+tied_players old new mesh same =
+    tied_still old new mesh (λ p. ap (λ ps. words_at ps p) same) (record {
+      local = λ p. ap (λ ps. of_player (λ player. player.local) ps p) same;
+      gone = λ p. ap (λ ps. of_player (λ player. player.gone) ps p) same;
+    })
+
+advanced : (s : Seen) → KeepsPlayers s (after_advance s)
+advanced s = record {
+  local = none_given (λ o. option_map_or (λ player. player.local) o false) each s.core.players;
+  gone = none_given (λ o. option_map_or (λ player. player.gone) o false) each_gone s.core.players;
+}
+  where
+    each : (o : Option Player) → option_map_or (λ player. player.local) (option_map with_none_given o) false
+        ≡ option_map_or (λ player. player.local) o false
+    each None = refl
+    each (Some player) = refl
+
+    each_gone : (o : Option Player)
+        → option_map_or (λ player. player.gone) (option_map with_none_given o) false
+        ≡ option_map_or (λ player. player.gone) o false
+    each_gone None = refl
+    each_gone (Some player) = refl
+
+each_words : (o : Option Player) → words_in (option_map with_none_given o) ≡ words_in o
+each_words None = refl
+each_words (Some player) = refl
+
+-- an advance, however it ends
+pub advance_tied : (old new : Seen) (mesh : Seated) (result : Result Reached Refusal)
+    → OnOk result (new ≡ after_advance old)
+    → IfErr result (IsRollRefused (advance_refusal old) old new (old.core.frame + 1))
+    → IsTied old mesh → IsTied new mesh
+advance_tied old new mesh (Ok reached) rolled refused tied =
+    subst (λ s. IsTied s mesh) (sym rolled)
+    (tied_still old (after_advance old) mesh (none_given words_in each_words old.core.players)
+    (advanced old) tied)
+advance_tied old new mesh (Err why) rolled (inl r) tied =
+    subst (λ s. IsTied s mesh) (sym r.unchanged) tied
+advance_tied old new mesh (Err why) rolled (inr h) tied =
+    tied_players old new mesh (ap (λ (s : Seen). s.core.players) h.2.seen) tied
+
+-- a player, once the players of who is gone have left
+left_tied : (old new : Seen) (mesh : Seated) (who : Left) → IsTied old mesh
+    → DisconnectsAll old (left mesh.seat mesh.machine) new who → (p : ℕ) → p < PLAYER_LIMIT
+    → IsTiedAt new (stepped left mesh) p
+left_tied old new mesh who tied d p lt = record {
+  count = ap (λ ns. slice_index ns p) (left_has mesh.seat mesh.machine) ∙ t.count
+      ∙ ap (λ (ws : List ℕ). length ws) (sym (words_stay old new after who d (p + 1)));
+  own = locals_stay old new after who d p ∙ t.own;
+  gone = λ h. was_gone (gone_only old new after who d p lt h);
+  stays = λ n h. left_as n (change.left p n h);
+  remote = λ h. found (left_at after p) refl h;
+}
+  where
+    match : Match
+    match = match_of mesh.seat
+
+    after : Machine
+    after = left mesh.seat mesh.machine
+
+    change : Change match [] mesh.seat.me mesh.machine after
+    change = left_changes match [] mesh.seat.me mesh.machine
+
+    t : IsTiedAt old mesh p
+    t = tied.players p lt
+
+    still : (o : Option ℕ) → left_at mesh.machine p ≡ o → is_some o ≡ true
+        → is_some (left_at after p) ≡ true
+    still None e h = absurd (false≢true h)
+    still (Some n) e h = ap (λ o. is_some o) (change.stays p n e)
+
+    was_gone : (is_gone_at old p ≡ true) ⊎ (is_some (left_at after p) ≡ true)
+        → is_some (left_at after p) ≡ true
+    was_gone (inl h) = still (left_at mesh.machine p) refl (t.gone h)
+    was_gone (inr h) = h
+
+    left_as : (n : ℕ) → (left_at mesh.machine p ≡ Some n) ⊎ Leaves match mesh.seat.me after p n
+        → slice_index after.has p ≡ n
+    left_as n (inl was) = ap (λ ns. slice_index ns p) (left_has mesh.seat mesh.machine) ∙ t.stays n was
+    left_as n (inr now) = now.has
+
+    others : (n : ℕ) → (left_at mesh.machine p ≡ Some n) ⊎ Leaves match mesh.seat.me after p n
+        → is_local_at old p ≡ false
+    others n (inl was) = t.remote (ap (λ o. is_some o) was)
+    others n (inr now) =
+        t.own ∙ ne_eqb (owner_of mesh.seat p) mesh.seat.me
+        (λ e. false≢true (sym (change.unfenced tied.here) ∙ ap (λ m. is_in after.gone m) (sym e) ∙ now.orphan))
+
+    found : (o : Option ℕ) → left_at after p ≡ o → is_some (left_at after p) ≡ true
+        → is_local_at new p ≡ false
+    found None e h = absurd (false≢true (sym (ap (λ o. is_some o) e) ∙ h))
+    found (Some n) e h = locals_stay old new after who d p ∙ others n (change.left p n e)
+
+-- the players of who is gone have left
+pub leaves_tied : (old new : Seen) (mesh : Seated) (who : Left) → IsTied old mesh
+    → DisconnectsAll old (left mesh.seat mesh.machine) new who → IsTied new (stepped left mesh)
+leaves_tied old new mesh who tied d = record {
+  here = (left_changes (match_of mesh.seat) [] mesh.seat.me mesh.machine).unfenced tied.here;
+  sized = ap (λ (ns : List ℕ). length ns) (left_has mesh.seat mesh.machine) ∙ tied.sized;
+  players = left_tied old new mesh who tied d;
+}
+
+-- ---- a word of one's own
+
+give_left : (seat : Seat) (p : ℕ) (machine : Machine) → (give seat p machine).left ≡ machine.left
+unfolding give
+give_left seat p machine = go (owner_of seat p == seat.me)
+  where
+    go : (b : Bool) → (if b then record machine
+        { has = slice_set machine.has p (slice_index machine.has p + 1) } else machine).left
+        ≡ machine.left
+    go true = refl
+    go false = refl
+
+give_own_has : (seat : Seat) (p : ℕ) (machine : Machine) → owner_of seat p ≡ seat.me
+    → give seat p machine
+    ≡ record machine { has = slice_set machine.has p (slice_index machine.has p + 1) }
+unfolding give
+give_own_has seat p machine own = rw (eq-eqb (owner_of seat p) seat.me own) refl
+
+-- a holder that gave a word, and has these words
+given_holder : (seat : Seat) (p word : ℕ) (holder : Holder) (now : List (List ℕ))
+    → owner_of seat p ≡ seat.me
+    → now ≡ slice_set holder.words p (slice_index_or holder.words p [] ++ word ∷ [])
+    → record { mesh = give seat p holder.mesh; words = now } ≡ give_word seat p word holder
+unfolding give_word
+given_holder seat p word holder now own e =
+    rw (eq-eqb (owner_of seat p) seat.me own)
+    (ap (λ ws. record { mesh = give seat p holder.mesh; words = ws }) e)
+
+-- a word of a local player is given, and the mesh is given it
+module _ (s : Seen) (mesh : Seated) (player word : ℕ) where
+  abbrev pub given_to : Seated
+  given_to = stepped (λ seat machine. give seat (player - 1) machine) mesh
+
+  pub record IsGivenBoth : Type 0 where
+    pub some : 1 ≤ player
+    pub within : player - 1 < PLAYER_LIMIT
+    pub own : owner_of mesh.seat (player - 1) ≡ mesh.seat.me
+    pub more : slice_index mesh.machine.has (player - 1)
+        ≤ length (words_of (after_local s player word) (player - 1 + 1))
+    pub is_given : record mesh {
+      machine = record mesh.machine {
+        has = slice_set mesh.machine.has (player - 1)
+            (length (words_of (after_local s player word) (player - 1 + 1)));
+      };
+    } ≡ given_to
+    pub tied : IsTied (after_local s player word) given_to
+    pub held_is : held (record { session = after_local s player word; mesh = given_to })
+        ≡ give_word mesh.seat (player - 1) word (held (record { session = s; mesh = mesh }))
+
+  pub give_both : local_refusal s player ≡ None → IsTied s mesh
+      → length s.core.players ≤ PLAYER_LIMIT → IsGivenBoth
+  give_both fine tied few = record {
+    some = at.some;
+    within = within;
+    own = own;
+    more = omega (arith, count, one_more_word, words_here);
+    is_given = ap (λ n. record mesh {
+      machine = record mesh.machine
+          { has = slice_set mesh.machine.has place n };
+    }) (omega (arith, count, one_more_word, words_here))
+        ∙ ap (λ m. record mesh { machine = m }) (sym (give_own_has mesh.seat place mesh.machine own));
+    tied = tied_after s new mesh given_to tied players
+        ((give_changes (match_of mesh.seat) [] mesh.seat.me place mesh.machine).unfenced tied.here)
+        (ap (λ (m : Machine). length m.has) (give_own_has mesh.seat place mesh.machine own)
+        ∙ length-set mesh.machine.has place (slice_index mesh.machine.has place + 1) ∙ tied.sized)
+        counts refl (give_left mesh.seat place mesh.machine) keeps;
+    held_is = given_holder mesh.seat place word (held (record { session = s; mesh = mesh }))
+        (at_places (λ p. words_of new (p + 1)) given_to.machine.has) own (sym given_words);
+  }
+    where
+      new : Seen
+      new = after_local s player word
+
+      place : ℕ
+      place = player - 1
+
+      fails : not (of_player (λ player. player.local) s.core.players player) ≡ false
+      fails = (all_fail (local_tests s.core.players s.core.frame s.settings.threshold s.settings.limit player
+          ++ (nat_le s.settings.log s.core.logged, LogFull) ∷ []) fine).0
+
+      local : of_player (λ player. player.local) s.core.players player ≡ true
+      local = not-false (of_player (λ player. player.local) s.core.players player) fails
+
+      x : (x : Player) × (player_at s.core.players player ≡ Some x) × (x.local ≡ true)
+      x = found (λ player. player.local) s.core.players player local
+
+      at : IsAt s.core.players player x.0
+      at = is_at s.core.players player x.0 x.1
+
+      within : place < PLAYER_LIMIT
+      within = omega (arith, at.within, few)
+
+      number : place + 1 ≡ player
+      number = omega (arith, at.some)
+
+      t : IsTiedAt s mesh place
+      t = tied.players place within
+
+      is_local : is_local_at s place ≡ true
+      is_local = ap (λ p. of_player (λ player. player.local) s.core.players p) number ∙ local
+
+      own : owner_of mesh.seat place ≡ mesh.seat.me
+      own = eqb-true (owner_of mesh.seat place) mesh.seat.me (sym t.own ∙ is_local)
+
+      words : (q : ℕ) → words_of new q ≡ words_of s q ++ cond (q == player) (word ∷ []) []
+      words q = words_changed (with_given word) (word ∷ []) s.core.players player x.0 x.1 refl q
+
+      words_here : length (words_of new (place + 1)) ≡ length (words_of new player)
+      words_here = ap (λ p. length (words_of new p)) number
+
+      one_more_word : length (words_of new player) ≡ length (words_of s player) + 1
+      one_more_word = ap (λ (ws : List ℕ). length ws) (words player ∙ rw (eq-eqb player player refl) refl)
+          ∙ length-append (words_of s player) (word ∷ [])
+
+      count : slice_index mesh.machine.has place ≡ length (words_of s player)
+      count = t.count ∙ ap (λ p. length (words_of s p)) number
+
+      players : KeepsPlayers s new
+      players = record {
+        local = λ q. test_changed (λ player. player.local) (with_given word) s.core.players player x.0 x.1 refl q;
+        gone = λ q. test_changed (λ player. player.gone) (with_given word) s.core.players player x.0 x.1 refl q;
+      }
+
+      has_at : (p : ℕ) → slice_index given_to.machine.has p
+          ≡ slice_index (slice_set mesh.machine.has place (slice_index mesh.machine.has place + 1)) p
+      has_at p = ap (λ (m : Machine). slice_index m.has p) (give_own_has mesh.seat place mesh.machine own)
+
+      other : (p : ℕ) → (p ≡ place → ⊥) → slice_index given_to.machine.has p ≡ slice_index mesh.machine.has p
+      other p apart = has_at p
+          ∙ get_or-set_other mesh.machine.has place p (slice_index mesh.machine.has place + 1) 0 apart
+
+      counts : AreCounts new given_to.machine.has
+      counts p lt = go (cases_eq p place)
+        where
+          go : (p ≡ place) ⊎ (p ≡ place → ⊥)
+              → slice_index given_to.machine.has p ≡ length (words_of new (p + 1))
+          go (inl same) =
+              has_at p ∙ ap (λ k. slice_index (slice_set mesh.machine.has place
+              (slice_index mesh.machine.has place + 1)) k) same
+              ∙ get_or-set_same mesh.machine.has place (slice_index mesh.machine.has place + 1) 0
+              (omega (arith, within, tied.sized))
+              ∙ omega (arith, count, one_more_word, words_here)
+              ∙ ap (λ k. length (words_of new (k + 1))) (sym same)
+          go (inr apart) =
+              let number_apart : (p + 1 == player) ≡ false =
+              ne_eqb (p + 1) player (λ e. apart (omega (arith, e, number))) in
+              other p apart ∙ (tied.players p lt).count
+              ∙ ap (λ (ws : List ℕ). length ws)
+              (sym (words (p + 1) ∙ rw number_apart (append-nil (words_of s (p + 1)))))
+
+      olds : List (List ℕ)
+      olds = at_places (λ p. words_of s (p + 1)) mesh.machine.has
+
+      old_at : (p : ℕ) → p < length mesh.machine.has → slice_index_or olds p [] ≡ words_of s (p + 1)
+      old_at p l = at_place (λ p. words_of s (p + 1)) mesh.machine.has p [] l
+
+      inside : place < length mesh.machine.has
+      inside = omega (arith, within, tied.sized)
+
+      last : List ℕ
+      last = slice_index_or olds place [] ++ word ∷ []
+
+      as_many : length given_to.machine.has ≡ length mesh.machine.has
+      as_many = ap (λ (m : Machine). length m.has) (give_own_has mesh.seat place mesh.machine own)
+          ∙ length-set mesh.machine.has place (slice_index mesh.machine.has place + 1)
+
+      many_olds : length olds ≡ length mesh.machine.has
+      many_olds = length_places (λ p. words_of s (p + 1)) mesh.machine.has
+
+      given_words : slice_set olds place last
+          ≡ at_places (λ p. words_of new (p + 1)) given_to.machine.has
+      given_words = filled (λ p. words_of new (p + 1)) given_to.machine.has (slice_set olds place last) []
+          (length-set olds place last ∙ many_olds ∙ sym as_many)
+          (λ k l. at k (omega (arith, l, as_many)) (cases_eq k place))
+        where
+          at : (k : ℕ) → k < length mesh.machine.has → (k ≡ place) ⊎ (k ≡ place → ⊥)
+              → slice_index_or (slice_set olds place last) k [] ≡ words_of new (k + 1)
+          at k l (inl same) =
+              ap (λ n. slice_index_or (slice_set olds place last) n []) same
+              ∙ get_or-set_same olds place last [] (omega (arith, inside, many_olds))
+              ∙ ap (λ ws. ws ++ word ∷ []) (old_at place inside)
+              ∙ ap (λ n. words_of s n ++ word ∷ []) number
+              ∙ sym (words player ∙ rw (eq-eqb player player refl) refl)
+              ∙ ap (λ n. words_of new n) (sym number) ∙ ap (λ n. words_of new (n + 1)) (sym same)
+          at k l (inr apart) =
+              let number_apart : (k + 1 == player) ≡ false =
+              ne_eqb (k + 1) player (λ e. apart (omega (arith, e, number))) in
+              get_or-set_other olds place k last [] apart ∙ old_at k l
+              ∙ sym (words (k + 1) ∙ rw number_apart (append-nil (words_of s (k + 1))))
+
+      keeps : (p n : ℕ) → p < PLAYER_LIMIT → left_at mesh.machine p ≡ Some n
+          → slice_index given_to.machine.has p ≡ slice_index mesh.machine.has p
+      keeps p n lt h = other p (λ same. false≢true
+          (sym ((tied.players p lt).remote (ap (λ o. is_some o) h)) ∙ ap (λ k. is_local_at s k) same ∙ is_local))
+
+-- ---- a session that takes its seat
+
+none_gone : (m : ℕ) → is_in first_machine.gone m ≡ false
+none_gone m = go (cases_lt m MACHINE_LIMIT)
+  where
+    go : (m < MACHINE_LIMIT) ⊎ (MACHINE_LIMIT ≤ m) → is_in first_machine.gone m ≡ false
+    go (inl l) = get_or-replicate MACHINE_LIMIT m false false l
+    go (inr g) = get_or_past first_machine.gone m false g
+
+none_left : (p : ℕ) → left_at first_machine p ≡ None
+none_left p = go (cases_lt p PLAYER_LIMIT)
+  where
+    go : (p < PLAYER_LIMIT) ⊎ (PLAYER_LIMIT ≤ p) → left_at first_machine p ≡ None
+    go (inl l) = get_or-replicate PLAYER_LIMIT p None None l
+    go (inr g) = get_or_past first_machine.left p None g
+
+same_bools : (a b : Bool) → beq a b ≡ true → a ≡ b
+same_bools true true e = refl
+same_bools false false e = refl
+same_bools true false e = absurd (false≢true e)
+same_bools false true e = absurd (false≢true e)
+
+-- what is asked of a session that takes its seat
+pub seated_fine : (s : Seen) (seat : Seat) → join_refusal s seat ≡ None
+    → (are_seated s seat ≡ true) × (are_fresh s ≡ true)
+seated_fine s seat = go (is_seat seat) (are_seated s seat) (are_fresh s)
+  where
+    go : (a b c : Bool) → (if not a then Some InvalidSeat else (if not b then Some Players
+        else (if not c then Some Started else None))) ≡ None → (b ≡ true) × (c ≡ true)
+    go true true true e = (refl, refl)
+    go true true false e = absurd (none_some Started (sym e))
+    go true false c e = absurd (none_some Players (sym e))
+    go false b c e = absurd (none_some InvalidSeat (sym e))
+
+pub joined_tied : (s : Seen) (seat : Seat) (has : List ℕ) → are_seated s seat ≡ true
+    → are_fresh s ≡ true → length has ≡ PLAYER_LIMIT → AreCounts s has
+    → IsTied s (record { seat = seat; machine = record first_machine { has = has } })
+unfolding are_seated are_fresh
+joined_tied s seat has seated fresh sized counts = record {
+  here = none_gone seat.me;
+  sized = sized;
+  players = λ p lt.
+      let own = and_parts (beq (is_local_at s p) (owner_of seat p == seat.me))
+      (beq (nat_lt p (length s.core.players)) (nat_lt (owner_of seat p) seat.machines))
+      (all_below (is_seated_at s seat) PLAYER_LIMIT p seated lt) in
+      let new = and_parts (is_local_at s p || (length (words_of s (p + 1)) == 0)) (not (is_gone_at s p))
+      (all_below (is_fresh_at s) PLAYER_LIMIT p fresh lt) in
+      record {
+        count = counts p lt;
+        own = same_bools (is_local_at s p) (owner_of seat p == seat.me) own.0;
+        gone = λ h. absurd (false≢true (sym (not-true (is_gone_at s p) new.1) ∙ h));
+        stays = λ n h. absurd (none_some n (sym (none_left p) ∙ h));
+        remote = λ h. absurd (false≢true (ap (λ o. is_some o) (sym (none_left p)) ∙ h));
+      };
+}
+
+-- the words stay where players leave
+pub left_held : (old new : Seen) (mesh : Seated) (who : Left)
+    → DisconnectsAll old (left mesh.seat mesh.machine) new who
+    → held (record { session = new; mesh = stepped left mesh })
+    ≡ with_machine (left mesh.seat) (held (record { session = old; mesh = mesh }))
+left_held old new mesh who d =
+    ap (λ ws. record { mesh = left mesh.seat mesh.machine; words = ws })
+    (same_places (λ p. words_of new (p + 1)) (λ p. words_of old (p + 1))
+    (left mesh.seat mesh.machine).has mesh.machine.has
+    (ap (λ (ns : List ℕ). length ns) (left_has mesh.seat mesh.machine))
+    (λ k l. words_stay old new (left mesh.seat mesh.machine) who d (k + 1)))

@@ -1,0 +1,9 @@
+use Rattle.std.proofs.Common.{◌≡◌, take}
+use Rattle.roll_member.specs.Taking.{IsTaken}
+use Rattle.roll_member.proofs.words.take_words.Given as goal
+
+abbrev pub invariant-loop-word : goal.invariant-loop-word
+invariant-loop-word g l = record {
+  count : l.count ≡ l.word-index;
+  taken : IsTaken g.G.Game.step l.fn.session l.session l.player l.first (take l.word-index l.words);
+}

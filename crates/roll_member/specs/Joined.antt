@@ -1,0 +1,85 @@
+-- A session in its seat of a match. Player p of the mesh, counted from 0, is player p + 1 of the session.
+use Rattle.std.specs.Prelude.{◌≡◌, ℕ, ◌+◌, ◌<◌, Bool, true, false, not, ◌==◌, ◌&&◌, ◌||◌, nat_lt, List, length, is_some, Option, Some, None, if◌then◌else◌, slice_index}
+use Rattle.std.specs.Bool.{beq}
+use Rattle.std.specs.List.{list_all, range_with_len}
+use Rattle.roll_frame.specs.Inputs.{of_player}
+use Rattle.roll_mesh.specs.declared.limits.TheConstants.{PLAYER_LIMIT}
+use Rattle.roll_mesh.specs.Machines.{at_places, is_in, left_at, owner_of}
+use Rattle.roll_mesh.specs.Words.{Holder}
+use Rattle.roll_mesh.specs.declared.seat.Seat.{Seat}
+use Rattle.roll_mesh.specs.Meshes.{is_seat, Seated}
+use Rattle.roll_mesh.specs.Worlds.{first_machine}
+use Rattle.roll_session.specs.Headline.{words_of}
+use Rattle.roll_session.specs.Seen.{Seen}
+use Rattle.roll_member.specs.declared.join.JoinRefusal.{JoinRefusal}
+use Rattle.roll_member.specs.declared.join.JoinRefusal.TheVariants.{InvalidSeat, Players, Started}
+
+pub record Joined : Type 0 where
+  pub session : Seen
+  pub mesh : Seated
+
+-- these are the numbers of words of the players
+abbrev pub AreCounts : Seen → List ℕ → Type 0
+AreCounts s counts =
+    (p : ℕ) → p < PLAYER_LIMIT → slice_index counts p ≡ length (words_of s (p + 1))
+
+-- whether the player at a place is one of the machine's own, or has left the session
+abbrev pub is_local_at : Seen → ℕ → Bool
+is_local_at s p = of_player (λ player. player.local) s.core.players (p + 1)
+
+abbrev pub is_gone_at : Seen → ℕ → Bool
+is_gone_at s p = of_player (λ player. player.gone) s.core.players (p + 1)
+
+-- what holds between a session and its mesh, for the player at a place: the mesh has as many words as are confirmed; the local
+-- players are the machine's own; who has left the session has left the mesh, which has as many words as it left at, and isn't
+-- the machine's own
+pub record IsTiedAt (s : Seen) (mesh : Seated) (p : ℕ) : Type 0 where
+  pub count : slice_index mesh.machine.has p ≡ length (words_of s (p + 1))
+  pub own : is_local_at s p ≡ (owner_of mesh.seat p == mesh.seat.me)
+  pub gone : is_gone_at s p ≡ true → is_some (left_at mesh.machine p) ≡ true
+  pub stays : (n : ℕ) → left_at mesh.machine p ≡ Some n → slice_index mesh.machine.has p ≡ n
+  pub remote : is_some (left_at mesh.machine p) ≡ true → is_local_at s p ≡ false
+
+-- and of all players; and the machine isn't gone for itself
+pub record IsTied (s : Seen) (mesh : Seated) : Type 0 where
+  pub here : is_in mesh.machine.gone mesh.seat.me ≡ false
+  pub sized : length mesh.machine.has ≡ PLAYER_LIMIT
+  pub players : (p : ℕ) → p < PLAYER_LIMIT → IsTiedAt s mesh p
+
+-- whether the player at a place is local if the seat owns it, and there is one if a machine owns it
+abbrev pub is_seated_at : Seen → Seat → ℕ → Bool
+is_seated_at s seat p =
+    beq (is_local_at s p) (owner_of seat p == seat.me)
+    && beq (nat_lt p (length s.core.players)) (nat_lt (owner_of seat p) seat.machines)
+
+-- whether nothing was heard of the player at a place
+abbrev pub is_fresh_at : Seen → ℕ → Bool
+is_fresh_at s p =
+    (is_local_at s p || (length (words_of s (p + 1)) == 0)) && not (is_gone_at s p)
+
+unfoldable pub are_seated : Seen → Seat → Bool
+are_seated s seat = list_all (is_seated_at s seat) (range_with_len 0 PLAYER_LIMIT)
+
+unfoldable pub are_fresh : Seen → Bool
+are_fresh s = list_all (is_fresh_at s) (range_with_len 0 PLAYER_LIMIT)
+
+-- why a session can't take its seat
+abbrev pub join_refusal : Seen → Seat → Option JoinRefusal
+join_refusal s seat =
+    if not (is_seat seat) then Some InvalidSeat
+    else (if not (are_seated s seat) then Some Players
+    else (if not (are_fresh s) then Some Started else None))
+
+-- a session that has just taken its seat: its mesh has the words of its own players, and was told nothing
+pub record IsJoinedAs (s : Seen) (seat : Seat) (m : Joined) : Type 0 where
+  pub session : m.session ≡ s
+  pub mesh : m.mesh
+      ≡ record { seat = seat; machine = record first_machine { has = m.mesh.machine.has } }
+  pub counts : AreCounts s m.mesh.machine.has
+
+-- what a member holds: what its mesh knows, and the words that are confirmed of each player
+abbrev pub held : Joined → Holder
+held m = record {
+  mesh = m.mesh.machine;
+  words = at_places (λ p. words_of m.session (p + 1)) m.mesh.machine.has;
+}

@@ -1,0 +1,5 @@
+pub mod Joined
+pub mod Taking
+pub mod Hearing
+pub mod Leaving
+pub mod Telling

@@ -1,0 +1,130 @@
+//! A session takes its seat.
+ghost use Rattle.std.specs.Prelude.{◌≡◌, ◌+◌, ◌<◌, ◌≤◌, true, length, slice_index, slice_set};
+ghost use Rattle.roll_member.specs.Joined.{are_fresh, are_seated, is_fresh_at, is_seated_at, join_refusal, AreCounts};
+ghost use Rattle.roll_mesh.specs.Machines.{owner_of};
+ghost use Rattle.roll_mesh.specs.Worlds.{first_machine};
+ghost use Rattle.roll_mesh.specs.declared.limits.TheConstants.{PLAYER_LIMIT};
+ghost use Rattle.roll_session.specs.Headline.{words_of};
+
+use roll_game::Game;
+use roll_inputs::Source;
+use roll_mesh::{MACHINE_LIMIT, Mesh, PLAYER_LIMIT, Seat};
+use roll_session::Session;
+use thiserror::Error;
+
+/// Why a session can't take its seat.
+#[derive(Clone, Copy, Debug, PartialEq, Eq, Error)]
+pub enum JoinRefusal {
+    /// There are fewer than 2 or more than 8 machines, or this machine is none of them.
+    #[error("no such seat")]
+    InvalidSeat,
+    /// The local players aren't those of the seat, or the players aren't those that some machine owns.
+    #[error("the players of the session aren't those of the match")]
+    Players,
+    /// The session has words of another machine's player, or a player has left.
+    #[error("the session has heard of others already")]
+    Started,
+}
+
+/// A session that can't take its seat, and why.
+#[derive(Drop)]
+pub struct JoinFault<G: Game> {
+    pub why: JoinRefusal,
+    pub session: Session<G>,
+}
+
+/// Whether the player at a place is local if the seat owns it, and there is one if a machine owns it.
+fn is_seated_at<G: Game>(session: &Session<G>, seat: &Seat, place: u8) -> bool
+    requires { place < PLAYER_LIMIT }
+    ensures { result ≡ is_seated_at session.now seat.now place }
+{
+    let owner = seat.owners[usize::from(place)];
+    session.is_local(place + 1) == (owner == seat.me)
+        && (place < session.players()) == (owner < seat.machines)
+}
+
+/// Whether nothing was heard of the player at a place.
+fn is_fresh_at<G: Game>(session: &Session<G>, place: u8) -> bool
+    requires { place < PLAYER_LIMIT }
+    ensures { result ≡ is_fresh_at session.now place }
+{
+    let count = session.confirmed(place + 1).unwrap_or(0);
+    (session.is_local(place + 1) || count == 0)
+        && session.source(place + 1, count) != Some(Source::Gone)
+}
+
+fn are_seated<G: Game>(session: &Session<G>, seat: &Seat) -> bool
+    ensures { result ≡ are_seated session.now seat.now }
+{
+    for place in 0..PLAYER_LIMIT as u8 {
+        if !is_seated_at(session, seat, place) {
+            return false;
+        }
+    }
+    true
+}
+
+fn are_fresh<G: Game>(session: &Session<G>) -> bool
+    ensures { result ≡ are_fresh session.now }
+{
+    for place in 0..PLAYER_LIMIT as u8 {
+        if !is_fresh_at(session, place) {
+            return false;
+        }
+    }
+    true
+}
+
+/// Why the session can't take the seat, if it can't.
+pub(crate) fn join_refusal<G: Game>(session: &Session<G>, seat: &Seat) -> Option<JoinRefusal>
+    ensures { result ≡ join_refusal session.now seat.now }
+{
+    if seat.machines < 2 || usize::from(seat.machines) > MACHINE_LIMIT || seat.me >= seat.machines {
+        return Some(JoinRefusal::InvalidSeat);
+    }
+    if !are_seated(session, seat) {
+        return Some(JoinRefusal::Players);
+    }
+    if !are_fresh(session) {
+        return Some(JoinRefusal::Started);
+    }
+    None
+}
+
+/// Gives the mesh so many words more of an own player as the session has more.
+pub(crate) fn give_own<G: Game>(session: &Session<G>, mesh: &mut Mesh, place: u8)
+    requires place { place < PLAYER_LIMIT }
+    requires own { owner_of mesh.old.seat place ≡ mesh.old.seat.me }
+    requires more { slice_index mesh.old.machine.has place ≤ length (words_of session.now (place + 1)) }
+    ensures { mesh.new ≡ record mesh.old {
+      machine = record mesh.old.machine {
+        has = slice_set mesh.old.machine.has place (length (words_of session.now (place + 1)));
+      };
+    } }
+{
+    let count = session.confirmed(place + 1).unwrap_or(0);
+    let has = mesh.has()[usize::from(place)];
+    for _ in has..count {
+        if mesh.give(place).is_err() {
+            unreachable!();
+        }
+    }
+}
+
+/// Gives a mesh that has nothing the words that the session has of its own players.
+pub(crate) fn give_all<G: Game>(session: &Session<G>, mesh: &mut Mesh)
+    requires none { mesh.old.machine ≡ first_machine }
+    requires seated { are_seated session.now mesh.old.seat ≡ true }
+    requires fresh { are_fresh session.now ≡ true }
+    ensures has { mesh.new ≡ record mesh.old {
+      machine = record first_machine { has = mesh.new.machine.has };
+    } }
+    ensures all { length mesh.new.machine.has ≡ PLAYER_LIMIT }
+    ensures counts { AreCounts session.now mesh.new.machine.has }
+{
+    for place in 0..PLAYER_LIMIT as u8 {
+        if session.is_local(place + 1) {
+            give_own(session, mesh, place);
+        }
+    }
+}

@@ -1,0 +1,67 @@
+-- What is known of who is heard.
+use Rattle.std.proofs.Common.{◌≡◌, ℕ, ap, subst, sym, refl, Bool, true, false, Some, None}
+use Rattle.std.specs.Prelude.{is_some, nat_le, not, ◌==◌, if◌then◌else◌, slice_set}
+use Rattle.roll_mesh.proofs.Changes.{none_some}
+use Rattle.roll_mesh.specs.Machines.{is_in}
+use Rattle.roll_mesh.specs.Meshes.{hear_refusal, is_had, leave_refusal}
+use Rattle.roll_mesh.specs.declared.packet.Packet.{Packet}
+use Rattle.roll_mesh.specs.declared.refusal.MeshRefusal.TheVariants.{InvalidMachine as NoMachine, OwnMachine as Own, MachineGone as IsGone, Overstated as HasMore}
+use Rattle.roll_member.specs.Hearing.{HearsPacket}
+use Rattle.roll_member.specs.declared.member.Taken.{Taken}
+use Rattle.roll_session.specs.Seen.{Step}
+use Rattle.roll_wire.specs.Spelling.{Turn}
+use Rattle.roll_peer.specs.Peered.{contact_at, Peered}
+use Rattle.roll_peer.specs.Receiving.{after_play, deaf_to, packet_of, with_news, HearsTurn}
+use Rattle.roll_peer.specs.declared.received.Ignored.TheVariants.{InvalidMachine, OwnMachine, MachineGone}
+
+-- a packet of who is heard is refused only for words that its sender doesn't have
+pub heard_of : (peer : Peered) (packet : Packet) → deaf_to peer packet.sender ≡ None
+    → is_some (hear_refusal peer.member.mesh packet) ≡ not (is_had packet)
+heard_of peer packet h =
+    go (nat_le peer.member.mesh.seat.machines packet.sender) (packet.sender == peer.member.mesh.seat.me)
+    (is_in peer.member.mesh.machine.gone packet.sender) (is_had packet) h
+  where
+    go : (a b c d : Bool) → (if a then Some InvalidMachine else (if b then Some OwnMachine else
+        (if c then Some MachineGone else None))) ≡ None
+        → is_some (if a then Some NoMachine else (if b then Some Own else
+        (if c then Some IsGone else (if d then None else Some HasMore)))) ≡ not d
+    go false false false true e = refl
+    go false false false false e = refl
+    go false false true d e = absurd (none_some MachineGone (sym e))
+    go false true c d e = absurd (none_some OwnMachine (sym e))
+    go true b c d e = absurd (none_some InvalidMachine (sym e))
+
+-- who is heard can be regarded as gone
+pub left_by : (peer : Peered) (sender : ℕ) → deaf_to peer sender ≡ None
+    → leave_refusal peer.member.mesh sender ≡ None
+left_by peer sender h =
+    go (nat_le peer.member.mesh.seat.machines sender) (sender == peer.member.mesh.seat.me)
+    (is_in peer.member.mesh.machine.gone sender) h
+  where
+    go : (a b c : Bool) → (if a then Some InvalidMachine else (if b then Some OwnMachine else
+        (if c then Some MachineGone else None))) ≡ None
+        → (if a then Some NoMachine else (if b then Some Own else None)) ≡ None
+    go false false c e = refl
+    go false true c e = absurd (none_some OwnMachine (sym e))
+    go true b c e = absurd (none_some InvalidMachine (sym e))
+
+-- a turn that session and mesh heard, and of which is known what it tells, is heard
+pub turn_heard : (step : Step) (old mid new : Peered) (sender now : ℕ) (t : Turn) (taken : Taken)
+    → HearsPacket step old.member mid.member (packet_of sender t) t.words taken
+    → mid ≡ with_news old mid.member
+    → new ≡ record mid {
+      contacts = slice_set mid.contacts sender
+          (after_play t.head.clocks old.member.session.core.frame now (contact_at mid sender));
+    } → HearsTurn step old new sender now t taken
+turn_heard step old mid new sender now t taken hears news known =
+    subst (λ (p : Peered). HearsTurn step old p sender now t taken) (sym known)
+    (record {
+      member = hears;
+      rest = record {
+        contacts = ap (λ (p : Peered). slice_set p.contacts sender
+            (after_play t.head.clocks old.member.session.core.frame now (contact_at p sender))) news;
+        settings = ap (λ (p : Peered). p.settings) news;
+        running = ap (λ (p : Peered). p.running) news;
+        news = ap (λ (p : Peered). p.news) news;
+      };
+    })

@@ -1,0 +1,5 @@
+pub mod Heard
+pub mod Queues
+pub mod Seals
+pub mod Sent
+pub mod Turned

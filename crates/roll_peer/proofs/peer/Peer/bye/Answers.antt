@@ -1,0 +1,10 @@
+use Rattle.std.proofs.Common.{◌∙◌, ap}
+use Rattle.roll_wire.specs.Spelling.{message, spelling}
+use Rattle.roll_wire.specs.declared.datagram.Datagram.{Datagram}
+use Rattle.roll_peer.specs.Seals.{sealed}
+use Rattle.roll_peer.proofs.peer.Peer.bye.Goals as goal
+
+pub returns : goal.returns
+returns g c =
+    c.seal.ensures.sealed
+    ∙ ap sealed (c.in-Some.ensures.spelled.1 ∙ ap (λ (d : Datagram). spelling (message d)) c.datagram.ensures)

@@ -1,0 +1,23 @@
+use Rattle.std.proofs.Common.{◌≡◌, ◌∙◌, ℕ, ap, refl, subst}
+use Rattle.std.specs.Prelude.{slice_set}
+use Rattle.roll_session.specs.Seen.{Seen}
+use Rattle.roll_wire.specs.Spelling.{turn}
+use Rattle.roll_peer.specs.Peered.{contact_at, Peered}
+use Rattle.roll_peer.specs.Receiving.{after_play}
+use Rattle.roll_peer.proofs.Heard.{turn_heard}
+use Rattle.roll_peer.proofs.peer.Peer.hear_turn.Goals as goal
+
+pub returns-clause-heard : goal.returns-clause-heard
+returns-clause-heard g c =
+    let old = c.args.self.now in
+    let mid = c.take_turn.new.self in
+    let clocks = c.args.play.now.head.clocks in
+    let frame : c.frame-frame.result ≡ old.member.session.core.frame =
+    c.frame-frame.ensures ∙ ap (λ (s : Seen). s.core.frame) c.session.ensures
+    ∙ ap (λ (p : Peered). p.member.session.core.frame) c.self.view_is in
+    let known = subst (λ (n : ℕ). c.know_turn.new.self ≡ record mid {
+      contacts = slice_set mid.contacts c.args.sender
+          (after_play clocks n c.args.now (contact_at mid c.args.sender));
+    }) frame c.know_turn.ensures in
+    turn_heard g.G.Game.step old mid _ c.args.sender c.args.now (turn c.args.play.now) c.in-Some-take_turn.taken
+    c.in-Some-take_turn.ensures.heard (c.in-Some-take_turn.ensures.rest refl) (c.self-2.view_is ∙ known)

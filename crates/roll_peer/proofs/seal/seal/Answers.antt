@@ -1,0 +1,18 @@
+use Rattle.std.proofs.Common.{◌≡◌, List, ℕ, length, ap, ◌∙◌, arith}
+use Rattle.roll_peer.specs.Seals.{sealed, tag, unsealed, with_field}
+use Rattle.roll_peer.proofs.Seals.{again, length-sealed}
+use Rattle.roll_peer.proofs.seal.seal.Goals as goal
+
+is_sealed : (c : goal.After-put_field) → c.put_field.new.datagram.items ≡ sealed c.args.datagram.now.items
+is_sealed c = c.put_field.ensures
+    ∙ ap (λ (bytes : List ℕ). with_field bytes c.args.datagram.now.items)
+    (c.tag_of-tag.ensures ∙ ap tag c.deref.ensures.0)
+
+pub returns-clause-len : goal.returns-clause-len
+returns-clause-len c =
+    ap length (is_sealed c) ∙ length-sealed c.args.datagram.now.items c.requires
+
+pub returns-clause-again : goal.returns-clause-again
+returns-clause-again c = λ number has.
+    ap (unsealed number) (is_sealed c)
+    ∙ again number c.args.datagram.now.items c.requires (omega (arith, c.deref.ensures.1, ap length c.deref.ensures.0)) has

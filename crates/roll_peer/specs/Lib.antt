@@ -1,0 +1,12 @@
+pub mod Clocks
+pub mod Codes
+pub mod Contacts
+pub mod Digests
+pub mod Events
+pub mod Settings
+pub mod Waiting
+pub mod Seals
+pub mod Peered
+pub mod Receiving
+pub mod Turning
+pub mod Sending

@@ -1,0 +1,56 @@
+-- A peer as its callers see it: session and mesh, what it knows of each machine, whether the match has begun, and whether words
+-- came since the last rollback.
+use Rattle.std.specs.Prelude.{◌≡◌, ℕ, ◌-◌, List, Bool, true, false, Some, replicate, slice_index_or, ⊤}
+use Rattle.roll_member.specs.Joined.{join_refusal, IsJoinedAs, Joined}
+use Rattle.roll_mesh.specs.Machines.{give}
+use Rattle.roll_mesh.specs.Meshes.{stepped}
+use Rattle.roll_mesh.specs.declared.limits.TheConstants.{MACHINE_LIMIT}
+use Rattle.roll_session.specs.Changes.{after_local, local_refusal, IsRefused}
+use Rattle.roll_session.specs.Seen.{Seen}
+use Rattle.roll_peer.specs.Contacts.{stranger}
+use Rattle.roll_peer.specs.Settings.{seat_of}
+use Rattle.roll_peer.specs.declared.contact.Contact.{Contact}
+use Rattle.roll_peer.specs.declared.refusal.OpenRefusal.{OpenRefusal}
+use Rattle.roll_peer.specs.declared.refusal.OpenRefusal.TheVariants.{Join, NoMemory}
+use Rattle.roll_peer.specs.declared.refusal.PeerRefusal.{PeerRefusal}
+use Rattle.roll_peer.specs.declared.refusal.PeerRefusal.TheVariants.{NotSynchronized, Session}
+use Rattle.roll_peer.specs.declared.settings.MatchSettings.{MatchSettings}
+
+pub record Peered : Type 0 where
+  pub member : Joined
+  pub settings : MatchSettings
+  pub contacts : List Contact
+  pub running : Bool
+  pub news : Bool
+
+-- what is known of a machine
+abbrev pub contact_at : Peered → ℕ → Contact
+contact_at peer m = slice_index_or peer.contacts m stranger
+
+-- a peer that has just been opened: nothing was heard
+pub record IsOpenedAs (s : Seen) (settings : MatchSettings) (peer : Peered) : Type 0 where
+  pub member : IsJoinedAs s (seat_of settings) peer.member
+  pub settings_are : peer.settings ≡ settings
+  pub contacts : peer.contacts ≡ replicate MACHINE_LIMIT stranger
+  pub running : peer.running ≡ false
+  pub news : peer.news ≡ false
+
+-- why a session can't be opened as a peer
+abbrev pub IsWhyNot : Seen → MatchSettings → OpenRefusal → Type 0
+IsWhyNot s settings (Join why) = join_refusal s (seat_of settings) ≡ Some why
+IsWhyNot s settings NoMemory = ⊤
+
+-- a local player's word is given to session and mesh
+pub record GivesWord (old new : Peered) (player word : ℕ) : Type 0 where
+  pub begun : old.running ≡ true
+  pub rest : new ≡ record old { member = new.member }
+  pub session : new.member.session ≡ after_local old.member.session player word
+  pub mesh : new.member.mesh
+      ≡ stepped (λ seat machine. give seat (player - 1) machine) old.member.mesh
+
+-- why it isn't
+abbrev pub IsNotGiven : Peered → ℕ → PeerRefusal → Type 0
+IsNotGiven peer player NotSynchronized = peer.running ≡ false
+IsNotGiven peer player (Session why) =
+    (peer.running ≡ true)
+    × IsRefused (local_refusal peer.member.session player) peer.member.session peer.member.session why

@@ -1,0 +1,47 @@
+-- What a peer sends.
+use Rattle.std.specs.Prelude.{◌≡◌, ℕ, List, Bool, true, false, ◌||◌, ◌==◌, nat_le, if◌then◌else◌, slice_set}
+use Rattle.roll_member.specs.Telling.{IsTold}
+use Rattle.roll_mesh.specs.Machines.{is_in}
+use Rattle.roll_wire.specs.Spelling.{spelling, Content, Greets, Leaves, Plays}
+use Rattle.roll_peer.specs.Contacts.{counted, is_playing}
+use Rattle.roll_peer.specs.declared.contact.Stage.{Stage}
+use Rattle.roll_peer.specs.declared.contact.Stage.TheVariants.{Greeted}
+use Rattle.roll_peer.specs.Peered.{contact_at, Peered}
+use Rattle.roll_peer.specs.Receiving.{packet_of}
+use Rattle.roll_peer.specs.Seals.{sealed}
+use Rattle.roll_peer.specs.Settings.{hello_of}
+
+-- whether nothing is sent to a machine: there is none, it is this one, or it is gone
+abbrev pub is_lost : Peered → ℕ → Bool
+is_lost peer m =
+    nat_le peer.member.mesh.seat.machines m
+    || ((m == peer.member.mesh.seat.me) || is_in peer.member.mesh.machine.gone m)
+
+abbrev pub is_greeted : Stage → Bool
+is_greeted Greeted = true
+is_greeted stage = false
+
+-- a machine that plays with this one is told what it hasn't said that it has; any other is greeted
+abbrev pub IsContentFor : Peered → ℕ → Content → Type 0
+IsContentFor peer m (Plays t) =
+    (is_playing (contact_at peer m).stage ≡ true)
+    × IsTold peer.member m (packet_of peer.settings.me t) t.words
+IsContentFor peer m (Greets hello) =
+    (is_playing (contact_at peer m).stage ≡ false)
+    × (hello ≡ hello_of peer.settings (is_greeted (contact_at peer m).stage))
+IsContentFor peer m Leaves = ⊥
+
+-- the bytes are a datagram for a machine, sealed for the match
+pub record IsSent (peer : Peered) (m : ℕ) (bytes : List ℕ) : Type 0 where
+  pub content : Content
+  pub fits : IsContentFor peer m content
+  pub text : bytes ≡ sealed (spelling (record {
+    envelope = record { match_number = peer.settings.match_number; sender = peer.settings.me };
+    content = content;
+  }))
+
+-- a datagram more was sent to a machine
+abbrev pub after_send : Peered → ℕ → Peered
+after_send peer m =
+    if is_lost peer m then peer
+    else record peer { contacts = slice_set peer.contacts m (counted (contact_at peer m)) }

@@ -1,0 +1,166 @@
+//! What a peer tells its caller, and the queue of it.
+ghost use Rattle.std.specs.Prelude.{◌≡◌, ◌≤◌, [], length, pos, slice_get};
+ghost use Rattle.roll_peer.specs.Codes.{code_of};
+ghost use Rattle.roll_peer.specs.Events.{popped, pushed};
+ghost use Rattle.roll_peer.specs.declared.event.TheConstants.{EVENT_LIMIT};
+
+use crate::settings::Field;
+use std::marker::Model;
+
+/// A notification to the caller, as GGPO's events. Machines are counted from 0, players from 1.
+#[derive(Clone, Copy, Debug, PartialEq, Eq)]
+pub enum PeerEvent {
+    /// A machine was heard of, and the match isn't played with it yet.
+    Synchronizing {
+        /// The machine.
+        machine: u8,
+        /// How many steps of synchronizing are done.
+        count: u8,
+        /// Of how many.
+        total: u8,
+    },
+    /// This machine and another have heard each other, and mean the same match.
+    Synchronized {
+        /// The other machine.
+        machine: u8,
+    },
+    /// The match begins: this machine is synchronized with all others.
+    Running,
+    /// The player is disconnected from now on.
+    DisconnectedFromPeer {
+        /// The player's number, from 1.
+        player: u8,
+    },
+    /// This machine is ahead, and should wait for the others.
+    TimeSync {
+        /// How many frames to wait.
+        frames_ahead: u32,
+    },
+    /// A machine has been silent for a while.
+    Interrupted {
+        /// The machine.
+        machine: u8,
+        /// After how many milliseconds more of silence it is regarded as gone.
+        disconnect_in: u32,
+    },
+    /// A machine that was silent was heard again.
+    Resumed {
+        /// The machine.
+        machine: u8,
+    },
+    /// A machine has another state than this one at a frame that is settled at both: they don't play the same game.
+    Desync {
+        /// The other machine.
+        machine: u8,
+        /// The frame.
+        frame: u32,
+    },
+    /// A machine means another match than this one.
+    Mismatch {
+        /// The other machine.
+        machine: u8,
+        /// The first field that it has otherwise.
+        field: Field,
+    },
+    /// Another machine regards this one as gone: the match is over here.
+    Dropped,
+    /// A machine is regarded as gone from now on: it said bye, or was silent too long, or others regard it as gone.
+    Left {
+        /// The machine.
+        machine: u8,
+    },
+}
+
+impl PeerEvent {
+    /// The event's number: that of `ggponet.h`, or one above 1100 if there is none.
+    pub fn code(&self) -> i32
+        ensures { result ≡ pos (code_of self.now) }
+    {
+        match self {
+            PeerEvent::Synchronizing { .. } => 1001,
+            PeerEvent::Synchronized { .. } => 1002,
+            PeerEvent::Running => 1003,
+            PeerEvent::DisconnectedFromPeer { .. } => 1004,
+            PeerEvent::TimeSync { .. } => 1005,
+            PeerEvent::Interrupted { .. } => 1006,
+            PeerEvent::Resumed { .. } => 1007,
+            PeerEvent::Left { .. } => 1101,
+            PeerEvent::Desync { .. } => 1102,
+            PeerEvent::Mismatch { .. } => 1103,
+            PeerEvent::Dropped => 1104,
+        }
+    }
+}
+
+/// The most events that wait.
+const EVENT_LIMIT: usize = 64;
+
+/// Events that wait for the caller, the oldest first, and how many were dropped.
+#[derive(Drop)]
+pub(crate) struct Events {
+    events: [PeerEvent; EVENT_LIMIT],
+    count: usize,
+    lost: u32,
+}
+
+/// A clause sees the events that wait, and the count of the lost ones.
+impl Model for Events {
+    ghost use Rattle.std.specs.Prelude.{◌≤◌, take};
+    ghost use Rattle.roll_peer.specs.Waiting.{Waiting};
+    ghost use Rattle.roll_peer.specs.declared.event.TheConstants.{EVENT_LIMIT};
+
+    ghost Value = { Waiting };
+
+    ghost view = { λ e. record { events = take e.count e.events; lost = e.lost } };
+
+    ghost invariant = { λ e. e.count ≤ EVENT_LIMIT };
+}
+
+impl Events {
+    /// No event waits.
+    pub(crate) fn new() -> Events
+        ensures { result ≡ record { events = []; lost = 0 } }
+    {
+        Events {
+            events: [PeerEvent::Running; EVENT_LIMIT],
+            count: 0,
+            lost: 0,
+        }
+    }
+
+    /// One more event waits. If 64 waited already, the oldest of them is dropped.
+    pub(crate) fn push(&mut self, event: PeerEvent)
+        ensures pushed { self.new ≡ pushed self.old event }
+        ensures few { length self.new.events ≤ EVENT_LIMIT }
+    {
+        if self.count < EVENT_LIMIT {
+            self.events[self.count] = event;
+            self.count += 1;
+        } else {
+            self.events.rotate_left(1);
+            self.events[EVENT_LIMIT - 1] = event;
+            self.lost = self.lost.saturating_add(1);
+        }
+    }
+
+    /// Takes the oldest event, if one waits.
+    pub(crate) fn pop(&mut self) -> Option<PeerEvent>
+        ensures event { result ≡ slice_get self.old.events 0 }
+        ensures rest { self.new ≡ popped self.old }
+    {
+        if self.count == 0 {
+            return None;
+        }
+        let event = self.events[0];
+        self.events.rotate_left(1);
+        self.count -= 1;
+        Some(event)
+    }
+
+    /// How many events were dropped.
+    pub(crate) fn lost(&self) -> u32
+        ensures { result ≡ self.now.lost }
+    {
+        self.lost
+    }
+}

@@ -1,0 +1,42 @@
+//! What became of bytes that came.
+use crate::settings::Field;
+use roll_member::Taken;
+use roll_wire::WireFault;
+use thiserror::Error;
+
+/// What was heard.
+#[derive(Clone, Copy, Debug, PartialEq, Eq)]
+pub enum Received {
+    /// A hello: who the sender takes the match's machines to be.
+    Hello,
+    /// A play, and what became of its words.
+    Play(Taken),
+    /// A bye: the sender is gone from now on.
+    Bye,
+}
+
+/// Why bytes weren't heard. They changed nothing.
+#[derive(Clone, Copy, Debug, PartialEq, Eq, Error)]
+pub enum Ignored {
+    /// They aren't of this match, or were changed on their way.
+    #[error("not of this match, or changed on its way")]
+    NotSealed,
+    /// They are sealed for this match, and are no datagram.
+    #[error("{0}")]
+    NoDatagram(WireFault),
+    /// There is no such machine in the match.
+    #[error("no such machine")]
+    InvalidMachine,
+    /// This machine sent them.
+    #[error("this machine sent it")]
+    OwnMachine,
+    /// The sender is gone.
+    #[error("the sender is gone")]
+    MachineGone,
+    /// The sender means another match: the field that it has otherwise.
+    #[error("the sender means another match")]
+    Mismatched(Field),
+    /// A play has words that its sender doesn't say that it has.
+    #[error("the packet has more words than its sender")]
+    Overstated,
+}

@@ -1,0 +1,113 @@
+Matches of several machines. `ends` counts how the matches of the first seeds end, each with its status if that isn't 0.
+
+  $ ends() { seeds=$1; shift; for seed in $(seq $seeds); do
+  >   rollduel match --frames 60 --seed $seed "$@" > out || echo "status $?"
+  >   tail -n 1 out | sed 's/,.*//'
+  > done | sort | uniq -c | tr -s ' '; }
+
+The machines agree, however many there are, and however many datagrams are lost.
+
+  $ for lost in 0 30 60; do ends 18 --peers 2 --lost $lost; done
+   18 all 2 that stay agree: frame 60 settled
+   18 all 2 that stay agree: frame 60 settled
+   18 all 2 that stay agree: frame 60 settled
+  $ for lost in 0 30 60; do ends 15 --peers 3 --lost $lost; done
+   15 all 3 that stay agree: frame 60 settled
+   15 all 3 that stay agree: frame 60 settled
+   15 all 3 that stay agree: frame 60 settled
+  $ for lost in 0 30 60; do ends 8 --peers 5 --lost $lost; done
+   8 all 5 that stay agree: frame 60 settled
+   8 all 5 that stay agree: frame 60 settled
+   8 all 5 that stay agree: frame 60 settled
+  $ for lost in 0 30 60; do ends 4 --peers 8 --lost $lost; done
+   4 all 8 that stay agree: frame 60 settled
+   4 all 8 that stay agree: frame 60 settled
+   4 all 8 that stay agree: frame 60 settled
+
+So do those that stay where others go silent.
+
+  $ for lost in 0 30 60; do ends 10 --peers 4 --lost $lost --stop 2:30; done
+   10 all 3 that stay agree: frame 60 settled
+   10 all 3 that stay agree: frame 60 settled
+   10 all 3 that stay agree: frame 60 settled
+  $ for lost in 0 30 60; do ends 5 --peers 5 --lost $lost --stop 1:30 --stop 3:20 --hold 1; done
+   5 all 3 that stay agree: frame 60 settled
+   5 all 3 that stay agree: frame 60 settled
+   5 all 3 that stay agree: frame 60 settled
+  $ ends 5 --peers 4 --game duel --lost 40 --stop 0:20 --delay 2
+   5 all 3 that stay agree: frame 60 settled
+  $ ends 3 --peers 8 --lost 30 --stop 1:30 --stop 3:20 --stop 5:15 --stop 6:40
+   3 all 4 that stay agree: frame 60 settled
+
+A machine that goes silent has told all its words where no datagram is lost.
+
+  $ rollduel match --peers 4 --frames 60 --stop 2:30 --stop 0:40 --seed 17 | tail -n 1 | sed 's/, state.*//'
+  all 2 that stay agree: frame 60 settled, machine 0 left at 40, machine 2 left at 30
+
+The same seed prints the same. Hostile datagrams change neither the table of what was played nor the last line.
+
+  $ match="rollduel match --peers 3 --frames 60 --lost 30 --stop 1:30 --seed 5"
+  $ $match > plain
+  $ $match | cmp - plain
+  $ $match --hostile 9 > attacked
+  $ played() { sed -n '/^machine  *frames/,/^$/p; $p' $1; }
+  $ played plain > want
+  $ played attacked | cmp - want
+  $ wc -l < want
+  6
+  $ grep -c '^hostile datagrams: [1-9][0-9]*; ignored: [1-9][0-9]*; real ones heard again: [1-9][0-9]*; deceived: 0$' attacked
+  1
+  $ $match --hostile 9 | cmp - attacked
+
+Standard input isn't read, and a session that doesn't start is refused as in a match of two peers.
+
+  $ echo nothing | ($match | cmp - plain; cat)
+  nothing
+  $ rollduel match --peers 3 --delay 9
+  refused 11
+  [1]
+  $ rollduel match --peers 5 --frames 60 --threshold 15 | tail -n 1 | sed 's/,.*//'
+  all 5 that stay agree: frame 60 settled
+
+What can't be.
+
+  $ rollduel match --peers 9 2>&1 | sed -n 1p
+  error: invalid value '9' for '--peers <N>': 9 is not in 2..=8
+  $ rollduel match --peers 1 2>&1 | sed -n 1p
+  error: invalid value '1' for '--peers <N>': 1 is not in 2..=8
+  $ rollduel match --peers 3 --stop 3:30
+  error: --stop 3: there is no such machine, for they are counted from 0
+  [2]
+  $ rollduel match --peers 3 --stop 300:30
+  error: --stop 300: there is no such machine, for they are counted from 0
+  [2]
+  $ rollduel match --peers 3 --stop 2
+  error: --stop takes MACHINE:FRAME, as 2:30
+  [2]
+  $ rollduel match --peers 3 --stop 2:x
+  error: --stop takes MACHINE:FRAME, as 2:30
+  [2]
+  $ rollduel match --peers 3 --stop 1:30 --stop 1:40
+  error: --stop 1: this machine is named twice
+  [2]
+  $ rollduel match --peers 3 --stop 1:0
+  error: --stop 1: the frame has to be from 1 to the match's last
+  [2]
+  $ rollduel match --peers 3 --frames 60 --stop 1:61
+  error: --stop 1: the frame has to be from 1 to the match's last
+  [2]
+  $ rollduel match --peers 2 --stop 0:30 --stop 1:30
+  error: --stop: at least one machine has to stay
+  [2]
+  $ rollduel match --peers 5 --game duel
+  error: --game duel has ships for 4 machines at most
+  [2]
+  $ rollduel match --peers 3 --guesses turns
+  error: --guesses can't be used with --peers
+  [2]
+  $ rollduel match --stop 1:30
+  error: --stop and --hostile can't be used without --peers
+  [2]
+  $ rollduel match --hostile 1
+  error: --stop and --hostile can't be used without --peers
+  [2]
