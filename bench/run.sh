@@ -3,12 +3,15 @@
 # Both play the same scripts, and must write the same bytes. A time is that of a whole run, the least of 25. It takes some
 # two minutes.
 #
+# Measures which guesses are worth making, in some two minutes; with ROLLDUEL it plays a part of each match through it too:
+#     bench/run.sh --choices [ROLLDUEL]
+#
 # Measures what of the library needs threads by test_threads, both tables or one of them (`bench/threads.py`):
 #     bench/run.sh --all TEST_THREADS
 #     bench/run.sh --links|--match TEST_THREADS [COUNT]
 # The match takes 12 minutes, the links a few.
 set -euo pipefail
-usage="usage: bench/run.sh ROLLDUEL, or bench/run.sh --all|--links|--match TEST_THREADS [COUNT]"
+usage="usage: bench/run.sh ROLLDUEL|--choices [ROLLDUEL], or bench/run.sh --all|--links|--match TEST_THREADS [COUNT]"
 here=$(dirname -- "$(realpath -- "$0")")
 work=$(mktemp -d)
 trap 'rm -rf -- "$work"' EXIT
@@ -32,6 +35,10 @@ table() {
 }
 
 [ $# != 0 ] || { echo "$usage" >&2; exit 2; }
+if [ "$1" = --choices ]; then
+    python3 "$here/choices.py" "${@:2}"
+    exit
+fi
 if [ "$1" = --all ]; then
     [ $# = 2 ] || { echo "$usage" >&2; exit 2; }
     for what in links match; do

@@ -100,6 +100,7 @@ enum {
     FAZGROND_INVALID_PLAYER = 2,
     FAZGROND_PLAYER_OUT_OF_RANGE = 3,       /* the settings: the number of players */
     FAZGROND_PREDICTION_THRESHOLD = 4,      /* too far ahead: wait for the others' words */
+    FAZGROND_NOT_SYNCHRONIZED = 6,          /* a peer: the match has not begun */
     FAZGROND_PLAYER_DISCONNECTED = 9,
     FAZGROND_INVALID_REQUEST = 11,          /* the settings: a limit, a delay, no local player .. Or a guess that goes over 24
                                              * frames past the settled one, or has no word, or over 24 */
@@ -123,7 +124,18 @@ enum {
     FAZGROND_IS_CLOSED = 201,
     FAZGROND_PENDING = 202,                 /* requests were not taken yet */
     FAZGROND_NOTHING = 203,                 /* there is no such thing: no such player, row or word */
-    FAZGROND_TOO_SHORT = 204                /* the buffer has less room than what is to be written */
+    FAZGROND_TOO_SHORT = 204,               /* the buffer has less room than what is to be written */
+    FAZGROND_NOT_SEALED = 301,              /* bytes that are not of this match or line, or were changed on their way */
+    FAZGROND_NO_DATAGRAM = 302,             /* they are of this match or line, and no datagram of this version */
+    FAZGROND_INVALID_MACHINE = 303,         /* there is no such machine in the match */
+    FAZGROND_OWN_MACHINE = 304,             /* the machine is this one */
+    FAZGROND_MACHINE_GONE = 305,            /* the sender is gone */
+    FAZGROND_MISMATCHED = 306,              /* the sender means another match */
+    FAZGROND_OVERSTATED = 307,              /* the sender sends words that it does not say that it has */
+    FAZGROND_ENDED = 308,                   /* a viewer's line has ended: one of its ends said bye */
+    FAZGROND_OTHER_SENDER = 309,            /* the other end of the line didn't send them */
+    FAZGROND_NO_ROWS = 310,                 /* what the host sends are no rows of this match's players */
+    FAZGROND_ROWS_MISSING = 311             /* rows before those that the host sends have not come yet */
 };
 
 /* Opens a session. Before the first request the game has its opening state as the current one and in slot 0. If the handle is
@@ -211,6 +223,204 @@ int32_t fazgrond_frames_ahead(fazgrond_session *session, uint32_t *frames);
 /* The text of the last rollback's claim: a certificate that it couldn't start from a later state, which `rollduel certify`
  * checks. It is written if `out` has room for it; `length` is how long it is, also if the answer is FAZGROND_TOO_SHORT. */
 int32_t fazgrond_claim(fazgrond_session *session, uint8_t *out, size_t room, size_t *length);
+
+/* ---- A match over a network: a session that makes and takes datagrams itself. It has no socket and no clock. Machines are
+ * numbered from 0. `now` is this machine's clock in milliseconds, which may wrap. */
+
+/* A peer, in the game's memory, as a fazgrond_session. Begin with FAZGROND_CLOSED. */
+typedef struct fazgrond_peer {
+    uint8_t full;
+    void *at;
+} fazgrond_peer;
+
+/* The owner of a player whom there isn't. */
+#define FAZGROND_NO_PLAYER 255
+
+/* All but the session's local players and delays, `me` and the two times is the same at each machine. */
+typedef struct fazgrond_match {
+    fazgrond_settings session;         /* its local players are those that `me` owns */
+    uint64_t number;                   /* the match's number: 64 random bits that only its machines know */
+    uint64_t digest;                   /* of all else that has to be alike at all machines */
+    uint32_t me;                       /* which machine this is */
+    uint32_t machines;                 /* how many there are, 2 to 8 */
+    uint32_t owners[FAZGROND_PLAYERS]; /* the machine of each player, player 1 first; FAZGROND_NO_PLAYER if there is none */
+    uint32_t silent_after;             /* milliseconds of silence after which a machine is gone */
+    uint32_t notify_after;             /* milliseconds of silence after which FAZGROND_INTERRUPTED is told */
+} fazgrond_match;
+
+/* SYNCHRONIZING: `machine` was heard; `count` of `total` steps are done. SYNCHRONIZED: it and this one have heard each other.
+ * RUNNING: all have, and the match begins. DISCONNECTED: `player` has left.
+ * TIME_SYNC: this machine is ahead: give no word for `frames_ahead` turns.
+ * INTERRUPTED: `machine` is silent, and gone in `disconnect_in` milliseconds. RESUMED: it was heard again.
+ * LEFT: `machine` is gone for good. DESYNC: it has another state at the settled frame `frame`.
+ * MISMATCH: `machine` means another match: `field` is 1 if it has another number of machines, 2 if other owners, 3 if another
+ * digest. DROPPED: another machine regards this one as gone. */
+enum {
+    FAZGROND_SYNCHRONIZING = 1001, FAZGROND_SYNCHRONIZED = 1002, FAZGROND_RUNNING = 1003, FAZGROND_DISCONNECTED = 1004,
+    FAZGROND_TIME_SYNC = 1005, FAZGROND_INTERRUPTED = 1006, FAZGROND_RESUMED = 1007, FAZGROND_LEFT = 1101,
+    FAZGROND_DESYNC = 1102, FAZGROND_MISMATCH = 1103, FAZGROND_DROPPED = 1104
+};
+
+/* What an event doesn't say is 0. */
+typedef struct fazgrond_event {
+    uint32_t code;
+    uint32_t machine;
+    uint32_t player;
+    uint32_t count;
+    uint32_t total;
+    uint32_t frames_ahead;
+    uint32_t disconnect_in;
+    uint32_t frame;
+    uint32_t field;
+} fazgrond_event;
+
+/* What was counted and measured of the datagrams between this machine and another. */
+typedef struct fazgrond_stats {
+    uint32_t is_measured;        /* whether the round trip was measured */
+    uint32_t round_trip;         /* in milliseconds */
+    uint32_t sent;
+    uint32_t received;
+    uint32_t lost;               /* or late */
+    int32_t frames_behind;       /* by how many frames this machine is behind the other: negative if it is ahead */
+    int32_t their_frames_behind; /* and the other, as it says, behind this one */
+} fazgrond_stats;
+
+/* The most bytes of a datagram. */
+#define FAZGROND_DATAGRAM 1200
+
+/* Opens a peer, as fazgrond_open a session. FAZGROND_INVALID_MACHINE: too few or too many machines, or `me` is none of them.
+ * FAZGROND_INVALID_PLAYER: the session's players are not those that machines own, or its local ones not those of `me`.
+ * FAZGROND_INVALID_REQUEST also if `me`, `machines` or an owner is over 255. */
+int32_t fazgrond_peer_open(fazgrond_peer *peer, const fazgrond_match *match);
+
+/* Closes it. Nothing happens if it is closed. */
+void fazgrond_peer_close(fazgrond_peer *peer);
+
+/* Takes a datagram that came. What is refused, by a code from 301 on, has changed nothing. */
+int32_t fazgrond_peer_receive(fazgrond_peer *peer, const uint8_t *bytes, size_t length, uint32_t now);
+
+/* Gives a local player's word of this frame. FAZGROND_NOT_SYNCHRONIZED before the match has begun. */
+int32_t fazgrond_peer_add_local_input(fazgrond_peer *peer, uint8_t player, uint32_t word);
+
+/* Once a turn, before the next two: machines that were silent too long are gone, players of who is gone leave, and the match
+ * begins once all machines have heard each other. FAZGROND_LOG_FULL or FAZGROND_NO_MEMORY if a player who is to leave is still
+ * there: all else is done, and the next poll tries again. */
+int32_t fazgrond_peer_poll(fazgrond_peer *peer, uint32_t now);
+
+/* As fazgrond_synchronize_input. Leaves requests. FAZGROND_NOT_SYNCHRONIZED before the match has begun. */
+int32_t fazgrond_peer_synchronize_input(fazgrond_peer *peer, fazgrond_row *row);
+
+/* As fazgrond_advance_frame. Leaves requests. FAZGROND_NOT_SYNCHRONIZED before the match has begun. */
+int32_t fazgrond_peer_advance_frame(fazgrond_peer *peer, fazgrond_reached *reached);
+
+/* As fazgrond_take_requests, after each of the two calls above. */
+size_t fazgrond_peer_take_requests(fazgrond_peer *peer, fazgrond_request *out, size_t room);
+
+/* The datagram to send to a machine in this turn, in `out`, which has room for FAZGROND_DATAGRAM bytes, and how long it is. If
+ * there is less room, FAZGROND_TOO_SHORT, and nothing was sent. FAZGROND_NOTHING: the machine is gone, or this one, or none. */
+int32_t fazgrond_peer_send(fazgrond_peer *peer, uint8_t machine, uint32_t now, uint8_t *out, size_t room, size_t *length);
+
+/* The datagram that says to all others that this machine leaves the match. Send it a few times. */
+int32_t fazgrond_peer_bye(fazgrond_peer *peer, uint8_t *out, size_t room, size_t *length);
+
+/* Regards a machine as gone, for good. */
+int32_t fazgrond_peer_disconnect(fazgrond_peer *peer, uint8_t machine);
+
+/* Notes the game's own digest of the settled state, by which the machines see that they play alike. */
+int32_t fazgrond_peer_note_settled(fazgrond_peer *peer, uint64_t digest);
+
+/* The settled frame, and the slot in which the state after all settled rows lies once the requests are carried out. It stays
+ * there until the next call that leaves requests. */
+int32_t fazgrond_peer_settled_slot(fazgrond_peer *peer, uint32_t *frame, uint32_t *slot);
+
+/* What happened, the oldest first; FAZGROND_NOTHING if no event waits. The oldest is dropped if more than 64 wait. */
+int32_t fazgrond_peer_event(fazgrond_peer *peer, fazgrond_event *event);
+
+/* What was counted and measured of a machine. */
+int32_t fazgrond_peer_stats(fazgrond_peer *peer, uint8_t machine, fazgrond_stats *stats);
+
+/* As the calls of a session that are named alike. */
+int32_t fazgrond_peer_frame(fazgrond_peer *peer, uint32_t *frame);
+int32_t fazgrond_peer_settled(fazgrond_peer *peer, uint32_t *rows);
+int32_t fazgrond_peer_settled_row(fazgrond_peer *peer, uint32_t frame, fazgrond_row *row);
+int32_t fazgrond_peer_confirmed(fazgrond_peer *peer, uint8_t player, uint32_t *words);
+int32_t fazgrond_peer_log_length(fazgrond_peer *peer, size_t *entries);
+int32_t fazgrond_peer_log_entry(fazgrond_peer *peer, size_t place, fazgrond_entry *entry);
+
+/* ---- Spectators over a network: a viewer on another machine is sent the settled rows of a match by one of its machines, the
+ * host. Each viewer has a line of its own with its host. `now` is each end's own clock in milliseconds, which may wrap. */
+
+/* A host's end of a viewer's line, and the viewer's end, in the game's memory, as a fazgrond_session. Begin with
+ * FAZGROND_CLOSED. */
+typedef struct fazgrond_line {
+    uint8_t full;
+    void *at;
+} fazgrond_line;
+
+typedef struct fazgrond_viewer {
+    uint8_t full;
+    void *at;
+} fazgrond_viewer;
+
+/* The same at both ends. */
+typedef struct fazgrond_line_settings {
+    uint64_t number;                   /* the line's own number: 64 random bits that only these two know. Not the match's */
+    uint64_t digest;                   /* as in the match */
+    uint32_t host;                     /* which machine of the match is watched, from 0 */
+    uint32_t machines;                 /* as in the match */
+    uint32_t owners[FAZGROND_PLAYERS]; /* as in the match */
+} fazgrond_line_settings;
+
+typedef struct fazgrond_line_state {
+    uint32_t rows;       /* that the viewer has: at the host's end, that it said that it has */
+    uint32_t settled;    /* the most rows that the host said to be settled: at the host's end, that the viewer was told */
+    uint32_t silence;    /* milliseconds since the other end was heard, if both have heard each other; else 0 */
+    uint32_t is_playing; /* whether both have heard each other */
+    uint32_t has_ended;  /* whether one of the two has said bye */
+} fazgrond_line_state;
+
+/* Opens a line at its host, as fazgrond_open a session. FAZGROND_INVALID_REQUEST if `host`, `machines` or an owner is over
+ * 255. */
+int32_t fazgrond_line_open(fazgrond_line *line, const fazgrond_line_settings *settings);
+
+/* Closes it. Nothing happens if it is closed. */
+void fazgrond_line_close(fazgrond_line *line);
+
+/* Takes a datagram that came of the viewer. What is refused, by a code from 301 on, has changed nothing; but after
+ * FAZGROND_MISMATCHED the line stays refused. */
+int32_t fazgrond_line_receive(fazgrond_line *line, const uint8_t *bytes, size_t length, uint32_t now);
+
+/* The datagram to send to the viewer in this turn, as fazgrond_peer_send: settled rows of the peer's session from those on that
+ * the viewer has, as many as fit. Always give it the same peer. FAZGROND_NOTHING once the line has ended. */
+int32_t fazgrond_line_send(fazgrond_line *line, fazgrond_peer *peer, uint8_t *out, size_t room, size_t *length);
+
+/* The datagram that says that the host leaves the viewer: the line has ended. Send it a few times. */
+int32_t fazgrond_line_bye(fazgrond_line *line, uint8_t *out, size_t room, size_t *length);
+
+/* How far the two ends are. */
+int32_t fazgrond_line_look(fazgrond_line *line, uint32_t now, fazgrond_line_state *state);
+
+/* Opens a viewer, as fazgrond_line_open its host's end. */
+int32_t fazgrond_viewer_open(fazgrond_viewer *viewer, const fazgrond_line_settings *settings);
+
+/* Closes it. Nothing happens if it is closed. */
+void fazgrond_viewer_close(fazgrond_viewer *viewer);
+
+/* Takes a datagram that came of the host, as fazgrond_line_receive. `rows` is how many rows were taken from it: 64 at most may
+ * wait to be played, and the others come again. */
+int32_t fazgrond_viewer_receive(fazgrond_viewer *viewer, const uint8_t *bytes, size_t length, uint32_t now, uint32_t *rows);
+
+/* The datagram to send to the host in this turn, as fazgrond_line_send. */
+int32_t fazgrond_viewer_send(fazgrond_viewer *viewer, uint8_t *out, size_t room, size_t *length);
+
+/* The datagram that says that the viewer leaves: the line has ended. Send it a few times. */
+int32_t fazgrond_viewer_bye(fazgrond_viewer *viewer, uint8_t *out, size_t room, size_t *length);
+
+/* The next row that is to be played, from frame 0 on; FAZGROND_NOTHING if none is there. */
+int32_t fazgrond_viewer_row(fazgrond_viewer *viewer, fazgrond_row *row);
+
+/* How far the two ends are. */
+int32_t fazgrond_viewer_look(fazgrond_viewer *viewer, uint32_t now, fazgrond_line_state *state);
 
 #ifdef __cplusplus
 }

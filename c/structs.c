@@ -38,3 +38,59 @@ AT(fazgrond_entry, kind, 0);
 AT(fazgrond_entry, player, 4);
 AT(fazgrond_entry, frame, 8);
 AT(fazgrond_entry, word, 12);
+
+HAS(fazgrond_peer, 16);
+AT(fazgrond_peer, full, 0);
+AT(fazgrond_peer, at, 8);
+
+HAS(fazgrond_match, 152);
+AT(fazgrond_match, session, 0);
+AT(fazgrond_match, number, 88);
+AT(fazgrond_match, digest, 96);
+AT(fazgrond_match, me, 104);
+AT(fazgrond_match, machines, 108);
+AT(fazgrond_match, owners, 112);
+AT(fazgrond_match, silent_after, 144);
+AT(fazgrond_match, notify_after, 148);
+
+HAS(fazgrond_event, 36);
+AT(fazgrond_event, code, 0);
+AT(fazgrond_event, machine, 4);
+AT(fazgrond_event, player, 8);
+AT(fazgrond_event, count, 12);
+AT(fazgrond_event, total, 16);
+AT(fazgrond_event, frames_ahead, 20);
+AT(fazgrond_event, disconnect_in, 24);
+AT(fazgrond_event, frame, 28);
+AT(fazgrond_event, field, 32);
+
+HAS(fazgrond_stats, 28);
+AT(fazgrond_stats, is_measured, 0);
+AT(fazgrond_stats, round_trip, 4);
+AT(fazgrond_stats, sent, 8);
+AT(fazgrond_stats, received, 12);
+AT(fazgrond_stats, lost, 16);
+AT(fazgrond_stats, frames_behind, 20);
+AT(fazgrond_stats, their_frames_behind, 24);
+
+HAS(fazgrond_line, 16);
+AT(fazgrond_line, full, 0);
+AT(fazgrond_line, at, 8);
+
+HAS(fazgrond_viewer, 16);
+AT(fazgrond_viewer, full, 0);
+AT(fazgrond_viewer, at, 8);
+
+HAS(fazgrond_line_settings, 56);
+AT(fazgrond_line_settings, number, 0);
+AT(fazgrond_line_settings, digest, 8);
+AT(fazgrond_line_settings, host, 16);
+AT(fazgrond_line_settings, machines, 20);
+AT(fazgrond_line_settings, owners, 24);
+
+HAS(fazgrond_line_state, 20);
+AT(fazgrond_line_state, rows, 0);
+AT(fazgrond_line_state, settled, 4);
+AT(fazgrond_line_state, silence, 8);
+AT(fazgrond_line_state, is_playing, 12);
+AT(fazgrond_line_state, has_ended, 16);

@@ -29,3 +29,46 @@ CALL(int32_t, fazgrond_note_advantages, (fazgrond_session *session, int32_t loca
 CALL(int32_t, fazgrond_frames_ahead, (fazgrond_session *session, uint32_t *frames), (session, frames))
 CALL(int32_t, fazgrond_claim, (fazgrond_session *session, uint8_t *out, size_t room, size_t *length),
      (session, out, room, length))
+CALL(int32_t, fazgrond_peer_open, (fazgrond_peer *peer, const fazgrond_match *match), (peer, match))
+CALL(void, fazgrond_peer_close, (fazgrond_peer *peer), (peer))
+CALL(int32_t, fazgrond_peer_receive, (fazgrond_peer *peer, const uint8_t *bytes, size_t length, uint32_t now),
+     (peer, bytes, length, now))
+CALL(int32_t, fazgrond_peer_add_local_input, (fazgrond_peer *peer, uint8_t player, uint32_t word), (peer, player, word))
+CALL(int32_t, fazgrond_peer_poll, (fazgrond_peer *peer, uint32_t now), (peer, now))
+CALL(int32_t, fazgrond_peer_synchronize_input, (fazgrond_peer *peer, fazgrond_row *row), (peer, row))
+CALL(int32_t, fazgrond_peer_advance_frame, (fazgrond_peer *peer, fazgrond_reached *reached), (peer, reached))
+CALL(size_t, fazgrond_peer_take_requests, (fazgrond_peer *peer, fazgrond_request *out, size_t room), (peer, out, room))
+CALL(int32_t, fazgrond_peer_send,
+     (fazgrond_peer *peer, uint8_t machine, uint32_t now, uint8_t *out, size_t room, size_t *length),
+     (peer, machine, now, out, room, length))
+CALL(int32_t, fazgrond_peer_bye, (fazgrond_peer *peer, uint8_t *out, size_t room, size_t *length), (peer, out, room, length))
+CALL(int32_t, fazgrond_peer_disconnect, (fazgrond_peer *peer, uint8_t machine), (peer, machine))
+CALL(int32_t, fazgrond_peer_note_settled, (fazgrond_peer *peer, uint64_t digest), (peer, digest))
+CALL(int32_t, fazgrond_peer_settled_slot, (fazgrond_peer *peer, uint32_t *frame, uint32_t *slot), (peer, frame, slot))
+CALL(int32_t, fazgrond_peer_event, (fazgrond_peer *peer, fazgrond_event *event), (peer, event))
+CALL(int32_t, fazgrond_peer_stats, (fazgrond_peer *peer, uint8_t machine, fazgrond_stats *stats), (peer, machine, stats))
+CALL(int32_t, fazgrond_peer_frame, (fazgrond_peer *peer, uint32_t *frame), (peer, frame))
+CALL(int32_t, fazgrond_peer_settled, (fazgrond_peer *peer, uint32_t *rows), (peer, rows))
+CALL(int32_t, fazgrond_peer_settled_row, (fazgrond_peer *peer, uint32_t frame, fazgrond_row *row), (peer, frame, row))
+CALL(int32_t, fazgrond_peer_confirmed, (fazgrond_peer *peer, uint8_t player, uint32_t *words), (peer, player, words))
+CALL(int32_t, fazgrond_peer_log_length, (fazgrond_peer *peer, size_t *entries), (peer, entries))
+CALL(int32_t, fazgrond_peer_log_entry, (fazgrond_peer *peer, size_t place, fazgrond_entry *entry), (peer, place, entry))
+CALL(int32_t, fazgrond_line_open, (fazgrond_line *line, const fazgrond_line_settings *settings), (line, settings))
+CALL(void, fazgrond_line_close, (fazgrond_line *line), (line))
+CALL(int32_t, fazgrond_line_receive, (fazgrond_line *line, const uint8_t *bytes, size_t length, uint32_t now),
+     (line, bytes, length, now))
+CALL(int32_t, fazgrond_line_send, (fazgrond_line *line, fazgrond_peer *peer, uint8_t *out, size_t room, size_t *length),
+     (line, peer, out, room, length))
+CALL(int32_t, fazgrond_line_bye, (fazgrond_line *line, uint8_t *out, size_t room, size_t *length), (line, out, room, length))
+CALL(int32_t, fazgrond_line_look, (fazgrond_line *line, uint32_t now, fazgrond_line_state *state), (line, now, state))
+CALL(int32_t, fazgrond_viewer_open, (fazgrond_viewer *viewer, const fazgrond_line_settings *settings), (viewer, settings))
+CALL(void, fazgrond_viewer_close, (fazgrond_viewer *viewer), (viewer))
+CALL(int32_t, fazgrond_viewer_receive,
+     (fazgrond_viewer *viewer, const uint8_t *bytes, size_t length, uint32_t now, uint32_t *rows),
+     (viewer, bytes, length, now, rows))
+CALL(int32_t, fazgrond_viewer_send, (fazgrond_viewer *viewer, uint8_t *out, size_t room, size_t *length),
+     (viewer, out, room, length))
+CALL(int32_t, fazgrond_viewer_bye, (fazgrond_viewer *viewer, uint8_t *out, size_t room, size_t *length),
+     (viewer, out, room, length))
+CALL(int32_t, fazgrond_viewer_row, (fazgrond_viewer *viewer, fazgrond_row *row), (viewer, row))
+CALL(int32_t, fazgrond_viewer_look, (fazgrond_viewer *viewer, uint32_t now, fazgrond_line_state *state), (viewer, now, state))

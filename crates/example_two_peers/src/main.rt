@@ -1,13 +1,14 @@
 //! A match of two machines in one process: each hears of the other late or not at all.
 #![tactic(auto)]
 
+mod duel;
 mod line;
 mod peer;
 
+use duel::Duel;
 use fazgrond::{Refusal, Session};
 use game_fighter::{Fight, Fighter};
-use line::Line;
-use peer::{Fault, LAST_FRAME, Side, open};
+use peer::open;
 use std::alloc::{AllocGlobal, Global};
 use std::io;
 use std::process::ExitCode;
@@ -15,9 +16,6 @@ use std::rt::Runtime;
 
 /// How many turns later than the first side the second one starts, in the second match.
 const LATE: u32 = 8;
-
-/// After how many turns a match is broken off.
-const MOST_TURNS: u32 = 3 * LAST_FRAME;
 
 fn main(rt: HostRuntime) -> ExitCode {
     match (run(&rt, 0), run(&rt, LATE)) {
@@ -28,18 +26,22 @@ fn main(rt: HostRuntime) -> ExitCode {
 
 /// Plays a match whose second side starts so many turns late, prints how it went, and says whether the sides agree in the end.
 fn run<R: Runtime + AllocGlobal>(rt: &R, late: u32) -> io::Result<bool> {
-    let (first, second) = match play(rt.alloc(), late) {
-        Ok(sides) => sides,
+    match Duel::played(rt.alloc(), late) {
+        Ok(duel) => report(rt, late, &duel),
         Err(why) => {
             println!(rt; "{why}")?;
-            return Ok(false);
+            Ok(false)
         }
-    };
+    }
+}
+
+/// Prints how a match went, and says whether the sides agree.
+fn report<R: Runtime + AllocGlobal>(rt: &R, late: u32, duel: &Duel) -> io::Result<bool> {
     println!(rt;
         "{late} turns late: waited {} and {}",
-        first.waited, second.waited
+        duel.first.waited, duel.second.waited
     )?;
-    let (first, second) = (first.peer.session(), second.peer.session());
+    let (first, second) = (duel.first.peer.session(), duel.second.peer.session());
     print(rt, first)?;
     print(rt, second)?;
     Ok(agree(first, second) && is_replayed(rt.alloc(), first) == Ok(true))
@@ -71,22 +73,4 @@ fn is_replayed(alloc: Global, session: &Session<Fight>) -> Result<bool, Refusal>
     let mut again = open(alloc, *session.settings())?;
     let whole = again.replay(session.log()).is_ok();
     Ok(whole && again.settled_state() == session.settled_state())
-}
-
-/// Both sides after the match: after its last frame they go on until each has all, and knows that the other has.
-fn play(alloc: Global, late: u32) -> Result<(Side, Side), Fault> {
-    let mut first = Side::new(alloc, 0, 2)?;
-    let mut second = Side::new(alloc, 1, 1)?;
-    let mut to_first = Line::new(alloc);
-    let mut to_second = Line::new(alloc);
-    for turn in 0..MOST_TURNS {
-        if first.is_done() && second.is_done() {
-            break;
-        }
-        first.turn(turn, &mut to_first, &mut to_second)?;
-        if turn >= late {
-            second.turn(turn, &mut to_second, &mut to_first)?;
-        }
-    }
-    Ok((first, second))
 }

@@ -10,7 +10,9 @@
 //!   and says what happened ([`PeerEvent`]).
 //! - **Beside other threads**: [`Host`] has a session, [`Link`]s that bring remote words from the network's thread, and the
 //!   workers of a [`Crew`], which run guesses ahead.
-//! - **Spectators** get the settled rows from a [`Feed`], and run them on any thread: [`Spectator`].
+//! - **Guesses** worth making: [`Habits`] has what was seen of a player, and chooses them.
+//! - **Spectators** get the settled rows from a [`Feed`], and run them on any thread: [`Spectator`]. On other machines they get
+//!   them by datagrams: [`ViewerLine`] is the host's end, [`Viewer`] the viewer's.
 //! - **Claims** of rollbacks are checked, written and read by [`claims`].
 //!
 //! A peer's main loop, in each turn:
@@ -31,6 +33,7 @@ pub use roll_frame::{
     Refusal, Reply, Row, Settings, SettingsFault,
 };
 pub use roll_game as game;
+pub use roll_guess::{Guess, Habits, Ranking};
 pub use roll_host::{Absorbed, Host, HostReply, HostRequest, LINK_LIMIT, Pumped, TURN_LIMIT};
 pub use roll_link::{Finished, LINK_ROOM, Link, LinkSender, Remote, SendFault};
 pub use roll_member::{JoinRefusal, Taken};
@@ -45,7 +48,10 @@ pub use roll_session::{
     Call, Grafted, Heard, Log, Logged, Parts, Plan, Reached, ReplayFault, Request, Session, Source,
     StartFault,
 };
-pub use roll_spectate::{Feed, RING_ROWS, RowReceiver, SPECTATOR_LIMIT, Spectator, SpectatorFault};
+pub use roll_spectate::{
+    Feed, RING_ROWS, RowReceiver, RowStream, SPECTATOR_LIMIT, Spectator, SpectatorFault,
+};
 pub use roll_synctest::{SyncTest, Verdict};
 pub use roll_text as text;
+pub use roll_viewer::{LineRefusal, LineSettings, Viewer, ViewerLine};
 pub use roll_wire::DATAGRAM_LIMIT;

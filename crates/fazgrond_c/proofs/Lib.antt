@@ -1,3 +1,6 @@
 mod AsBox
+mod AsPeerBox
+mod AsLineBox
+mod AsViewerBox
 mod Made
 mod Handing

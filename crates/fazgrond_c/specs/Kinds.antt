@@ -1,5 +1,5 @@
 -- What C sees of settings, rows and requests.
-use Rattle.std.specs.Prelude.{◌≡◌, ◌⊎◌, ℕ, ◌+◌, ◌-◌, List, ◌++◌, drop, take, length, map, min, replicate}
+use Rattle.std.specs.Prelude.{◌≡◌, ◌⊎◌, ◌≤◌, ℕ, ◌+◌, ◌-◌, List, ◌++◌, drop, take, length, map, min, replicate}
 use Rattle.roll_frame.specs.Packed.{bits_of}
 use Rattle.roll_frame.specs.Words.{word_of}
 use Rattle.roll_frame.specs.declared.profile.Profile.TheVariants.{Ggpo, Wide}
@@ -10,6 +10,8 @@ use Rattle.roll_frame.specs.declared.settings.Settings.{Settings}
 use Rattle.roll_requests.specs.declared.request.Request.{Request}
 use Rattle.roll_requests.specs.declared.request.Request.TheVariants.{Load, Save, Advance, Free, LoadAside, SaveAside, AdvanceAside}
 use Rattle.fazgrond_c.specs.declared.kinds.EntryOut.{EntryOut}
+use Rattle.roll_session.specs.declared.event.Reached.{Reached}
+use Rattle.fazgrond_c.specs.declared.kinds.ReachedOut.{ReachedOut}
 use Rattle.fazgrond_c.specs.declared.kinds.RequestOut.{RequestOut}
 use Rattle.fazgrond_c.specs.declared.kinds.RowOut.{RowOut}
 use Rattle.fazgrond_c.specs.declared.kinds.SettingsIn.{SettingsIn}
@@ -34,6 +36,10 @@ request_out (LoadAside slot) = record { kind = 5; slot = slot; row = no_row }
 request_out (SaveAside slot) = record { kind = 6; slot = slot; row = no_row }
 request_out (AdvanceAside row) = record { kind = 7; slot = 0; row = row_out row }
 
+abbrev pub where_led : Reached → ReachedOut
+where_led reached =
+    record { frame = reached.frame; from = reached.from; rerun = reached.rerun }
+
 -- an entry of the log; of a graft only that it is one
 abbrev pub entry_out : Entry → EntryOut
 entry_out (Local player word) = record { kind = 1; player = player; frame = 0; word = word }
@@ -55,6 +61,10 @@ pub record AreGiven (given : SettingsIn) (settings : Settings) : Type 0 where
   pub log : settings.log ≡ given.log
   pub delays : settings.delays ≡ given.delays
   pub masks : settings.masks ≡ given.masks
+
+-- a number of them has no room where it belongs
+abbrev pub HaveNoRoom : SettingsIn → Type 0
+HaveNoRoom given = (2 ≤ given.profile) ⊎ ((256 ≤ given.players) ⊎ (256 ≤ given.local))
 
 -- of some requests those past the ones that were handed out, as many as there is room for, are written to the front of a
 -- buffer

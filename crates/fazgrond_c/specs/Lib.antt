@@ -2,3 +2,12 @@ pub mod Holds
 pub mod Kinds
 pub mod Made
 pub mod Jobs
+pub mod PeerKinds
+pub mod PeerRefusals
+pub mod PeerHolds
+pub mod Peers
+pub mod LineKinds
+pub mod LineHolds
+pub mod Lines
+pub mod ViewerHolds
+pub mod Viewers

@@ -3,6 +3,7 @@ use Rattle.std.specs.Prelude.{◌≡◌, ◌≢◌, ◌⊎◌, ℕ, ℤ, List, �
 use Rattle.roll_frame.specs.Advice.{noted}
 use Rattle.roll_frame.specs.Codes.{code_of}
 use Rattle.roll_frame.specs.Core.{Core, settled}
+use Rattle.roll_frame.specs.Settings.{start_refusal}
 use Rattle.roll_frame.specs.Timeline.{row_at}
 use Rattle.roll_frame.specs.declared.row.Cell.{Cell}
 use Rattle.roll_frame.specs.declared.refusal.Refusal.{Refusal}
@@ -14,11 +15,12 @@ use Rattle.roll_requests.specs.Leading.{opened}
 use Rattle.roll_requests.specs.Names.{opening_digest, step_of}
 use Rattle.roll_session.specs.Answered.{IsAnswered, IsReplied}
 use Rattle.roll_session.specs.Calls.{event_of}
+use Rattle.roll_session.specs.Changes.{IsWhy}
 use Rattle.roll_session.specs.Headline.{last_claim}
 use Rattle.roll_session.specs.Started.{first_seen}
 use Rattle.roll_session.specs.declared.event.Call.{Call}
 use Rattle.roll_text.specs.Lines.{text_of}
-use Rattle.fazgrond_c.specs.Kinds.{AreGiven, AreHanded}
+use Rattle.fazgrond_c.specs.Kinds.{AreGiven, AreHanded, HaveNoRoom}
 use Rattle.fazgrond_c.specs.declared.kinds.ReachedOut.{ReachedOut}
 use Rattle.fazgrond_c.specs.declared.kinds.RequestOut.{RequestOut}
 use Rattle.fazgrond_c.specs.declared.kinds.SettingsIn.{SettingsIn}
@@ -88,21 +90,24 @@ abbrev pub reached_in : Reply → Option ReachedOut
 reached_in (Reached frame from rerun) = Some (record { frame = frame; from = from; rerun = rerun })
 reached_in said = None
 
-module _ {T : Type 0} where
-  -- what is read of an open session, and written; the session stays as it is
-  pub record Reads (value : Live → T) (old new : Option Live) (before after : T) (code : ℤ)
+module _ {L T : Type 0} where
+  -- what is read of what a handle holds, and written; it stays as it is
+  pub record Reads (value : L → T) (old new : Option L) (before after : T) (code : ℤ)
       : Type 0 where
     pub kept : new ≡ old
     pub read : IfSome old (λ live. (code ≡ pos 0) × (after ≡ value live))
     pub closed : old ≡ None → (code ≡ pos 201) × (after ≡ before)
 
-  -- the same of what may not be there
-  pub record ReadsSome (value : Live → Option T) (old new : Option Live) (before after : T)
+  -- the same of what may not be there, which has a code
+  pub record ReadsOr (none : ℕ) (value : L → Option T) (old new : Option L) (before after : T)
       (code : ℤ) : Type 0 where
     pub kept : new ≡ old
     pub read : IfSome old (λ live. MatchOption (value live)
-        ((code ≡ pos 203) × (after ≡ before)) (λ there. (code ≡ pos 0) × (after ≡ there)))
+        ((code ≡ pos none) × (after ≡ before)) (λ there. (code ≡ pos 0) × (after ≡ there)))
     pub closed : old ≡ None → (code ≡ pos 201) × (after ≡ before)
+
+  abbrev pub ReadsSome : (L → Option T) → (old new : Option L) → (before after : T) → ℤ → Type 0
+  ReadsSome = ReadsOr 203
 
 -- the settled row of a frame
 abbrev pub settled_row : Core → ℕ → Option (List Cell)
@@ -120,6 +125,19 @@ pub record IsOpened (given : SettingsIn) (live : Live) : Type 0 where
   pub settings : Settings
   pub are_given : AreGiven given settings
   pub session : live.session ≡ first_seen settings opening_digest opened
+
+-- there is no session with such settings
+pub record IsUnfit (given : SettingsIn) (code : ℤ) : Type 0 where
+  pub settings : Settings
+  pub are_given : AreGiven given settings
+  pub refusal : Refusal
+  pub why : IsWhy (start_refusal settings) refusal
+  pub code_is : code ≡ pos (code_of refusal)
+
+-- why no session is opened: a number has no room where it belongs, or the settings aren't good, or memory ran out
+abbrev pub IsWhyClosed : SettingsIn → ℤ → Type 0
+IsWhyClosed given code =
+    ((code ≡ pos 11) × HaveNoRoom given) ⊎ (IsUnfit given code ⊎ (code ≡ pos 107))
 
 -- a session was opened in the place of the one before, or nothing is changed
 pub record IsOpenedBy (given : SettingsIn) (old new : Option Live) (code : ℤ) : Type 0 where

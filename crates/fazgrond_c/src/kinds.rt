@@ -1,12 +1,12 @@
 //! What C sees.
-ghost use Rattle.std.specs.Prelude.{◌≡◌, IfSome};
+ghost use Rattle.std.specs.Prelude.{◌≡◌, IfNone, IfSome};
 ghost use Rattle.roll_session.specs.Calls.{entry_of};
 ghost use Rattle.roll_session.specs.Logs.{logged_entry};
-ghost use Rattle.fazgrond_c.specs.Kinds.{entry_out, no_row, request_out, row_out, AreGiven};
+ghost use Rattle.fazgrond_c.specs.Kinds.{entry_out, no_row, request_out, row_out, where_led, AreGiven, HaveNoRoom};
 
 use roll_frame::{PLAYER_LIMIT, Profile, Row, Settings};
 use roll_requests::Request;
-use roll_session::{Call, Logged};
+use roll_session::{Call, Logged, Reached};
 
 /// How a session is opened.
 #[repr(C)]
@@ -26,7 +26,8 @@ pub struct SettingsIn {
 impl SettingsIn {
     /// The settings, if each number has room where it belongs.
     pub fn settings(&self) -> Option<Settings>
-        ensures { IfSome result (AreGiven self.now) }
+        ensures given { IfSome result (AreGiven self.now) }
+        ensures none { IfNone result (HaveNoRoom self.now) }
     {
         let profile = match self.profile {
             0 => Profile::Ggpo,
@@ -136,6 +137,19 @@ pub struct ReachedOut {
     pub frame: u32,
     pub from: u32,
     pub rerun: u32,
+}
+
+impl ReachedOut {
+    /// Where one led.
+    pub fn of(reached: &Reached) -> ReachedOut
+        ensures { result ≡ where_led reached.now }
+    {
+        ReachedOut {
+            frame: reached.frame,
+            from: reached.from,
+            rerun: reached.rerun,
+        }
+    }
 }
 
 /// An entry of the log: 1 is a local word, 2 a remote one, 3 a disconnect, 4 a sync, 5 an advance, 6 a graft, and 7 a roll to

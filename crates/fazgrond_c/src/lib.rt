@@ -11,9 +11,30 @@ mod calls;
 mod handle;
 mod hold;
 mod kinds;
+mod line_calls;
+mod line_handle;
+mod line_hold;
+mod line_kinds;
+mod line_live;
+mod line_refusal;
+mod lines;
 mod live;
+mod peer_calls;
+mod peer_handle;
+mod peer_hold;
+mod peer_kinds;
+mod peer_live;
+mod peer_refusal;
+mod peers;
+mod reads;
+mod requests;
+mod viewer_calls;
+mod viewer_handle;
+mod viewer_hold;
+mod viewer_live;
+mod viewers;
 
-ghost use Rattle.fazgrond_c.specs.Made.{code_in, flag_of, reached_in, settled_row, IsAnsweredBy, IsClaimed, IsHandedBy, IsNotedBy, IsOpenedBy, IsReserved, IsWrittenBy, Reads, ReadsSome};
+ghost use Rattle.fazgrond_c.specs.Made.{code_in, flag_of, reached_in, settled_row, IsAnsweredBy, IsClaimed, IsHandedBy, IsNotedBy, IsOpenedBy, IsReserved, IsWhyClosed, IsWrittenBy, Reads, ReadsSome};
 ghost use Rattle.fazgrond_c.specs.Jobs.{added_in, code_of_graft, code_of_guess, number_in, IsForgottenBy, IsGraftedBy, IsGuessed, IsGuessedBy};
 ghost use Rattle.fazgrond_c.specs.Kinds.{entry_out, row_out};
 ghost use Rattle.roll_frame.specs.Advice.{advice_of};
@@ -22,16 +43,26 @@ use calls::call;
 pub use calls::{CLOSED, NOTHING, PENDING, TOO_SHORT};
 pub use handle::Handle;
 pub use kinds::{EntryOut, ReachedOut, RequestOut, RowOut, SettingsIn};
+pub use line_handle::LineHandle;
+pub use line_kinds::{LineIn, LineState};
+pub use line_live::LineLive;
 pub use live::Live;
+pub use peer_handle::PeerHandle;
+pub use peer_kinds::{EventOut, MatchIn, StatsOut};
+pub use peer_live::PeerLive;
+use reads::{entry_at, written};
 use roll_frame::{Refusal, Reply, Row};
 use roll_requests::limit_slots;
 use roll_session::Call;
 use std::alloc::Global;
+pub use viewer_handle::ViewerHandle;
+pub use viewer_live::ViewerLive;
 
 /// Opens a session.
 #[unsafe(no_mangle)]
 pub extern "C" fn fazgrond_open(alloc: Global, handle: &mut Handle, settings: &SettingsIn) -> i32
-    ensures { IsOpenedBy settings.now handle.old.hold.value handle.new.hold.value result }
+    ensures opened { IsOpenedBy settings.now handle.old.hold.value handle.new.hold.value result }
+    ensures why { result ≢ pos 0 → IsWhyClosed settings.now result }
 {
     let Some(settings) = settings.settings() else {
         return Refusal::InvalidRequest.code();
@@ -404,7 +435,7 @@ pub extern "C" fn fazgrond_log_entry(
     let Some(live) = handle.take(alloc) else {
         return CLOSED;
     };
-    let there = entry_at(&live, place);
+    let there = entry_at(&live.session, place);
     handle.put(live);
     match there {
         Some(there) => {
@@ -472,14 +503,6 @@ pub extern "C" fn fazgrond_claim(
     }
 }
 
-/// An entry of a session's log, if there is one at this place.
-fn entry_at(live: &Live, place: usize) -> Option<EntryOut>
-    ensures { result ≡ option_map entry_out (slice_get live.now.session.log place) }
-{
-    let entry = live.session.log().get(place)?;
-    Some(EntryOut::of(&entry))
-}
-
 /// Writes bytes to the front of a buffer, if it has room for them.
 fn copied(out: &mut [u8], bytes: &[u8]) -> i32
     ensures fits { result ≡ pos 0 → out.new ≡ bytes.now ++ drop (length bytes.now) out.old }
@@ -499,20 +522,6 @@ fn row_in(said: &Reply) -> Option<Row>
     match said {
         Reply::Synchronized(row) => Some(*row),
         _ => None,
-    }
-}
-
-/// Writes a number, if there is one.
-fn written(out: &mut u32, number: Option<u32>) -> i32
-    ensures { MatchOption number ((result ≡ pos 203) × (out.new ≡ out.old))
-        (λ there. (result ≡ pos 0) × (out.new ≡ there)) }
-{
-    match number {
-        Some(number) => {
-            *out = number;
-            0
-        }
-        None => NOTHING,
     }
 }
 

@@ -1,5 +1,5 @@
 //! A session of a game elsewhere, with how many of its requests were handed out, and its jobs.
-ghost use Rattle.std.specs.Prelude.{◌≡◌, ◌≤◌, ◌⊎◌, ◌^◌, ◌++◌, [], drop, length, map, is_some, IfErr, IfNone, IfOk, IfSome, None, OnErr};
+ghost use Rattle.std.specs.Prelude.{◌≡◌, ◌≤◌, ◌⊎◌, ◌^◌, [], is_some, IfErr, IfNone, IfOk, IfSome, None, OnErr};
 ghost use Rattle.roll_cert.specs.Texts.{claim_lines};
 ghost use Rattle.roll_frame.specs.Settings.{start_refusal};
 ghost use Rattle.roll_requests.specs.Leading.{opened};
@@ -13,14 +13,15 @@ ghost use Rattle.slab.specs.Slab.{get, slab_len, SameValues, Updates};
 ghost use Rattle.roll_session.specs.Guessing.{guess_job_of, guess_refusal_of};
 ghost use Rattle.roll_text.specs.Lines.{text_of};
 ghost use Rattle.fazgrond_c.specs.Jobs.{IsHandedIn, IsNotGuessed, IsNumbered};
-ghost use Rattle.fazgrond_c.specs.Kinds.{request_out, AreHanded};
+ghost use Rattle.fazgrond_c.specs.Kinds.{AreHanded};
 
 use crate::kinds::RequestOut;
+use crate::requests;
 use roll_branch::Branch;
 use roll_cert::write;
 use roll_frame::{Advice, Refusal, Reply, Settings};
 use roll_game::{NoMemory, RawGame};
-use roll_requests::{Recorder, Request, guess, start};
+use roll_requests::{Recorder, guess, start};
 use roll_session::{Call, Request as SessionRequest, Session};
 use slab::Slab;
 use std::alloc::Global;
@@ -64,7 +65,7 @@ impl Live {
 
     /// Whether each request was handed out.
     pub fn is_idle(&self) -> bool {
-        self.given >= self.session.game().table().requests().len()
+        requests::are_taken(self.session.game(), self.given)
     }
 
     /// Makes a call, and answers its reply.
@@ -168,12 +169,7 @@ impl Live {
         ensures session { self.new.session ≡ self.old.session }
         ensures handed { AreHanded self.old.given self.new.given result out.old out.new }
     {
-        let requests = self.session.game().table().requests();
-        let from = self.given.min(requests.len());
-        let count = out.len().min(requests.len() - from);
-        hand_out(&requests[from..from + count], out);
-        self.given = from + count;
-        count
+        requests::take(self.session.game(), &mut self.given, out)
     }
 }
 
@@ -188,14 +184,4 @@ fn free_number(jobs: &Slab<Branch<Recorder>>) -> Option<u32>
         return None;
     }
     u32::try_from(jobs.vacant_key()).ok()
-}
-
-/// Writes requests to the front of a buffer.
-fn hand_out(requests: &[Request], out: &mut [RequestOut])
-    requires { length requests.now ≤ length out.old }
-    ensures { out.new ≡ map request_out requests.now ++ drop (length requests.now) out.old }
-{
-    for (place, request) in requests.iter().enumerate() {
-        out[place] = RequestOut::of(request);
-    }
 }

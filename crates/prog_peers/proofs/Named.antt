@@ -1,5 +1,5 @@
 -- What texts name, one text after another.
-use Rattle.std.proofs.Common.{◌≡◌, ◌∙◌, ◌<◌, ◌+◌, ℕ, List, [], ◌∷◌, ◌++◌, ap, get_or, length, map, refl, subst, sym, take}
+use Rattle.std.proofs.Common.{◌∙◌, ◌<◌, ◌+◌, ℕ, List, [], ◌∷◌, ◌++◌, ap, get_or, length, map, refl, subst, sym, take}
 use Rattle.std.proofs.lemmas.List.{map-append, take_more}
 use Rattle.prog_peers.specs.Stops.{NamesStop, NamesStops, Stops}
 

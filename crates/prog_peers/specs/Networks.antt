@@ -1,5 +1,5 @@
 -- Datagrams under way.
-use Rattle.std.specs.Prelude.{ℕ, ◌+◌, ◌-◌, ◌^◌, List, [], ◌∷◌, ◌++◌, Bool, ◌&&◌, nat_lt, nat_le, ◌==◌, filter, min, Option, Some, None, is_some, if◌then◌else◌}
+use Rattle.std.specs.Prelude.{ℕ, ◌+◌, ◌-◌, ◌^◌, List, [], ◌∷◌, ◌++◌, ◌&&◌, nat_lt, filter, min, Option, Some, None, is_some, if◌then◌else◌}
 use Rattle.rand_pcg.specs.Lcg.{Lcg}
 use Rattle.prog_match.specs.Drawing.{after_draw, lateness, number_below}
 use Rattle.prog_match.specs.declared.options.MatchOptions.{MatchOptions}

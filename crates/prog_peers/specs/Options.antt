@@ -1,5 +1,5 @@
 -- What a match of several machines is played with, and why one isn't played.
-use Rattle.std.specs.Prelude.{ℕ, Bool, true, false, not, ◌&&◌, ◌||◌, nat_le, nat_lt, Option, Some, None, is_none, if◌then◌else◌, slice_get}
+use Rattle.std.specs.Prelude.{ℕ, Bool, true, false, not, ◌||◌, nat_le, nat_lt, Option, Some, None, is_none, if◌then◌else◌, slice_get}
 use Rattle.std.specs.List.{find, list_any, range_with_len}
 use Rattle.std.specs.Option.{option_map_or}
 use Rattle.prog_match.specs.declared.options.Guesses.{Guesses}

@@ -1,6 +1,6 @@
 -- What is known of who is heard.
-use Rattle.std.proofs.Common.{◌≡◌, ℕ, ap, subst, sym, refl, Bool, true, false, Some, None}
-use Rattle.std.specs.Prelude.{is_some, nat_le, not, ◌==◌, if◌then◌else◌, slice_set}
+use Rattle.std.proofs.Common.{◌≡◌, ◌∙◌, ℕ, ap, subst, sym, refl, Bool, true, false, Some, None}
+use Rattle.std.specs.Prelude.{is_some, nat_le, not, ◌==◌, if◌then◌else◌}
 use Rattle.roll_mesh.proofs.Changes.{none_some}
 use Rattle.roll_mesh.specs.Machines.{is_in}
 use Rattle.roll_mesh.specs.Meshes.{hear_refusal, is_had, leave_refusal}
@@ -10,8 +10,10 @@ use Rattle.roll_member.specs.Hearing.{HearsPacket}
 use Rattle.roll_member.specs.declared.member.Taken.{Taken}
 use Rattle.roll_session.specs.Seen.{Step}
 use Rattle.roll_wire.specs.Spelling.{Turn}
+use Rattle.roll_peer.specs.Notices.{dropped, told}
 use Rattle.roll_peer.specs.Peered.{contact_at, Peered}
-use Rattle.roll_peer.specs.Receiving.{after_play, deaf_to, packet_of, with_news, HearsTurn}
+use Rattle.roll_peer.specs.declared.contact.Contact.{Contact}
+use Rattle.roll_peer.specs.Receiving.{after_play, deaf_to, packet_of, knowing, with_news, HearsTurn}
 use Rattle.roll_peer.specs.declared.received.Ignored.TheVariants.{InvalidMachine, OwnMachine, MachineGone}
 
 -- a packet of who is heard is refused only for words that its sender doesn't have
@@ -46,22 +48,20 @@ left_by peer sender h =
     go true b c e = absurd (none_some InvalidMachine (sym e))
 
 -- a turn that session and mesh heard, and of which is known what it tells, is heard
-pub turn_heard : (step : Step) (old mid new : Peered) (sender now : ℕ) (t : Turn) (taken : Taken)
+pub turn_heard : (step : Step) (old mid known new : Peered) (sender now : ℕ) (t : Turn) (taken : Taken)
     → HearsPacket step old.member mid.member (packet_of sender t) t.words taken
     → mid ≡ with_news old mid.member
-    → new ≡ record mid {
-      contacts = slice_set mid.contacts sender
-          (after_play t.head.clocks old.member.session.core.frame now (contact_at mid sender));
-    } → HearsTurn step old new sender now t taken
-turn_heard step old mid new sender now t taken hears news known =
-    subst (λ (p : Peered). HearsTurn step old p sender now t taken) (sym known)
+    → known ≡ knowing t sender
+    (after_play t.head.clocks old.member.session.core.frame now (contact_at mid sender)) mid
+    → new ≡ record known { waiting = told known.waiting (dropped taken.heard) }
+    → HearsTurn step old new sender now t taken
+turn_heard step old mid known new sender now t taken hears news knows tells =
+    let contact : Peered → Contact =
+    λ p. after_play t.head.clocks old.member.session.core.frame now (contact_at p sender) in
+    let last : Peered → Peered = λ p. record p { waiting = told p.waiting (dropped taken.heard) } in
+    let whole : new ≡ last (knowing t sender (contact mid) mid) = tells ∙ ap last knows in
+    subst (λ (p : Peered). HearsTurn step old p sender now t taken) (sym whole)
     (record {
       member = hears;
-      rest = record {
-        contacts = ap (λ (p : Peered). slice_set p.contacts sender
-            (after_play t.head.clocks old.member.session.core.frame now (contact_at p sender))) news;
-        settings = ap (λ (p : Peered). p.settings) news;
-        running = ap (λ (p : Peered). p.running) news;
-        news = ap (λ (p : Peered). p.news) news;
-      };
+      rest = ap (λ (p : Peered). last (knowing t sender (contact p) p)) news;
     })

@@ -2,4 +2,4 @@ pub mod Heard
 pub mod Queues
 pub mod Seals
 pub mod Sent
-pub mod Turned
+pub mod Untils

@@ -1,5 +1,5 @@
 -- What a machine knows of another, and how that changes.
-use Rattle.std.specs.Prelude.{ℕ, ◌-◌, ◌^◌, max, ℤ, pos, neg_ℤ, ◌+ℤ◌, ◌-ℤ◌, unsigned_abs, Bool, true, false, not, ◌&&◌, ◌==◌, nat_le, nat_lt, Option, Some, None, if◌then◌else◌}
+use Rattle.std.specs.Prelude.{ℕ, List, slice_index_or, ◌-◌, ◌^◌, max, ℤ, pos, neg_ℤ, ◌+ℤ◌, ◌-ℤ◌, unsigned_abs, Bool, true, false, not, ◌&&◌, ◌==◌, nat_le, nat_lt, Option, Some, None, if◌then◌else◌}
 use Rattle.std.specs.Int.{int_max, int_min}
 use Rattle.std.specs.Option.{option_map_or, option_or}
 use Rattle.roll_wire.specs.declared.datagram.Clocks.{Clocks}
@@ -7,6 +7,7 @@ use Rattle.roll_peer.specs.declared.contact.Contact.{Contact}
 use Rattle.roll_peer.specs.declared.contact.Stage.{Stage}
 use Rattle.roll_peer.specs.declared.contact.Stage.TheVariants.{Silent, Greeted, Playing, Mismatched}
 use Rattle.roll_peer.specs.declared.contact.Stats.{Stats}
+use Rattle.roll_peer.specs.declared.contact.TheirClocks.{TheirClocks}
 use Rattle.roll_peer.specs.declared.contact.TheConstants.{BEHIND_LIMIT, ROUND_TRIP_LIMIT}
 use Rattle.roll_peer.specs.declared.settings.Field.{Field}
 use Rattle.roll_peer.specs.Clocks.{one_more, since}
@@ -25,6 +26,10 @@ stranger = record {
   received = 0;
   expected = 0;
 }
+
+-- what is known of a machine
+abbrev pub known_of : List Contact → ℕ → Contact
+known_of contacts m = slice_index_or contacts m stranger
 
 -- ---- the stages
 
@@ -109,10 +114,16 @@ measured clocks now =
     if not (clocks.heard_clock == 0) && nat_le (trip_of clocks now) ROUND_TRIP_LIMIT
     then Some (trip_of clocks now) else None
 
+-- whether clocks are later than the last that were heard
+abbrev pub are_newer : Option TheirClocks → Clocks → Bool
+are_newer None clocks = true
+are_newer (Some theirs) clocks = nat_lt theirs.number clocks.number
+
 -- after its clocks were heard, by a machine at a frame
 abbrev pub told : Clocks → ℕ → ℕ → Contact → Contact
 told clocks frame now contact = record contact {
   their_clocks = Some (record {
+    number = clocks.number;
     frame = clocks.frame;
     clock = clocks.clock;
     heard_at = now;

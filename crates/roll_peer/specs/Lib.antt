@@ -3,6 +3,8 @@ pub mod Codes
 pub mod Contacts
 pub mod Digests
 pub mod Events
+pub mod Notices
+pub mod Paces
 pub mod Settings
 pub mod Waiting
 pub mod Seals

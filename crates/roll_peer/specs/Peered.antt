@@ -1,15 +1,21 @@
--- A peer as its callers see it: session and mesh, what it knows of each machine, whether the match has begun, and whether words
--- came since the last rollback.
-use Rattle.std.specs.Prelude.{◌≡◌, ℕ, ◌-◌, List, Bool, true, false, Some, replicate, slice_index_or, ⊤}
+-- A peer as its callers see it: session and mesh, what it knows of each machine, whether the match has begun, whether words came
+-- since the last rollback, the events that wait, the machines that were told to be gone, the digests of settled states, and how far
+-- the machines are from one another.
+use Rattle.std.specs.Prelude.{◌≡◌, ℕ, ◌-◌, List, [], Bool, true, false, Some, replicate, ⊤}
 use Rattle.roll_member.specs.Joined.{join_refusal, IsJoinedAs, Joined}
 use Rattle.roll_mesh.specs.Machines.{give}
 use Rattle.roll_mesh.specs.Meshes.{stepped}
 use Rattle.roll_mesh.specs.declared.limits.TheConstants.{MACHINE_LIMIT}
 use Rattle.roll_session.specs.Changes.{after_local, local_refusal, IsRefused}
 use Rattle.roll_session.specs.Seen.{Seen}
-use Rattle.roll_peer.specs.Contacts.{stranger}
+use Rattle.roll_peer.specs.Contacts.{known_of, stranger}
+use Rattle.roll_peer.specs.Digests.{no_digests}
+use Rattle.roll_peer.specs.Paces.{no_pace}
 use Rattle.roll_peer.specs.Settings.{seat_of}
+use Rattle.roll_peer.specs.Waiting.{Waiting}
 use Rattle.roll_peer.specs.declared.contact.Contact.{Contact}
+use Rattle.roll_peer.specs.declared.digests.Digests.{Digests}
+use Rattle.roll_peer.specs.declared.pace.Pace.{Pace}
 use Rattle.roll_peer.specs.declared.refusal.OpenRefusal.{OpenRefusal}
 use Rattle.roll_peer.specs.declared.refusal.OpenRefusal.TheVariants.{Join, NoMemory}
 use Rattle.roll_peer.specs.declared.refusal.PeerRefusal.{PeerRefusal}
@@ -22,10 +28,14 @@ pub record Peered : Type 0 where
   pub contacts : List Contact
   pub running : Bool
   pub news : Bool
+  pub waiting : Waiting
+  pub known_gone : List Bool
+  pub digests : Digests
+  pub pace : Pace
 
 -- what is known of a machine
 abbrev pub contact_at : Peered → ℕ → Contact
-contact_at peer m = slice_index_or peer.contacts m stranger
+contact_at peer m = known_of peer.contacts m
 
 -- a peer that has just been opened: nothing was heard
 pub record IsOpenedAs (s : Seen) (settings : MatchSettings) (peer : Peered) : Type 0 where
@@ -34,6 +44,10 @@ pub record IsOpenedAs (s : Seen) (settings : MatchSettings) (peer : Peered) : Ty
   pub contacts : peer.contacts ≡ replicate MACHINE_LIMIT stranger
   pub running : peer.running ≡ false
   pub news : peer.news ≡ false
+  pub waiting : peer.waiting ≡ record { events = []; lost = 0 }
+  pub known_gone : peer.known_gone ≡ replicate MACHINE_LIMIT false
+  pub digests : peer.digests ≡ no_digests
+  pub pace : peer.pace ≡ no_pace
 
 -- why a session can't be opened as a peer
 abbrev pub IsWhyNot : Seen → MatchSettings → OpenRefusal → Type 0

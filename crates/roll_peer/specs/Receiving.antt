@@ -13,7 +13,8 @@ use Rattle.roll_wire.specs.declared.datagram.Hello.{Hello}
 use Rattle.roll_wire.specs.declared.fault.WireFault.{WireFault}
 use Rattle.roll_wire.specs.Reading.{all_of}
 use Rattle.roll_wire.specs.Spelling.{Content, Greets, Leaves, message, Message, Plays, Turn}
-use Rattle.roll_peer.specs.Contacts.{greeted, heard, played, told, with_stage}
+use Rattle.roll_peer.specs.Contacts.{are_newer, greeted, heard, played, told as told_clocks, with_stage}
+use Rattle.roll_peer.specs.Notices.{after_heard, desync, dropped, told}
 use Rattle.roll_peer.specs.Peered.{contact_at, Peered}
 use Rattle.roll_peer.specs.Seals.{unsealed}
 use Rattle.roll_peer.specs.Settings.{mismatch_of}
@@ -85,7 +86,8 @@ after_hello settings hello now contact =
 
 abbrev pub with_clocks : Option Clocks → ℕ → ℕ → Contact → Contact
 with_clocks None frame now contact = contact
-with_clocks (Some clocks) frame now contact = told clocks frame now contact
+with_clocks (Some clocks) frame now contact =
+    if are_newer contact.their_clocks clocks then told_clocks clocks frame now contact else contact
 
 abbrev pub after_play : Option Clocks → ℕ → ℕ → Contact → Contact
 after_play clocks frame now contact =
@@ -99,36 +101,55 @@ with_news peer member =
       news = peer.news || nat_lt (length peer.member.session.log) (length member.session.log);
     }
 
--- nothing but what is known of a machine changes, and the session and the mesh
-pub record IsHeardOf (old new : Peered) (m : ℕ) (contact : Contact) : Type 0 where
-  pub contacts : new.contacts ≡ slice_set old.contacts m contact
-  pub settings : new.settings ≡ old.settings
-  pub running : new.running ≡ old.running
-  pub news : new.news
-      ≡ (old.news || nat_lt (length old.member.session.log) (length new.member.session.log))
+-- a machine is known otherwise, and that is told
+abbrev pub knowing_of : ℕ → Contact → Peered → Peered
+knowing_of m contact peer = record peer {
+  contacts = slice_set peer.contacts m contact;
+  waiting = after_heard m (contact_at peer m) contact peer.waiting;
+}
 
--- a turn is heard: its words become remote words of the session, as far as it takes them, and what its sender tells is known
+-- and so is a settled state of it that this machine hadn't
+abbrev pub knowing : Turn → ℕ → Contact → Peered → Peered
+knowing t m contact peer = record peer {
+  contacts = slice_set peer.contacts m contact;
+  waiting = told (after_heard m (contact_at peer m) contact peer.waiting)
+      (desync peer.digests m t.head.settled);
+}
+
+-- once session and mesh have heard a turn
+abbrev pub after_turn : Peered → Joined → ℕ → ℕ → Turn → Taken → Peered
+after_turn old member sender now t taken =
+    let contact = after_play t.head.clocks old.member.session.core.frame now (contact_at old sender) in
+    let known = knowing t sender contact (with_news old member) in
+    record known { waiting = told known.waiting (dropped taken.heard) }
+
+-- a turn is heard: its words become remote words of the session, as far as it takes them, and what its sender tells is known.
+-- If the sender regards this machine as gone, that is told
 pub record HearsTurn (step : Step) (old new : Peered) (sender now : ℕ) (t : Turn) (taken : Taken)
     : Type 0 where
   pub member : HearsPacket step old.member new.member (packet_of sender t) t.words taken
-  pub rest : IsHeardOf old new sender
-      (after_play t.head.clocks old.member.session.core.frame now (contact_at old sender))
+  pub rest : new ≡ after_turn old new.member sender now t taken
 
-pub record HearsHello (old new : Peered) (sender now : ℕ) (hello : Hello) : Type 0 where
-  pub member : new.member ≡ old.member
-  pub rest : IsHeardOf old new sender (after_hello old.settings hello now (contact_at old sender))
+abbrev pub HearsHello : (old new : Peered) → (sender now : ℕ) → Hello → Type 0
+HearsHello old new sender now hello =
+    new ≡ knowing_of sender (after_hello old.settings hello now (contact_at old sender)) old
 
 -- a machine is gone from now on
-pub record HearsBye (old new : Peered) (sender now : ℕ) : Type 0 where
-  pub member : new.member ≡ record old.member {
+abbrev pub HearsBye : (old new : Peered) → (sender now : ℕ) → Type 0
+HearsBye old new sender now = new ≡ record old {
+  member = record old.member {
     mesh = stepped (λ seat machine. leave seat sender machine) old.member.mesh;
-  }
-  pub rest : IsHeardOf old new sender (heard now (contact_at old sender))
+  };
+  contacts = slice_set old.contacts sender (heard now (contact_at old sender));
+}
 
 abbrev pub Hears : Step → (old new : Peered) → (sender now : ℕ) → Content → Received → Type 0
-Hears step old new sender now (Greets hello) HelloHeard = HearsHello old new sender now hello
-Hears step old new sender now (Plays t) (PlayHeard taken) = HearsTurn step old new sender now t taken
-Hears step old new sender now Leaves ByeHeard = HearsBye old new sender now
+Hears step old new sender now (Greets hello) (HelloHeard from) =
+    (from ≡ sender) × HearsHello old new sender now hello
+Hears step old new sender now (Plays t) (PlayHeard from taken) =
+    (from ≡ sender) × HearsTurn step old new sender now t taken
+Hears step old new sender now Leaves (ByeHeard from) =
+    (from ≡ sender) × HearsBye old new sender now
 Hears step old new sender now content received = ⊥
 
 -- bytes are heard

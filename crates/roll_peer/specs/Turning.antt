@@ -1,18 +1,25 @@
 -- A turn of a peer: silent machines are gone, players leave, and the session rolls.
-use Rattle.std.specs.Prelude.{◌≡◌, ◌⊎◌, ℕ, zero, suc, ◌+◌, length, Bool, true, false, ◌||◌, ◌==◌, nat_lt, Option, Some, None, is_none, Result, Ok, Err, if◌then◌else◌}
+use Rattle.std.specs.Prelude.{◌≡◌, ◌⊎◌, ℕ, zero, suc, ℤ, ◌+◌, length, Bool, true, false, not, ◌&&◌, ◌||◌, ◌==◌, nat_lt, Option, Some, None, is_none, Result, Ok, Err, if◌then◌else◌, slice_set}
+use Rattle.std.specs.Option.{option_map}
 use Rattle.std.specs.List.{list_all, range_with_len}
 use Rattle.roll_frame.specs.declared.refusal.Refusal.{Refusal}
 use Rattle.roll_frame.specs.declared.refusal.Refusal.TheVariants.{LocalInputMissing}
 use Rattle.roll_member.specs.Leaving.{Leaves}
-use Rattle.roll_member.specs.declared.leaving.Left.{Left}
-use Rattle.roll_mesh.specs.declared.limits.TheConstants.{MACHINE_LIMIT}
+use Rattle.roll_member.specs.declared.leaving.Left.{Left as WhoLeft}
+use Rattle.roll_mesh.specs.declared.limits.TheConstants.{MACHINE_LIMIT, PLAYER_LIMIT}
 use Rattle.roll_mesh.specs.Machines.{is_in, leave}
 use Rattle.roll_mesh.specs.Meshes.{leave_refusal, stepped, Seated}
 use Rattle.roll_session.specs.Changes.{advance_refusal, after_advance, after_sync, reached_by, sync_refusal, IsRollRefused}
 use Rattle.roll_session.specs.declared.event.Reached.{Reached}
 use Rattle.roll_session.specs.Seen.{Seen}
 use Rattle.roll_peer.specs.Contacts.{hushed, is_playing, silence}
+use Rattle.roll_peer.specs.Events.{pushed}
+use Rattle.roll_peer.specs.Notices.{interrupted, player_left, told, told_of}
+use Rattle.roll_peer.specs.Paces.{paced, slowest, wait_of}
+use Rattle.roll_peer.specs.declared.event.PeerEvent.TheVariants.{Running, TimeSync, Left}
 use Rattle.roll_peer.specs.Peered.{contact_at, Peered}
+use Rattle.roll_peer.specs.declared.refusal.PeerRefusal.{PeerRefusal}
+use Rattle.roll_peer.specs.declared.refusal.PeerRefusal.TheVariants.{NotSynchronized, Session}
 
 -- whether a machine has been silent for too long
 abbrev pub is_silent : Peered → ℕ → ℕ → Bool
@@ -45,34 +52,72 @@ IsSilenced old now new =
       member = record old.member { mesh = silenced old now MACHINE_LIMIT };
     }
 
--- silence is told, and nothing else changes
-pub record IsHushed (old : Peered) (now : ℕ) (new : Peered) : Type 0 where
-  pub rest : new ≡ record old { contacts = new.contacts }
-  pub each : (m : ℕ) → contact_at new m ≡ hushed (contact_at old m) now old.settings.notify_after
+-- the silence of a machine is told, if that is due
+abbrev pub hushed_at : ℕ → ℕ → Peered → Peered
+hushed_at now m peer = record peer {
+  contacts = slice_set peer.contacts m (hushed (contact_at peer m) now peer.settings.notify_after);
+  waiting = told peer.waiting
+      (interrupted peer.settings peer.member.mesh.machine.gone (contact_at peer m) now m);
+}
+
+-- that of the first so many machines, in their order
+unfoldable pub hushed_until : ℕ → ℕ → Peered → Peered
+hushed_until now zero peer = peer
+hushed_until now (suc m) peer = hushed_at now m (hushed_until now m peer)
+
+-- a machine is told to be gone, once
+abbrev pub farewell_at : ℕ → Peered → Peered
+farewell_at m peer =
+    if is_in peer.member.mesh.machine.gone m && not (is_in peer.known_gone m)
+    then record peer {
+      known_gone = slice_set peer.known_gone m true;
+      waiting = pushed peer.waiting (Left m);
+    }
+    else peer
+
+unfoldable pub farewell_until : ℕ → Peered → Peered
+farewell_until zero peer = peer
+farewell_until (suc m) peer = farewell_at m (farewell_until m peer)
 
 -- the players of who is gone leave, if they may
-pub record IsParted (old new : Peered) : Type 0 where
-  pub left : Left
-  pub leaves : Leaves old.member new.member left
+pub record IsParted (old new : Peered) (refusal : Option Refusal) : Type 0 where
+  pub who : WhoLeft
+  pub leaves : Leaves old.member new.member who
+  pub why : refusal ≡ who.refusal
   pub rest : new ≡ record old {
     member = new.member;
     news = old.news || nat_lt (length old.member.session.log) (length new.member.session.log);
+    waiting = told_of (player_left who.players) PLAYER_LIMIT old.waiting;
   }
 
 -- the match begins once all are ready
 abbrev pub begun : Peered → Peered
-begun peer = record peer { running = peer.running || are_ready peer peer.member.mesh }
+begun peer =
+    if not peer.running && are_ready peer peer.member.mesh
+    then record peer { running = true; waiting = pushed peer.waiting Running }
+    else peer
 
 -- a peer whose session is another
 abbrev pub with_session : Peered → Seen → Bool → Peered
 with_session peer s news = record peer { member = record peer.member { session = s }; news = news }
+
+-- how far the machine that this one is furthest ahead of is behind
+abbrev pub lead_in : Peered → Option (ℤ × ℤ)
+lead_in peer = slowest peer.member.mesh.machine.gone peer.contacts MACHINE_LIMIT
+
+-- a frame is over: it is noted how far the machines are from one another, and now and then told how long to wait
+abbrev pub over : Peered → Peered
+over peer = record peer {
+  pace = paced (lead_in peer) peer.pace;
+  waiting = told peer.waiting (option_map TimeSync (wait_of (lead_in peer) peer.pace));
+}
 
 -- the session goes to the next frame, if its words are there; else it rolls back, if others' words came
 abbrev pub Plays : Peered → Peered → Result (Option Reached) Refusal → Type 0
 Plays old new (Ok (Some reached)) =
     (advance_refusal old.member.session ≡ None)
     × (reached ≡ reached_by old.member.session.core)
-    × (new ≡ with_session old (after_advance old.member.session) false)
+    × (new ≡ over (with_session old (after_advance old.member.session) false))
 Plays old new (Ok None) =
     (advance_refusal old.member.session ≡ Some LocalInputMissing)
     × (new ≡ (if old.news then with_session old (after_sync old.member.session) false else old))
@@ -88,12 +133,38 @@ abbrev pub PlaysIf : Bool → Peered → Peered → Result (Option Reached) Refu
 PlaysIf true old new result = Plays old new result
 PlaysIf false old new result = (new ≡ old) × (result ≡ Ok None)
 
--- a turn, step by step
-pub record Turns (old new : Peered) (now : ℕ) (result : Result (Option Reached) Refusal) : Type 0 where
+-- a poll, step by step, and why a player who is to leave is still there
+pub record Polls (old new : Peered) (now : ℕ) (refusal : Option Refusal) : Type 0 where
   pub silent : Peered
-  pub quiet : Peered
   pub parted : Peered
   pub silences : IsSilenced old now silent
-  pub hushes : IsHushed silent now quiet
-  pub parts : IsParted quiet parted
-  pub plays : PlaysIf (begun parted).running (begun parted) new result
+  pub parts : IsParted (farewell_until MACHINE_LIMIT (hushed_until now MACHINE_LIMIT silent)) parted refusal
+  pub begins : new ≡ begun parted
+
+-- what follows a poll
+abbrev pub GoesOn : Option Refusal → Peered → Peered → Result (Option Reached) Refusal → Type 0
+GoesOn None polled new result = PlaysIf polled.running polled new result
+GoesOn (Some why) polled new result = (new ≡ polled) × (result ≡ Err why)
+
+-- a turn: a poll, and then the game
+pub record Turns (old new : Peered) (now : ℕ) (result : Result (Option Reached) Refusal) : Type 0 where
+  pub polled : Peered
+  pub refusal : Option Refusal
+  pub polls : Polls old polled now refusal
+  pub plays : GoesOn refusal polled new result
+
+-- why a roll isn't made, and what it leaves: the session as far as the roll came, and nothing else
+abbrev pub IsRollNotMade : Option Refusal → Peered → Peered → ℕ → PeerRefusal → Type 0
+IsRollNotMade refusal old new to NotSynchronized = (old.running ≡ false) × (new ≡ old)
+IsRollNotMade refusal old new to (Session why) =
+    (old.running ≡ true)
+    × (new ≡ with_session old new.member.session old.news)
+    × IsRollRefused refusal old.member.session new.member.session to why
+
+abbrev pub IsNotSynced : Peered → Peered → PeerRefusal → Type 0
+IsNotSynced old new why =
+    IsRollNotMade (sync_refusal old.member.session) old new old.member.session.core.frame why
+
+abbrev pub IsNotAdvanced : Peered → Peered → PeerRefusal → Type 0
+IsNotAdvanced old new why =
+    IsRollNotMade (advance_refusal old.member.session) old new (old.member.session.core.frame + 1) why

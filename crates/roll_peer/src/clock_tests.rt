@@ -35,7 +35,9 @@ fn a_clock_begins_anew(rt: HostRuntime) {
     assert_eq!(rt; first.silence(start.wrapping_add(60)), 12);
     assert!(rt; !first.hush(start.wrapping_add(60), 12));
     assert!(rt; first.hush(start.wrapping_add(61), 12));
-    assert!(rt; first.heard(start.wrapping_add(62)));
+    assert!(rt; first.interrupted);
+    first.heard(start.wrapping_add(62));
+    assert!(rt; !first.interrupted);
     hear(
         &mut first,
         &second.mine(99, 522),

@@ -1,6 +1,6 @@
 //! What this machine knows of one other machine.
 ghost use Rattle.std.specs.Prelude.{◌≡◌};
-ghost use Rattle.roll_peer.specs.Contacts.{behind_of, clocks_for, counted, frame_after, greeted, heard, hushed, is_hushed, is_playing, measured, played, silence, stats_of, stranger, told, with_stage};
+ghost use Rattle.roll_peer.specs.Contacts.{are_newer, behind_of, clocks_for, counted, frame_after, greeted, heard, hushed, is_hushed, is_playing, measured, played, silence, stats_of, stranger, told, with_stage};
 
 use crate::settings::Field;
 use roll_wire::Clocks;
@@ -43,6 +43,8 @@ pub struct Stats {
 /// The last clocks that were heard of a machine.
 #[derive(Clone, Copy, Debug)]
 pub(crate) struct TheirClocks {
+    /// How many packets it had sent before.
+    pub(crate) number: u32,
     /// Its frame.
     pub(crate) frame: u32,
     /// Its clock.
@@ -144,11 +146,22 @@ impl Contact {
         matches!(self.stage, Stage::Playing)
     }
 
+    /// Whether clocks are later than the last that were heard.
+    pub(crate) fn are_newer(&self, clocks: &Clocks) -> bool
+        ensures { result ≡ are_newer self.now.their_clocks clocks.now }
+    {
+        match self.their_clocks {
+            None => true,
+            Some(theirs) => theirs.number < clocks.number,
+        }
+    }
+
     /// Its clocks were heard, while this machine is at a frame, in a packet that `heard` has counted.
     pub(crate) fn clocks(&mut self, clocks: &Clocks, frame: u32, now: u32)
         ensures { self.new ≡ told clocks.now frame now self.old }
     {
         self.their_clocks = Some(TheirClocks {
+            number: clocks.number,
             frame: clocks.frame,
             clock: clocks.clock,
             heard_at: now,
@@ -207,17 +220,14 @@ impl Contact {
         hushed
     }
 
-    /// A packet of it was heard. Whether its silence had been told.
-    pub(crate) fn heard(&mut self, now: u32) -> bool
-        ensures resumed { result ≡ self.old.interrupted }
-        ensures contact { self.new ≡ heard now self.old }
+    /// A packet of it was heard.
+    pub(crate) fn heard(&mut self, now: u32)
+        ensures { self.new ≡ heard now self.old }
     {
-        let resumed = self.interrupted;
         self.heard_at = now;
         self.interrupted = false;
         self.received = self.received.saturating_add(1);
         self.expected = self.expected.saturating_add(1);
-        resumed
     }
 
     /// What was counted and measured.

@@ -12,7 +12,7 @@ mod peer;
 mod received;
 mod receiving;
 mod refusal;
-mod seal;
+pub mod seal;
 #[cfg(test)]
 mod seal_tests;
 mod sending;

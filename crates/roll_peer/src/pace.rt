@@ -1,4 +1,9 @@
 //! Whether this machine runs ahead of the others.
+ghost use Rattle.std.specs.Prelude.{◌≡◌, ◌<◌, IfOk, IfErr, slice_index_or};
+ghost use Rattle.roll_mesh.specs.declared.limits.TheConstants.{MACHINE_LIMIT as MACHINES};
+ghost use Rattle.roll_peer.specs.Contacts.{stranger};
+ghost use Rattle.roll_peer.specs.Paces.{lead_of, no_pace, paced, slower, slowest, wait_of};
+
 use crate::contact::Contact;
 use roll_frame::{Advice, Refusal};
 use roll_mesh::{MACHINE_LIMIT, Mesh};
@@ -16,7 +21,9 @@ pub(crate) struct Pace {
 
 impl Pace {
     /// Nothing is noted.
-    pub(crate) fn new(alloc: Global) -> Result<Pace, Refusal> {
+    pub(crate) fn new(alloc: Global) -> Result<Pace, Refusal>
+        ensures { IfOk result (λ pace. pace ≡ no_pace) }
+    {
         Ok(Pace {
             advice: Advice::new(alloc)?,
             turns: 0,
@@ -24,7 +31,10 @@ impl Pace {
     }
 
     /// Notes a turn, and says how many frames to wait, if it is time to ask and this machine is ahead.
-    pub(crate) fn turn(&mut self, contacts: &[Contact; MACHINE_LIMIT], mesh: &Mesh) -> Option<u32> {
+    pub(crate) fn turn(&mut self, contacts: &[Contact; MACHINE_LIMIT], mesh: &Mesh) -> Option<u32>
+        ensures paced { self.new ≡ paced (slowest mesh.now.machine.gone contacts.now MACHINES) self.old }
+        ensures wait { result ≡ wait_of (slowest mesh.now.machine.gone contacts.now MACHINES) self.old }
+    {
         let (own, other) = slowest(contacts, mesh)?;
         self.advice.note(own, other);
         self.turns = self.turns.saturating_add(1);
@@ -39,22 +49,40 @@ impl Pace {
     }
 }
 
-/// How far the machine that this one is furthest ahead of is behind, of those that aren't gone, and how far it says so itself: as frames that this machine
-/// is behind it, and it behind this one.
-fn slowest(contacts: &[Contact; MACHINE_LIMIT], mesh: &Mesh) -> Option<(i32, i32)> {
-    let mut slowest = None;
-    for machine in 0..MACHINE_LIMIT {
-        let contact = contacts[machine];
-        if mesh.is_gone(machine as u8) || !contact.is_playing() || contact.their_clocks.is_none() {
-            continue;
-        }
-        let is_slower = match slowest {
-            Some((own, _)) => contact.behind < own,
-            None => true,
-        };
-        if is_slower {
-            slowest = Some((contact.behind, contact.their_behind));
-        }
+/// By how many frames this machine is behind another, and the other behind this one, as it says. None if it is gone, or hasn't told
+/// its clocks.
+fn lead_of(contacts: &[Contact; MACHINE_LIMIT], mesh: &Mesh, machine: u8) -> Option<(i32, i32)>
+    requires { machine < MACHINES }
+    ensures { result ≡ lead_of mesh.now.machine.gone contacts.now machine }
+{
+    let contact = &contacts[usize::from(machine)];
+    if mesh.is_gone(machine) || !contact.is_playing() || contact.their_clocks.is_none() {
+        None
+    } else {
+        Some((contact.behind, contact.their_behind))
     }
-    slowest
+}
+
+/// Of two, the one that this machine is further ahead of; the first if they are alike.
+fn slower(one: Option<(i32, i32)>, other: Option<(i32, i32)>) -> Option<(i32, i32)>
+    ensures { result ≡ slower one other }
+{
+    match (one, other) {
+        (None, other) => other,
+        (Some(one), None) => Some(one),
+        (Some(one), Some(other)) if other.0 < one.0 => Some(other),
+        (Some(one), Some(_)) => Some(one),
+    }
+}
+
+/// The machine that this one is furthest ahead of.
+#[tactic(auto, using(crate::proofs::Untils::slowest_none, crate::proofs::Untils::slowest_next))]
+fn slowest(contacts: &[Contact; MACHINE_LIMIT], mesh: &Mesh) -> Option<(i32, i32)>
+    ensures { result ≡ slowest mesh.now.machine.gone contacts.now MACHINES }
+{
+    let mut most = None;
+    for machine in 0..MACHINE_LIMIT as u8 {
+        most = slower(most, lead_of(contacts, mesh, machine));
+    }
+    most
 }

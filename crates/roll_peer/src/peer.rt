@@ -1,10 +1,13 @@
 //! A peer: a session in its seat of a match, and the datagrams that it hears and sends.
-ghost use Rattle.std.specs.Prelude.{◌≡◌, max, nat_lt, true, Some, None, IfErr, IfOk, OnErr, OnOk, if◌then◌else◌};
+ghost use Rattle.std.specs.Prelude.{◌≡◌, max, nat_lt, true, Some, None, IfErr, IfOk, OnErr, OnOk, slice_get, if◌then◌else◌};
 ghost use Rattle.roll_member.specs.Joined.{join_refusal};
 ghost use Rattle.roll_mesh.specs.Machines.{leave};
 ghost use Rattle.roll_mesh.specs.Meshes.{leave_refusal, stepped};
 ghost use Rattle.roll_mesh.specs.declared.limits.TheConstants.{MACHINE_LIMIT};
+ghost use Rattle.roll_frame.specs.Core.{settled};
 ghost use Rattle.roll_peer.specs.Contacts.{stats_of};
+ghost use Rattle.roll_peer.specs.Digests.{noted};
+ghost use Rattle.roll_peer.specs.Events.{popped};
 ghost use Rattle.roll_peer.specs.Peered.{contact_at, GivesWord, IsNotGiven, IsOpenedAs, IsWhyNot};
 ghost use Rattle.roll_peer.specs.Settings.{seat_of};
 ghost use Rattle.roll_session.specs.Changes.{after_graft, graft_refusal, local_refusal, reserve_refusal, IsRefused, IsWhy};
@@ -43,8 +46,7 @@ pub struct Peer<G: Game> {
     pub(crate) pace: Pace,
 }
 
-/// A clause sees session and mesh, what is known of each machine, whether the match has begun, and whether words came since the
-/// last rollback. Events, digests and advice it doesn't see.
+/// A clause sees all of it.
 impl<G: Game> Model for Peer<G> {
     ghost use Rattle.std.specs.Prelude.{◌≡◌, ◌≤◌};
     ghost use Rattle.roll_mesh.specs.declared.limits.TheConstants.{MACHINE_LIMIT};
@@ -59,6 +61,10 @@ impl<G: Game> Model for Peer<G> {
       contacts = p.contacts;
       running = p.running;
       news = p.news;
+      waiting = p.events;
+      known_gone = p.known_gone;
+      digests = p.digests;
+      pace = p.pace;
     } };
 
     ghost invariant = { λ p. (p.member.mesh.seat ≡ seat_of p.settings)
@@ -152,14 +158,17 @@ impl<G: Game> Peer<G> {
     /// Notes the digest of the session's settled state, by which the machines see that they play the same game. It is kept until
     /// one is noted of a frame that is 128 later, or 256, and so on.
     pub fn note_settled(&mut self, digest: u64)
-        ensures { self.new ≡ self.old }
+        ensures { self.new ≡ record self.old {
+          digests = noted (settled self.old.member.session.core) digest self.old.digests;
+        } }
     {
         self.digests.note(self.member.session().settled(), digest);
     }
 
     /// What happened, the oldest first. If 64 events wait, the oldest of them is dropped for a new one.
     pub fn next_event(&mut self) -> Option<PeerEvent>
-        ensures { self.new ≡ self.old }
+        ensures event { result ≡ slice_get self.old.waiting.events 0 }
+        ensures rest { self.new ≡ record self.old { waiting = popped self.old.waiting } }
     {
         self.events.pop()
     }
@@ -261,7 +270,9 @@ impl<G: Game> Peer<G> {
     }
 
     /// How many events were dropped, since 64 waited already.
-    pub fn lost_events(&self) -> u32 {
+    pub fn lost_events(&self) -> u32
+        ensures { result ≡ self.now.waiting.lost }
+    {
         self.events.lost()
     }
 

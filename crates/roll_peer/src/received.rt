@@ -8,11 +8,22 @@ use thiserror::Error;
 #[derive(Clone, Copy, Debug, PartialEq, Eq)]
 pub enum Received {
     /// A hello: who the sender takes the match's machines to be.
-    Hello,
+    Hello {
+        /// Who sent it.
+        sender: u8,
+    },
     /// A play, and what became of its words.
-    Play(Taken),
+    Play {
+        /// Who sent it.
+        sender: u8,
+        /// What became of its words.
+        taken: Taken,
+    },
     /// A bye: the sender is gone from now on.
-    Bye,
+    Bye {
+        /// Who sent it.
+        sender: u8,
+    },
 }
 
 /// Why bytes weren't heard. They changed nothing.

@@ -1,21 +1,20 @@
 //! A peer hears bytes.
-ghost use Rattle.std.specs.Prelude.{◌≡◌, ◌<◌, is_some, None, Some, IfErr, IfOk, IfSome, IsNone, IsSome, OnErr, OnOk, slice_set};
+ghost use Rattle.std.specs.Prelude.{◌≡◌, ◌<◌, is_some, None, Some, IfErr, IfOk, IfSome, IsNone, IsSome, OnErr, OnOk};
 ghost use Rattle.roll_mesh.specs.declared.limits.TheConstants.{MACHINE_LIMIT};
 ghost use Rattle.roll_member.specs.Hearing.{HearsPacket};
 ghost use Rattle.roll_mesh.specs.Meshes.{is_had};
 ghost use Rattle.roll_peer.specs.Peered.{contact_at};
-ghost use Rattle.roll_peer.specs.Receiving.{after_play, deaf_to, mismatch_in, packet_of, with_news, ignored, opened, unheard, HearsBye, HearsHello, HearsTurn, IsOpened, Receives};
+ghost use Rattle.roll_peer.specs.Receiving.{after_play, deaf_to, knowing, mismatch_in, packet_of, with_news, ignored, opened, unheard, HearsBye, HearsHello, HearsTurn, IsOpened, Receives};
 ghost use Rattle.roll_wire.specs.Spelling.{turn, Plays};
 
 use crate::contact::{Contact, Stage};
-use crate::event::PeerEvent;
 use crate::peer::Peer;
 use crate::received::{Ignored, Received};
 use crate::seal::unseal;
 use crate::settings::Field;
 use roll_game::Game;
 use roll_member::Taken;
-use roll_wire::{Body, Clocks, Datagram, Hello, Play, Settled, decode};
+use roll_wire::{Body, Clocks, Datagram, Hello, Play, decode};
 
 impl<G: Game> Peer<G> {
     /// Hears bytes that came by the network, at a moment. Words that they hold become words of the session, and what its sender
@@ -41,15 +40,15 @@ impl<G: Game> Peer<G> {
         match datagram.body {
             Body::Hello(hello) => {
                 self.hear_hello(sender, &hello, now);
-                Ok(Received::Hello)
+                Ok(Received::Hello { sender })
             }
             Body::Play(play) => {
                 let taken = self.hear_turn(sender, &play, now)?;
-                Ok(Received::Play(taken))
+                Ok(Received::Play { sender, taken })
             }
             Body::Bye => {
                 self.hear_bye(sender, now);
-                Ok(Received::Bye)
+                Ok(Received::Bye { sender })
             }
         }
     }
@@ -79,11 +78,10 @@ impl<G: Game> Peer<G> {
         let mismatch = self.settings.mismatch(hello);
         let before = self.contacts[place];
         let mut contact = before;
-        let resumed = contact.heard(now);
+        contact.heard(now);
         contact.hello(mismatch, hello.heard, now);
         self.contacts[place] = contact;
-        self.events.heard(sender, resumed);
-        self.events.came(sender, before.stage, contact.stage);
+        self.events.heard(sender, &before, &contact);
     }
 
     /// A turn is heard.
@@ -134,34 +132,16 @@ impl<G: Game> Peer<G> {
     /// What a turn tells of its sender is known, and told.
     fn know_turn(&mut self, sender: u8, play: &Play, frame: u32, now: u32)
         requires { sender < MACHINE_LIMIT }
-        ensures { self.new ≡ record self.old {
-          contacts = slice_set self.old.contacts sender
-              (after_play play.now.head.clocks frame now (contact_at self.old sender));
-        } }
+        ensures { self.new ≡ knowing (turn play.now) sender
+            (after_play play.now.head.clocks frame now (contact_at self.old sender)) self.old }
     {
         let place = usize::from(sender);
         let before = self.contacts[place];
         let contact = after_play(before, play.head.clocks, frame, now);
         self.contacts[place] = contact;
-        self.events.heard(sender, before.interrupted);
-        self.events.came(sender, before.stage, contact.stage);
-        self.compare(sender, play.head.settled);
-    }
-
-    /// Tells if a machine's settled state isn't the one that this machine had at that frame.
-    fn compare(&mut self, sender: u8, settled: Option<Settled>)
-        ensures { self.new ≡ self.old }
-    {
-        let Some(theirs) = settled else {
-            return;
-        };
-        match self.digests.at(theirs.frame) {
-            Some(ours) if ours != theirs.digest => self.events.push(PeerEvent::Desync {
-                machine: sender,
-                frame: theirs.frame,
-            }),
-            _ => {}
-        }
+        self.events.heard(sender, &before, &contact);
+        self.events
+            .compare(&self.digests, sender, play.head.settled);
     }
 
     /// A bye is heard.
@@ -208,8 +188,9 @@ fn after_play(before: Contact, clocks: Option<Clocks>, frame: u32, now: u32) -> 
     let mut contact = before;
     contact.heard(now);
     contact.play(now);
-    if let Some(clocks) = clocks {
-        contact.clocks(&clocks, frame, now);
+    match clocks {
+        Some(clocks) if contact.are_newer(&clocks) => contact.clocks(&clocks, frame, now),
+        _ => {}
     }
     contact
 }

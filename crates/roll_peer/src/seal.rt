@@ -52,7 +52,7 @@ fn are_same(one: [u8; 8], other: [u8; 8]) -> bool
 }
 
 /// Puts the tag where the number of the match is.
-pub(crate) fn seal(datagram: &mut ArrayVec<u8, DATAGRAM_LIMIT>)
+pub fn seal(datagram: &mut ArrayVec<u8, DATAGRAM_LIMIT>)
     requires { 12 ≤ length datagram.old.items }
     ensures sealed { datagram.new.items ≡ sealed datagram.old.items }
     ensures len { length datagram.new.items ≡ length datagram.old.items }
@@ -66,7 +66,7 @@ pub(crate) fn seal(datagram: &mut ArrayVec<u8, DATAGRAM_LIMIT>)
 
 /// The datagram of a match that was sealed as these bytes. None if there is no such datagram: they
 /// are too few or too many, or the tag is another.
-pub(crate) fn unseal(bytes: &[u8], match_number: u64) -> Option<ArrayVec<u8, DATAGRAM_LIMIT>>
+pub fn unseal(bytes: &[u8], match_number: u64) -> Option<ArrayVec<u8, DATAGRAM_LIMIT>>
     ensures found { IfSome result (λ datagram. IsSealed match_number bytes.now
         × (datagram.items ≡ named match_number bytes.now)) }
     ensures exact { option_map (λ datagram. datagram.items) result

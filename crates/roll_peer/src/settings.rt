@@ -48,7 +48,7 @@ impl MatchSettings {
     }
 
     /// What this machine says of the match, to one of whom it heard a hello or didn't.
-    pub(crate) fn hello(&self, heard: bool) -> Hello
+    pub fn hello(&self, heard: bool) -> Hello
         ensures { result ≡ hello_of self.now heard }
     {
         Hello {
@@ -60,7 +60,7 @@ impl MatchSettings {
     }
 
     /// The first field that another machine has otherwise. If there is none, it says of the match what this one says.
-    pub(crate) fn mismatch(&self, hello: &Hello) -> Option<Field>
+    pub fn mismatch(&self, hello: &Hello) -> Option<Field>
         ensures first { result ≡ mismatch_of self.now hello.now }
         ensures alike { IfNone result (hello.now ≡ hello_of self.now hello.now.heard) }
     {

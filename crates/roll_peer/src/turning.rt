@@ -1,36 +1,102 @@
 //! A turn of a peer: silent machines are gone, players leave, and the session goes on.
-ghost use Rattle.std.specs.Prelude.{◌≡◌, ◌<◌, slice_set, if◌then◌else◌};
+ghost use Rattle.std.specs.Prelude.{◌≡◌, ◌<◌, ◌+◌, true, false, None, Some, IfErr, IfOk, OnOk, if◌then◌else◌};
 ghost use Rattle.roll_mesh.specs.declared.limits.TheConstants.{MACHINE_LIMIT};
-ghost use Rattle.roll_peer.specs.Contacts.{hushed};
-ghost use Rattle.roll_peer.specs.Peered.{contact_at};
-ghost use Rattle.roll_peer.specs.Turning.{are_ready, begun, is_ready_at, is_silent, without, IsHushed, IsParted, IsSilenced, Plays, Turns};
+ghost use Rattle.roll_peer.specs.Turning.{are_ready, begun, farewell_at, farewell_until, hushed_at, hushed_until, is_ready_at, is_silent, over, with_session, without, IsNotAdvanced, IsNotSynced, IsParted, IsSilenced, Plays, Polls, Turns};
+ghost use Rattle.roll_session.specs.Changes.{advance_refusal, after_advance, after_sync, reached_by, sync_refusal, IsRollRefused};
+ghost use Rattle.roll_frame.specs.Timeline.{row_at as row_of};
 
 use crate::event::PeerEvent;
 use crate::peer::Peer;
-use roll_frame::Refusal;
+use crate::refusal::PeerRefusal;
+use roll_frame::{Refusal, Row};
 use roll_game::Game;
 use roll_mesh::MACHINE_LIMIT;
 use roll_session::Reached;
 
 impl<G: Game> Peer<G> {
-    /// A turn of the main loop, at a moment. Machines that were silent for too long are gone from now on, and the players of who
-    /// is gone leave if they may. Once all machines have heard each other, the session goes to its next frame if its local words
-    /// are there, and says so; else it rolls back, if words of others came.
+    /// A turn of the main loop, at a moment: a `poll`, and once the match has begun, the session goes to its next frame if its local
+    /// words are there, and says so; else it rolls back, if words of others came.
     ///
     /// # Errors
     ///
-    /// Those of the session.
+    /// Those of the session. The turn was made as far as that, and the next one goes on from there.
     pub fn turn(&mut self, now: u32) -> Result<Option<Reached>, Refusal>
         ensures { Turns self.old self.new now result }
     {
-        self.silence(now);
-        self.hush(now);
-        self.part();
-        self.begin();
+        self.poll(now)?;
         if !self.running {
             return Ok(None);
         }
         self.play()
+    }
+
+    /// What a turn does before it plays, for a main loop that calls `synchronize_input` and `advance_frame` itself. Machines that were
+    /// silent for too long are gone from now on, the players of who is gone leave if they may, and the match begins once all
+    /// machines have heard each other.
+    ///
+    /// # Errors
+    ///
+    /// `LogFull` or `NoMemory` if a player who is to leave is still in the session. All else is done, and the next poll tries it
+    /// again.
+    pub fn poll(&mut self, now: u32) -> Result<(), Refusal>
+        ensures polled { OnOk result (Polls self.old self.new now None) }
+        ensures short { IfErr result (λ why. Polls self.old self.new now (Some why)) }
+    {
+        self.silence(now);
+        self.hush(now);
+        self.tell_who_is_gone();
+        let refusal = self.part();
+        self.begin();
+        match refusal {
+            None => Ok(()),
+            Some(why) => Err(why),
+        }
+    }
+
+    /// The session's own `synchronize_input`: the row of this frame, after a rollback if words of others came that weren't
+    /// predicted.
+    ///
+    /// # Errors
+    ///
+    /// `NotSynchronized` before the match has begun, else those of the session.
+    pub fn synchronize_input(&mut self) -> Result<Row, PeerRefusal>
+        ensures begun { OnOk result (self.old.running ≡ true) }
+        ensures accepted { OnOk result (sync_refusal self.old.member.session ≡ None) }
+        ensures row { IfOk result (λ row. row
+            ≡ row_of self.old.member.session.core.players self.old.member.session.core.frame) }
+        ensures rolled { OnOk result
+            (self.new ≡ with_session self.old (after_sync self.old.member.session) false) }
+        ensures refused { IfErr result (IsNotSynced self.old self.new) }
+    {
+        if !self.running {
+            return Err(PeerRefusal::NotSynchronized);
+        }
+        match self.synchronize() {
+            Ok(row) => Ok(row),
+            Err(why) => Err(PeerRefusal::Session(why)),
+        }
+    }
+
+    /// The session's own `advance_frame`.
+    ///
+    /// # Errors
+    ///
+    /// `NotSynchronized` before the match has begun, else those of the session.
+    pub fn advance_frame(&mut self) -> Result<Reached, PeerRefusal>
+        ensures begun { OnOk result (self.old.running ≡ true) }
+        ensures accepted { OnOk result (advance_refusal self.old.member.session ≡ None) }
+        ensures reached { IfOk result (λ reached. reached ≡ reached_by self.old.member.session.core) }
+        ensures rolled { OnOk result
+            (self.new ≡ over (with_session self.old (after_advance self.old.member.session) false)) }
+        ensures refused { IfErr result (IsNotAdvanced self.old self.new) }
+    {
+        if !self.running {
+            return Err(PeerRefusal::NotSynchronized);
+        }
+        match self.advance() {
+            Ok(reached) => Ok(reached),
+            Err(why) => Err(PeerRefusal::Session(why)),
+        }
     }
 
     /// Machines that were silent for too long are gone.
@@ -56,27 +122,23 @@ impl<G: Game> Peer<G> {
     }
 
     /// Tells of machines that have been silent for long.
+    #[tactic(auto, using(crate::proofs::Untils::hushed_none, crate::proofs::Untils::hushed_next))]
     fn hush(&mut self, now: u32)
-        ensures { IsHushed self.old now self.new }
+        ensures { self.new ≡ hushed_until now MACHINE_LIMIT self.old }
     {
-        // there are as many contacts as machines at most
-        let _ = &self.contacts;
-        for place in 0..MACHINE_LIMIT {
-            self.hush_one(place, now);
+        for machine in 0..MACHINE_LIMIT as u8 {
+            self.hush_one(machine, now);
         }
     }
 
-    fn hush_one(&mut self, place: usize, now: u32)
-        requires { place < MACHINE_LIMIT }
-        ensures { self.new ≡ record self.old {
-          contacts = slice_set self.old.contacts place
-              (hushed (contact_at self.old place) now self.old.settings.notify_after);
-        } }
+    fn hush_one(&mut self, machine: u8, now: u32)
+        requires { machine < MACHINE_LIMIT }
+        ensures { self.new ≡ hushed_at now machine self.old }
     {
-        let machine = place as u8;
+        let place = usize::from(machine);
+        let silence = self.contacts[place].silence(now);
         let hushed = self.contacts[place].hush(now, self.settings.notify_after);
         if hushed && !self.member.mesh().is_gone(machine) {
-            let silence = self.contacts[place].silence(now);
             self.events.push(PeerEvent::Interrupted {
                 machine,
                 disconnect_in: self.settings.silent_after.saturating_sub(silence),
@@ -84,28 +146,36 @@ impl<G: Game> Peer<G> {
         }
     }
 
-    /// The players of who is gone leave, if they may.
-    fn part(&mut self)
-        ensures { IsParted self.old self.new }
+    /// Tells which machines are gone, each once.
+    #[tactic(auto, using(crate::proofs::Untils::farewell_none, crate::proofs::Untils::farewell_next))]
+    fn tell_who_is_gone(&mut self)
+        ensures { self.new ≡ farewell_until MACHINE_LIMIT self.old }
+    {
+        for machine in 0..MACHINE_LIMIT as u8 {
+            self.tell_if_gone(machine);
+        }
+    }
+
+    fn tell_if_gone(&mut self, machine: u8)
+        requires { machine < MACHINE_LIMIT }
+        ensures { self.new ≡ farewell_at machine self.old }
+    {
+        let place = usize::from(machine);
+        if self.member.mesh().is_gone(machine) && !self.known_gone[place] {
+            self.known_gone[place] = true;
+            self.events.push(PeerEvent::Left { machine });
+        }
+    }
+
+    /// The players of who is gone leave, if they may. Why one who is to leave is still there, if so.
+    fn part(&mut self) -> Option<Refusal>
+        ensures { IsParted self.old self.new result }
     {
         let before = self.member.session().log().len();
         let left = self.member.let_leave();
         self.news |= self.member.session().log().len() > before;
         self.events.left(&left);
-        self.tell_who_is_gone();
-    }
-
-    /// Tells which machines are gone, each once.
-    fn tell_who_is_gone(&mut self)
-        ensures { self.new ≡ self.old }
-    {
-        for machine in 0..MACHINE_LIMIT as u8 {
-            let place = usize::from(machine);
-            if self.member.mesh().is_gone(machine) && !self.known_gone[place] {
-                self.known_gone[place] = true;
-                self.events.push(PeerEvent::Left { machine });
-            }
-        }
+        left.refusal
     }
 
     /// Whether each other machine that isn't gone has heard this one, and this one it.
@@ -143,16 +213,11 @@ impl<G: Game> Peer<G> {
     fn play(&mut self) -> Result<Option<Reached>, Refusal>
         ensures { Plays self.old self.new result }
     {
-        match self.member.advance_frame() {
-            Ok(reached) => {
-                self.news = false;
-                self.note_pace();
-                Ok(Some(reached))
-            }
+        match self.advance() {
+            Ok(reached) => Ok(Some(reached)),
             Err(Refusal::LocalInputMissing) => {
                 if self.news {
-                    self.member.synchronize_input()?;
-                    self.news = false;
+                    self.synchronize()?;
                 }
                 Ok(None)
             }
@@ -160,9 +225,44 @@ impl<G: Game> Peer<G> {
         }
     }
 
-    /// Says how long to wait, if this machine is ahead.
+    /// The row of this frame, after a rollback.
+    fn synchronize(&mut self) -> Result<Row, Refusal>
+        ensures accepted { OnOk result (sync_refusal self.old.member.session ≡ None) }
+        ensures row { IfOk result (λ row. row
+            ≡ row_of self.old.member.session.core.players self.old.member.session.core.frame) }
+        ensures rolled { OnOk result
+            (self.new ≡ with_session self.old (after_sync self.old.member.session) false) }
+        ensures refused { IfErr result (IsRollRefused (sync_refusal self.old.member.session)
+            self.old.member.session self.new.member.session self.old.member.session.core.frame) }
+        ensures rest { self.new ≡ with_session self.old self.new.member.session self.new.news }
+        ensures news { IfErr result (λ why. self.new.news ≡ self.old.news) }
+    {
+        let row = self.member.synchronize_input()?;
+        self.news = false;
+        Ok(row)
+    }
+
+    /// The next frame.
+    fn advance(&mut self) -> Result<Reached, Refusal>
+        ensures accepted { OnOk result (advance_refusal self.old.member.session ≡ None) }
+        ensures reached { IfOk result (λ reached. reached ≡ reached_by self.old.member.session.core) }
+        ensures rolled { OnOk result
+            (self.new ≡ over (with_session self.old (after_advance self.old.member.session) false)) }
+        ensures refused { IfErr result (IsRollRefused (advance_refusal self.old.member.session)
+            self.old.member.session self.new.member.session
+            (self.old.member.session.core.frame + 1)) }
+        ensures rest { IfErr result
+            (λ why. self.new ≡ with_session self.old self.new.member.session self.old.news) }
+    {
+        let reached = self.member.advance_frame()?;
+        self.news = false;
+        self.note_pace();
+        Ok(reached)
+    }
+
+    /// Notes how far the machines are from one another, and says how long to wait, if this machine is ahead.
     fn note_pace(&mut self)
-        ensures { self.new ≡ self.old }
+        ensures { self.new ≡ over self.old }
     {
         if let Some(frames_ahead) = self.pace.turn(&self.contacts, self.member.mesh()) {
             self.events.push(PeerEvent::TimeSync { frames_ahead });

@@ -11,6 +11,7 @@ use Rattle.roll_frame.specs.declared.settings.Settings.{Settings}
 use Rattle.roll_laws.proofs.KeptPaths.{settled_never_falls, settled_rows_stay}
 use Rattle.roll_laws.proofs.Logs.{log_replays}
 use Rattle.roll_laws.proofs.Saved.{take_timeline}
+use Rattle.roll_laws.specs.Sessions.{IsLog}
 use Rattle.roll_session.specs.Standing.{settled_rows}
 use Rattle.roll_spectate.specs.Sent.{IsFirstPart, SentRowsStay}
 use Rattle.roll_spectate.proofs.Parts.{part_is_time, time_is_part}
@@ -52,6 +53,12 @@ module _ (settings : Settings) (game : Game) where
             all = ap (λ es. event ∷ es) r.all;
             left = r.left ∙ sym (added r.before accepted);
           }
+
+-- what a log begins with is a log
+pub log_begins : (settings : Settings) (game : Game) (log more : List Entry) → IsLog settings game (log ++ more) → IsLog settings game log
+log_begins settings game log more l =
+    let r = begins settings game (first_core settings) l.events log more l.left in
+    record { starts = l.starts; events = r.before; left = r.left }
 
 -- what was a first part of the settled rows is one after more events
 grown : (settings : Settings) (game : Game) (events more : List CoreEvent) (rows : Rows) → start_refusal settings ≡ None → IsFirstPart rows (settled_rows (played settings game events)) → IsFirstPart rows (settled_rows (played settings game (events ++ more)))

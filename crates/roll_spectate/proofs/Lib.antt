@@ -1,3 +1,3 @@
-mod Growing
-mod Parts
+pub mod Growing
+pub mod Parts
 mod Sending

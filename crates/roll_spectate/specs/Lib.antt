@@ -1,3 +1,4 @@
 pub mod Rings
 pub mod Sent
 pub mod Watched
+pub mod Streams

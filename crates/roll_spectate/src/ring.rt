@@ -26,10 +26,10 @@ impl Protocol<Row> for FewRows {
     ghost allows = { λ before row. length before < FRAME_LIMIT };
 }
 
-/// The session's end of a spectator's ring.
+/// The session's end of a spectator's ring, which takes the rows that the spectator is to run, from frame 0 on.
 #[derive(Drop)]
-pub(crate) struct RowSender {
-    producer: Producer<Row, Global, FewRows>,
+pub struct RowSender {
+    pub(crate) producer: Producer<Row, Global, FewRows>,
     count: u32,
 }
 
@@ -68,8 +68,13 @@ impl Model for RowReceiver {
     ghost invariant = { λ r. received r.consumer ≡ [] };
 }
 
-/// A ring for a spectator.
-pub(crate) fn open_ring(alloc: Global) -> Result<(RowSender, RowReceiver), AllocError>
+/// A ring for a spectator, with room for 64 rows: the end that takes rows, and the spectator's. A [`Feed`](crate::Feed) has such
+/// rings of its own.
+///
+/// # Errors
+///
+/// If the allocator has no room.
+pub fn open_ring(alloc: Global) -> Result<(RowSender, RowReceiver), AllocError>
     ensures { IfOk result (λ ends. ends.0 ≡ record { ring = ends.1; rows = [] }) }
 {
     let (producer, consumer) = RingBuffer::with_protocol::<Global, FewRows>(alloc, RING_ROWS)?;
@@ -103,8 +108,16 @@ impl RowSender {
         session.settled_row(self.count)
     }
 
+    /// How many rows were sent.
+    pub fn count(&self) -> u32
+        ensures rows { result ≡ length self.now.rows }
+        ensures few { result ≤ FRAME_LIMIT }
+    {
+        self.count
+    }
+
     /// Sends a row if the ring has a place for it, and says whether it did.
-    fn send(&mut self, row: Row) -> bool
+    pub fn send(&mut self, row: Row) -> bool
         requires { length self.old.rows < FRAME_LIMIT }
         ensures sent { IsTrue result → self.new
             ≡ record self.old { rows = self.old.rows ++ row ∷ [] } }

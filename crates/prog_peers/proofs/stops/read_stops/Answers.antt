@@ -1,4 +1,4 @@
-use Rattle.std.proofs.Common.{arith, refl, rules, sym, List, [], ℕ}
+use Rattle.std.proofs.Common.{refl, rules, List, [], ℕ}
 use Rattle.std.specs.Borrow.{Bor}
 use Rattle.prog_peers.specs.Stops.{no_stops}
 use Rattle.prog_peers.proofs.Named.{names_next}

@@ -1,4 +1,4 @@
-use Rattle.std.proofs.Common.{◌≡◌, map, take}
+use Rattle.std.proofs.Common.{map, take}
 use Rattle.prog_peers.specs.Stops.{no_stops, NamesStops}
 use Rattle.prog_peers.proofs.stops.read_stops.Given as goal
 

@@ -1,6 +1,6 @@
-use Rattle.std.proofs.Common.{◌≡◌, nat_lt, rules, sym}
+use Rattle.std.proofs.Common.{nat_lt, rules}
 use Rattle.std.proofs.lemmas.Fn.{filter_same}
-use Rattle.prog_peers.specs.Networks.{Sent, after_tick}
+use Rattle.prog_peers.specs.Networks.{Sent}
 use Rattle.prog_peers.proofs.network.Network.pass.Goals as goal
 
 pub returns : goal.returns

@@ -1,4 +1,4 @@
-use Rattle.std.proofs.Common.{◌≡◌, length, map}
+use Rattle.std.proofs.Common.{◌≡◌, map}
 use Rattle.prog_peers.proofs.playing.Table.tick.Given as goal
 
 abbrev pub invariant-loop-place : goal.invariant-loop-place

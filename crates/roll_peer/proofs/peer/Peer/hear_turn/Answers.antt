@@ -1,9 +1,8 @@
 use Rattle.std.proofs.Common.{◌≡◌, ◌∙◌, ℕ, ap, refl, subst}
-use Rattle.std.specs.Prelude.{slice_set}
 use Rattle.roll_session.specs.Seen.{Seen}
 use Rattle.roll_wire.specs.Spelling.{turn}
 use Rattle.roll_peer.specs.Peered.{contact_at, Peered}
-use Rattle.roll_peer.specs.Receiving.{after_play}
+use Rattle.roll_peer.specs.Receiving.{after_play, knowing}
 use Rattle.roll_peer.proofs.Heard.{turn_heard}
 use Rattle.roll_peer.proofs.peer.Peer.hear_turn.Goals as goal
 
@@ -15,9 +14,9 @@ returns-clause-heard g c =
     let frame : c.frame-frame.result ≡ old.member.session.core.frame =
     c.frame-frame.ensures ∙ ap (λ (s : Seen). s.core.frame) c.session.ensures
     ∙ ap (λ (p : Peered). p.member.session.core.frame) c.self.view_is in
-    let known = subst (λ (n : ℕ). c.know_turn.new.self ≡ record mid {
-      contacts = slice_set mid.contacts c.args.sender
-          (after_play clocks n c.args.now (contact_at mid c.args.sender));
-    }) frame c.know_turn.ensures in
-    turn_heard g.G.Game.step old mid _ c.args.sender c.args.now (turn c.args.play.now) c.in-Some-take_turn.taken
-    c.in-Some-take_turn.ensures.heard (c.in-Some-take_turn.ensures.rest refl) (c.self-2.view_is ∙ known)
+    let known = subst (λ (n : ℕ). c.know_turn.new.self
+    ≡ knowing (turn c.args.play.now) c.args.sender (after_play clocks n c.args.now (contact_at mid c.args.sender)) mid)
+    frame c.know_turn.ensures in
+    turn_heard g.G.Game.step old mid c.know_turn.new.self _ c.args.sender c.args.now (turn c.args.play.now)
+    c.in-Some-take_turn.taken c.in-Some-take_turn.ensures.heard (c.in-Some-take_turn.ensures.rest refl) known
+    (rw (← c.self-2.view_is, c.dropped.ensures) refl)

@@ -1,5 +1,6 @@
-use Rattle.roll_peer.proofs.Turned.{IsHushedUntil}
+use Rattle.std.proofs.Common.{◌≡◌}
+use Rattle.roll_peer.specs.Turning.{hushed_until}
 use Rattle.roll_peer.proofs.peer.Peer.hush.Given as goal
 
-abbrev pub invariant-loop-place : goal.invariant-loop-place
-invariant-loop-place g l = IsHushedUntil l.fn.self l.now l.place l.self
+abbrev pub invariant-loop-machine : goal.invariant-loop-machine
+invariant-loop-machine g l = l.self ≡ hushed_until l.now l.machine l.fn.self

@@ -1,4 +1,4 @@
-use Rattle.std.proofs.Common.{subst, sym}
+use Rattle.std.proofs.Common.{refl, subst, sym}
 use Rattle.roll_wire.specs.Spelling.{content, message}
 use Rattle.roll_wire.specs.declared.datagram.Body.{Body}
 use Rattle.roll_peer.specs.Receiving.{Hears}
@@ -10,7 +10,8 @@ returns-in-Hello-clause-received g c = record {
   what = message c.in_ok-datagram.datagram;
   is_opened = rw (← c.self.view_is) c.in_ok-datagram.ensures;
   hears = subst (λ (b : Body). Hears g.G.Game.step c.args.self.now c.hear_hello.new.self
-      c.in_ok-datagram.datagram.envelope.sender c.args.now (content b) Hello) (sym c.in-Hello.is) c.hear_hello.ensures;
+      c.in_ok-datagram.datagram.envelope.sender c.args.now (content b) (Hello c.in_ok-datagram.datagram.envelope.sender)) (sym c.in-Hello.is)
+      (refl, c.hear_hello.ensures);
 }
 
 pub returns-in_ok-taken-in-Play-clause-received : goal.returns-in_ok-taken-in-Play-clause-received
@@ -18,8 +19,9 @@ returns-in_ok-taken-in-Play-clause-received g c = record {
   what = message c.in_ok-datagram.datagram;
   is_opened = rw (← c.self.view_is) c.in_ok-datagram.ensures;
   hears = subst (λ (b : Body). Hears g.G.Game.step c.args.self.now c.hear_turn.new.self
-      c.in_ok-datagram.datagram.envelope.sender c.args.now (content b) (Play c.in_ok-taken-in-Play.taken))
-      (sym c.in-Play.is) (rw c.in-Play.play-is at c.in_ok-taken-in-Play.ensures.heard);
+      c.in_ok-datagram.datagram.envelope.sender c.args.now (content b)
+      (Play c.in_ok-datagram.datagram.envelope.sender c.in_ok-taken-in-Play.taken))
+      (sym c.in-Play.is) (refl, rw c.in-Play.play-is at c.in_ok-taken-in-Play.ensures.heard);
 }
 
 pub returns-in-Bye-clause-received : goal.returns-in-Bye-clause-received
@@ -27,5 +29,6 @@ returns-in-Bye-clause-received g c = record {
   what = message c.in_ok-datagram.datagram;
   is_opened = rw (← c.self.view_is) c.in_ok-datagram.ensures;
   hears = subst (λ (b : Body). Hears g.G.Game.step c.args.self.now c.hear_bye.new.self
-      c.in_ok-datagram.datagram.envelope.sender c.args.now (content b) Bye) (sym c.in-Bye.is) c.hear_bye.ensures;
+      c.in_ok-datagram.datagram.envelope.sender c.args.now (content b) (Bye c.in_ok-datagram.datagram.envelope.sender)) (sym c.in-Bye.is)
+      (refl, c.hear_bye.ensures);
 }

@@ -1,0 +1,204 @@
+"""Measures which guesses are worth making: python3 bench/choices.py [ROLLDUEL]
+
+Two players and 1,000 frames. Each player's words are among four, and are held for 3, 10 or 30 frames on average. Player
+2's are heard 0 to 8 frames late, in order, and told with a sync. After each advance guesses of them are made, in the order of
+a rule, until so many of them gave jobs; each job is run, and its branch grafted. Counted are the frames that the syncs ran
+again, as a share of those that GGPO runs again on the same words.
+
+Which states are kept is followed here, by their paths, so the table needs no program. With ROLLDUEL the first 200 frames of
+each match are played through it too, as a script, and it must count the same jobs and the same frames.
+
+The chooser is written again here from its definition, crates/roll_guess/specs.
+"""
+import random
+import subprocess
+import sys
+from itertools import accumulate, islice
+
+THRESHOLD, PATH_LIMIT, BRANCH_LIMIT = 8, 24, 8
+HEADER = f"roll 1 players 2 local 1 delay 0,0 threshold {THRESHOLD}"
+WORDS = range(4)
+BUDGETS = (1, 2, 4, 8, 16)
+
+
+def held_words(now, heard, last, settled):
+    """The older rule: the last word held for 0 to 8 frames more, and then each word, all up to this frame."""
+    for k in range(min(8, now - heard - 1) + 1):
+        yield from (([last] * k + [word], now) for word in WORDS if k == 0 or word != last)
+
+
+class Chooser:
+    """The chooser of crates/roll_guess."""
+
+    CERTAIN, GUESSES, UNKNOWN, TURNS, KNOWN, PLAIN, TURN = 32768, 32, 16, 16, 8, 8, 4
+
+    def __init__(self, likely):
+        self.held, self.age = 0, 0
+        self.tallies, self.turns, self.known = [[0, 0] for _ in range(3)], [], []
+        for word in [0, *likely]:
+            self.know(word)
+
+    def know(self, word):
+        if word not in self.known:
+            self.known = (self.known + [word])[-self.KNOWN :]
+
+    def tally(self, age):
+        return self.tallies[0 if age < 4 else 1 if age < 16 else 2]
+
+    def note(self, word):
+        tally = self.tally(self.age)
+        if 255 in tally:
+            tally[:] = [count // 2 for count in tally]
+        tally[0] += 1
+        if word == self.held:
+            self.age += 1
+        else:
+            tally[1] += 1
+            self.turns = (self.turns + [(self.held, word)])[-self.TURNS :]
+            self.held, self.age = word, 1
+        self.know(word)
+
+    def chance(self, held, age, word):
+        seen, turned = self.tally(age)
+        turning = min((turned + 1) * self.CERTAIN // (seen + 8), self.CERTAIN)
+        if word == held:
+            return self.CERTAIN - turning
+        weight = self.PLAIN + sum(to == word for _, to in self.turns) + self.TURN * self.turns.count((held, word))
+        left = sum(from_ == held for from_, _ in self.turns)
+        weights = self.KNOWN * self.PLAIN + len(self.turns) + self.TURN * left
+        return turning * (weight * self.CERTAIN // weights) // self.CERTAIN
+
+    def further(self, course, word):
+        words, held, age, chance = course
+        chance = chance * self.chance(held, age, word) // self.CERTAIN
+        return words + [word], word, age + 1 if word == held else 1, chance
+
+    def offer_changes(self, ranking, course, unknown):
+        for _ in range(len(course[0]), unknown):
+            for word in self.known:
+                if word != course[1]:
+                    words, _, _, chance = self.further(course, word)
+                    worth = chance * (unknown - len(words) + 1)
+                    place = sum(worth <= other for other, _ in ranking)
+                    if place < self.GUESSES and all(words != others for _, others in ranking):
+                        ranking[self.GUESSES - 1 :] = []
+                        ranking.insert(place, (worth, words))
+            course = self.further(course, course[1])
+
+    def choose(self, now, heard, last, settled):
+        unknown = min(max(now - heard, 0), self.UNKNOWN)
+        singles, ranking, start = [], [], ([], self.held, self.age, self.CERTAIN)
+        self.offer_changes(singles, start, unknown)
+        self.offer_changes(ranking, start, unknown)
+        for _, words in singles:
+            course = start
+            for word in words:
+                course = self.further(course, word)
+            self.offer_changes(ranking, course, unknown)
+        for _, words in ranking:
+            yield words, max(settled + 1, min(heard + len(words) + 7, settled + PATH_LIMIT))
+
+
+class Match:
+    """A match, and the paths of the states that are kept, from the settled frame on: a tree by rows."""
+
+    def __init__(self, frames, held, seed):
+        draw = random.Random(seed)
+        self.own, self.words = ([*self.drawn(frames, held, draw)] for _ in range(2))
+        self.when = [*accumulate((frame + draw.randrange(THRESHOLD + 1) for frame in range(frames)), max)]
+        self.kept, self.settled, self.heard = {}, 0, 0
+        self.lines, self.jobs, self.rerun, self.ggpo = [HEADER], 0, 0, 0
+
+    @staticmethod
+    def drawn(frames, held, draw):
+        word = 0
+        for _ in range(frames):
+            if draw.random() * held < 1:
+                word = draw.choice([other for other in WORDS if other != word])
+            yield word
+
+    def run(self, rows, most):
+        """Keeps the states along these rows, so many new ones at most, and says how many are new."""
+        node, new = self.kept, 0
+        for row in rows:
+            if row not in node:
+                if new == most:
+                    break
+                new += 1
+            node = node.setdefault(row, {})
+        return new
+
+    def settle(self, frame):
+        for at in range(self.settled, min(self.heard, frame)):
+            self.kept = self.kept[self.own[at], self.words[at]]
+            self.settled = at + 1
+
+    def guess(self, now, words, until):
+        theirs = self.words[self.settled : self.heard] + words
+        theirs += words[-1:] * (until - self.settled - len(theirs))
+        own = self.own[self.settled : min(now, until)] + self.own[now - 1 : now] * (until - now)
+        new = self.run(zip(own, theirs), BRANCH_LIMIT)
+        self.lines.append(f"G 2 {until} {','.join(map(str, words))}")
+        if new:
+            self.lines.append(f"B {self.jobs}")
+            self.jobs += 1
+        return new > 0
+
+    def play(self, guesses, note, budget):
+        used = []
+        for now in range(len(self.words)):
+            told = self.heard
+            while self.heard < len(self.when) and self.when[self.heard] == now:
+                note(self.words[self.heard])
+                self.lines.append(f"R 2 {self.heard} {self.words[self.heard]}")
+                self.heard += 1
+            last = self.words[self.heard - 1] if self.heard else 0
+            if self.heard > told:
+                self.lines.append("S")
+                known = self.words[: min(self.heard, now)] + [last] * (now - self.heard)
+                self.ggpo += now - next((frame for frame in range(now) if used[frame] != known[frame]), now)
+                self.rerun += self.run(zip(self.own[self.settled : now], known[self.settled :]), now)
+                self.settle(now)
+                used = known
+            used.append(self.words[now] if now < self.heard else last)
+            self.lines += [f"L 1 {self.own[now]}", "A"]
+            self.run(zip(self.own[self.settled : now + 1], used[self.settled :]), now + 1)
+            self.settle(now + 1)
+            if self.heard <= now:
+                made = (self.guess(now + 1, *guess) for guess in guesses(now + 1, self.heard, last, self.settled))
+                list(islice((job for job in made if job), budget))
+
+
+def played(frames, held, seed, rule, budget):
+    match = Match(frames, held, seed)
+    chooser = Chooser(WORDS)
+    match.play(*((held_words, lambda word: None) if rule == "held words" else (chooser.choose, chooser.note)), budget)
+    return match
+
+
+def check(program, match):
+    """The program must count the same jobs and the same frames that syncs ran again."""
+    text = "".join(line + "\n" for line in match.lines).encode()
+    said = subprocess.run([program], input=text, stdout=subprocess.PIPE).stdout.decode().splitlines()
+    rerun = sum(int(reply.split()[5]) for line, reply in zip(match.lines[1:], said) if line == "S")
+    jobs = sum(reply.startswith("job ") for reply in said)
+    if (rerun, jobs) != (match.rerun, match.jobs):
+        sys.exit(f"the program ran {rerun} frames again, and {jobs} jobs: not {match.rerun} and {match.jobs}")
+
+
+def main():
+    print("| Words held for | Guesses |", " | ".join(f"{budget} jobs" for budget in BUDGETS), "|")
+    print("|---|---|" + "---|" * len(BUDGETS))
+    for held in (3, 10, 30):
+        for rule in ("held words", "chooser"):
+            cells = []
+            for budget in BUDGETS:
+                matches = [played(1000, held, seed, rule, budget) for seed in (1, 2, 3)]
+                share = sum(match.rerun for match in matches) / sum(match.ggpo for match in matches)
+                cells.append(f"{share:.2f} ({sum(match.jobs for match in matches) / 3000:.1f})")
+                for program in sys.argv[1:]:
+                    check(program, played(200, held, 1, rule, budget))
+            print(f"| {held} frames | {rule} |", " | ".join(cells), "|", flush=True)
+
+
+main()

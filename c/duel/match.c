@@ -1,0 +1,358 @@
+/* A match of the duel over GGPO's calls. `usage` says how it is begun. */
+#define _POSIX_C_SOURCE 200809L
+#include "window.h"
+
+#include <ggponet.h>
+#include <stdio.h>
+#include <stdlib.h>
+#include <string.h>
+#include <time.h>
+static const char usage[] =
+    "duel [OPTIONS] PORT PLAYER PLAYER [PLAYER [PLAYER]] [viewer:ADDRESS ..]    a duel of ships for two to four\n"
+    "duel [OPTIONS] --watch PLAYERS PORT ADDRESS    watches one, at a machine that has this one as a viewer\n"
+    "  PLAYER        local, or the address of a machine, as 10.0.0.7:7001; the same order at all machines\n"
+    "  --bot SEED    plays by itself (SEED is 1 or more)\n"
+    "  --headless    no window; ships stay where they are without --bot\n"
+    "  --frames N    ends once frame N is settled, and prints its state\n"
+    "  --delay N     local inputs count N frames later (1)\n"
+    "  --timeout MS  a machine that is silent so long is gone (5000)\n"
+    "  --match N     the number that the machines of this match know\n"
+    "  --lag MS --loss PERCENT --junk PERCENT    makes the line worse for what this machine sends\n"
+    "  --speed N     a clock that runs N times as fast\n"
+    "  --synctest N  no network: all players are local, and each N frames are played twice\n";
+
+enum { TURN = 16667, PAST_LAST = 32, LINES = 6, MOST_BEHIND = 6, CATCH_UP = 8 };
+
+/* The state, as it is saved: the frame and the field. */
+typedef struct state {
+    int frame;
+    duel field;
+} state;
+
+/* All that there is: GGPO's callbacks are told nothing but what they are to do. */
+static struct {
+    state now;
+    GGPOSession *session;
+    int players, locals, viewers;
+    GGPOPlayerHandle local[DUEL_SHIPS], viewer[GGPO_MAX_SPECTATORS];
+    int behind, most_behind; /* by how many frames this one is behind what it watches */
+    int wait;             /* turns to wait, since this machine is ahead */
+    bool is_over;         /* the match can't go on */
+    int again, all_again; /* frames that were played again: in this turn, and in all */
+    uint32_t held[DUEL_SHIPS];
+    uint64_t seeds[DUEL_SHIPS];
+    char at_last[512]; /* the state at the frame of --frames */
+    char told[DUEL_SHIPS][64];
+    /* What the command line says. */
+    long frames, lag, loss, junk, speed, delay, timeout, sync_frames, bot, match, watch;
+    bool is_headless;
+} self = { .speed = 1, .delay = 1, .timeout = 5000 };
+
+static void note_last(void) {
+    if (self.frames > 0 && self.now.frame == self.frames)
+        duel_text(&self.now.field, self.at_last, sizeof self.at_last);
+}
+
+/* A frame, played for the first time or again. */
+static void advance(const uint32_t *words) {
+    duel_step(&self.now.field, words);
+    self.now.frame++;
+    note_last();
+    ggpo_advance_frame(self.session);
+}
+
+static bool on_advance(int flags) {
+    uint32_t words[DUEL_SHIPS];
+    (void)flags;
+    if (!GGPO_SUCCEEDED(ggpo_synchronize_input(self.session, words, sizeof words, NULL)))
+        return false;
+    self.again++;
+    advance(words);
+    return true;
+}
+
+static bool on_save(unsigned char **buffer, int *length, int *checksum, int frame) {
+    (void)frame;
+    *buffer = malloc(sizeof self.now);
+    *length = sizeof self.now;
+    *checksum = (int)duel_checksum(&self.now.field);
+    return *buffer != NULL && memcpy(*buffer, &self.now, sizeof self.now) != NULL;
+}
+
+static bool on_load(unsigned char *buffer, int length) {
+    if (length != (int)sizeof self.now)
+        return false;
+    memcpy(&self.now, buffer, sizeof self.now);
+    note_last();
+    return true;
+}
+
+static void on_free(void *buffer) { free(buffer); }
+
+/* Notes a line for a player, which the window shows, or says it. What is of a viewer, or of who is watched, is said. */
+static void say(int player, const char *what, int number) {
+    if (player < 1 || player > self.players) {
+        char who[32] = "the host", text[64];
+        if (player > 0)
+            snprintf(who, sizeof who, "viewer %d", player - 999);
+        snprintf(text, sizeof text, *what != 0 ? what : " is heard again", number);
+        fprintf(stderr, "%s%s\n", who, text);
+        return;
+    }
+    snprintf(self.told[player - 1], sizeof self.told[0], what, number);
+    if (self.is_headless && self.told[player - 1][0] != 0)
+        fprintf(stderr, "player %d%s\n", player, self.told[player - 1]);
+}
+
+static bool on_event(GGPOEvent *event) {
+    switch (event->code) {
+    case GGPO_EVENTCODE_CONNECTED_TO_PEER: say(event->u.connected.player, ": there", 0); break;
+    case GGPO_EVENTCODE_SYNCHRONIZED_WITH_PEER: say(event->u.synchronized.player, ": ready", 0); break;
+    case GGPO_EVENTCODE_RUNNING: memset(self.told, 0, sizeof self.told), fputs("the match begins\n", stderr); break;
+    case GGPO_EVENTCODE_DISCONNECTED_FROM_PEER: say(event->u.disconnected.player, " has left", 0); break;
+    case GGPO_EVENTCODE_TIMESYNC: self.wait = event->u.timesync.frames_ahead; break;
+    case GGPO_EVENTCODE_CONNECTION_INTERRUPTED:
+        say(event->u.connection_interrupted.player, " is silent: gone in %d ms",
+            event->u.connection_interrupted.disconnect_timeout);
+        break;
+    case GGPO_EVENTCODE_CONNECTION_RESUMED: say(event->u.connection_resumed.player, "", 0); break;
+    case FAZGGPO_EVENTCODE_DESYNC:
+    case FAZGGPO_EVENTCODE_MISMATCH:
+    case FAZGGPO_EVENTCODE_DROPPED:
+        fprintf(stderr, "the match is over: event %d\n", event->code);
+        self.is_over = true;
+        break;
+    default: break;
+    }
+    return true;
+}
+
+/* Draws a bot's next word, after one was taken. So a bot always gives the same words, whatever the line is. */
+static void draw_word(int place) {
+    uint64_t *seed = &self.seeds[place];
+    *seed ^= *seed << 13;
+    *seed ^= *seed >> 7;
+    *seed ^= *seed << 17;
+    if ((*seed >> 32 & 7) == 0)
+        self.held[place] = *seed >> 40 & 15;
+}
+
+/* A turn of the main loop, as GGPO's guide has it, and whether it played a frame. A viewer's inputs are ignored. */
+static bool turn(void) {
+    uint32_t words[DUEL_SHIPS];
+    GGPOErrorCode code = GGPO_OK;
+    if (self.wait > 0) {
+        self.wait--;
+        return false;
+    }
+    for (int at = 0; at < self.locals && GGPO_SUCCEEDED(code); at++) {
+        uint32_t word = self.bot > 0 ? self.held[at] : window_word(at);
+        code = ggpo_add_local_input(self.session, self.local[at], &word, sizeof word);
+        if (GGPO_SUCCEEDED(code))
+            draw_word(at);
+    }
+    if (GGPO_SUCCEEDED(code))
+        code = ggpo_synchronize_input(self.session, words, sizeof words, NULL);
+    if (GGPO_SUCCEEDED(code))
+        advance(words);
+    if (code == GGPO_ERRORCODE_GENERAL_FAILURE || (self.watch > 0 && code == GGPO_ERRORCODE_PLAYER_DISCONNECTED)) {
+        fprintf(stderr, "duel: %s\n", ggpo_last_error(self.session));
+        self.is_over = true;
+    }
+    return GGPO_SUCCEEDED(code);
+}
+
+/* Whether this one watches, and is to play more than one frame in a turn. */
+static bool is_behind(void) {
+    int settled;
+    if (self.watch == 0 || !GGPO_SUCCEEDED(fazggpo_get_settled(self.session, &settled)))
+        return false;
+    self.behind = settled - self.now.frame;
+    if (self.behind > self.most_behind)
+        self.most_behind = self.behind;
+    return self.behind > MOST_BEHIND && self.now.frame != self.frames;
+}
+
+static void draw(void) {
+    char lines[LINES][128];
+    const char *shown[LINES];
+    int count = 0;
+    for (int player = 1; player <= self.players; player++) {
+        GGPONetworkStats stats;
+        if (self.told[player - 1][0] != 0)
+            snprintf(lines[count++], sizeof lines[0], "player %d%s", player, self.told[player - 1]);
+        else if (GGPO_SUCCEEDED(ggpo_get_network_stats(self.session, player, &stats)) && stats.network.ping > 0)
+            snprintf(lines[count++], sizeof lines[0], "player %d: ping %d ms, ahead %d", player, stats.network.ping,
+                     -stats.timesync.local_frames_behind);
+    }
+    if (self.watch > 0)
+        snprintf(lines[count++], sizeof lines[0], "frame %d, behind %d", self.now.frame, self.behind);
+    else
+        snprintf(lines[count++], sizeof lines[0], "frame %d, again %d, in all %d", self.now.frame, self.again, self.all_again);
+    for (int at = 0; at < count; at++)
+        shown[at] = lines[at];
+    window_draw(&self.now.field, self.local[0], shown, count);
+}
+
+/* Microseconds, as --speed has them. */
+static uint64_t micros(void) {
+    struct timespec time;
+    clock_gettime(CLOCK_MONOTONIC, &time);
+    return ((uint64_t)time.tv_sec * 1000000 + (uint64_t)time.tv_nsec / 1000) * (uint64_t)self.speed;
+}
+
+/* Whether the frame of --frames is settled, here and elsewhere: who sent inputs of a much later frame has all of this one, and
+ * viewers say how many they have. Who watches has it once it is played. */
+static bool is_done(void) {
+    int settled;
+    if (self.frames == 0 || self.watch > 0)
+        return self.frames > 0 && self.now.frame >= self.frames;
+    for (int at = 0; at < self.viewers; at++)
+        if (GGPO_SUCCEEDED(fazggpo_get_watched(self.session, self.viewer[at], &settled)) && settled < self.frames)
+            return false;
+    return GGPO_SUCCEEDED(fazggpo_get_settled(self.session, &settled)) && settled >= self.frames + PAST_LAST;
+}
+
+static int play(void) {
+    uint64_t next = micros();
+    while (!self.is_over && (self.is_headless || window_goes_on()) && !is_done()) {
+        uint64_t now = micros();
+        if (now >= next) {
+            for (int frames = 0; frames < CATCH_UP && turn() && is_behind(); frames++) {}
+            if (!self.is_headless)
+                draw();
+            self.all_again += self.again;
+            self.again = 0;
+            next = now > next + 20 * TURN ? now : next + TURN;
+        }
+        now = micros();
+        ggpo_idle(self.session, now < next ? (int)((next - now) / 1000) : 0);
+    }
+    if (self.at_last[0] != 0)
+        printf("frame %ld state %s\n", self.frames, self.at_last);
+    fprintf(stderr, "played %d frames, and %d again; %d behind at most\n", self.now.frame, self.all_again, self.most_behind);
+    return self.is_over;
+}
+
+/* The command line. */
+
+static int fail(const char *why) {
+    fprintf(stderr, "duel: %s\n%s", *why != 0 ? why : "an address can't be read", usage);
+    return 2;
+}
+
+static bool read_number(const char *text, long *number) {
+    char *end;
+    *number = text != NULL ? strtol(text, &end, 10) : -1;
+    return text != NULL && *text != 0 && *end == 0 && *number >= 0;
+}
+
+/* Reads options, and says at which word the port is; 0 if it can't. */
+static int read_options(char **words) {
+    static const struct {
+        const char *name;
+        long *number;
+    } options[] = {
+        { "--bot", &self.bot },         { "--frames", &self.frames }, { "--lag", &self.lag },     { "--loss", &self.loss },
+        { "--junk", &self.junk },       { "--speed", &self.speed },   { "--delay", &self.delay }, { "--match", &self.match },
+        { "--timeout", &self.timeout }, { "--synctest", &self.sync_frames },
+        { "--watch", &self.watch },
+    };
+    int at = 1;
+    for (; words[at] != NULL && strncmp(words[at], "--", 2) == 0; at++) {
+        size_t option = 0;
+        if (strcmp(words[at], "--headless") == 0) {
+            self.is_headless = true;
+            continue;
+        }
+        while (option < sizeof options / sizeof *options && strcmp(words[at], options[option].name) != 0)
+            option++;
+        if (option == sizeof options / sizeof *options || !read_number(words[++at], options[option].number))
+            return 0;
+    }
+    return words[at] != NULL ? at : 0;
+}
+
+static bool is_viewer(const char *word) { return strncmp(word, "viewer:", 7) == 0; }
+
+static bool read_address(const char *word, GGPOPlayer *player) {
+    const char *colon = strchr(word, ':');
+    long port;
+    if (colon == NULL || colon - word >= (long)sizeof player->u.remote.ip_address || !read_number(colon + 1, &port))
+        return false;
+    memcpy(player->u.remote.ip_address, word, (size_t)(colon - word));
+    player->u.remote.port = (unsigned short)port;
+    return true;
+}
+
+static bool add_player(const char *word, int number) {
+    GGPOPlayer player = { .size = sizeof player, .type = GGPO_PLAYERTYPE_LOCAL, .player_num = number };
+    GGPOPlayerHandle handle;
+    if (strcmp(word, "local") != 0) {
+        player.type = is_viewer(word) ? GGPO_PLAYERTYPE_SPECTATOR : GGPO_PLAYERTYPE_REMOTE;
+        if (!read_address(is_viewer(word) ? word + 7 : word, &player))
+            return false;
+    }
+    if (!GGPO_SUCCEEDED(ggpo_add_player(self.session, &player, &handle)))
+        return false;
+    if (player.type == GGPO_PLAYERTYPE_LOCAL) {
+        self.seeds[self.locals] = 0x9e3779b97f4a7c15u * (uint64_t)(self.bot * DUEL_SHIPS + number);
+        self.local[self.locals++] = handle;
+        ggpo_set_frame_delay(self.session, handle, (int)self.delay);
+    } else if (player.type == GGPO_PLAYERTYPE_SPECTATOR)
+        self.viewer[self.viewers++] = handle;
+    return true;
+}
+
+static GGPOErrorCode start(unsigned short port, const char *host_word) {
+    GGPOSessionCallbacks calls = { .save_game_state = on_save, .load_game_state = on_load, .free_buffer = on_free,
+                                   .advance_frame = on_advance, .on_event = on_event };
+    char name[] = "duel";
+    GGPOPlayer host = { .size = sizeof host };
+    if (self.watch > 0 && !read_address(host_word, &host))
+        return GGPO_ERRORCODE_INVALID_REQUEST;
+    if (self.watch > 0)
+        return ggpo_start_spectating(&self.session, &calls, name, self.players, sizeof(uint32_t), port,
+                                     host.u.remote.ip_address, host.u.remote.port);
+    if (self.sync_frames > 0)
+        return ggpo_start_synctest(&self.session, &calls, name, self.players, sizeof(uint32_t), (int)self.sync_frames);
+    return ggpo_start_session(&self.session, &calls, name, self.players, sizeof(uint32_t), port);
+}
+
+static bool set_up(void) {
+    ggpo_set_disconnect_timeout(self.session, (int)self.timeout);
+    if (self.match > 0)
+        fazggpo_set_match(self.session, (uint64_t)self.match);
+    return GGPO_SUCCEEDED(fazggpo_set_line(self.session, (int)self.lag, (int)self.loss, (int)self.junk))
+        && GGPO_SUCCEEDED(fazggpo_set_speed(self.session, (int)self.speed));
+}
+
+int main(int count, char **words) {
+    int at = read_options(words);
+    long port;
+    if (at == 0 || !read_number(words[at], &port) || port > 65535)
+        return fail("the options or the port can't be read");
+    self.players = (int)self.watch;
+    while (self.watch == 0 && words[at + 1 + self.players] != NULL && !is_viewer(words[at + 1 + self.players]))
+        self.players++;
+    if (!duel_open(&self.now.field, (uint32_t)self.players) || (self.watch > 0 && count != at + 2))
+        return fail("two to four players were expected, or the one machine that is watched");
+    if (!GGPO_SUCCEEDED(start((unsigned short)port, words[at + 1])))
+        return fail(ggpo_last_error(NULL));
+    bool is_ready = set_up();
+    for (int player = 1; player < count - at && self.watch == 0 && is_ready; player++)
+        is_ready = add_player(words[at + player], player);
+    if (self.watch > 0) /* its window stands beside those of the players, and no ship is its own */
+        self.local[self.locals++] = self.players + 1;
+    int status = 2;
+    if (!is_ready || self.locals == 0)
+        fail(is_ready ? "no player is local" : ggpo_last_error(self.session));
+    else if (!self.is_headless && !window_open(self.local[0]))
+        fail("no window can be opened: --headless plays without");
+    else
+        status = play();
+    ggpo_close_session(self.session);
+    if (!self.is_headless)
+        window_close();
+    return status;
+}

@@ -1,0 +1,104 @@
+#include "window.h"
+
+#include <SDL.h>
+
+enum { WIDTH = 640, HEIGHT = 480, UNIT = DUEL_WIDTH / WIDTH, DOT = 2 };
+
+static SDL_Window *window;
+static SDL_Renderer *renderer;
+static SDL_GameController *pad;
+
+static const uint8_t colours[DUEL_SHIPS][3] = { { 120, 200, 255 }, { 255, 150, 90 }, { 150, 230, 120 }, { 240, 220, 90 } };
+
+/* Digits and letters, three by five dots each: the highest of 15 bits is the upper left one. */
+static const uint16_t glyphs[] = {
+    ['0'] = 075557, ['1'] = 026227, ['2'] = 071747, ['3'] = 071317, ['4'] = 055711, ['5'] = 074717, ['6'] = 074757,
+    ['7'] = 071122, ['8'] = 075757, ['9'] = 075717, ['A'] = 025755, ['B'] = 065656, ['C'] = 034443, ['D'] = 065556,
+    ['E'] = 074647, ['F'] = 074644, ['G'] = 034553, ['H'] = 055755, ['I'] = 072227, ['J'] = 011152, ['K'] = 055655,
+    ['L'] = 044447, ['M'] = 057755, ['N'] = 065555, ['O'] = 025552, ['P'] = 065644, ['Q'] = 025563, ['R'] = 065655,
+    ['S'] = 034216, ['T'] = 072222, ['U'] = 055557, ['V'] = 055552, ['W'] = 055775, ['X'] = 055255, ['Y'] = 055222,
+    ['Z'] = 071247, [','] = 000024, ['.'] = 000002, [':'] = 002020, ['-'] = 000700, ['/'] = 011244,
+};
+
+static void draw_text(int x, int y, const char *text) {
+    for (; *text != 0; text++, x += 4 * DOT) {
+        int letter = SDL_toupper((unsigned char)*text);
+        for (int at = 0; at < 15 && letter < (int)SDL_arraysize(glyphs); at++)
+            if ((glyphs[letter] >> (14 - at) & 1) != 0)
+                SDL_RenderFillRect(renderer, &(SDL_Rect){ x + at % 3 * DOT, y + at / 3 * DOT, DOT, DOT });
+    }
+}
+
+static void use_colour(uint32_t number) {
+    const uint8_t *colour = colours[(number - 1) % DUEL_SHIPS];
+    SDL_SetRenderDrawColor(renderer, colour[0], colour[1], colour[2], 255);
+}
+
+/* A ship is a triangle, whose nose is where it heads. */
+static void draw_ship(const duel_ship *ship, bool is_own) {
+    const int32_t *to = duel_directions[ship->heading];
+    int x = ship->x / UNIT, y = ship->y / UNIT, dx = (int)to[0], dy = (int)to[1], tx = x - dx * 3 / 4, ty = y - dy * 3 / 4;
+    SDL_Point points[] = { { x + dx, y + dy }, { tx - dy / 2, ty + dx / 2 }, { x - dx / 4, y - dy / 4 },
+                           { tx + dy / 2, ty - dx / 2 }, { x + dx, y + dy } };
+    SDL_RenderDrawLines(renderer, points, (int)SDL_arraysize(points));
+    if (is_own)
+        SDL_RenderFillRect(renderer, &(SDL_Rect){ x - 1, y - 1, 3, 3 });
+}
+
+bool window_open(int player) {
+    /* Windows of several players stand side by side, so that one screen can have a match. */
+    int x = 20 + (player - 1) % 2 * (WIDTH + 20), y = 40 + (player - 1) / 2 * (HEIGHT + 40);
+    if (SDL_Init(SDL_INIT_VIDEO | SDL_INIT_GAMECONTROLLER) != 0)
+        return false;
+    window = SDL_CreateWindow("Duel", x, y, WIDTH, HEIGHT, 0);
+    renderer = window != NULL ? SDL_CreateRenderer(window, -1, 0) : NULL;
+    for (int at = 0; at < SDL_NumJoysticks() && pad == NULL; at++)
+        pad = SDL_IsGameController(at) ? SDL_GameControllerOpen(at) : NULL;
+    return renderer != NULL;
+}
+
+bool window_goes_on(void) {
+    SDL_Event event;
+    bool goes_on = true;
+    while (SDL_PollEvent(&event))
+        if (event.type == SDL_QUIT || (event.type == SDL_KEYDOWN && event.key.keysym.sym == SDLK_ESCAPE))
+            goes_on = false;
+    return goes_on;
+}
+
+uint32_t window_word(int place) {
+    static const SDL_Scancode keys[2][4] = {
+        { SDL_SCANCODE_UP, SDL_SCANCODE_LEFT, SDL_SCANCODE_RIGHT, SDL_SCANCODE_SPACE },
+        { SDL_SCANCODE_W, SDL_SCANCODE_A, SDL_SCANCODE_D, SDL_SCANCODE_F },
+    };
+    static const SDL_GameControllerButton buttons[4] = { SDL_CONTROLLER_BUTTON_A, SDL_CONTROLLER_BUTTON_DPAD_LEFT,
+                                                         SDL_CONTROLLER_BUTTON_DPAD_RIGHT, SDL_CONTROLLER_BUTTON_X };
+    const uint8_t *held = SDL_GetKeyboardState(NULL);
+    uint32_t word = 0;
+    for (int at = 0; at < 4 && place < 2; at++)
+        if (held[keys[place][at]] != 0 || (place == 0 && pad != NULL && SDL_GameControllerGetButton(pad, buttons[at]) != 0))
+            word |= 1u << at;
+    return word;
+}
+
+void window_draw(const duel *field, int player, const char *const *lines, int count) {
+    SDL_SetRenderDrawColor(renderer, 12, 14, 24, 255);
+    SDL_RenderClear(renderer);
+    for (uint32_t at = 0; at < field->ships; at++) {
+        char text[32];
+        SDL_snprintf(text, sizeof text, "ship %d hit %d", (int)at + 1, (int)field->ship[at].hits);
+        use_colour(at + 1);
+        draw_ship(&field->ship[at], (int)at + 1 == player);
+        draw_text(8 + (int)at * 160, 8, text);
+    }
+    for (uint32_t at = 0; at < field->bullets; at++) {
+        use_colour(field->bullet[at].owner);
+        SDL_RenderFillRect(renderer, &(SDL_Rect){ field->bullet[at].x / UNIT - 1, field->bullet[at].y / UNIT - 1, 3, 3 });
+    }
+    SDL_SetRenderDrawColor(renderer, 170, 180, 200, 255);
+    for (int at = 0; at < count; at++)
+        draw_text(8, HEIGHT - 16 * (count - at), lines[at]);
+    SDL_RenderPresent(renderer);
+}
+
+void window_close(void) { SDL_Quit(); }

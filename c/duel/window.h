@@ -1,0 +1,23 @@
+/* The duel's window, keys and pad. With DUEL_HEADLESS there is none, and SDL isn't needed. */
+#ifndef DUEL_WINDOW_H
+#define DUEL_WINDOW_H
+
+#include "duel.h"
+
+#ifdef DUEL_HEADLESS
+static inline bool window_open(int player) { return (void)player, false; }
+static inline bool window_goes_on(void) { return true; }
+static inline uint32_t window_word(int place) { return (void)place, 0; }
+static inline void window_draw(const duel *field, int player, const char *const *lines, int count) {
+    (void)field, (void)player, (void)lines, (void)count;
+}
+static inline void window_close(void) {}
+#else
+bool window_open(int player); /* for the machine of this player */
+bool window_goes_on(void);    /* false once it is closed */
+/* What is held down on the keyboard or the pad: at place 0 arrows and space, at 1 w, a, d and f. */
+uint32_t window_word(int place);
+void window_draw(const duel *field, int player, const char *const *lines, int count);
+void window_close(void);
+#endif
+#endif

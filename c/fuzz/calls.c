@@ -1,0 +1,334 @@
+/* A fuzzer of the C interface: the input is a list of calls of a session or of a peer, with whatever arguments keep what the
+ * header asks. Memory runs out now and then, as the input says. Requests must be such that a game can carry them out, and where
+ * all that is shown is settled, the game's state must be that of the settled rows. */
+#include "game.h"
+
+/* The library's memory, in place of heap.c: after so many grants it runs out. */
+
+typedef struct block {
+    bool given;
+    void *at;
+} block;
+
+block rattle_alloc(size_t size, size_t align);
+block rattle_realloc(void *at, size_t old_size, size_t size, size_t align);
+void rattle_dealloc(void *at);
+
+static uint32_t grants; /* 0 if it never runs out */
+
+static bool is_granted(void) { return grants == 0 || --grants > 0 || (grants = 1, false); }
+
+static block block_of(void *at) {
+    static char none;
+    block found = { at != NULL, at != NULL ? at : &none };
+    return found;
+}
+
+block rattle_alloc(size_t size, size_t align) { return block_of(is_granted() ? malloc(size != 0 ? size : align) : NULL); }
+
+block rattle_realloc(void *at, size_t old_size, size_t size, size_t align) {
+    (void)old_size;
+    return block_of(is_granted() ? realloc(at, size != 0 ? size : align) : NULL);
+}
+
+void rattle_dealloc(void *at) { free(at); }
+
+/* A session, or a peer, and its game. */
+
+enum { JOBS = 64, WORDS = 30, TEXT = 4096 };
+
+typedef struct subject {
+    fazgrond_session session;
+    fazgrond_peer peer;
+    game of_session, of_peer;
+    uint32_t now;
+} subject;
+
+static fazgrond_settings take_settings(input *in) {
+    fazgrond_settings made = { .profile = take_some(in, 2), .limit = 1048576, .log = 16777216 };
+    uint32_t how = take_byte(in);
+    made.players = take_some(in, made.profile == FAZGROND_WIDE ? 9 : 5);
+    made.local = take_some(in, 16);
+    made.threshold = take_some(in, made.profile == FAZGROND_WIDE ? 16 : 9);
+    if (how < 200) { /* mostly such that it opens */
+        made.players = made.players % 8 + 1;
+        made.profile = made.players > 4 ? FAZGROND_WIDE : FAZGROND_GGPO;
+        made.local = (made.local & ((1u << made.players) - 1)) | 1;
+        made.threshold = made.threshold % 8 + 1;
+    }
+    if (how & 1)
+        made.limit = take_some(in, 64);
+    if (how & 2)
+        made.log = take_some(in, 200);
+    for (int at = 0; at < FAZGROND_PLAYERS; at++) {
+        made.delays[at] = how & 4 && made.local >> at & 1 ? take_some(in, 9) : 0;
+        made.masks[at] = how & 8 ? take_number(in) : UINT32_MAX;
+    }
+    return made;
+}
+
+static void open_session(subject *self, input *in) {
+    fazgrond_settings settings = take_settings(in);
+    if (fazgrond_open(&self->session, &settings) == FAZGROND_OK)
+        begin_game(&self->of_session);
+}
+
+static void open_peer(subject *self, input *in) {
+    fazgrond_match match = { .session = take_settings(in), .number = 1, .digest = 1 };
+    match.me = take_some(in, 3);
+    match.machines = 2 + take_some(in, 3);
+    for (uint32_t at = 0; at < FAZGROND_PLAYERS; at++) {
+        match.owners[at] = match.session.local >> at & 1 ? match.me : (match.me + 1) % 3;
+        if (at >= match.session.players)
+            match.owners[at] = FAZGROND_NO_PLAYER;
+        if (take_byte(in) == 255)
+            match.owners[at] = take_number(in);
+    }
+    match.silent_after = take_some(in, 200) * 32;
+    match.notify_after = take_some(in, 50) * 32;
+    if (fazgrond_peer_open(&self->peer, &match) == FAZGROND_OK)
+        begin_game(&self->of_peer);
+}
+
+/* Takes all requests, some at a time. Those that are to be dropped aren't carried out, but their slots are taken. */
+static void take_all(subject *self, input *in) {
+    fazgrond_request requests[8];
+    size_t count;
+    while ((count = fazgrond_take_requests(&self->session, requests, 1 + take_byte(in) % 8)) > 0)
+        for (size_t at = 0; at < count; at++)
+            carry_out(&self->of_session, &requests[at]);
+}
+
+static void take_all_of_peer(subject *self, input *in) {
+    fazgrond_request requests[8];
+    size_t count;
+    while ((count = fazgrond_peer_take_requests(&self->peer, requests, 1 + take_byte(in) % 8)) > 0)
+        for (size_t at = 0; at < count; at++)
+            carry_out(&self->of_peer, &requests[at]);
+}
+
+/* If all rows are settled, the game is at their serial run. */
+static void check_settled(subject *self) {
+    uint32_t frame = 0, rows = 0;
+    uint64_t state = 0;
+    fazgrond_frame(&self->session, &frame);
+    if (fazgrond_settled(&self->session, &rows) != FAZGROND_OK || rows != frame || rows > 200)
+        return;
+    for (uint32_t at = 0; at < rows; at++) {
+        fazgrond_row row;
+        MUST(fazgrond_settled_row(&self->session, at, &row) == FAZGROND_OK);
+        state = state_after(state, &row);
+    }
+    MUST(self->of_session.now == state);
+}
+
+static void roll(subject *self, input *in, bool is_advance) {
+    fazgrond_row row;
+    fazgrond_reached reached;
+    int32_t code = is_advance ? fazgrond_advance_frame(&self->session, &reached)
+                              : fazgrond_synchronize_input(&self->session, &row);
+    if (code == FAZGROND_PENDING)
+        return;
+    if (take_byte(in) == 255) {
+        fazgrond_request one;
+        if (fazgrond_take_requests(&self->session, &one, 1) == 1)
+            carry_out(&self->of_session, &one);
+        return;
+    }
+    take_all(self, in);
+    if (code == FAZGROND_OK)
+        check_settled(self);
+}
+
+static void roll_peer(subject *self, input *in, bool is_advance) {
+    fazgrond_row row;
+    fazgrond_reached reached;
+    if (is_advance)
+        fazgrond_peer_advance_frame(&self->peer, &reached);
+    else
+        fazgrond_peer_synchronize_input(&self->peer, &row);
+    take_all_of_peer(self, in);
+}
+
+/* A guess, whose slots get what its job would put there: with a digest of rows for a state, that is the job's own run. */
+static void guess(subject *self, input *in) {
+    uint32_t words[WORDS], job;
+    fazgrond_request requests[8];
+    size_t count = take_some(in, 4) % WORDS, taken;
+    uint64_t aside = 0;
+    for (size_t at = 0; at < count; at++)
+        words[at] = take_some(in, 4);
+    uint8_t player = (uint8_t)take_some(in, 5);
+    if (fazgrond_guess(&self->session, player, words, count, take_some(in, 40), &job) == FAZGROND_PENDING)
+        return;
+    while ((taken = fazgrond_take_requests(&self->session, requests, 8)) > 0)
+        for (size_t at = 0; at < taken; at++) {
+            carry_out(&self->of_session, &requests[at]);
+            if (requests[at].kind == FAZGROND_JOB_LOAD)
+                aside = self->of_session.slots[requests[at].slot];
+            else if (requests[at].kind == FAZGROND_JOB_STEP)
+                aside = state_after(aside, &requests[at].row);
+            else if (requests[at].kind == FAZGROND_JOB_SAVE)
+                self->of_session.slots[requests[at].slot] = aside;
+        }
+}
+
+static void ask(subject *self, input *in) {
+    uint32_t number = 0;
+    size_t length = 0;
+    fazgrond_row row;
+    fazgrond_entry entry;
+    uint8_t player = (uint8_t)take_some(in, 9);
+    uint32_t frame = take_some(in, 40);
+    fazgrond_frame(&self->session, &number);
+    fazgrond_settled_row(&self->session, frame, &row);
+    fazgrond_confirmed(&self->session, player, &number);
+    fazgrond_confirmed_word(&self->session, player, frame, &number);
+    fazgrond_input_frame(&self->session, player, &number);
+    fazgrond_log_length(&self->session, &length);
+    fazgrond_log_entry(&self->session, frame, &entry);
+    fazgrond_note_advantages(&self->session, (int32_t)take_some(in, 20), (int32_t)take_some(in, 20));
+    fazgrond_frames_ahead(&self->session, &number);
+}
+
+static void claim(subject *self, input *in) {
+    size_t room = take_some(in, 200) % TEXT, length = 0;
+    uint8_t *text = malloc(room + 1);
+    if (text == NULL)
+        return;
+    int32_t code = fazgrond_claim(&self->session, text, room, &length);
+    MUST(code != FAZGROND_OK || length <= room);
+    free(text);
+}
+
+static void call_of_session(subject *self, input *in) {
+    uint32_t what = take_byte(in), repeated, added;
+    switch (what % 16) {
+    case 0:
+    case 1:
+    case 2: {
+        uint8_t player = (uint8_t)take_some(in, 5);
+        fazgrond_add_local_input(&self->session, player, take_some(in, 4));
+        break;
+    }
+    case 3:
+    case 4:
+    case 5: {
+        uint8_t player = (uint8_t)take_some(in, 5);
+        uint32_t frame = 0;
+        fazgrond_confirmed(&self->session, player, &frame);
+        fazgrond_remote_input(&self->session, player, frame + (take_byte(in) < 250 ? 0 : take_number(in)), take_some(in, 4),
+                              &repeated);
+        break;
+    }
+    case 6: roll(self, in, false); break;
+    case 7:
+    case 8:
+    case 9: roll(self, in, true); break;
+    case 10: guess(self, in); break;
+    case 11:
+        if (what & 16)
+            fazgrond_forget(&self->session, take_some(in, 4));
+        else
+            fazgrond_graft(&self->session, take_some(in, 4), &added);
+        break;
+    case 12: ask(self, in); break;
+    case 13: claim(self, in); break;
+    case 14:
+        if (what & 16)
+            fazgrond_disconnect_player(&self->session, (uint8_t)take_some(in, 5));
+        else if (what & 32)
+            fazgrond_limit_slots(&self->session, take_some(in, 40));
+        else if (what & 64)
+            fazgrond_reserve_log(&self->session, take_some(in, 100));
+        else
+            take_all(self, in);
+        break;
+    default:
+        if (what == 15)
+            fazgrond_close(&self->session);
+        else if (what & 64)
+            open_session(self, in);
+        else
+            grants = what & 32 ? take_byte(in) : 0;
+    }
+}
+
+static void call_of_peer(subject *self, input *in) {
+    uint32_t what = take_byte(in), number, slot;
+    uint8_t *bytes = NULL;
+    size_t room = take_some(in, 8) * 200 % 1300, length = 0, entries;
+    fazgrond_event event;
+    fazgrond_stats stats;
+    fazgrond_row row;
+    fazgrond_entry entry;
+    switch (what % 16) {
+    case 0:
+    case 1: fazgrond_peer_add_local_input(&self->peer, (uint8_t)take_some(in, 5), take_some(in, 4)); break;
+    case 2: roll_peer(self, in, false); break;
+    case 3: roll_peer(self, in, true); break;
+    case 4:
+        self->now += take_some(in, 100);
+        fazgrond_peer_poll(&self->peer, self->now);
+        take_all_of_peer(self, in);
+        break;
+    case 5:
+    case 6:
+    case 7:
+        bytes = malloc(room + 1);
+        if (bytes == NULL)
+            break;
+        if (what % 16 == 5)
+            fazgrond_peer_send(&self->peer, (uint8_t)take_some(in, 4), self->now, bytes, room, &length);
+        else if (what % 16 == 6)
+            fazgrond_peer_bye(&self->peer, bytes, room, &length);
+        else {
+            memset(bytes, (int)take_byte(in), room);
+            fazgrond_peer_receive(&self->peer, bytes, room, self->now);
+        }
+        MUST(length <= room);
+        free(bytes);
+        break;
+    case 8: fazgrond_peer_disconnect(&self->peer, (uint8_t)take_some(in, 4)); break;
+    case 9: fazgrond_peer_note_settled(&self->peer, take_number(in)); break;
+    case 10: fazgrond_peer_event(&self->peer, &event); break;
+    case 11: fazgrond_peer_stats(&self->peer, (uint8_t)take_some(in, 9), &stats); break;
+    case 12:
+        fazgrond_peer_frame(&self->peer, &number);
+        fazgrond_peer_settled(&self->peer, &number);
+        fazgrond_peer_settled_slot(&self->peer, &number, &slot);
+        fazgrond_peer_settled_row(&self->peer, take_some(in, 40), &row);
+        fazgrond_peer_confirmed(&self->peer, (uint8_t)take_some(in, 9), &number);
+        fazgrond_peer_log_length(&self->peer, &entries);
+        fazgrond_peer_log_entry(&self->peer, take_some(in, 40), &entry);
+        break;
+    default:
+        if (what == 15)
+            fazgrond_peer_close(&self->peer);
+        else if (what & 64)
+            open_peer(self, in);
+        else
+            grants = what & 32 ? take_byte(in) : 0;
+    }
+}
+
+int LLVMFuzzerTestOneInput(const uint8_t *data, size_t size) {
+    static subject self;
+    input in = { data, size };
+    memset(&self, 0, sizeof self);
+    grants = 0;
+    bool is_peer = take_byte(&in) % 3 == 0;
+    open_session(&self, &in);
+    if (is_peer)
+        open_peer(&self, &in);
+    while (in.left > 0) {
+        if (is_peer)
+            call_of_peer(&self, &in);
+        else
+            call_of_session(&self, &in);
+    }
+    grants = 0;
+    fazgrond_close(&self.session);
+    fazgrond_peer_close(&self.peer);
+    return 0;
+}

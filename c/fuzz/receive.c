@@ -1,0 +1,265 @@
+/* A fuzzer of fazgrond_peer_receive: two or three peers play, and hear packets of each other that are late, twice there,
+ * changed, or made up. Half of what is changed or made up is sealed with the match's number, so that it is read. The input says
+ * all that happens.
+ *
+ * What is refused must have changed nothing. Requests must be such that a game can carry them out, and the settled state must
+ * be that of the settled rows. If nothing made up was taken and nobody has left, all must have settled the same rows. */
+#include "game.h"
+#include "sha256.h"
+
+enum { PEERS = 3, PLAYERS = 4, HELD = 16, NUMBER = 0x1234567 };
+
+typedef struct packet {
+    uint8_t bytes[FAZGROND_DATAGRAM];
+    size_t length;
+} packet;
+
+typedef struct machine {
+    fazgrond_peer peer;
+    game game;
+    uint64_t settled_state; /* of the first rows, which were looked at */
+    uint32_t settled_rows;
+} machine;
+
+typedef struct match {
+    machine machine[PEERS];
+    uint32_t machines, players, now;
+    packet held[HELD];
+    bool is_forged;
+} match;
+
+static void open_match(match *self, input *in) {
+    uint32_t how = take_byte(in);
+    memset(self, 0, sizeof *self);
+    self->machines = 2 + (how & 1);
+    self->players = how & 2 ? PLAYERS : self->machines;
+    self->now = how & 4 ? UINT32_MAX - 500 : 1;
+    for (uint32_t me = 0; me < self->machines; me++) {
+        fazgrond_match made = { .number = NUMBER, .digest = 7, .me = me, .machines = self->machines };
+        made.session = (fazgrond_settings){ .players = self->players, .threshold = 8, .limit = 1048576, .log = 16777216 };
+        for (uint32_t at = 0; at < FAZGROND_PLAYERS; at++) {
+            made.owners[at] = at < self->players ? at % self->machines : 255;
+            made.session.masks[at] = how & 8 ? 0xff : UINT32_MAX;
+            if (made.owners[at] == me) {
+                made.session.local |= 1u << at;
+                made.session.delays[at] = how >> 4 & 3;
+            }
+        }
+        made.silent_after = 5000;
+        made.notify_after = 750;
+        MUST(fazgrond_peer_open(&self->machine[me].peer, &made) == FAZGROND_OK);
+        begin_game(&self->machine[me].game);
+    }
+}
+
+/* Carries out what a call asked for, and looks at the settled state. */
+static void carry_out_all(machine *self) {
+    fazgrond_request requests[8];
+    size_t count;
+    uint32_t frame, slot, rows;
+    while ((count = fazgrond_peer_take_requests(&self->peer, requests, 8)) > 0)
+        for (size_t at = 0; at < count; at++)
+            carry_out(&self->game, &requests[at]);
+    MUST(fazgrond_peer_settled_slot(&self->peer, &frame, &slot) == FAZGROND_OK);
+    MUST(fazgrond_peer_settled(&self->peer, &rows) == FAZGROND_OK && rows == frame && rows >= self->settled_rows);
+    for (; self->settled_rows < rows; self->settled_rows++) {
+        fazgrond_row row;
+        MUST(fazgrond_peer_settled_row(&self->peer, self->settled_rows, &row) == FAZGROND_OK);
+        self->settled_state = state_after(self->settled_state, &row);
+    }
+    MUST(slot < GAME_SLOTS && self->game.is_taken[slot] && self->game.slots[slot] == self->settled_state);
+    fazgrond_peer_note_settled(&self->peer, self->settled_state);
+}
+
+typedef struct looks {
+    uint32_t frame, settled, confirmed[PLAYERS];
+    size_t entries;
+} looks;
+
+static looks look_at(match *self, machine *at) {
+    looks seen;
+    memset(&seen, 0, sizeof seen);
+    fazgrond_peer_frame(&at->peer, &seen.frame);
+    fazgrond_peer_settled(&at->peer, &seen.settled);
+    fazgrond_peer_log_length(&at->peer, &seen.entries);
+    for (uint8_t player = 1; player <= self->players; player++)
+        fazgrond_peer_confirmed(&at->peer, player, &seen.confirmed[player - 1]);
+    return seen;
+}
+
+/* Has a machine hear a packet, in memory of just its length. */
+static void hear(match *self, uint32_t who, const packet *come, bool is_forged) {
+    machine *to = &self->machine[who % self->machines];
+    uint8_t *bytes = malloc(come->length > 0 ? come->length : 1);
+    if (bytes == NULL)
+        return;
+    memcpy(bytes, come->bytes, come->length);
+    looks before = look_at(self, to);
+    int32_t code = fazgrond_peer_receive(&to->peer, bytes, come->length, self->now);
+    looks after = look_at(self, to);
+    free(bytes);
+    if (code == FAZGROND_OK) {
+        self->is_forged |= is_forged;
+        return;
+    }
+    MUST(code >= FAZGROND_NOT_SEALED && code <= FAZGROND_OVERSTATED);
+    MUST(memcmp(&before, &after, sizeof before) == 0);
+}
+
+static bool make_packet(match *self, uint32_t from, uint32_t to, packet *made) {
+    machine *sender = &self->machine[from % self->machines];
+    int32_t code = fazgrond_peer_send(&sender->peer, (uint8_t)(to % self->machines), self->now, made->bytes, sizeof made->bytes,
+                                      &made->length);
+    MUST(code == FAZGROND_OK || code == FAZGROND_NOTHING);
+    MUST(code != FAZGROND_OK || (made->length >= 14 && made->length <= sizeof made->bytes));
+    return code == FAZGROND_OK;
+}
+
+/* Some bytes of a packet are others. */
+static void change(input *in, packet *made) {
+    for (uint32_t count = 1 + take_byte(in) % 4; count > 0 && made->length > 0; count--) {
+        uint32_t place = take_byte(in);
+        made->bytes[(made->length > 256 ? place * 5 : place) % made->length] = (uint8_t)take_byte(in);
+    }
+    if (take_byte(in) % 8 == 0)
+        made->length = made->length * take_byte(in) / 255;
+}
+
+static void make_up(input *in, packet *made) {
+    made->length = take_byte(in) % 8 == 0 ? (take_byte(in) * 5) % sizeof made->bytes : take_byte(in) % 64;
+    memset(made->bytes, 0, sizeof made->bytes);
+    for (size_t at = 0; at < made->length; at++)
+        made->bytes[at] = (uint8_t)take_byte(in);
+    memcpy(made->bytes, "FZG1", 4);
+    made->bytes[12] %= PEERS;
+    made->bytes[13] %= 3;
+}
+
+static void play(match *self, uint32_t who, input *in) {
+    machine *at = &self->machine[who % self->machines];
+    fazgrond_reached reached;
+    fazgrond_row row;
+    for (uint8_t player = 1; player <= self->players; player++)
+        if ((uint32_t)(player - 1) % self->machines == who % self->machines)
+            fazgrond_peer_add_local_input(&at->peer, player, take_some(in, 4));
+    if (take_byte(in) % 2 == 0 && fazgrond_peer_synchronize_input(&at->peer, &row) == FAZGROND_OK)
+        carry_out_all(at);
+    if (fazgrond_peer_advance_frame(&at->peer, &reached) == FAZGROND_OK)
+        carry_out_all(at);
+}
+
+static void ask(match *self, uint32_t who) {
+    machine *at = &self->machine[who % self->machines];
+    fazgrond_event event;
+    fazgrond_stats stats;
+    while (fazgrond_peer_event(&at->peer, &event) == FAZGROND_OK)
+        MUST((event.code >= 1001 && event.code <= 1007) || (event.code >= 1101 && event.code <= 1104));
+    for (uint32_t of = 0; of < self->machines; of++)
+        fazgrond_peer_stats(&at->peer, (uint8_t)of, &stats);
+}
+
+static void leave(match *self, uint32_t who, uint32_t whom) {
+    machine *at = &self->machine[who % self->machines];
+    packet bye;
+    if (whom % 2 == 0)
+        fazgrond_peer_disconnect(&at->peer, (uint8_t)(whom / 2 % self->machines));
+    else if (fazgrond_peer_bye(&at->peer, bye.bytes, sizeof bye.bytes, &bye.length) == FAZGROND_OK)
+        for (uint32_t to = 0; to < self->machines; to++)
+            hear(self, to, &bye, false);
+}
+
+/* Each hears what the others have to say, and plays. */
+static void turn(match *self, input *in) {
+    self->now += 16;
+    for (uint32_t who = 0; who < self->machines; who++) {
+        for (uint32_t to = 0; to < self->machines; to++) {
+            packet made;
+            if (make_packet(self, who, to, &made))
+                hear(self, to, &made, false);
+        }
+        fazgrond_peer_poll(&self->machine[who].peer, self->now);
+        play(self, who, in);
+    }
+}
+
+static void one_thing(match *self, input *in) {
+    uint32_t what = take_byte(in), who = take_byte(in);
+    packet *held = &self->held[who >> 4];
+    packet made;
+    switch (what % 16) {
+    case 0:
+    case 1:
+    case 2:
+    case 3: turn(self, in); break;
+    case 4:
+    case 5: make_packet(self, who, who / 3, held); break;
+    case 6:
+    case 7: hear(self, who, held, false); break;
+    case 8:
+    case 9: /* a packet is changed, and half the time sealed anew */
+        if (!make_packet(self, who, who / 3, &made))
+            break;
+        change(in, &made);
+        if (what & 16 && made.length >= 12)
+            seal(made.bytes, made.length, NUMBER);
+        hear(self, who / 3, &made, true);
+        break;
+    case 10: /* one is made up */
+        make_up(in, &made);
+        if (what & 16 && made.length >= 12)
+            seal(made.bytes, made.length, NUMBER);
+        hear(self, who, &made, true);
+        break;
+    case 11: play(self, who, in); break;
+    case 12: ask(self, who); break;
+    case 13:
+        self->now += take_byte(in);
+        fazgrond_peer_poll(&self->machine[who % self->machines].peer, self->now);
+        break;
+    case 14:
+        if (what & 16 && (who & 7) == 0)
+            leave(self, who / 8, take_byte(in));
+        break;
+    default:
+        if (what & 16 && (who & 7) == 0)
+            self->now += 6000;
+    }
+}
+
+/* Whether some machine regards another as gone: it sends nothing to it. */
+static bool has_parted(match *self) {
+    packet made;
+    for (uint32_t from = 0; from < self->machines; from++)
+        for (uint32_t to = 0; to < self->machines; to++)
+            if (from != to && !make_packet(self, from, to, &made))
+                return true;
+    return false;
+}
+
+/* All who settled a row have settled the same one. */
+static void compare(match *self) {
+    for (uint32_t who = 1; who < self->machines; who++) {
+        uint32_t rows = self->machine[0].settled_rows, theirs = self->machine[who].settled_rows;
+        for (uint32_t frame = 0; frame < (rows < theirs ? rows : theirs); frame++) {
+            fazgrond_row one = { 0 }, other = { 0 };
+            MUST(fazgrond_peer_settled_row(&self->machine[0].peer, frame, &one) == FAZGROND_OK);
+            MUST(fazgrond_peer_settled_row(&self->machine[who].peer, frame, &other) == FAZGROND_OK);
+            MUST(state_after(0, &one) == state_after(0, &other));
+        }
+    }
+}
+
+int LLVMFuzzerTestOneInput(const uint8_t *data, size_t size) {
+    static match self;
+    input in = { data, size };
+    open_match(&self, &in);
+    for (int turns = 0; turns < 3; turns++)
+        turn(&self, &in);
+    while (in.left > 0)
+        one_thing(&self, &in);
+    if (!self.is_forged && !has_parted(&self))
+        compare(&self);
+    for (uint32_t who = 0; who < self.machines; who++)
+        fazgrond_peer_close(&self.machine[who].peer);
+    return 0;
+}

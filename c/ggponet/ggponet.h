@@ -1,0 +1,275 @@
+/* ggponet.h: the calls of the GGPO SDK over fazgrond.h, for a game that is written against GGPO.
+ *
+ * Names, types and numbers are GGPO's, so such a game compiles with this header as it is; it links ggponet.c and libfazgrond.a.
+ * docs/C.md, "A game that is written against GGPO", has a table of what is the same and what differs. What can't be had here is
+ * refused, and ggpo_last_error says why: inputs of more than 4 bytes, and what has to be set before the match.
+ * What GGPO hasn't got stands at the end.
+ *
+ * A session is used by one thread at a time. All times are milliseconds.
+ */
+#ifndef FAZGROND_GGPONET_H
+#define FAZGROND_GGPONET_H
+
+#include <stdarg.h>
+#include <stdbool.h>
+#include <stdint.h>
+
+#ifdef __cplusplus
+extern "C" {
+#endif
+
+/* GGPO declares its calls with these two. Here a game links the source, so that nothing is imported. */
+#ifndef GGPO_API
+#define GGPO_API
+#endif
+#if !defined(_WIN32) && !defined(__cdecl)
+#define __cdecl
+#endif
+
+#define GGPO_MAX_PLAYERS 4
+#define GGPO_MAX_PREDICTION_FRAMES 8
+#define GGPO_MAX_SPECTATORS 32
+#define GGPO_SPECTATOR_INPUT_INTERVAL 4
+
+typedef struct GGPOSession GGPOSession;
+
+/* A player, as a session names it: the player's number, which counts from 1. */
+typedef int GGPOPlayerHandle;
+
+#define GGPO_INVALID_HANDLE (-1)
+
+typedef enum {
+    GGPO_PLAYERTYPE_LOCAL,
+    GGPO_PLAYERTYPE_REMOTE,
+    GGPO_PLAYERTYPE_SPECTATOR
+} GGPOPlayerType;
+
+/* `player_num` counts from 1, and each number is at all machines the same player's. Several players may have one address: then
+ * they sit at one machine. Of a spectator the address counts alone; the machine that adds it is its host. */
+typedef struct GGPOPlayer {
+    int size; /* sizeof(GGPOPlayer) */
+    GGPOPlayerType type;
+    int player_num;
+    union {
+        struct {
+            char unused;
+        } local;
+        struct {
+            char ip_address[32]; /* IPv4, as "10.0.0.7" */
+            unsigned short port;
+        } remote;
+    } u;
+} GGPOPlayer;
+
+typedef struct GGPOLocalEndpoint {
+    int player_num;
+} GGPOLocalEndpoint;
+
+typedef enum {
+    GGPO_OK = 0,
+    GGPO_ERRORCODE_SUCCESS = 0,
+    GGPO_ERRORCODE_GENERAL_FAILURE = -1,
+    GGPO_ERRORCODE_INVALID_SESSION = 1,
+    GGPO_ERRORCODE_INVALID_PLAYER_HANDLE = 2,
+    GGPO_ERRORCODE_PLAYER_OUT_OF_RANGE = 3,
+    GGPO_ERRORCODE_PREDICTION_THRESHOLD = 4,
+    GGPO_ERRORCODE_UNSUPPORTED = 5,
+    GGPO_ERRORCODE_NOT_SYNCHRONIZED = 6,
+    GGPO_ERRORCODE_IN_ROLLBACK = 7,
+    GGPO_ERRORCODE_INPUT_DROPPED = 8,
+    GGPO_ERRORCODE_PLAYER_DISCONNECTED = 9,
+    GGPO_ERRORCODE_TOO_MANY_SPECTATORS = 10,
+    GGPO_ERRORCODE_INVALID_REQUEST = 11
+} GGPOErrorCode;
+
+#define GGPO_SUCCEEDED(result) ((result) == GGPO_ERRORCODE_SUCCESS)
+
+/* The codes of events are plain numbers, so that a switch over GGPO's own stays whole. */
+typedef int GGPOEventCode;
+
+enum {
+    GGPO_EVENTCODE_CONNECTED_TO_PEER = 1000,
+    GGPO_EVENTCODE_SYNCHRONIZING_WITH_PEER = 1001,
+    GGPO_EVENTCODE_SYNCHRONIZED_WITH_PEER = 1002,
+    GGPO_EVENTCODE_RUNNING = 1003,
+    GGPO_EVENTCODE_DISCONNECTED_FROM_PEER = 1004,
+    GGPO_EVENTCODE_TIMESYNC = 1005,
+    GGPO_EVENTCODE_CONNECTION_INTERRUPTED = 1006,
+    GGPO_EVENTCODE_CONNECTION_RESUMED = 1007,
+    /* GGPO hasn't these. */
+    FAZGGPO_EVENTCODE_MACHINE_LEFT = 1101, /* a machine is gone for good; its players are told by 1004 */
+    FAZGGPO_EVENTCODE_DESYNC = 1102,       /* the checksums of a frame differ, whose inputs are all known: end the match */
+    FAZGGPO_EVENTCODE_MISMATCH = 1103,     /* another machine, or who is watched, has other players or inputs: it can't play */
+    FAZGGPO_EVENTCODE_DROPPED = 1104       /* another machine takes this one for gone: the match is over here */
+};
+
+/* A machine is told by its first player, a spectator by its handle, and to a spectator its host by 0. */
+typedef struct GGPOEvent {
+    GGPOEventCode code;
+    union {
+        struct {
+            GGPOPlayerHandle player;
+        } connected;
+        struct {
+            GGPOPlayerHandle player;
+            int count;
+            int total;
+        } synchronizing;
+        struct {
+            GGPOPlayerHandle player;
+        } synchronized;
+        struct {
+            GGPOPlayerHandle player;
+        } disconnected;
+        struct {
+            int frames_ahead;
+        } timesync;
+        struct {
+            GGPOPlayerHandle player;
+            int disconnect_timeout;
+        } connection_interrupted;
+        struct {
+            GGPOPlayerHandle player;
+        } connection_resumed;
+        struct {
+            GGPOPlayerHandle player;
+        } left;
+        struct {
+            GGPOPlayerHandle player; /* in a sync test GGPO_INVALID_HANDLE */
+            int frame;
+        } desync;
+        struct {
+            GGPOPlayerHandle player;
+            int field; /* what is another one there: 1 how many machines, 2 who sits where, 3 the size of inputs, or the game;
+                        * at a spectator 0, as that isn't known */
+        } mismatch;
+    } u;
+} GGPOEvent;
+
+/* What a session asks of the game. Each answers whether it could. begin_game and log_game_state may be null.
+ *
+ * save_game_state makes a buffer with a copy of the state, and a checksum of it by which machines see that they play alike.
+ * load_game_state makes the state of such a buffer the game's. free_buffer gives one back. advance_frame plays a frame that is
+ * played again: ggpo_synchronize_input, the game's own step, ggpo_advance_frame. on_event hears of the others. */
+typedef struct GGPOSessionCallbacks {
+    bool(__cdecl *begin_game)(const char *game);
+    bool(__cdecl *save_game_state)(unsigned char **buffer, int *len, int *checksum, int frame);
+    bool(__cdecl *load_game_state)(unsigned char *buffer, int len);
+    bool(__cdecl *log_game_state)(char *filename, unsigned char *buffer, int len);
+    void(__cdecl *free_buffer)(void *buffer);
+    bool(__cdecl *advance_frame)(int flags);
+    bool(__cdecl *on_event)(GGPOEvent *info);
+} GGPOSessionCallbacks;
+
+typedef struct GGPONetworkStats {
+    struct {
+        int send_queue_len; /* always 0: not known here */
+        int recv_queue_len; /* always 0, as in GGPO */
+        int ping;           /* the round trip; 0 until it is known */
+        int kbps_sent;      /* kilobytes in the last second, to this player's machine */
+    } network;
+    struct {
+        int local_frames_behind; /* how many frames this machine is behind that of the player; negative if it is ahead */
+        int remote_frames_behind;
+    } timesync;
+} GGPONetworkStats;
+
+/* Begins a session and opens its port. Its players are added next, num_players of them. */
+GGPO_API GGPOErrorCode __cdecl ggpo_start_session(GGPOSession **session, GGPOSessionCallbacks *cb, const char *game,
+                                                  int num_players, int input_size, unsigned short localport);
+
+/* Adds a player. The match opens by the first ggpo_idle or ggpo_add_local_input after the last of them. Spectators are added
+ * before that, up to 32, each at one machine of the match, its host. Their handles count from 1000, as in GGPO. The match
+ * doesn't wait for them: a spectator may come late, and is told all frames from the first one on. */
+GGPO_API GGPOErrorCode __cdecl ggpo_add_player(GGPOSession *session, GGPOPlayer *player, GGPOPlayerHandle *handle);
+
+/* Begins a session without a network, whose players are all local, and which plays each `frames` frames twice and compares the
+ * checksums, or the buffers if both checksums are 0. Where they differ it tells FAZGGPO_EVENTCODE_DESYNC, and from then on each
+ * ggpo_advance_frame is refused with GGPO_ERRORCODE_GENERAL_FAILURE. */
+GGPO_API GGPOErrorCode __cdecl ggpo_start_synctest(GGPOSession **session, GGPOSessionCallbacks *cb, char *game, int num_players,
+                                                   int input_size, int frames);
+
+/* Begins a session that watches a match, with the opening state that the players have: name, players and size of inputs are
+ * those of the match, and its host has added a spectator with the address of this machine and `local_port`. In each turn it
+ * calls ggpo_idle, and ggpo_synchronize_input, which gives the inputs of the next settled frame; then it steps and calls
+ * ggpo_advance_frame. If no frame is there, ggpo_synchronize_input answers GGPO_ERRORCODE_PREDICTION_THRESHOLD, and
+ * GGPO_ERRORCODE_PLAYER_DISCONNECTED once the host is gone too. Nothing is saved, loaded or played again. Who is behind, as
+ * fazggpo_get_settled says, plays more than one frame in a turn. Who has begun anew isn't told a match again that it has heard
+ * of before: it is told that the host has left. */
+GGPO_API GGPOErrorCode __cdecl ggpo_start_spectating(GGPOSession **session, GGPOSessionCallbacks *cb, const char *game,
+                                                     int num_players, int input_size, unsigned short local_port, char *host_ip,
+                                                     unsigned short host_port);
+
+/* Says to the others that this machine leaves, and gives all back. A spectator who hasn't all frames by then never gets them:
+ * fazggpo_get_watched says how many it has. */
+GGPO_API GGPOErrorCode __cdecl ggpo_close_session(GGPOSession *session);
+
+/* By how many frames a local player's inputs count later, 0 to 8. Before the match opens. */
+GGPO_API GGPOErrorCode __cdecl ggpo_set_frame_delay(GGPOSession *session, GGPOPlayerHandle player, int frame_delay);
+
+/* Hears the others, tells events, and sends. It may take so many milliseconds, and waits as long. */
+GGPO_API GGPOErrorCode __cdecl ggpo_idle(GGPOSession *session, int timeout);
+
+/* A local player's input for this frame. If it is refused, no frame is played in this turn. */
+GGPO_API GGPOErrorCode __cdecl ggpo_add_local_input(GGPOSession *session, GGPOPlayerHandle player, void *values, int size);
+
+/* All players' inputs for this frame. `disconnect_flags` may be null; bit p - 1 is set if player p has left. */
+GGPO_API GGPOErrorCode __cdecl ggpo_synchronize_input(GGPOSession *session, void *values, int size, int *disconnect_flags);
+
+/* Puts the machine of a remote player out of the match, with all its players; of a local player, all other machines. */
+GGPO_API GGPOErrorCode __cdecl ggpo_disconnect_player(GGPOSession *session, GGPOPlayerHandle player);
+
+/* The game has stepped its state. */
+GGPO_API GGPOErrorCode __cdecl ggpo_advance_frame(GGPOSession *session);
+
+GGPO_API GGPOErrorCode __cdecl ggpo_get_network_stats(GGPOSession *session, GGPOPlayerHandle player, GGPONetworkStats *stats);
+
+/* After how much silence a machine is gone: 5000 if nothing is said, and never if it is 0. Before the match opens. */
+GGPO_API GGPOErrorCode __cdecl ggpo_set_disconnect_timeout(GGPOSession *session, int timeout);
+
+/* After how much silence GGPO_EVENTCODE_CONNECTION_INTERRUPTED is told: 750 if nothing is said. Before the match opens. */
+GGPO_API GGPOErrorCode __cdecl ggpo_set_disconnect_notify_start(GGPOSession *session, int timeout);
+
+/* A line for the log: the file that the environment variable FAZGROND_GGPO_LOG names, `-` for standard error. */
+GGPO_API void __cdecl ggpo_log(GGPOSession *session, const char *fmt, ...);
+GGPO_API void __cdecl ggpo_logv(GGPOSession *session, const char *fmt, va_list args);
+
+/* What GGPO hasn't. */
+
+/* Why a call of this session was last refused, in words. With a null session: why none could be begun. */
+GGPO_API const char *__cdecl ggpo_last_error(GGPOSession *session);
+
+/* The match's number, before the match opens. Each packet is sealed with it, so who doesn't know it can't make one: a lobby
+ * should draw 64 random bits for each match, and tell them to its machines alone. GGPO has no such number. Without this call it
+ * is made of the game's name, the number of players and the size of inputs, which anyone can guess. Then all that keeps others
+ * out is that a packet has to come from the address of a player, as in GGPO; and addresses can be forged. */
+GGPO_API GGPOErrorCode __cdecl fazggpo_set_match(GGPOSession *session, uint64_t number);
+
+/* The same for spectators, in the place of the match's number. Each line of a host and a spectator has a number of its own,
+ * which is made of this one and the spectator's port. Without this call it is made of the match's number: then a spectator has
+ * to know that, and say it by fazggpo_set_match, so that it could make packets in the name of a player. A lobby should draw one
+ * more number for each match: its machines call fazggpo_set_match with the first and this one with the second, its spectators
+ * this one alone. They can make packets in each other's name, and to each other in that of a host, but none of a player. If
+ * nothing is said at all, anyone can guess the numbers of lines too. */
+GGPO_API GGPOErrorCode __cdecl fazggpo_set_spectators(GGPOSession *session, uint64_t number);
+
+/* How many frames are settled: all inputs of them are known, so that they never change. Of a session that watches: how many its
+ * host has said to be settled. */
+GGPO_API GGPOErrorCode __cdecl fazggpo_get_settled(GGPOSession *session, int *frame);
+
+/* How many frames a spectator has. Wait for it at the end of a match, by ggpo_idle, before the session is closed. It is refused
+ * with GGPO_ERRORCODE_NOT_SYNCHRONIZED if the spectator wasn't heard yet, GGPO_ERRORCODE_PLAYER_DISCONNECTED if it is gone. */
+GGPO_API GGPOErrorCode __cdecl fazggpo_get_watched(GGPOSession *session, GGPOPlayerHandle spectator, int *frame);
+
+/* A bad line, for tests. What this session sends goes out so much later, and so many in a hundred are lost. Of so many in a
+ * hundred a copy with a changed byte goes out too. */
+GGPO_API GGPOErrorCode __cdecl fazggpo_set_line(GGPOSession *session, int lag, int loss, int junk);
+
+/* A clock that runs so many times as fast, 1 to 100, for tests: all times of the session are by this clock. Before the match
+ * opens. */
+GGPO_API GGPOErrorCode __cdecl fazggpo_set_speed(GGPOSession *session, int speed);
+
+#ifdef __cplusplus
+}
+#endif
+#endif

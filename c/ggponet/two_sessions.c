@@ -1,0 +1,193 @@
+/* Two sessions in one process. First their inputs come at the worst moment, between a game's own step and its
+ * ggpo_advance_frame: both must come to the state of a plain run all the same. Then one of them plays by other rules, and then
+ * one means another match: both must be told. It prints nothing if all is right. two_sessions PORT */
+#include <ggponet.h>
+#include <stdio.h>
+#include <stdlib.h>
+#include <string.h>
+
+#define MUST(what) \
+    do { \
+        if (!(what)) { \
+            fprintf(stderr, "line %d: %s\n", __LINE__, #what); \
+            exit(1); \
+        } \
+    } while (0)
+
+enum { FRAMES = 400, SPEED = 100 };
+
+typedef struct state {
+    int frame;
+    unsigned number;
+} state;
+
+static struct game {
+    state now;
+    unsigned at[FRAMES + 1]; /* the number at each frame, as it was played last */
+    int again, is_running, desyncs, mismatches, buffers;
+    bool is_wrong; /* it plays by other rules */
+    GGPOSession *session;
+} games[2];
+
+/* The one of whom a call is being made: GGPO's callbacks aren't told. */
+static struct game *game;
+
+static unsigned char input_of(int player, int frame) {
+    return (unsigned char)((unsigned)(frame / (player + 1) * 7 + player) * 2654435761u >> 24);
+}
+
+static void note(void) {
+    if (game->now.frame <= FRAMES)
+        game->at[game->now.frame] = game->now.number;
+}
+
+static void step(const unsigned char *inputs) {
+    game->now.number = game->now.number * 31 + inputs[0] + 2u * inputs[1];
+    if (game->is_wrong && game->now.frame > 100)
+        game->now.number++;
+    game->now.frame++;
+    note();
+}
+
+static bool on_save(unsigned char **buffer, int *len, int *checksum, int frame) {
+    MUST(frame == game->now.frame);
+    *buffer = malloc(sizeof(state));
+    MUST(*buffer != NULL);
+    memcpy(*buffer, &game->now, sizeof(state));
+    *len = sizeof(state);
+    *checksum = (int)game->now.number;
+    game->buffers++;
+    return true;
+}
+
+static bool on_load(unsigned char *buffer, int len) {
+    MUST(len == sizeof(state));
+    memcpy(&game->now, buffer, sizeof(state));
+    note();
+    return true;
+}
+
+static void on_free(void *buffer) {
+    free(buffer);
+    game->buffers--;
+}
+
+static bool on_advance(int flags) {
+    unsigned char inputs[2];
+    MUST(flags == 0 && ggpo_synchronize_input(game->session, inputs, sizeof inputs, NULL) == GGPO_OK);
+    game->again++;
+    step(inputs);
+    return ggpo_advance_frame(game->session) == GGPO_OK;
+}
+
+static bool on_event(GGPOEvent *info) {
+    MUST(info->code != FAZGGPO_EVENTCODE_DROPPED);
+    game->is_running |= info->code == GGPO_EVENTCODE_RUNNING;
+    if (info->code == FAZGGPO_EVENTCODE_DESYNC) {
+        MUST(info->u.desync.player == (game == &games[0] ? 2 : 1) && info->u.desync.frame > 100);
+        game->desyncs++;
+    }
+    if (info->code == FAZGGPO_EVENTCODE_MISMATCH) {
+        MUST(info->u.mismatch.player == (game == &games[0] ? 2 : 1) && info->u.mismatch.field == 3);
+        game->mismatches++;
+    }
+    return true;
+}
+
+static void begin(int me, int port, int input_size) {
+    GGPOSessionCallbacks calls = { .save_game_state = on_save, .load_game_state = on_load, .free_buffer = on_free,
+                                   .advance_frame = on_advance, .on_event = on_event };
+    GGPOPlayerHandle handle;
+    game = &games[me];
+    memset(game, 0, sizeof *game);
+    MUST(ggpo_start_session(&game->session, &calls, "two sessions", 2, input_size, (unsigned short)(port + me)) == GGPO_OK);
+    MUST(fazggpo_set_match(game->session, 0x1234567890abcdefu) == GGPO_OK);
+    MUST(fazggpo_set_speed(game->session, SPEED) == GGPO_OK && ggpo_set_disconnect_timeout(game->session, 0) == GGPO_OK);
+    for (int player = 0; player < 2; player++) {
+        GGPOPlayer added = { .size = sizeof added, .type = GGPO_PLAYERTYPE_REMOTE, .player_num = player + 1 };
+        memcpy(added.u.remote.ip_address, "127.0.0.1", 10);
+        added.u.remote.port = (unsigned short)(port + player);
+        if (player == me)
+            added.type = GGPO_PLAYERTYPE_LOCAL;
+        MUST(ggpo_add_player(game->session, &added, &handle) == GGPO_OK);
+    }
+}
+
+/* A turn of one of them. Between its own step and ggpo_advance_frame the other one may have a turn, and is heard. */
+static void turn(int me, bool has_other) {
+    unsigned char input = input_of(me, games[me].now.frame), inputs[2];
+    game = &games[me];
+    GGPOErrorCode code = ggpo_add_local_input(game->session, me + 1, &input, 1);
+    MUST(code == GGPO_OK || code == GGPO_ERRORCODE_PREDICTION_THRESHOLD || code == GGPO_ERRORCODE_NOT_SYNCHRONIZED);
+    if (code == GGPO_OK) {
+        MUST(ggpo_synchronize_input(game->session, inputs, sizeof inputs, NULL) == GGPO_OK && inputs[me] == input);
+        step(inputs);
+        if (has_other) {
+            turn(1 - me, false);
+            game = &games[me];
+        }
+        MUST(ggpo_idle(game->session, 20) == GGPO_OK);
+        MUST(ggpo_advance_frame(game->session) == GGPO_OK);
+    }
+    MUST(ggpo_idle(game->session, 20) == GGPO_OK);
+}
+
+static void end(void) {
+    for (int me = 0; me < 2; me++) {
+        game = &games[me];
+        MUST(ggpo_close_session(game->session) == GGPO_OK && game->buffers == 0);
+    }
+}
+
+/* How many frames both have settled. */
+static int settled(void) {
+    int frames[2] = { 0, 0 };
+    for (int me = 0; me < 2; me++)
+        if (games[me].now.frame > 0)
+            MUST(fazggpo_get_settled(games[me].session, &frames[me]) == GGPO_OK);
+    return frames[0] < frames[1] ? frames[0] : frames[1];
+}
+
+static void right(int port) {
+    unsigned number = 0;
+    for (int me = 0; me < 2; me++)
+        begin(me, port, 1);
+    for (int turns = 0; settled() < FRAMES && turns < 20 * FRAMES; turns++)
+        turn(turns % 2, turns % 3 != 0);
+    MUST(settled() >= FRAMES && games[0].again > 0 && games[1].again > 0);
+    for (int frame = 0; frame < FRAMES; frame++) {
+        number = number * 31 + input_of(0, frame) + 2u * input_of(1, frame);
+        MUST(games[0].at[frame + 1] == number && games[1].at[frame + 1] == number);
+    }
+    MUST(games[0].desyncs == 0 && games[1].desyncs == 0);
+    end();
+}
+
+static void wrong(int port) {
+    for (int me = 0; me < 2; me++)
+        begin(me, port, 1);
+    games[1].is_wrong = true;
+    for (int turns = 0; (games[0].desyncs == 0 || games[1].desyncs == 0) && turns < 20 * FRAMES; turns++)
+        turn(turns % 2, false);
+    MUST(games[0].desyncs > 0 && games[1].desyncs > 0);
+    end();
+}
+
+static void other_match(int port) {
+    for (int me = 0; me < 2; me++)
+        begin(me, port, 1 + me);
+    for (int turns = 0; (games[0].mismatches == 0 || games[1].mismatches == 0) && turns < 200; turns++) {
+        game = &games[turns % 2];
+        MUST(ggpo_idle(game->session, 20) == GGPO_OK);
+    }
+    MUST(games[0].mismatches > 0 && games[1].mismatches > 0 && !games[0].is_running && !games[1].is_running);
+    end();
+}
+
+int main(int count, char **words) {
+    MUST(count == 2);
+    right(atoi(words[1]));
+    wrong(atoi(words[1]));
+    other_match(atoi(words[1]));
+    return 0;
+}

@@ -1,0 +1,50 @@
+//! Both sides of a match, and the lines between them.
+use crate::line::Line;
+use crate::peer::{Fault, LAST_FRAME, Side};
+use std::alloc::Global;
+
+/// After how many turns a match is broken off.
+const MOST_TURNS: u32 = 3 * LAST_FRAME;
+
+/// Two sides, and what is under way to each.
+#[derive(Drop)]
+pub struct Duel {
+    pub first: Side,
+    pub second: Side,
+    to_first: Line,
+    to_second: Line,
+}
+
+impl Duel {
+    /// Both sides after a match, whose second side started so many turns late.
+    pub fn played(alloc: Global, late: u32) -> Result<Duel, Fault> {
+        let mut duel = Duel::new(alloc)?;
+        duel.play(late)?;
+        Ok(duel)
+    }
+
+    fn new(alloc: Global) -> Result<Duel, Fault> {
+        Ok(Duel {
+            first: Side::new(alloc, 0, 2)?,
+            second: Side::new(alloc, 1, 1)?,
+            to_first: Line::new(alloc),
+            to_second: Line::new(alloc),
+        })
+    }
+
+    /// After the last frame both sides go on until each has all, and knows that the other has.
+    fn play(&mut self, late: u32) -> Result<(), Fault> {
+        for turn in 0..MOST_TURNS {
+            if self.first.is_done() && self.second.is_done() {
+                break;
+            }
+            self.first
+                .turn(turn, &mut self.to_first, &mut self.to_second)?;
+            if turn >= late {
+                self.second
+                    .turn(turn, &mut self.to_second, &mut self.to_first)?;
+            }
+        }
+        Ok(())
+    }
+}

@@ -1,0 +1,48 @@
+//! Calls of an open line at its host.
+ghost use Rattle.fazgrond_c.specs.Lines.{HostHearsBytes, IsHostsBye, IsTelling};
+ghost use Rattle.fazgrond_c.specs.Peers.{Fills};
+
+use crate::calls::{NOTHING, TOO_SHORT};
+use crate::line_live::LineLive;
+use crate::line_refusal::code_of_line;
+use crate::peer_calls::write;
+use crate::peer_live::PeerLive;
+use roll_wire::DATAGRAM_LIMIT;
+
+/// Hears bytes.
+pub fn receive(live: &mut LineLive, bytes: &[u8], now: u32) -> i32
+    ensures { HostHearsBytes bytes.now now live.old live.new result }
+{
+    match live.line.receive(bytes, now) {
+        Ok(()) => 0,
+        Err(why) => code_of_line(why),
+    }
+}
+
+/// Writes what is to be sent to the viewer.
+pub fn send(live: &mut LineLive, peer: &PeerLive, out: &mut [u8], size: &mut usize) -> i32
+    ensures { Fills (IsTelling peer.now.peer.member.session.core) live.old live.new
+        out.old out.new size.old size.new result }
+{
+    if out.len() < DATAGRAM_LIMIT {
+        return TOO_SHORT;
+    }
+    match live.line.send(peer.peer.session()) {
+        Some(bytes) => {
+            write(out, size, &bytes);
+            0
+        }
+        None => NOTHING,
+    }
+}
+
+/// Writes what says that this machine leaves the viewer.
+pub fn bye(live: &mut LineLive, out: &mut [u8], size: &mut usize) -> i32
+    ensures { Fills IsHostsBye live.old live.new out.old out.new size.old size.new result }
+{
+    if out.len() < DATAGRAM_LIMIT {
+        return TOO_SHORT;
+    }
+    write(out, size, &live.line.bye());
+    0
+}

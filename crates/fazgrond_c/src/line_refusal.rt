@@ -1,0 +1,20 @@
+//! The numbers of why an end of a line doesn't hear bytes.
+ghost use Rattle.std.specs.Prelude.{◌≡◌, pos};
+ghost use Rattle.fazgrond_c.specs.LineKinds.{code_of_line};
+
+use roll_viewer::LineRefusal;
+
+/// The number of why an end of a line didn't hear bytes.
+pub fn code_of_line(why: LineRefusal) -> i32
+    ensures { result ≡ pos (code_of_line why) }
+{
+    match why {
+        LineRefusal::NotSealed => 301,
+        LineRefusal::NoDatagram(_) => 302,
+        LineRefusal::Mismatched(_) => 306,
+        LineRefusal::Ended => 308,
+        LineRefusal::Stranger => 309,
+        LineRefusal::NoRows => 310,
+        LineRefusal::Gap => 311,
+    }
+}

@@ -1,0 +1,139 @@
+//! Lines to viewers, for games in other languages.
+ghost use Rattle.std.specs.Prelude.{◌≡◌, ◌≢◌, pos, None};
+ghost use Rattle.fazgrond_c.specs.Lines.{host_state, HostHearsBytes, IsHostsBye, IsOpened, IsTelling, IsWhyClosed, OpensBy, TellsBy};
+ghost use Rattle.fazgrond_c.specs.Made.{Reads};
+ghost use Rattle.fazgrond_c.specs.Peers.{FillsBy, Makes};
+
+use crate::calls::CLOSED;
+use crate::line_calls;
+use crate::line_handle::LineHandle;
+use crate::line_kinds::{LineIn, LineState};
+use crate::line_live::LineLive;
+use crate::peer_handle::PeerHandle;
+use crate::peer_live::PeerLive;
+use roll_frame::Refusal;
+use std::alloc::Global;
+
+/// Opens a line at its host.
+#[unsafe(no_mangle)]
+pub extern "C" fn fazgrond_line_open(alloc: Global, handle: &mut LineHandle, given: &LineIn) -> i32
+    ensures opened { OpensBy (IsOpened given.now) handle.old.hold.value handle.new.hold.value
+        result }
+    ensures why { result ≢ pos 0 → IsWhyClosed given.now result }
+{
+    let Some(settings) = given.settings() else {
+        return Refusal::InvalidRequest.code();
+    };
+    let Ok(live) = Box::new(alloc, LineLive::open(settings)) else {
+        return Refusal::NoMemory.code();
+    };
+    let _old = handle.take(alloc);
+    handle.put(live);
+    0
+}
+
+/// Closes it.
+#[unsafe(no_mangle)]
+pub extern "C" fn fazgrond_line_close(alloc: Global, handle: &mut LineHandle)
+    ensures { handle.new.hold.value ≡ None }
+{
+    let _old = handle.take(alloc);
+}
+
+/// Hears a datagram that came of the viewer.
+#[unsafe(no_mangle)]
+pub extern "C" fn fazgrond_line_receive(
+    alloc: Global,
+    handle: &mut LineHandle,
+    bytes: &[u8],
+    now: u32,
+) -> i32
+    ensures { Makes (HostHearsBytes bytes.now now) handle.old.hold.value handle.new.hold.value
+        result }
+{
+    let Some(mut live) = handle.take(alloc) else {
+        return CLOSED;
+    };
+    let code = line_calls::receive(&mut live, bytes, now);
+    handle.put(live);
+    code
+}
+
+/// What to send to the viewer of a peer that is open.
+fn tell(
+    alloc: Global,
+    handle: &mut LineHandle,
+    peer: &PeerLive,
+    out: &mut [u8],
+    size: &mut usize,
+) -> i32
+    ensures { FillsBy (IsTelling peer.now.peer.member.session.core)
+        handle.old.hold.value handle.new.hold.value
+        out.old out.new size.old size.new result }
+{
+    let Some(mut live) = handle.take(alloc) else {
+        return CLOSED;
+    };
+    let code = line_calls::send(&mut live, peer, out, size);
+    handle.put(live);
+    code
+}
+
+/// What to send to the viewer: the settled rows of a peer's session that it lacks.
+#[unsafe(no_mangle)]
+pub extern "C" fn fazgrond_line_send(
+    alloc: Global,
+    handle: &mut LineHandle,
+    peer: &mut PeerHandle,
+    out: &mut [u8],
+    size: &mut usize,
+) -> i32
+    ensures told { TellsBy peer.old.hold.value handle.old.hold.value handle.new.hold.value
+        out.old out.new size.old size.new result }
+    ensures peer { peer.new.hold.value ≡ peer.old.hold.value }
+{
+    let Some(of_match) = peer.take(alloc) else {
+        return CLOSED;
+    };
+    let code = tell(alloc, handle, &of_match, out, size);
+    peer.put(of_match);
+    code
+}
+
+/// What says to the viewer that this machine leaves it.
+#[unsafe(no_mangle)]
+pub extern "C" fn fazgrond_line_bye(
+    alloc: Global,
+    handle: &mut LineHandle,
+    out: &mut [u8],
+    size: &mut usize,
+) -> i32
+    ensures { FillsBy IsHostsBye handle.old.hold.value handle.new.hold.value
+        out.old out.new size.old size.new result }
+{
+    let Some(mut live) = handle.take(alloc) else {
+        return CLOSED;
+    };
+    let code = line_calls::bye(&mut live, out, size);
+    handle.put(live);
+    code
+}
+
+/// How far the viewer is.
+#[unsafe(no_mangle)]
+pub extern "C" fn fazgrond_line_look(
+    alloc: Global,
+    handle: &mut LineHandle,
+    now: u32,
+    state: &mut LineState,
+) -> i32
+    ensures { Reads (host_state now) handle.old.hold.value handle.new.hold.value
+        state.old state.new result }
+{
+    let Some(live) = handle.take(alloc) else {
+        return CLOSED;
+    };
+    *state = live.state(now);
+    handle.put(live);
+    0
+}

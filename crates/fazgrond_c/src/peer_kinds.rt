@@ -1,0 +1,189 @@
+//! What C sees of a match.
+ghost use Rattle.std.specs.Prelude.{◌≡◌, ◌≤◌, ℕ, IfNone, IfSome, slice_index};
+ghost use Rattle.fazgrond_c.specs.PeerKinds.{bare, event_out, field_out, stats_out, AreMatched, HasNoRoom};
+
+use crate::kinds::SettingsIn;
+use roll_frame::PLAYER_LIMIT;
+use roll_peer::{Field, MatchSettings, PeerEvent, Stats};
+
+/// How a peer is opened.
+#[repr(C)]
+#[derive(Drop)]
+pub struct MatchIn {
+    pub session: SettingsIn,
+    pub number: u64,
+    pub digest: u64,
+    pub me: u32,
+    pub machines: u32,
+    pub owners: [u32; PLAYER_LIMIT],
+    pub silent_after: u32,
+    pub notify_after: u32,
+}
+
+impl MatchIn {
+    /// The match, if each number has room where it belongs.
+    pub fn settings(&self) -> Option<MatchSettings>
+        ensures matched { IfSome result (AreMatched self.now) }
+        ensures none { IfNone result (HasNoRoom self.now) }
+    {
+        let (Ok(me), Ok(machines)) = (u8::try_from(self.me), u8::try_from(self.machines)) else {
+            return None;
+        };
+        let owners = bytes_of(&self.owners)?;
+        Some(MatchSettings {
+            me,
+            machines,
+            owners,
+            match_number: self.number,
+            digest: self.digest,
+            silent_after: self.silent_after,
+            notify_after: self.notify_after,
+        })
+    }
+}
+
+/// Numbers as bytes, if each is one.
+pub fn bytes_of(numbers: &[u32; PLAYER_LIMIT]) -> Option<[u8; PLAYER_LIMIT]>
+    ensures bytes { IfSome result (λ bytes. bytes ≡ numbers.now) }
+    ensures none { IfNone result ((p : ℕ) × (256 ≤ slice_index numbers.now p)) }
+{
+    let mut bytes = [0; PLAYER_LIMIT];
+    for place in 0..PLAYER_LIMIT {
+        let Ok(byte) = u8::try_from(numbers[place]) else {
+            return None;
+        };
+        bytes[place] = byte;
+    }
+    Some(bytes)
+}
+
+/// An event: its code, and what it says. What it doesn't say is 0.
+#[repr(C)]
+#[derive(Drop)]
+pub struct EventOut {
+    pub code: u32,
+    pub machine: u32,
+    pub player: u32,
+    pub count: u32,
+    pub total: u32,
+    pub frames_ahead: u32,
+    pub disconnect_in: u32,
+    pub frame: u32,
+    pub field: u32,
+}
+
+impl EventOut {
+    /// An event.
+    pub fn of(event: &PeerEvent) -> EventOut
+        ensures { result ≡ event_out event.now }
+    {
+        match *event {
+            PeerEvent::Synchronizing {
+                machine,
+                count,
+                total,
+            } => EventOut {
+                machine: u32::from(machine),
+                count: u32::from(count),
+                total: u32::from(total),
+                ..EventOut::bare(1001)
+            },
+            PeerEvent::Synchronized { machine } => EventOut::by(1002, machine),
+            PeerEvent::Running => EventOut::bare(1003),
+            PeerEvent::DisconnectedFromPeer { player } => EventOut {
+                player: u32::from(player),
+                ..EventOut::bare(1004)
+            },
+            PeerEvent::TimeSync { frames_ahead } => EventOut {
+                frames_ahead,
+                ..EventOut::bare(1005)
+            },
+            PeerEvent::Interrupted {
+                machine,
+                disconnect_in,
+            } => EventOut {
+                disconnect_in,
+                ..EventOut::by(1006, machine)
+            },
+            PeerEvent::Resumed { machine } => EventOut::by(1007, machine),
+            PeerEvent::Left { machine } => EventOut::by(1101, machine),
+            PeerEvent::Desync { machine, frame } => EventOut {
+                frame,
+                ..EventOut::by(1102, machine)
+            },
+            PeerEvent::Mismatch { machine, field } => EventOut {
+                field: number_of(field),
+                ..EventOut::by(1103, machine)
+            },
+            PeerEvent::Dropped => EventOut::bare(1104),
+        }
+    }
+
+    /// One that says nothing but its code.
+    fn bare(code: u32) -> EventOut
+        ensures { result ≡ bare code }
+    {
+        EventOut {
+            code,
+            machine: 0,
+            player: 0,
+            count: 0,
+            total: 0,
+            frames_ahead: 0,
+            disconnect_in: 0,
+            frame: 0,
+            field: 0,
+        }
+    }
+
+    /// One that says a machine.
+    fn by(code: u32, machine: u8) -> EventOut
+        ensures { result ≡ record (bare code) { machine = machine } }
+    {
+        EventOut {
+            machine: u32::from(machine),
+            ..EventOut::bare(code)
+        }
+    }
+}
+
+/// The number of a field that two machines have otherwise.
+fn number_of(field: Field) -> u32
+    ensures { result ≡ field_out field }
+{
+    match field {
+        Field::Machines => 1,
+        Field::Owners => 2,
+        Field::Settings => 3,
+    }
+}
+
+/// What was counted and measured of a machine.
+#[repr(C)]
+#[derive(Drop)]
+pub struct StatsOut {
+    pub is_measured: u32,
+    pub round_trip: u32,
+    pub sent: u32,
+    pub received: u32,
+    pub lost: u32,
+    pub frames_behind: i32,
+    pub their_frames_behind: i32,
+}
+
+impl StatsOut {
+    /// What was counted.
+    pub fn of(stats: &Stats) -> StatsOut
+        ensures { result ≡ stats_out stats.now }
+    {
+        StatsOut {
+            is_measured: u32::from(stats.round_trip.is_some()),
+            round_trip: stats.round_trip.unwrap_or(0),
+            sent: stats.sent,
+            received: stats.received,
+            lost: stats.lost,
+            frames_behind: stats.frames_behind,
+            their_frames_behind: stats.their_frames_behind,
+        }
+    }
+}

@@ -1,0 +1,90 @@
+//! Why a peer refuses a call, and the numbers of it.
+ghost use Rattle.std.specs.Prelude.{◌≡◌, pos};
+ghost use Rattle.fazgrond_c.specs.PeerKinds.{code_of_ignored, code_of_join, code_of_mesh, code_of_open, code_of_refusal};
+ghost use Rattle.fazgrond_c.specs.PeerRefusals.{code_of_fault};
+
+use roll_frame::Refusal;
+use roll_member::JoinRefusal;
+use roll_mesh::MeshRefusal;
+use roll_peer::{Ignored, OpenRefusal, PeerRefusal};
+
+/// Why a peer can't be opened.
+#[derive(Clone, Copy, Debug, PartialEq, Eq)]
+pub enum NotOpened {
+    /// Its session can't be started.
+    Session(Refusal),
+    /// The session can't take its seat in the match.
+    Match(OpenRefusal),
+}
+
+impl NotOpened {
+    /// Its number.
+    pub fn code(&self) -> i32
+        ensures { result ≡ pos (code_of_fault self.now) }
+    {
+        match self {
+            NotOpened::Session(why) => why.code(),
+            NotOpened::Match(why) => code_of_open(*why),
+        }
+    }
+}
+
+/// The number of why bytes weren't heard.
+pub fn code_of_ignored(why: Ignored) -> i32
+    ensures { result ≡ pos (code_of_ignored why) }
+{
+    match why {
+        Ignored::NotSealed => 301,
+        Ignored::NoDatagram(_) => 302,
+        Ignored::InvalidMachine => 303,
+        Ignored::OwnMachine => 304,
+        Ignored::MachineGone => 305,
+        Ignored::Mismatched(_) => 306,
+        Ignored::Overstated => 307,
+    }
+}
+
+/// The number of why a peer refuses a call.
+pub fn code_of_refusal(why: PeerRefusal) -> i32
+    ensures { result ≡ pos (code_of_refusal why) }
+{
+    match why {
+        PeerRefusal::NotSynchronized => 6,
+        PeerRefusal::Session(why) => why.code(),
+    }
+}
+
+/// The number of why a mesh refuses a call.
+pub fn code_of_mesh(why: MeshRefusal) -> i32
+    ensures { result ≡ pos (code_of_mesh why) }
+{
+    match why {
+        MeshRefusal::InvalidSeat | MeshRefusal::InvalidMachine => 303,
+        MeshRefusal::OwnMachine => 304,
+        MeshRefusal::MachineGone => 305,
+        MeshRefusal::InvalidPlayer => Refusal::InvalidPlayer.code(),
+        MeshRefusal::CountFull => Refusal::QueueFull.code(),
+        MeshRefusal::Overstated => 307,
+    }
+}
+
+/// The number of why a session can't take its seat.
+fn code_of_join(why: JoinRefusal) -> i32
+    ensures { result ≡ pos (code_of_join why) }
+{
+    match why {
+        JoinRefusal::InvalidSeat => 303,
+        JoinRefusal::Players => Refusal::InvalidPlayer.code(),
+        JoinRefusal::Started => Refusal::InvalidRequest.code(),
+    }
+}
+
+/// The number of why a peer can't be opened.
+fn code_of_open(why: OpenRefusal) -> i32
+    ensures { result ≡ pos (code_of_open why) }
+{
+    match why {
+        OpenRefusal::Join(why) => code_of_join(why),
+        OpenRefusal::NoMemory => Refusal::NoMemory.code(),
+    }
+}

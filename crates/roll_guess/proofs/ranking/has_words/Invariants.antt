@@ -1,0 +1,7 @@
+use Rattle.std.proofs.Common.{◌≢◌, ◌<◌, ℕ}
+use Rattle.std.specs.Prelude.{slice_index_or}
+use Rattle.roll_guess.specs.declared.ranking.Guess.{Guess}
+use Rattle.roll_guess.proofs.ranking.has_words.Given as goal
+
+abbrev pub invariant-loop-guess : goal.invariant-loop-guess
+invariant-loop-guess l = (k : ℕ) (d : Guess) → k < l.guess-index → (slice_index_or l.ranking k d).words.items ≢ l.words

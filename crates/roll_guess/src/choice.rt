@@ -1,0 +1,119 @@
+//! The choice of guesses.
+ghost use Rattle.std.specs.Prelude.{◌≡◌, ◌<◌, ◌≤◌, length, All, None, Some, IfSome, false};
+ghost use Rattle.roll_frame.specs.Inputs.{of_player};
+ghost use Rattle.roll_guess.specs.Guesses.{view_of, AreUnlike, IsCourse, IsFalling, IsRanking, IsViewOf, Suits};
+ghost use Rattle.roll_session.specs.Guessing.{guess_refusal_of};
+
+use crate::course::Course;
+use crate::habits::Habits;
+use crate::limits::UNKNOWN_LIMIT;
+use crate::ranking::{Ranking, View, offer};
+use arrayvec::ArrayVec;
+use roll_frame::PATH_LIMIT;
+use roll_game::Game;
+use roll_inputs::Source;
+use roll_session::Session;
+
+/// What a choice needs to know of a session. None if the session takes no guess of this player.
+fn view_of<G: Game>(session: &Session<G>, player: u8) -> Option<View>
+    ensures { IfSome result (IsViewOf session.now player) }
+{
+    let from = session.confirmed(player)?;
+    let Some(Source::Predicted) = session.source(player, from) else {
+        return None;
+    };
+    let settled = session.settled();
+    let reach = settled
+        .saturating_add(PATH_LIMIT as u32)
+        .min(session.settings().limit);
+    if settled >= reach {
+        return None;
+    }
+    Some(View {
+        player,
+        from,
+        unknown: session.frame().saturating_sub(from).min(UNKNOWN_LIMIT) as u8,
+        settled,
+        reach,
+    })
+}
+
+impl Habits {
+    /// The guesses of a player's next words that are worth making now, best first: that its word is held for some frames
+    /// and then changes, and perhaps changes once more. The session is to have taken all words that were noted.
+    ///
+    /// Make them in this order, until as many gave jobs as there is time for: one that gives none is kept already. Each is
+    /// run a job's 8 rows past its change, so it gives its next job only 8 frames later, or once another player's word
+    /// changes. Empty if no frame waits for a word of the player, or the session takes no guess of it.
+    pub fn choose<G: Game>(&self, session: &Session<G>, player: u8) -> Ranking
+        ensures accepted { All (λ guess. guess_refusal_of session.now player guess.words.items guess.until ≡ None) result.items }
+        ensures suits { All (Suits self.now (view_of session.now player)) result.items }
+        ensures falling { IsFalling result.items }
+        ensures unlike { AreUnlike result.items }
+    {
+        match view_of(session, player) {
+            Some(view) => self.ranking(&view),
+            None => ArrayVec::new(),
+        }
+    }
+
+    /// The guesses in order.
+    fn ranking(&self, view: &View) -> Ranking
+        requires { view.now.settled < view.now.reach }
+        ensures { IsRanking self.now view.now result.items }
+    {
+        let mut singles = ArrayVec::new();
+        self.offer_changes(view, Course::start(self), &mut singles);
+        let mut ranking = ArrayVec::new();
+        self.offer_changes(view, Course::start(self), &mut ranking);
+        for single in singles.as_slice() {
+            if let Some(course) = Course::along(self, single.words.as_slice()) {
+                self.offer_changes(view, course, &mut ranking);
+            }
+        }
+        ranking
+    }
+
+    /// Offers the guesses that the word is held on after a course for some frames, or none, and then changes.
+    fn offer_changes(&self, view: &View, course: Course, ranking: &mut Ranking)
+        requires reach { view.now.settled < view.now.reach }
+        requires course { IsCourse self.now course }
+        requires ranked { IsRanking self.now view.now ranking.old.items }
+        ensures { IsRanking self.now view.now ranking.new.items }
+    {
+        let mut course = course;
+        for _ in course.words.len()..usize::from(view.unknown) {
+            self.offer_words(view, &course, ranking);
+            let Some(next) = course.then(self, course.held.word) else {
+                return;
+            };
+            course = next;
+        }
+    }
+
+    /// Offers the guesses that each known word comes after a course, but for the one that is held.
+    fn offer_words(&self, view: &View, course: &Course, ranking: &mut Ranking)
+        requires reach { view.now.settled < view.now.reach }
+        requires course { IsCourse self.now course.now }
+        requires ranked { IsRanking self.now view.now ranking.old.items }
+        ensures { IsRanking self.now view.now ranking.new.items }
+    {
+        for word in self.known.as_slice() {
+            if *word != course.held.word {
+                self.offer_word(view, course, *word, ranking);
+            }
+        }
+    }
+
+    /// Offers the guess that a word comes after a course.
+    fn offer_word(&self, view: &View, course: &Course, word: u32, ranking: &mut Ranking)
+        requires reach { view.now.settled < view.now.reach }
+        requires course { IsCourse self.now course.now }
+        requires ranked { IsRanking self.now view.now ranking.old.items }
+        ensures { IsRanking self.now view.now ranking.new.items }
+    {
+        if let Some(next) = course.then(self, word) {
+            offer(self, view, ranking, view.guess(self, next));
+        }
+    }
+}

@@ -1,0 +1,48 @@
+-- What is done machine by machine, or player by player: nothing for none of them, and one more after the first so many.
+use Rattle.std.proofs.Common.{◌≡◌, ℕ, suc, ◌+◌, List, Bool, Option, None, arith, refl}
+use Rattle.roll_peer.specs.Notices.{told, told_of}
+use Rattle.roll_peer.specs.Paces.{lead_of, slower, slowest}
+use Rattle.roll_peer.specs.Peered.{Peered}
+use Rattle.roll_peer.specs.Turning.{farewell_at, farewell_until, hushed_at, hushed_until}
+use Rattle.roll_peer.specs.Waiting.{Waiting}
+use Rattle.roll_peer.specs.declared.contact.Contact.{Contact}
+use Rattle.roll_peer.specs.declared.event.PeerEvent.{PeerEvent}
+
+after : (n : ℕ) → n + 1 ≡ suc n
+after n = omega arith
+
+pub told_none : (event : ℕ → Option PeerEvent) (waiting : Waiting) → told_of event 0 waiting ≡ waiting
+unfolding told_of
+told_none event waiting = refl
+
+pub told_next : (event : ℕ → Option PeerEvent) (n : ℕ) (waiting : Waiting)
+    → told_of event (n + 1) waiting ≡ told (told_of event n waiting) (event n)
+unfolding told_of
+told_next event n waiting = rw (after n) refl
+
+pub hushed_none : (now : ℕ) (peer : Peered) → hushed_until now 0 peer ≡ peer
+unfolding hushed_until
+hushed_none now peer = refl
+
+pub hushed_next : (now m : ℕ) (peer : Peered)
+    → hushed_until now (m + 1) peer ≡ hushed_at now m (hushed_until now m peer)
+unfolding hushed_until
+hushed_next now m peer = rw (after m) refl
+
+pub farewell_none : (peer : Peered) → farewell_until 0 peer ≡ peer
+unfolding farewell_until
+farewell_none peer = refl
+
+pub farewell_next : (m : ℕ) (peer : Peered)
+    → farewell_until (m + 1) peer ≡ farewell_at m (farewell_until m peer)
+unfolding farewell_until
+farewell_next m peer = rw (after m) refl
+
+pub slowest_none : (gone : List Bool) (contacts : List Contact) → slowest gone contacts 0 ≡ None
+unfolding slowest
+slowest_none gone contacts = refl
+
+pub slowest_next : (gone : List Bool) (contacts : List Contact) (m : ℕ)
+    → slowest gone contacts (m + 1) ≡ slower (slowest gone contacts m) (lead_of gone contacts m)
+unfolding slowest
+slowest_next gone contacts m = rw (after m) refl

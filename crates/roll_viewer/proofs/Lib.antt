@@ -1,0 +1,5 @@
+mod Padding
+mod Decoded
+mod Settled
+mod Seen
+mod Sending

@@ -1,0 +1,11 @@
+use Rattle.std.proofs.Common.{◌≡◌, ◌-◌, ◌≤◌, ◌++◌, drop, max, take}
+use Rattle.roll_session.specs.Headline.{words_of}
+use Rattle.roll_viewer.proofs.telling.push_words.Given as goal
+
+abbrev pub invariant-loop-frame : goal.invariant-loop-frame
+invariant-loop-frame g l = record {
+  so_far : l.words.items
+      ≡ l.fn.words.items
+      ++ take (l.frame - l.fn.offer.first) (drop l.fn.offer.first (words_of l.session l.player));
+  within : l.frame ≤ max l.fn.offer.first l.fn.offer.end;
+}

@@ -1,0 +1,141 @@
+-- The two ends of a viewer's line, and what each makes of what it hears.
+use Rattle.std.specs.Prelude.{◌≡◌, ℕ, ◌+◌, List, [], length, max, replicate, take, false, not, nat_lt, Option, Some, None, Result, Ok, Err, if◌then◌else◌}
+use Rattle.std.specs.Option.{option_or}
+use Rattle.roll_frame.specs.Core.{Core}
+use Rattle.roll_mesh.specs.Machines.{none_offered}
+use Rattle.roll_mesh.specs.declared.limits.TheConstants.{MACHINE_LIMIT, PLAYER_LIMIT}
+use Rattle.roll_peer.specs.Contacts.{is_playing}
+use Rattle.roll_spectate.specs.Rings.{Ring}
+use Rattle.roll_spectate.specs.Sent.{Fed}
+use Rattle.roll_wire.specs.Spelling.{Content, Greets, Leaves, Plays, Turn}
+use Rattle.roll_viewer.specs.Lines.{after_bye, after_hello, after_play, content_for, mismatched, opened, opened_line, players_of, said}
+use Rattle.roll_viewer.specs.Rows.{are_rows, first_row, least_with, most_of, IsSent}
+use Rattle.roll_viewer.specs.Telling.{padded, room_after, told_to}
+use Rattle.roll_viewer.specs.declared.line.Line.{Line}
+use Rattle.roll_viewer.specs.declared.line.TheConstants.{VIEWER}
+use Rattle.roll_viewer.specs.declared.refusal.LineRefusal.{LineRefusal}
+use Rattle.roll_viewer.specs.declared.refusal.LineRefusal.TheVariants.{Gap, NoRows}
+use Rattle.roll_viewer.specs.declared.settings.LineSettings.{LineSettings}
+
+-- ---- the host's end
+
+-- how many rows the viewer has said that it has, and how many it was told
+pub record Hosted : Type 0 where
+  pub line : Line
+  pub had : ℕ
+  pub told : ℕ
+
+abbrev pub opened_host : LineSettings → Hosted
+opened_host settings = record { line = opened_line settings; had = 0; told = 0 }
+
+-- how many rows the viewer has once it says that it has so many of each player: never more than it was told
+abbrev pub after_ack : Hosted → List ℕ → ℕ
+after_ack host has =
+    max host.had (least_with host.told (take (players_of host.line.settings) has))
+
+-- why what came isn't heard
+abbrev pub ignored_by_host : Hosted → Result Content LineRefusal → Option LineRefusal
+ignored_by_host host (Err why) = Some why
+ignored_by_host host (Ok what) = mismatched host.line what
+
+abbrev pub host_after : Hosted → ℕ → Content → Hosted
+host_after host now (Greets hello) = record host { line = after_hello host.line hello now }
+host_after host now (Plays t) = record host {
+  line = after_play host.line now;
+  had = after_ack host t.head.view.has;
+}
+host_after host now Leaves = record host { line = after_bye host.line }
+
+-- the host hears bytes
+pub record HostHears (old new : Hosted) (bytes : List ℕ) (now : ℕ) : Type 0 where
+  pub what : Content
+  pub is_opened : opened old.line VIEWER bytes ≡ Ok what
+  pub new_is : new ≡ host_after old now what
+
+-- what the host sends in a turn of a session: nothing once the line has ended
+abbrev pub host_sends : Hosted → Core → Option (List ℕ)
+host_sends host core =
+    if host.line.ended then None
+    else Some (said host.line.settings host.line.settings.host
+    (content_for host.line (Plays (told_to core host.had))))
+
+-- the rows up to there were told
+abbrev pub with_told : Hosted → Core → Hosted
+with_told host core = record host { told = max host.told (host.had + room_after core host.had) }
+
+abbrev pub told_rows : Hosted → Core → Hosted
+told_rows host core = if is_playing host.line.stage then with_told host core else host
+
+abbrev pub host_told : Hosted → Core → Hosted
+host_told host core = if host.line.ended then host else told_rows host core
+
+-- ---- the viewer's end
+
+-- what its spectator was sent, and how many rows its host has said that it has
+pub record Viewing : Type 0 where
+  pub line : Line
+  pub fed : Fed
+  pub settled : ℕ
+
+abbrev pub opened_viewer : LineSettings → Ring → Viewing
+opened_viewer settings ring = record {
+  line = opened_line settings;
+  fed = record { ring = ring; rows = [] };
+  settled = 0;
+}
+
+-- why a play's rows aren't taken
+abbrev pub unread : Viewing → Turn → Option LineRefusal
+unread viewer t =
+    if not (are_rows (players_of viewer.line.settings) t) then Some NoRows
+    else (if nat_lt (length viewer.fed.rows) (first_row t) then Some Gap else None)
+
+-- why what came isn't heard
+abbrev pub unheard_by_viewer : Viewing → Content → Option LineRefusal
+unheard_by_viewer viewer (Greets hello) = mismatched viewer.line (Greets hello)
+unheard_by_viewer viewer (Plays t) =
+    option_or (mismatched viewer.line (Plays t)) (unread viewer t)
+unheard_by_viewer viewer Leaves = None
+
+abbrev pub ignored_by_viewer : Viewing → Result Content LineRefusal → Option LineRefusal
+ignored_by_viewer viewer (Err why) = Some why
+ignored_by_viewer viewer (Ok what) = unheard_by_viewer viewer what
+
+-- a play is heard, and its rows are sent to the spectator
+pub record HearsRows (old new : Viewing) (now : ℕ) (t : Turn) (count : ℕ) : Type 0 where
+  pub line : new.line ≡ after_play old.line now
+  pub settled : new.settled ≡ max old.settled (most_of t.head.view.has)
+  pub sent : IsSent (players_of old.line.settings) t old.fed new.fed count
+
+abbrev pub Hears : (old new : Viewing) → ℕ → Content → (count : ℕ) → Type 0
+Hears old new now (Greets hello) count =
+    (new ≡ record old { line = after_hello old.line hello now }) × (count ≡ 0)
+Hears old new now (Plays t) count = HearsRows old new now t count
+Hears old new now Leaves count = (new ≡ record old { line = after_bye old.line }) × (count ≡ 0)
+
+-- the viewer hears bytes
+pub record ViewerHears (old new : Viewing) (bytes : List ℕ) (now count : ℕ) : Type 0 where
+  pub what : Content
+  pub is_opened : opened old.line old.line.settings.host bytes ≡ Ok what
+  pub hears : Hears old new now what count
+
+-- a viewer of a match of so many players says how many rows it has
+abbrev pub acknowledged : (players rows : ℕ) → Turn
+acknowledged players rows = record {
+  head = record {
+    clocks = None;
+    view = record {
+      gone = replicate MACHINE_LIMIT false;
+      has = padded 0 (replicate players rows);
+    };
+    settled = None;
+    offers = replicate PLAYER_LIMIT none_offered;
+  };
+  words = [];
+}
+
+abbrev pub viewer_sends : Viewing → Option (List ℕ)
+viewer_sends viewer =
+    if viewer.line.ended then None
+    else Some (said viewer.line.settings VIEWER (content_for viewer.line
+    (Plays (acknowledged (players_of viewer.line.settings) (length viewer.fed.rows)))))

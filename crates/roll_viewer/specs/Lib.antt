@@ -1,0 +1,5 @@
+pub mod Lines
+pub mod Rows
+pub mod Telling
+pub mod Ends
+pub mod Seeing

@@ -1,0 +1,66 @@
+-- The rows that a play tells, and what a viewer's spectator is sent of them.
+use Rattle.std.specs.Prelude.{◌≡◌, ◌⊎◌, ℕ, ◌-◌, ◌≤◌, ◌==◌, ◌&&◌, List, [], ◌∷◌, ◌++◌, length, map, max, min, take, drop, Bool, slice_get, slice_index_or}
+use Rattle.std.specs.List.{list_all, range_with_len}
+use Rattle.std.specs.Option.{option_map_or}
+use Rattle.roll_frame.specs.Cells.{Rows}
+use Rattle.roll_frame.specs.declared.row.Cell.{Cell}
+use Rattle.roll_frame.specs.declared.row.Cell.TheVariants.{Gone, Word}
+use Rattle.roll_member.specs.Taking.{shares}
+use Rattle.roll_mesh.specs.Machines.{none_offered}
+use Rattle.roll_mesh.specs.declared.packet.Offer.{Offer}
+use Rattle.roll_spectate.specs.Sent.{Fed}
+use Rattle.roll_spectate.specs.declared.limits.TheConstants.{RING_ROWS}
+use Rattle.roll_wire.specs.Spelling.{Turn}
+
+-- the greatest number, or 0 where there is none
+abbrev pub most_of : List ℕ → ℕ
+most_of [] = 0
+most_of (n ∷ ns) = max n (most_of ns)
+
+-- the least of a number and others
+abbrev pub least_with : ℕ → List ℕ → ℕ
+least_with most [] = most
+least_with most (n ∷ ns) = min n (least_with most ns)
+
+-- the frame of the first row that is told
+abbrev pub first_row : Turn → ℕ
+first_row t = (slice_index_or t.head.offers 0 none_offered).first
+
+-- how many rows are told: as many as there are words of some player
+abbrev pub row_count : List Offer → ℕ
+row_count offers = most_of (map (λ offer. offer.end - offer.first) offers)
+
+-- a player's cell in the row of an index: its word, and gone where it has none
+abbrev pub cell_in : ℕ → List ℕ → Cell
+cell_in index words = option_map_or (λ word. Word word) (slice_get words index) Gone
+
+abbrev pub row_in : List Offer → List ℕ → ℕ → List Cell
+row_in offers words index = map (cell_in index) (shares offers words)
+
+-- the rows of so many players that a play tells
+abbrev pub rows_in : ℕ → Turn → Rows
+rows_in players t =
+    map (row_in (take players t.head.offers) t.words)
+    (range_with_len 0 (row_count (take players t.head.offers)))
+
+-- whether a play tells rows: those of each player begin at one frame, and nothing is of further players
+abbrev pub are_rows : ℕ → Turn → Bool
+are_rows players t =
+    list_all (λ offer. offer.first == first_row t) (take players t.head.offers)
+    && (list_all (λ offer. offer.end == 0) (drop players t.head.offers)
+    && list_all (λ count. count == 0) (drop players t.head.view.has))
+
+-- the rows that a viewer lacks, of those that a play tells
+abbrev pub news_in : ℕ → Turn → Rows → Rows
+news_in players t rows = drop (length rows - first_row t) (rows_in players t)
+
+-- what a spectator has been sent after a play, of whose rows so many had a place
+abbrev pub seen_after : ℕ → Turn → (places : ℕ) → Rows → Rows
+seen_after players t places rows = rows ++ take places (news_in players t rows)
+
+-- a spectator is sent what it lacks: all of it, or as many rows as its ring has room for
+pub record IsSent (players : ℕ) (t : Turn) (old new : Fed) (count : ℕ) : Type 0 where
+  pub ring : new.ring ≡ old.ring
+  pub rows : new.rows ≡ seen_after players t count old.rows
+  pub few : count ≤ length (news_in players t old.rows)
+  pub all : (length (news_in players t old.rows) ≤ count) ⊎ (RING_ROWS ≤ length new.rows)

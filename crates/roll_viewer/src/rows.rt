@@ -1,0 +1,154 @@
+//! The rows that a play tells.
+ghost use Rattle.std.specs.Prelude.{◌≡◌, ◌-◌, ◌≤◌, ◌==◌, [], ◌∷◌, ◌++◌, length, take, drop, IsFalse, IsTrue};
+ghost use Rattle.std.specs.List.{list_all};
+ghost use Rattle.roll_frame.specs.declared.limits.TheConstants.{PLAYER_LIMIT as MOST_PLAYERS};
+ghost use Rattle.roll_mesh.specs.declared.limits.TheConstants.{PLAYER_LIMIT};
+ghost use Rattle.roll_spectate.specs.declared.limits.TheConstants.{RING_ROWS};
+ghost use Rattle.roll_wire.specs.Spelling.{turn};
+ghost use Rattle.roll_viewer.specs.Rows.{are_rows, cell_in, first_row, least_with, most_of, row_count, row_in, IsSent};
+
+use arrayvec::ArrayVec;
+use roll_frame::{Cell, FRAME_LIMIT, PLAYER_LIMIT, Row};
+use roll_mesh::Offer;
+use roll_spectate::RowSender;
+use roll_wire::Play;
+
+/// How many words an offer has.
+fn size(offer: Offer) -> u32
+    ensures { result ≡ offer.end - offer.first }
+{
+    offer.end.saturating_sub(offer.first)
+}
+
+/// The words of an offer, and those after them.
+fn share(offer: Offer, words: &[u32]) -> (&[u32], &[u32])
+    ensures mine { result.0.now ≡ take (offer.end - offer.first) words.now }
+    ensures others { result.1.now ≡ drop (offer.end - offer.first) words.now }
+{
+    let count = size(offer) as usize;
+    words.split_at(count.min(words.len()))
+}
+
+/// A player's cell in the row of an index.
+fn cell_in(words: &[u32], index: usize) -> Cell
+    ensures { result ≡ cell_in index words.now }
+{
+    match words.get(index) {
+        Some(word) => Cell::Word(*word),
+        None => Cell::Gone,
+    }
+}
+
+/// The row of an index, of these players.
+fn row_in(offers: &[Offer], words: &[u32], index: usize) -> Row
+    requires some { 1 ≤ length offers.now }
+    requires few { length offers.now ≤ MOST_PLAYERS }
+    ensures { result ≡ row_in offers.now words.now index }
+{
+    let mut cells: ArrayVec<Cell, PLAYER_LIMIT> = ArrayVec::new();
+    let mut rest = words;
+    for offer in offers {
+        let (mine, others) = share(*offer, rest);
+        cells.push(cell_in(mine, index));
+        rest = others;
+    }
+    Row::from_cells(&cells)
+}
+
+/// How many rows these players have.
+fn row_count(offers: &[Offer]) -> u32
+    ensures { result ≡ row_count offers.now }
+{
+    let mut most = 0;
+    for offer in offers {
+        most = size(*offer).max(most);
+    }
+    most
+}
+
+/// The least of a number and these counts.
+pub(crate) fn least_with(most: u32, counts: &[u32]) -> u32
+    ensures { result ≡ least_with most counts.now }
+{
+    let mut least = most;
+    for count in counts {
+        least = least.min(*count);
+    }
+    least
+}
+
+/// The greatest of these counts.
+pub(crate) fn most_of(counts: &[u32]) -> u32
+    ensures { result ≡ most_of counts.now }
+{
+    let mut most = 0;
+    for count in counts {
+        most = (*count).max(most);
+    }
+    most
+}
+
+/// The frame of the first row.
+pub(crate) fn first_row(play: &Play) -> u32
+    ensures { result ≡ first_row (turn play.now) }
+{
+    play.head.offers[0].first
+}
+
+/// Whether all of these begin at a frame.
+fn all_begin(offers: &[Offer], first: u32) -> bool
+    ensures { result ≡ list_all (λ offer. offer.first == first) offers.now }
+{
+    offers.iter().all(|offer| offer.first == first)
+}
+
+/// Whether nothing is offered.
+fn all_empty(offers: &[Offer]) -> bool
+    ensures { result ≡ list_all (λ offer. offer.end == 0) offers.now }
+{
+    offers.iter().all(|offer| offer.end == 0)
+}
+
+/// Whether all counts are 0.
+fn all_zero(counts: &[u32]) -> bool
+    ensures { result ≡ list_all (λ count. count == 0) counts.now }
+{
+    counts.iter().all(|count| *count == 0)
+}
+
+/// Whether a play tells rows of so many players.
+pub(crate) fn are_rows(players: usize, play: &Play) -> bool
+    requires { players ≤ PLAYER_LIMIT }
+    ensures { result ≡ are_rows players (turn play.now) }
+{
+    let head = &play.head;
+    all_begin(&head.offers[..players], first_row(play))
+        && all_empty(&head.offers[players..])
+        && all_zero(&head.view.has[players..])
+}
+
+/// Sends a spectator a row, if its ring has a place for it, and says whether it did.
+fn send_row(sender: &mut RowSender, row: Row) -> bool
+    ensures sent { IsTrue result → sender.new
+        ≡ record sender.old { rows = sender.old.rows ++ row ∷ [] } }
+    ensures full { IsFalse result → (sender.new ≡ sender.old)
+        × (RING_ROWS ≤ length sender.old.rows) }
+{
+    sender.count() < FRAME_LIMIT && sender.send(row)
+}
+
+/// Sends a spectator the rows that it lacks, until its ring is full, and says how many.
+pub(crate) fn send_rows(sender: &mut RowSender, players: usize, play: &Play) -> u32
+    requires { players ≤ PLAYER_LIMIT }
+    ensures { IsSent players (turn play.now) sender.old sender.new result }
+{
+    let offers = &play.head.offers[..players];
+    let from = sender.count().saturating_sub(first_row(play));
+    let end = row_count(offers);
+    for index in from..end {
+        if !send_row(sender, row_in(offers, &play.words, index as usize)) {
+            return index - from;
+        }
+    }
+    end.saturating_sub(from)
+}

@@ -1,0 +1,165 @@
+//! What a host tells a viewer.
+ghost use Rattle.std.specs.Prelude.{◌≡◌, ℕ, ◌+◌, ◌-◌, ◌<◌, ◌≤◌, ◌++◌, length, option_map, true, slice_get};
+ghost use Rattle.std.specs.Option.{option_map_or};
+ghost use Rattle.roll_frame.specs.Core.{settled};
+ghost use Rattle.roll_mesh.specs.Machines.{none_offered};
+ghost use Rattle.roll_mesh.specs.declared.limits.TheConstants.{PLAYER_LIMIT};
+ghost use Rattle.roll_member.specs.Telling.{words_at};
+ghost use Rattle.roll_session.specs.Headline.{words_of};
+ghost use Rattle.roll_wire.specs.Spelling.{count_of, is_turn, turn};
+ghost use Rattle.roll_wire.specs.declared.limits.TheConstants.{WORD_LIMIT};
+ghost use Rattle.roll_viewer.specs.Ends.{acknowledged};
+ghost use Rattle.roll_viewer.specs.Seeing.{TellsRows};
+ghost use Rattle.roll_viewer.specs.Telling.{has_by, has_of, offer_of, offers_to, room_after, told_to, words_in};
+
+use arrayvec::ArrayVec;
+use roll_game::Game;
+use roll_mesh::{MACHINE_LIMIT, Offer, PLAYER_LIMIT, View};
+use roll_session::Session;
+use roll_wire::{Head, Play, WORD_LIMIT};
+
+const NONE: Offer = Offer { first: 0, end: 0 };
+
+/// How many rows more are told a viewer who has so many.
+pub(crate) fn room_after<G: Game>(session: &Session<G>, had: u32) -> u32
+    ensures room { result ≡ room_after session.now.core had }
+    ensures fits { had + result ≤ u32.MAX }
+{
+    let players = u32::from(session.players().max(1));
+    session
+        .settled()
+        .saturating_sub(had)
+        .min(WORD_LIMIT as u32 / players)
+}
+
+/// In how many settled rows the player at a place has a word. None if there is no such player.
+fn has_of<G: Game>(session: &Session<G>, place: usize) -> Option<u32>
+    requires { place < PLAYER_LIMIT }
+    ensures { result ≡ option_map (has_of (settled session.now.core))
+        (slice_get session.now.core.players place) }
+{
+    session
+        .confirmed(place as u8 + 1)
+        .map(|count| count.min(session.settled()))
+}
+
+/// In how many settled rows each player has a word.
+fn counts<G: Game>(session: &Session<G>) -> [u32; PLAYER_LIMIT]
+    ensures { result ≡ has_by session.now.core }
+{
+    let mut counts = [0; PLAYER_LIMIT];
+    for place in 0..PLAYER_LIMIT {
+        counts[place] = has_of(session, place).unwrap_or(0);
+    }
+    counts
+}
+
+/// The words of the player at a place in so many rows from those on that a viewer has.
+fn offer_of<G: Game>(session: &Session<G>, place: usize, had: u32, room: u32) -> Offer
+    requires { place < PLAYER_LIMIT }
+    ensures { result ≡ option_map_or (offer_of (settled session.now.core) had room)
+        (slice_get session.now.core.players place) none_offered }
+{
+    match has_of(session, place) {
+        Some(count) => Offer {
+            first: had,
+            end: count.min(had.saturating_add(room)).max(had),
+        },
+        None => NONE,
+    }
+}
+
+/// Each player's words in the rows that are told a viewer.
+fn offers_to<G: Game>(session: &Session<G>, had: u32) -> [Offer; PLAYER_LIMIT]
+    ensures { result ≡ offers_to session.now.core had }
+{
+    let room = room_after(session, had);
+    let mut offers = [NONE; PLAYER_LIMIT];
+    for place in 0..PLAYER_LIMIT {
+        offers[place] = offer_of(session, place, had, room);
+    }
+    offers
+}
+
+/// Adds a player's words of an offer.
+fn push_words<G: Game>(
+    words: &mut ArrayVec<u32, WORD_LIMIT>,
+    session: &Session<G>,
+    player: u8,
+    offer: Offer,
+)
+    requires { length words.old.items + (offer.end - offer.first) ≤ WORD_LIMIT }
+    ensures { words.new.items
+        ≡ words.old.items ++ words_at (words_of session.now player) offer }
+{
+    for frame in offer.first..offer.end {
+        if let Some(word) = session.confirmed_word(player, frame) {
+            words.push(word);
+        }
+    }
+}
+
+/// The words that are offered.
+fn words_in<G: Game>(session: &Session<G>, offers: &[Offer]) -> ArrayVec<u32, WORD_LIMIT>
+    requires players { length offers.now ≤ PLAYER_LIMIT }
+    requires room { count_of offers.now ≤ WORD_LIMIT }
+    ensures { result.items ≡ words_in session.now.core.players offers.now }
+{
+    let mut words = ArrayVec::new();
+    for (place, offer) in offers.iter().enumerate() {
+        push_words(&mut words, session, place as u8 + 1, *offer);
+    }
+    words
+}
+
+/// What a host tells a viewer who has so many rows.
+pub(crate) fn told_to<G: Game>(session: &Session<G>, had: u32) -> Play
+    ensures told { turn result ≡ told_to session.now.core had }
+    ensures whole { is_turn (turn result) ≡ true }
+{
+    session.laws();
+    let offers = offers_to(session, had);
+    Play {
+        head: Head {
+            clocks: None,
+            view: View {
+                gone: [false; MACHINE_LIMIT],
+                has: counts(session),
+            },
+            settled: None,
+            offers,
+        },
+        words: words_in(session, &offers),
+    }
+}
+
+/// What a viewer of a match of so many players says, who has so many rows.
+pub(crate) fn acknowledged(players: usize, rows: u32) -> Play
+    requires { players ≤ PLAYER_LIMIT }
+    ensures said { turn result ≡ acknowledged players rows }
+    ensures whole { is_turn (turn result) ≡ true }
+{
+    let mut has = [0; PLAYER_LIMIT];
+    for place in 0..players {
+        has[place] = rows;
+    }
+    Play {
+        head: Head {
+            clocks: None,
+            view: View {
+                gone: [false; MACHINE_LIMIT],
+                has,
+            },
+            settled: None,
+            offers: [NONE; PLAYER_LIMIT],
+        },
+        words: ArrayVec::new(),
+    }
+}
+
+/// What a host tells is its settled rows.
+pub(crate) fn tells_rows<G: Game>(session: &Session<G>, had: u32)
+    ensures { TellsRows session.now.core had }
+{
+    session.laws();
+}
