@@ -2,7 +2,8 @@
  *
  * Two players, a game of one number. Each line is the least of nine runs; a frame is all calls and requests of a turn. Beside each
  * is the same match by GGPO's policy with callbacks, in plain C: if a prediction was wrong, it loads the state before the first wrong
- * frame and runs from there on. The last line is many sessions that take turns; the least of two runs. */
+ * frame and runs from there on. The last lines are many sessions that take turns: the least of two runs, and a minute at 60 frames a
+ * second, in which each frame of all sessions has a sixtieth of a second. `c_frames 0` leaves the minute out. */
 #define _POSIX_C_SOURCE 199309L
 #include <fazgrond.h>
 #include <stdio.h>
@@ -192,40 +193,79 @@ static void measure(const char *what, uint32_t late, int changes) {
 #define SESSIONS 10000
 #define TURNS 120
 
-static void measure_many(void) {
-    match *games = calloc(SESSIONS, sizeof(match));
+static void open_all(match *games) {
+    for (size_t at = 0; at < SESSIONS; at++)
+        open_match(&games[at]);
+}
+
+static void play_frame(match *games, uint32_t frame) {
     fazgrond_reached reached;
+    for (size_t at = 0; at < SESSIONS; at++) {
+        if (frame >= 2)
+            hear(&games[at], frame - 2, 1);
+        must(fazgrond_add_local_input(&games[at].session, 1, frame));
+        must(fazgrond_advance_frame(&games[at].session, &reached));
+        carry_out_all(&games[at]);
+    }
+}
+
+static void measure_turns(match *games) {
     double least = 0;
-    if (games == NULL)
-        exit(1);
     for (int run = 0; run < 2; run++) {
-        for (size_t at = 0; at < SESSIONS; at++)
-            open_match(&games[at]);
+        open_all(games);
         double from = now();
-        for (uint32_t frame = 0; frame < TURNS; frame++) {
-            for (size_t at = 0; at < SESSIONS; at++) {
-                if (frame >= 2)
-                    hear(&games[at], frame - 2, 1);
-                must(fazgrond_add_local_input(&games[at].session, 1, frame));
-                must(fazgrond_advance_frame(&games[at].session, &reached));
-                carry_out_all(&games[at]);
-            }
-        }
+        for (uint32_t frame = 0; frame < TURNS; frame++)
+            play_frame(games, frame);
         double took = (now() - from) / TURNS / SESSIONS;
         if (run == 0 || took < least)
             least = took;
     }
     printf("%-38s %7.0f ns a frame\n", "10000 sessions, words 2 frames late", least);
+}
+
+static void wait_until(double when) {
+    double left = when - now();
+    struct timespec time = { (time_t)(left / 1e9), (long)((int64_t)left % 1000000000) };
+    if (left > 0)
+        nanosleep(&time, NULL);
+}
+
+/* The next frame begins when it is due, or as soon as the one before is over. */
+static void measure_minute(match *games) {
+    double busy = 0, longest = 0;
+    int late = 0;
+    open_all(games);
+    double start = now();
+    for (uint32_t frame = 0; frame < 3600; frame++) {
+        wait_until(start + frame * 1e9 / 60);
+        double from = now();
+        play_frame(games, frame);
+        double took = now() - from;
+        busy += took;
+        longest = took > longest ? took : longest;
+        late += now() > start + (frame + 1) * 1e9 / 60;
+    }
+    printf("%-38s %7.2f s of work in %.2f s, longest frame %.1f ms, %d of 3600 frames over late\n",
+           "10000 sessions, a minute", busy / 1e9, (now() - start) / 1e9, longest / 1e6, late);
+}
+
+static void measure_many(int minute) {
+    match *games = calloc(SESSIONS, sizeof(match));
+    if (games == NULL)
+        exit(1);
+    measure_turns(games);
+    if (minute)
+        measure_minute(games);
     for (size_t at = 0; at < SESSIONS; at++)
         fazgrond_close(&games[at].session);
     free(games);
 }
 
-int main(void) {
+int main(int count, char **words) {
     measure("each word in time, no rollback", 0, 1);
     measure("each word 6 frames late, as predicted", 6, 0);
     measure("each word 6 frames late, another one", 6, 1);
     measure("each word 2 frames late, another one", 2, 1);
-    measure_many();
+    measure_many(count < 2 || words[1][0] != '0');
     return 0;
 }

@@ -1,12 +1,13 @@
 """Measures which guesses are worth making: python3 bench/choices.py [ROLLDUEL]
 
-Two players and 1,000 frames. Each player's words are among four, and are held for 3, 10 or 30 frames on average. Player
-2's are heard 0 to 8 frames late, in order, and told with a sync. After each advance guesses of them are made, in the order of
+Two players and 1,000 frames. Each player's words are among four, and are held for 3, 10 or 30 frames on average; or they are
+those of the bots of c/duel, which take another of sixteen words in one frame of eight. Player 2's are heard 0 to 8 frames late, in order, and told with a sync. After each advance guesses of them are made, in the order of
 a rule, until so many of them gave jobs; each job is run, and its branch grafted. Counted are the frames that the syncs ran
 again, as a share of those that GGPO runs again on the same words.
 
 Which states are kept is followed here, by their paths, so the table needs no program. With ROLLDUEL the first 200 frames of
-each match are played through it too, as a script, and it must count the same jobs and the same frames.
+each match are played through it too, as a script, and it must count the same jobs and the same frames. And a second table is
+printed, of 20 of its own matches for each number of jobs: `rollduel match --guesses best`.
 
 The chooser is written again here from its definition, crates/roll_guess/specs.
 """
@@ -19,12 +20,17 @@ THRESHOLD, PATH_LIMIT, BRANCH_LIMIT = 8, 24, 8
 HEADER = f"roll 1 players 2 local 1 delay 0,0 threshold {THRESHOLD}"
 WORDS = range(4)
 BUDGETS = (1, 2, 4, 8, 16)
+BOTS = "bots"
 
 
-def held_words(now, heard, last, settled):
+def held_words(words):
     """The older rule: the last word held for 0 to 8 frames more, and then each word, all up to this frame."""
-    for k in range(min(8, now - heard - 1) + 1):
-        yield from (([last] * k + [word], now) for word in WORDS if k == 0 or word != last)
+
+    def guesses(now, heard, last, settled):
+        for k in range(min(8, now - heard - 1) + 1):
+            yield from (([last] * k + [word], now) for word in words if k == 0 or word != last)
+
+    return guesses
 
 
 class Chooser:
@@ -99,12 +105,27 @@ class Chooser:
             yield words, max(settled + 1, min(heard + len(words) + 7, settled + PATH_LIMIT))
 
 
+def bot(seed, number):
+    """The words of a bot of c/duel, as `draw_word` there has them."""
+    state, word = 0x9E3779B97F4A7C15 * (4 * seed + number) % 2**64, 0
+    while True:
+        yield word
+        state ^= state << 13 & 2**64 - 1
+        state ^= state >> 7
+        state ^= state << 17 & 2**64 - 1
+        if state >> 32 & 7 == 0:
+            word = state >> 40 & 15
+
+
 class Match:
     """A match, and the paths of the states that are kept, from the settled frame on: a tree by rows."""
 
     def __init__(self, frames, held, seed):
         draw = random.Random(seed)
-        self.own, self.words = ([*self.drawn(frames, held, draw)] for _ in range(2))
+        if held == BOTS:
+            self.own, self.words = ([*islice(bot(seed, number), frames)] for number in (1, 2))
+        else:
+            self.own, self.words = ([*self.drawn(frames, held, draw)] for _ in range(2))
         self.when = [*accumulate((frame + draw.randrange(THRESHOLD + 1) for frame in range(frames)), max)]
         self.kept, self.settled, self.heard = {}, 0, 0
         self.lines, self.jobs, self.rerun, self.ggpo = [HEADER], 0, 0, 0
@@ -171,8 +192,9 @@ class Match:
 
 def played(frames, held, seed, rule, budget):
     match = Match(frames, held, seed)
-    chooser = Chooser(WORDS)
-    match.play(*((held_words, lambda word: None) if rule == "held words" else (chooser.choose, chooser.note)), budget)
+    chooser = Chooser(() if held == BOTS else WORDS)
+    older = held_words(range(16) if held == BOTS else WORDS)
+    match.play(*((older, lambda word: None) if rule == "held words" else (chooser.choose, chooser.note)), budget)
     return match
 
 
@@ -186,10 +208,30 @@ def check(program, match):
         sys.exit(f"the program ran {rerun} frames again, and {jobs} jobs: not {match.rerun} and {match.jobs}")
 
 
+def counts(program, *words):
+    """What a match of the program counts: frames that both sides ran again, those of GGPO, and the guesses."""
+    said = subprocess.run([program, "match", *words], stdout=subprocess.PIPE, check=True).stdout.decode().splitlines()[-1]
+    found = dict(pair.partition("=")[::2] for pair in said.split())
+    return [sum(map(int, found[name].split(","))) for name in ("rerun", "ggpo", "guessed")]
+
+
+def print_matches(program):
+    print("\n| Words held for | Guesses |", " | ".join(f"{budget} jobs" for budget in BUDGETS), "|")
+    print("|---|---|" + "---|" * len(BUDGETS))
+    for held in (3, 10, 30):
+        cells = []
+        for budget in BUDGETS:
+            how = ["--guesses", "best", "--jobs", str(budget), "--hold", str(held)]
+            all_counts = [counts(program, "--seed", str(seed), *how) for seed in range(1, 21)]
+            rerun, ggpo, jobs = map(sum, zip(*all_counts))
+            cells.append(f"{rerun / ggpo:.2f} ({jobs / 40000:.1f})")
+        print(f"| {held} frames | `best` |", " | ".join(cells), "|", flush=True)
+
+
 def main():
     print("| Words held for | Guesses |", " | ".join(f"{budget} jobs" for budget in BUDGETS), "|")
     print("|---|---|" + "---|" * len(BUDGETS))
-    for held in (3, 10, 30):
+    for held in (3, 10, 30, BOTS):
         for rule in ("held words", "chooser"):
             cells = []
             for budget in BUDGETS:
@@ -198,7 +240,10 @@ def main():
                 cells.append(f"{share:.2f} ({sum(match.jobs for match in matches) / 3000:.1f})")
                 for program in sys.argv[1:]:
                     check(program, played(200, held, 1, rule, budget))
-            print(f"| {held} frames | {rule} |", " | ".join(cells), "|", flush=True)
+            name = "the duel's bots" if held == BOTS else f"{held} frames"
+            print(f"| {name} | {rule} |", " | ".join(cells), "|", flush=True)
+    for program in sys.argv[1:]:
+        print_matches(program)
 
 
 main()

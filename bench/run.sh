@@ -26,10 +26,6 @@ table() {
             python3 "$here/threads.py" links "$program" "$work/links" "$@"
             ;;
         match) python3 "$here/threads.py" match "$program" "$@" ;;
-        alone | calls | sessions)
-            echo "bench/run.sh: --$what went with the older program that measured it: see docs/PERFORMANCE.md" >&2
-            exit 2
-            ;;
         *) echo "$usage" >&2; exit 2 ;;
     esac
 }

@@ -58,7 +58,7 @@ def rounds_in(program, cost):
     def each():
         lines = told(program, "match", 0, "free", frames, rounds)
         rerun = sum(again for _, _, again, _ in numbers(lines, "rollback"))
-        return numbers(lines, "match")[0][5] / (frames + rerun)
+        return numbers(lines, "match")[0][-1] / (frames + rerun)
 
     return round(rounds * cost / min(each() for _ in range(RUNS)))
 
@@ -82,14 +82,14 @@ def measure_match(program, pace, workers, frames, rounds):
     """A match's row."""
     lines = told(program, "match", workers, pace, frames, rounds)
     rollbacks = numbers(lines, "rollback")
-    ((issued, full, taken, added, dropped, spent),) = numbers(lines, "match")
+    ((issued, full, withdrawn, taken, added, dropped, spent),) = numbers(lines, "match")
     rerun = sum(again for _, _, again, _ in rollbacks)
     theirs = ggpo([word for (word,) in numbers(lines, "word")], rollbacks, frames)
     times = sorted(time / 1e3 for *_, time in rollbacks)
     median, rare = times[(len(times) + 1) // 2 - 1], times[len(times) - len(times) // 1000 - 1]
     name = "60" if pace == "sixty" else "as fast as it goes"
     print(
-        f"| {name} | {workers} | {issued} | {taken * 1e9 / spent:.0f} | {full} | {added} | {dropped} | {rerun} | {theirs} "
+        f"| {name} | {workers} | {issued} | {taken * 1e9 / spent:.0f} | {full} | {withdrawn} | {added} | {dropped} | {rerun} | {theirs} "
         f"| {rerun / theirs:.2f} | {median:.1f} µs | {rare:.1f} µs | {times[-1]:.1f} µs |",
         flush=True,
     )
@@ -99,10 +99,10 @@ def measure_matches(program, frames=10_000):
     rounds = rounds_in(program, FRAME_COST)
     print(f"{rounds} rounds a frame", file=sys.stderr)
     print(
-        "| Frames a second | Workers | Jobs | Jobs a second | No place | States added | Dropped | Frames run again | GGPO "
+        "| Frames a second | Workers | Jobs | Jobs a second | No place | Withdrawn | States added | Dropped | Frames run again | GGPO "
         "| Share | Sync, median | 99.9 % | Longest |"
     )
-    print("|---|---|---|---|---|---|---|---|---|---|---|---|---|")
+    print("|---|---|---|---|---|---|---|---|---|---|---|---|---|---|")
     for pace in "sixty", "free":
         for workers in 0, 1, 2, 4:
             measure_match(program, pace, workers, frames, rounds)

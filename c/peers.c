@@ -138,6 +138,12 @@ static void before(fazgrond_peer *one, fazgrond_peer *two) {
     IS(fazgrond_peer_event(two, &event), FAZGROND_NOTHING);
 }
 
+/* How many words a machine hasn't said that it has. */
+static void is_queued(fazgrond_peer *peer, uint8_t machine, int32_t words) {
+    IS(fazgrond_peer_stats(peer, machine, &stats), FAZGROND_OK);
+    IS((int32_t)stats.words_queued, words);
+}
+
 static void during(fazgrond_peer *one, fazgrond_peer *two) {
     IS(fazgrond_peer_advance_frame(one, &reached), FAZGROND_LOCAL_INPUT_MISSING);
     IS(fazgrond_peer_add_local_input(one, 2, 3), FAZGROND_INVALID_PLAYER);
@@ -156,9 +162,16 @@ static void during(fazgrond_peer *one, fazgrond_peer *two) {
     IS((int32_t)row.count, 2);
     IS(fazgrond_peer_frame(one, &a), FAZGROND_OK);
     IS((int32_t)a, 1);
+    is_queued(one, 1, 1);
     pass(one, two, 1, 32);
+    is_queued(one, 1, 1); /* sent, but not yet said to be there */
     IS(fazgrond_peer_confirmed(two, 1, &a), FAZGROND_OK);
     IS((int32_t)a, 1);
+    is_queued(two, 0, 0);
+    IS(fazgrond_peer_add_local_input(two, 2, 4), FAZGROND_OK);
+    is_queued(two, 0, 1);
+    pass(two, one, 0, 32);
+    is_queued(one, 1, 0);
     IS(fazgrond_peer_confirmed(two, 3, &a), FAZGROND_NOTHING);
     IS(fazgrond_peer_settled_row(two, 0, &row), FAZGROND_NOTHING);
     IS(fazgrond_peer_log_length(one, &length), FAZGROND_OK);
@@ -179,11 +192,12 @@ static void after(fazgrond_peer *one, fazgrond_peer *two) {
     IS((int32_t)event.code, FAZGROND_DISCONNECTED);
     IS((int32_t)event.player, 1);
     IS(fazgrond_peer_send(two, 0, 48, bytes, sizeof bytes, &said), FAZGROND_NOTHING);
+    is_queued(two, 0, 0); /* nothing is sent to who is gone */
     /* the other hears nothing any more: its silence is told, and then it is gone */
     IS(fazgrond_peer_poll(one, 1000), FAZGROND_OK);
     next_event(one, FAZGROND_INTERRUPTED, 1);
-    IS((int32_t)event.disconnect_in, 4000);
-    IS(fazgrond_peer_poll(one, 5001), FAZGROND_OK);
+    IS((int32_t)event.disconnect_in, 4032); /* it was heard last at 32 */
+    IS(fazgrond_peer_poll(one, 5033), FAZGROND_OK);
     next_event(one, FAZGROND_LEFT, 1);
 }
 

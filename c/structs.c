@@ -64,14 +64,15 @@ AT(fazgrond_event, disconnect_in, 24);
 AT(fazgrond_event, frame, 28);
 AT(fazgrond_event, field, 32);
 
-HAS(fazgrond_stats, 28);
+HAS(fazgrond_stats, 32);
 AT(fazgrond_stats, is_measured, 0);
 AT(fazgrond_stats, round_trip, 4);
 AT(fazgrond_stats, sent, 8);
 AT(fazgrond_stats, received, 12);
 AT(fazgrond_stats, lost, 16);
-AT(fazgrond_stats, frames_behind, 20);
-AT(fazgrond_stats, their_frames_behind, 24);
+AT(fazgrond_stats, words_queued, 20);
+AT(fazgrond_stats, frames_behind, 24);
+AT(fazgrond_stats, their_frames_behind, 28);
 
 HAS(fazgrond_line, 16);
 AT(fazgrond_line, full, 0);

@@ -94,6 +94,25 @@ void duel_step(duel *field, const uint32_t *words) {
     field->bullets = kept;
 }
 
+static bool is_on_field(int32_t x, int32_t y, int32_t vx, int32_t vy, int32_t speed) {
+    return x >= 0 && x < DUEL_WIDTH && y >= 0 && y < DUEL_HEIGHT && vx >= -speed && vx <= speed && vy >= -speed && vy <= speed;
+}
+
+bool duel_is_state(const duel *field, uint32_t ships) {
+    bool is_one = field->ships == ships && ships >= 2 && ships <= DUEL_SHIPS && field->bullets <= DUEL_BULLETS;
+    for (uint32_t at = 0; is_one && at < ships; at++) {
+        const duel_ship *ship = &field->ship[at];
+        is_one = is_on_field(ship->x, ship->y, ship->vx, ship->vy, MOST_SPEED) && ship->heading < HEADINGS && ship->cool <= COOL
+            && ship->hits <= MOST_HITS;
+    }
+    for (uint32_t at = 0; is_one && at < field->bullets; at++) {
+        const duel_bullet *shot = &field->bullet[at];
+        is_one = is_on_field(shot->x, shot->y, shot->vx, shot->vy, MOST_SPEED + 16 * SHOT_SPEED) && shot->owner >= 1
+            && shot->owner <= ships && shot->life >= 1 && shot->life <= SHOT_LIFE;
+    }
+    return is_one;
+}
+
 uint32_t duel_checksum(const duel *field) {
     const uint8_t *bytes = (const uint8_t *)field;
     uint32_t sum = 0x811c9dc5u;

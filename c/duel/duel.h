@@ -40,6 +40,9 @@ bool duel_open(duel *field, uint32_t ships);
 /* A frame, with a word for each ship. */
 void duel_step(duel *field, const uint32_t *words);
 
+/* Whether bytes of a field's size, which come from elsewhere, are a state with so many ships: then it is safe to go on from it. */
+bool duel_is_state(const duel *field, uint32_t ships);
+
 /* A number that is another for most other states. */
 uint32_t duel_checksum(const duel *field);
 

@@ -1,5 +1,8 @@
 /* A match of the duel over GGPO's calls. `usage` says how it is begun. */
 #define _POSIX_C_SOURCE 200809L
+#include "bot.h"
+#include "casting.h"
+#include "options.h"
 #include "window.h"
 
 #include <ggponet.h>
@@ -7,6 +10,7 @@
 #include <stdlib.h>
 #include <string.h>
 #include <time.h>
+
 static const char usage[] =
     "duel [OPTIONS] PORT PLAYER PLAYER [PLAYER [PLAYER]] [viewer:ADDRESS ..]    a duel of ships for two to four\n"
     "duel [OPTIONS] --watch PLAYERS PORT ADDRESS    watches one, at a machine that has this one as a viewer\n"
@@ -19,7 +23,8 @@ static const char usage[] =
     "  --match N     the number that the machines of this match know\n"
     "  --lag MS --loss PERCENT --junk PERCENT    makes the line worse for what this machine sends\n"
     "  --speed N     a clock that runs N times as fast\n"
-    "  --synctest N  no network: all players are local, and each N frames are played twice\n";
+    "  --synctest N  no network: all players are local, and each N frames are played twice\n"
+    "  --cast MATCH --broker URL    publishes the match with this name, on a broker (nats://127.0.0.1:4222)\n";
 
 enum { TURN = 16667, PAST_LAST = 32, LINES = 6, MOST_BEHIND = 6, CATCH_UP = 8 };
 
@@ -39,14 +44,14 @@ static struct {
     int wait;             /* turns to wait, since this machine is ahead */
     bool is_over;         /* the match can't go on */
     int again, all_again; /* frames that were played again: in this turn, and in all */
-    uint32_t held[DUEL_SHIPS];
-    uint64_t seeds[DUEL_SHIPS];
+    duel_bot bots[DUEL_SHIPS];
     char at_last[512]; /* the state at the frame of --frames */
     char told[DUEL_SHIPS][64];
     /* What the command line says. */
     long frames, lag, loss, junk, speed, delay, timeout, sync_frames, bot, match, watch;
     bool is_headless;
-} self = { .speed = 1, .delay = 1, .timeout = 5000 };
+    casting cast;
+} self = { .speed = 1, .delay = 1, .timeout = 5000, .cast = { .broker = "nats://127.0.0.1:4222", .rate = 60 } };
 
 static void note_last(void) {
     if (self.frames > 0 && self.now.frame == self.frames)
@@ -127,34 +132,27 @@ static bool on_event(GGPOEvent *event) {
     return true;
 }
 
-/* Draws a bot's next word, after one was taken. So a bot always gives the same words, whatever the line is. */
-static void draw_word(int place) {
-    uint64_t *seed = &self.seeds[place];
-    *seed ^= *seed << 13;
-    *seed ^= *seed >> 7;
-    *seed ^= *seed << 17;
-    if ((*seed >> 32 & 7) == 0)
-        self.held[place] = *seed >> 40 & 15;
-}
-
 /* A turn of the main loop, as GGPO's guide has it, and whether it played a frame. A viewer's inputs are ignored. */
 static bool turn(void) {
     uint32_t words[DUEL_SHIPS];
+    int gone = 0;
     GGPOErrorCode code = GGPO_OK;
     if (self.wait > 0) {
         self.wait--;
         return false;
     }
     for (int at = 0; at < self.locals && GGPO_SUCCEEDED(code); at++) {
-        uint32_t word = self.bot > 0 ? self.held[at] : window_word(at);
+        uint32_t word = self.bot > 0 ? self.bots[at].word : window_word(at);
         code = ggpo_add_local_input(self.session, self.local[at], &word, sizeof word);
         if (GGPO_SUCCEEDED(code))
-            draw_word(at);
+            duel_bot_draw(&self.bots[at]);
     }
     if (GGPO_SUCCEEDED(code))
-        code = ggpo_synchronize_input(self.session, words, sizeof words, NULL);
+        code = ggpo_synchronize_input(self.session, words, sizeof words, &gone);
     if (GGPO_SUCCEEDED(code))
         advance(words);
+    if (GGPO_SUCCEEDED(code) && self.watch > 0)
+        casting_frame(words, (uint32_t)gone, self.now.frame, &self.now.field);
     if (code == GGPO_ERRORCODE_GENERAL_FAILURE || (self.watch > 0 && code == GGPO_ERRORCODE_PLAYER_DISCONNECTED)) {
         fprintf(stderr, "duel: %s\n", ggpo_last_error(self.session));
         self.is_over = true;
@@ -213,12 +211,18 @@ static bool is_done(void) {
     return GGPO_SUCCEEDED(fazggpo_get_settled(self.session, &settled)) && settled >= self.frames + PAST_LAST;
 }
 
+/* Where the field is in a state that was saved. */
+static const duel *field_of(const unsigned char *buffer, int length) {
+    return length == (int)sizeof(state) ? &((const state *)(const void *)buffer)->field : NULL;
+}
+
 static int play(void) {
     uint64_t next = micros();
     while (!self.is_over && (self.is_headless || window_goes_on()) && !is_done()) {
         uint64_t now = micros();
         if (now >= next) {
             for (int frames = 0; frames < CATCH_UP && turn() && is_behind(); frames++) {}
+            casting_turn(self.session, field_of);
             if (!self.is_headless)
                 draw();
             self.all_again += self.again;
@@ -241,37 +245,16 @@ static int fail(const char *why) {
     return 2;
 }
 
-static bool read_number(const char *text, long *number) {
-    char *end;
-    *number = text != NULL ? strtol(text, &end, 10) : -1;
-    return text != NULL && *text != 0 && *end == 0 && *number >= 0;
-}
-
-/* Reads options, and says at which word the port is; 0 if it can't. */
-static int read_options(char **words) {
-    static const struct {
-        const char *name;
-        long *number;
-    } options[] = {
-        { "--bot", &self.bot },         { "--frames", &self.frames }, { "--lag", &self.lag },     { "--loss", &self.loss },
-        { "--junk", &self.junk },       { "--speed", &self.speed },   { "--delay", &self.delay }, { "--match", &self.match },
-        { "--timeout", &self.timeout }, { "--synctest", &self.sync_frames },
-        { "--watch", &self.watch },
-    };
-    int at = 1;
-    for (; words[at] != NULL && strncmp(words[at], "--", 2) == 0; at++) {
-        size_t option = 0;
-        if (strcmp(words[at], "--headless") == 0) {
-            self.is_headless = true;
-            continue;
-        }
-        while (option < sizeof options / sizeof *options && strcmp(words[at], options[option].name) != 0)
-            option++;
-        if (option == sizeof options / sizeof *options || !read_number(words[++at], options[option].number))
-            return 0;
-    }
-    return words[at] != NULL ? at : 0;
-}
+static const option options[] = {
+    { "--bot", &self.bot, NULL, NULL },         { "--frames", &self.frames, NULL, NULL },
+    { "--lag", &self.lag, NULL, NULL },         { "--loss", &self.loss, NULL, NULL },
+    { "--junk", &self.junk, NULL, NULL },       { "--speed", &self.speed, NULL, NULL },
+    { "--delay", &self.delay, NULL, NULL },     { "--match", &self.match, NULL, NULL },
+    { "--timeout", &self.timeout, NULL, NULL }, { "--synctest", &self.sync_frames, NULL, NULL },
+    { "--watch", &self.watch, NULL, NULL },     { "--cast", NULL, &self.cast.match, NULL },
+    { "--headless", NULL, NULL, &self.is_headless }, { "--broker", NULL, &self.cast.broker, NULL },
+    { NULL, NULL, NULL, NULL },
+};
 
 static bool is_viewer(const char *word) { return strncmp(word, "viewer:", 7) == 0; }
 
@@ -296,7 +279,7 @@ static bool add_player(const char *word, int number) {
     if (!GGPO_SUCCEEDED(ggpo_add_player(self.session, &player, &handle)))
         return false;
     if (player.type == GGPO_PLAYERTYPE_LOCAL) {
-        self.seeds[self.locals] = 0x9e3779b97f4a7c15u * (uint64_t)(self.bot * DUEL_SHIPS + number);
+        self.bots[self.locals] = duel_bot_of(self.bot, number);
         self.local[self.locals++] = handle;
         ggpo_set_frame_delay(self.session, handle, (int)self.delay);
     } else if (player.type == GGPO_PLAYERTYPE_SPECTATOR)
@@ -327,8 +310,18 @@ static bool set_up(void) {
         && GGPO_SUCCEEDED(fazggpo_set_speed(self.session, (int)self.speed));
 }
 
+/* Publishes the match, if that is asked for, under a name that no other machine has at this address. */
+static bool start_casting(int port) {
+    char name[32];
+    snprintf(name, sizeof name, "%s%d-%d", self.watch > 0 ? "watcher" : "player", self.local[0], port);
+    self.cast.me = name;
+    self.cast.players = self.players;
+    self.cast.frames = self.frames;
+    return casting_open(&self.cast, &self.now.field);
+}
+
 int main(int count, char **words) {
-    int at = read_options(words);
+    int at = read_options(words, options);
     long port;
     if (at == 0 || !read_number(words[at], &port) || port > 65535)
         return fail("the options or the port can't be read");
@@ -349,9 +342,11 @@ int main(int count, char **words) {
         fail(is_ready ? "no player is local" : ggpo_last_error(self.session));
     else if (!self.is_headless && !window_open(self.local[0]))
         fail("no window can be opened: --headless plays without");
-    else
+    else if (start_casting((int)port))
         status = play();
     ggpo_close_session(self.session);
+    if (status != 2 && !casting_close(self.is_over ? "the match can't go on" : "the match was closed"))
+        status = 1;
     if (!self.is_headless)
         window_close();
     return status;

@@ -498,15 +498,22 @@ static GGPOErrorCode carry_out_all(GGPOSession *session, bool *is_stepped) {
     return why == NULL ? GGPO_OK : broken(session, why);
 }
 
+/* The last settled state, and its frame; null if there is none. */
+static saved *settled_state(GGPOSession *session, uint32_t *frame) {
+    uint32_t slot;
+    if (!session->has_begun || fazgrond_peer_settled_slot(&session->peer, frame, &slot) != FAZGROND_OK)
+        return NULL;
+    return slot < session->slot_count && session->slots[slot].taken ? &session->slots[slot] : NULL;
+}
+
 /* Tells the others the checksum of the last settled state. */
 static void note_settled(GGPOSession *session) {
-    uint32_t frame, slot;
-    if (!session->has_begun || fazgrond_peer_settled_slot(&session->peer, &frame, &slot) != FAZGROND_OK)
-        return;
-    if (frame == session->noted || slot >= session->slot_count || !session->slots[slot].taken)
+    uint32_t frame;
+    const saved *state = settled_state(session, &frame);
+    if (state == NULL || frame == session->noted)
         return;
     session->noted = frame;
-    fazgrond_peer_note_settled(&session->peer, (uint32_t)session->slots[slot].checksum);
+    fazgrond_peer_note_settled(&session->peer, (uint32_t)state->checksum);
 }
 
 /* Sessions. */
@@ -1508,6 +1515,7 @@ GGPOErrorCode ggpo_get_network_stats(GGPOSession *session, GGPOPlayerHandle hand
     if (code != FAZGROND_OK)
         return refused(session, code);
     stats->network.ping = measured.is_measured != 0 ? (int)measured.round_trip : 0;
+    stats->network.send_queue_len = (int)measured.words_queued;
     stats->network.kbps_sent = (int)(session->machine[of->machine].bytes_before / 1024);
     /* By the time that a packet came, its sender was half a round trip further. */
     int since = (stats->network.ping * 60 + 1000) / 2000;
@@ -1554,4 +1562,23 @@ GGPOErrorCode fazggpo_get_watched(GGPOSession *session, GGPOPlayerHandle handle,
     if (code == FAZGROND_OK)
         *frame = (int)state.rows;
     return refused(session, code);
+}
+
+fazgrond_peer *fazggpo_get_peer(GGPOSession *session) {
+    return session != NULL && session->has_begun && !session->is_spectating ? &session->peer : NULL;
+}
+
+GGPOErrorCode fazggpo_get_settled_state(GGPOSession *session, int *frame, unsigned char **buffer, int *length) {
+    uint32_t settled = 0;
+    if (session == NULL)
+        return GGPO_ERRORCODE_INVALID_SESSION;
+    if (frame == NULL || buffer == NULL || length == NULL)
+        return refuse(session, GGPO_ERRORCODE_INVALID_REQUEST, "no place for the state");
+    const saved *state = session->is_spectating ? NULL : settled_state(session, &settled);
+    if (state == NULL)
+        return refuse(session, GGPO_ERRORCODE_NOT_SYNCHRONIZED, "no state is there yet");
+    *frame = (int)settled;
+    *buffer = state->buffer;
+    *length = state->length;
+    return GGPO_OK;
 }

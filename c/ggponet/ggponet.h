@@ -163,7 +163,7 @@ typedef struct GGPOSessionCallbacks {
 
 typedef struct GGPONetworkStats {
     struct {
-        int send_queue_len; /* always 0: not known here */
+        int send_queue_len; /* words that this player's machine hasn't said that it has */
         int recv_queue_len; /* always 0, as in GGPO */
         int ping;           /* the round trip; 0 until it is known */
         int kbps_sent;      /* kilobytes in the last second, to this player's machine */
@@ -260,6 +260,14 @@ GGPO_API GGPOErrorCode __cdecl fazggpo_get_settled(GGPOSession *session, int *fr
 /* How many frames a spectator has. Wait for it at the end of a match, by ggpo_idle, before the session is closed. It is refused
  * with GGPO_ERRORCODE_NOT_SYNCHRONIZED if the spectator wasn't heard yet, GGPO_ERRORCODE_PLAYER_DISCONNECTED if it is gone. */
 GGPO_API GGPOErrorCode __cdecl fazggpo_get_watched(GGPOSession *session, GGPOPlayerHandle spectator, int *frame);
+
+/* The peer that plays this match, for calls of fazgrond.h that only ask; null before the match opens, and of a session that
+ * watches or is a sync test. */
+GGPO_API struct fazgrond_peer *__cdecl fazggpo_get_peer(GGPOSession *session);
+
+/* The state after all settled frames, as save_game_state made it, and how many these are. It stays until the next call. It is
+ * refused with GGPO_ERRORCODE_NOT_SYNCHRONIZED if there is none yet. */
+GGPO_API GGPOErrorCode __cdecl fazggpo_get_settled_state(GGPOSession *session, int *frame, unsigned char **buffer, int *length);
 
 /* A bad line, for tests. What this session sends goes out so much later, and so many in a hundred are lost. Of so many in a
  * hundred a copy with a changed byte goes out too. */

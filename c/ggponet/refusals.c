@@ -169,7 +169,8 @@ static void refused_sessions(void) {
 static void refused_watchers(void) {
     GGPONetworkStats stats;
     char host[] = "127.0.0.1";
-    int inputs[2], frame;
+    unsigned char *buffer;
+    int inputs[2], frame, length;
     MUST(ggpo_start_spectating(&game.session, &calls, name, 2, 4, 0, host, 9) == GGPO_OK);
     MUST(ggpo_add_local_input(game.session, 7, NULL, 0) == GGPO_OK);
     for (int at = 0; at < 2; at++) {
@@ -187,6 +188,10 @@ static void refused_watchers(void) {
     MUST(fazggpo_set_spectators(game.session, 1) == GGPO_ERRORCODE_UNSUPPORTED);
     MUST(fazggpo_get_watched(game.session, 1000, &frame) == GGPO_ERRORCODE_INVALID_PLAYER_HANDLE);
     MUST(fazggpo_get_settled(game.session, &frame) == GGPO_OK && frame == 0);
+    MUST(fazggpo_get_peer(game.session) == NULL && fazggpo_get_peer(NULL) == NULL);
+    MUST(fazggpo_get_settled_state(game.session, &frame, &buffer, &length) == GGPO_ERRORCODE_NOT_SYNCHRONIZED);
+    MUST(fazggpo_get_settled_state(game.session, &frame, NULL, &length) == GGPO_ERRORCODE_INVALID_REQUEST);
+    MUST(fazggpo_get_settled_state(NULL, &frame, &buffer, &length) == GGPO_ERRORCODE_INVALID_SESSION);
     end();
 }
 
@@ -258,15 +263,17 @@ static void play_alone(void) {
     MUST(ggpo_disconnect_player(game.session, 2) == GGPO_OK && ggpo_idle(game.session, 1) == GGPO_OK && game.running == 1);
     MUST(ggpo_disconnect_player(game.session, 2) == GGPO_ERRORCODE_PLAYER_DISCONNECTED);
     for (int at = 0; at < 40; at++) {
-        int input = at, settled;
+        int input = at, settled, length;
+        unsigned char *buffer;
         MUST(ggpo_add_local_input(game.session, 1, &input, sizeof input) == GGPO_OK);
         MUST(ggpo_synchronize_input(game.session, inputs, sizeof inputs, &flags) == GGPO_OK);
         MUST(flags == 2 && inputs[0] == (at < 8 ? 0 : at - 8) && inputs[1] == 0);
         game.frame++;
         MUST(ggpo_advance_frame(game.session) == GGPO_OK && ggpo_idle(game.session, 0) == GGPO_OK);
         MUST(fazggpo_get_settled(game.session, &settled) == GGPO_OK && settled == game.frame);
+        MUST(fazggpo_get_settled_state(game.session, &settled, &buffer, &length) == GGPO_OK && settled == game.frame);
     }
-    MUST(game.frame == 40);
+    MUST(game.frame == 40 && fazggpo_get_peer(game.session) != NULL);
     /* A frame that the game steps without an input of its own is refused, and its step taken back. */
     MUST(ggpo_synchronize_input(game.session, inputs, sizeof inputs, NULL) == GGPO_OK);
     game.frame++;

@@ -123,6 +123,21 @@ refused, since the settled row contradicts it.
   refused 112
   $ kept hosted > a; kept grafted > b; diff a b
 
+64 guesses can be out. The next one takes the place of the oldest that no worker has taken, here the second. Where the workers
+have taken all 64 it finds no place, though the game made its copy.
+
+  $ { printf "${four}workers 1\nhost\n"; for word in $(seq 64); do echo "speculate 2 2 $word"; done; \
+  > printf 'work 0\nspeculate 2 2 65\nsettle\n'; } | two | tail -n 3
+  did 0
+  ticket 64
+  issued 65 collected 0 withdrawn 1 late 0 left 2 3 4 5 6 7 8 9 10 11 12 13 14 15 16 17 18 19 20 21 22 23 24 25 26 27 28 29 30 31 32 33 34 35 36 37 38 39 40 41 42 43 44 45 46 47 48 49 50 51 52 53 54 55 56 57 58 59 60 61 62 63 64
+  $ { printf "${four}workers 4\nhost\n"; for word in $(seq 64); do echo "speculate 2 2 $word"; done; \
+  > for worker in 0 1 2 3; do for turn in $(seq 16); do echo "work $worker"; done; done; \
+  > printf 'speculate 2 2 65\nabsorb\nspeculate 2 2 65\n'; } | two | tail -n 3 | sed 's/ added.*//'
+  refused 119
+  taken 64
+  ticket 64
+
 Branches may fill 240 kept states: 29 guesses add 8 states each and one more adds 7, so the next finds no place. Even then
 the first frame can be played.
 

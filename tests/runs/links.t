@@ -160,7 +160,7 @@ The same with a worker beside.
   frame 1 from 0 rerun 1 settled 1 state 0
   applied 1 refused 0
   left 0
-  issued 0 collected 0 late left
+  issued 0 collected 0 withdrawn 0 late left
   frame 1 settled 1 log 131 state 0 settled state 0 plan to 1 from 0 rerun 1
 
 The end of a link says how many items are left, of which one is held here. Pumps go on taking them.

@@ -129,7 +129,7 @@ Words that can't be understood.
   error: invalid value 'ten' for '--frames <N>': invalid digit found in string
   $ rollduel match --guesses some
   error: invalid value 'some' for '--guesses <GUESSES>'
-    [possible values: none, words, turns]
+    [possible values: none, words, turns, best]
   
   For more information, try '--help'.
   [2]

@@ -10,16 +10,18 @@ The peers agree for each of 200 seeds, and no claim is wrong. `wells` counts how
    200 wrong=0,0 agree=yes
   $ seeds --guesses turns | wells
    200 wrong=0,0 agree=yes
+  $ seeds --guesses best | wells
+   200 wrong=0,0 agree=yes
   $ seeds --game duel --delay 1 | wells
    200 wrong=0,0 agree=yes
 
 The same seed prints the same, with each kind of guesses and each game.
 
-  $ for game in tally duel; do for guesses in none words turns; do
+  $ for game in tally duel; do for guesses in none words turns best; do
   >   rollduel match --frames 60 --late 8 --lost 20 --guesses $guesses --game $game > once
   >   rollduel match --frames 60 --late 8 --lost 20 --guesses $guesses --game $game | cmp - once && echo same
   > done; done | uniq -c | tr -s ' '
-   6 same
+   8 same
 
 Over 20 seeds of 1,000 frames: without guesses neither side runs more frames again than GGPO does, and some are; with turns
 guessed, nine of ten are saved. `twenty` gives the frames that either side ran again, then those of GGPO.
@@ -36,3 +38,21 @@ guessed, nine of ten are saved. `twenty` gives the frames that either side ran a
    20 wrong=0,0 agree=yes
   $ reruns < turns | awk '{ ours += $1 + $2; theirs += $3 + $4 } END { print NR, (10 * ours <= theirs) }'
   20 1
+
+Of the best guesses four jobs a frame save four frames of five, and sixteen nine of ten. No frame has more jobs than that; after
+the last one the players wait for some more simulated frames.
+
+  $ twenty --guesses best > four
+  $ wells < four
+   20 wrong=0,0 agree=yes
+  $ reruns < four | awk '{ ours += $1 + $2; theirs += $3 + $4 } END { print NR, (5 * ours <= theirs) }'
+  20 1
+  $ twenty --guesses best --jobs 16 > sixteen
+  $ reruns < sixteen | awk '{ ours += $1 + $2; theirs += $3 + $4 } END { print NR, (10 * ours <= theirs) }'
+  20 1
+  $ sed -n 's/^match .* guessed=\([0-9]*\),\([0-9]*\) .*/\1 \2/p' four | awk '$1 > 4100 || $2 > 4100 { more++ } END { print NR, more + 0 }'
+  20 0
+  $ rollduel match --guesses best --jobs 0 > none 2>&1 || echo "status $?"
+  status 2
+  $ rollduel match --guesses best --jobs 33 > none 2>&1 || echo "status $?"
+  status 2

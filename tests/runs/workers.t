@@ -85,14 +85,14 @@ A pool that is closed does no work, and hands its jobs back.
   closed
   closed
   none
-  issued 3 collected 0 late left 0 1 2
+  issued 3 collected 0 withdrawn 0 late left 0 1 2
   closed
   closed
   closed
   closed
   closed
   none
-  issued 3 collected 0 late left 0 1 2
+  issued 3 collected 0 withdrawn 0 late left 0 1 2
 
 Two workers run a job each, and both results are collected: nothing is late, and nothing is left.
 
@@ -103,12 +103,12 @@ Two workers run a job each, and both results are collected: nothing is late, and
   ticket 1 states 7
   none
   closed
-  issued 2 collected 2 late left
+  issued 2 collected 2 withdrawn 0 late left
 
 Of three jobs one is collected, the result of the second is late, and the third is left.
 
   $ { echo 'workers 2'; copies 3 "$job"; printf 'work 0\nwork 1\ncollect\nclose\nsettle\n'; } | two | tail -n 1
-  issued 3 collected 1 late 1 left 2
+  issued 3 collected 1 withdrawn 0 late 1 left 2
 
 A host: a guess costs nothing where it was right, and is kept then.
 
@@ -158,29 +158,29 @@ A job that the game refused to run has no branch, and no entry in the log. A hos
   closed
   closed
 
-With k jobs out, 1 to 64, the next guess has the number k; with 64 of them it is refused, and so is every other, whatever is
-wrong with it, until a result is taken in.
+With k jobs out, 1 to 64, the next guess has the number k. With 64 of them the oldest that no worker has taken makes place for it,
+and is withdrawn: here the first, so a worker takes the second. A guess that is refused takes no place.
 
   $ { printf 'workers 1\nhost\n'; copies 64 'speculate 2 2 3'; echo 'speculate 2 2 3'; echo 'speculate 0 0 -'; echo 'work 0'; \
   > echo 'speculate 0 0 -'; echo absorb; echo 'speculate 0 0 -'; echo 'speculate 2 2 4'; } > guesses
   $ after < guesses | sed -n '3,66p' > tickets; seq 0 63 | sed 's/^/ticket /' | diff - tickets
   $ after < guesses | tail -n +67
-  refused 119
-  refused 119
-  did 0
-  refused 119
+  ticket 64
+  refused 2
+  did 1
+  refused 2
   taken 1 added 2 dropped 0 unmade 0
   refused 2
-  ticket 64
+  ticket 65
 
-On a fresh host it is the same, with another word in each guess. Once a result is taken in, there is a place again.
+On a fresh host it is the same, with another word in each guess.
 
   $ { printf 'workers 1\nhost\n'; seq -f 'speculate 2 1 %g' 65; printf 'work 0\nabsorb\nspeculate 2 1 65\n'; } | two > said
   $ sed -n '3,66p' said | diff - tickets; tail -n +67 said
-  refused 119
-  did 0
-  taken 1 added 1 dropped 0 unmade 0
   ticket 64
+  did 1
+  taken 1 added 1 dropped 0 unmade 0
+  ticket 65
 
 After two frames, a worker whose game refuses its first advance: the guess's job is done, and nothing comes of it.
 
@@ -211,7 +211,7 @@ A host without workers takes no guess, has nothing to take in or to close, and n
   refused 119
   taken 0 added 0 dropped 0 unmade 0
   closed
-  issued 0 collected 0 late left
+  issued 0 collected 0 withdrawn 0 late left
   frame 2 settled 0 log 4 state 11 settled state 0 plan to 2 from 1 rerun 1
 
 One to four workers of whom none ran anything: all jobs are handed back.
@@ -219,13 +219,13 @@ One to four workers of whom none ran anything: all jobs are handed back.
   $ for n in 1 2 3 4; do
   > { printf "workers $n\nhost\nspeculate 2 2 3\nspeculate 2 2 4\nspeculate 2 2 5\nclose\nsettle\nseen\n"; } | after | tail -n 2
   > done
-  issued 3 collected 0 late left 0 1 2
+  issued 3 collected 0 withdrawn 0 late left 0 1 2
   frame 2 settled 0 log 4 state 11 settled state 0 plan to 2 from 1 rerun 1
-  issued 3 collected 0 late left 0 1 2
+  issued 3 collected 0 withdrawn 0 late left 0 1 2
   frame 2 settled 0 log 4 state 11 settled state 0 plan to 2 from 1 rerun 1
-  issued 3 collected 0 late left 0 1 2
+  issued 3 collected 0 withdrawn 0 late left 0 1 2
   frame 2 settled 0 log 4 state 11 settled state 0 plan to 2 from 1 rerun 1
-  issued 3 collected 0 late left 0 1 2
+  issued 3 collected 0 withdrawn 0 late left 0 1 2
   frame 2 settled 0 log 4 state 11 settled state 0 plan to 2 from 1 rerun 1
 
 The same list of calls as `links.t` has, made by one call: the guess goes to the worker, which the close stops.
@@ -253,4 +253,4 @@ The same list of calls as `links.t` has, made by one call: the guess goes to the
   closed
   all done
   closed
-  issued 1 collected 0 late left 0
+  issued 1 collected 0 withdrawn 0 late left 0

@@ -2,7 +2,7 @@
 ghost use Rattle.std.specs.Prelude.{◌≡◌};
 ghost use Rattle.fazgrond.specs.Hosted.{places_of};
 
-use fazgrond::{Advice, Feed, Host, Refusal, Spectator};
+use fazgrond::{Advice, Feed, Habits, Host, Refusal, Spectator};
 use game_fighter::{Fight, State};
 use std::alloc::Global;
 use std::sync::Wait;
@@ -16,6 +16,9 @@ pub const ME: u8 = 1;
 
 pub const OTHER: u8 = 2;
 
+/// How many guesses the workers are handed at most after a frame.
+const GUESSES: usize = 4;
+
 /// In how many frames this side asks once for advice to wait.
 const ADVISED_EVERY: u32 = 40;
 
@@ -26,6 +29,10 @@ pub struct Side {
     viewer: Spectator<Fight>,
     /// The frame that the viewer has seen.
     seen: u32,
+    /// What was seen of the other player.
+    habits: Habits,
+    /// How many of its words were noted.
+    noted: u32,
     advice: Advice,
     /// The frame from which on this side asks for advice again.
     ask_from: u32,
@@ -44,6 +51,8 @@ impl Side {
             feed,
             viewer,
             seen: 0,
+            habits: Habits::new(&[]),
+            noted: 0,
             advice: Advice::new(alloc)?,
             ask_from: ADVISED_EVERY,
             wait: 0,
@@ -87,8 +96,27 @@ impl Side {
         }
         self.compare(host);
         self.advance(host)?;
-        guess(host);
+        self.guess(host);
         self.show(host)
+    }
+
+    /// Has the workers run what comes of it if the other player goes on as it did, or changes as it often does. A guess that is
+    /// refused costs nothing.
+    fn guess(&mut self, host: &mut Host<Fight>)
+        ensures { places_of host.new.pool ≡ places_of host.old.pool }
+    {
+        let session = host.session();
+        let confirmed = session.confirmed(OTHER).unwrap_or(0);
+        for frame in self.noted..confirmed {
+            if let Some(word) = session.confirmed_word(OTHER, frame) {
+                self.habits.note(word);
+            }
+        }
+        self.noted = confirmed;
+        let best = self.habits.choose(session, OTHER);
+        for guess in best.iter().take(GUESSES) {
+            let _ = host.speculate(OTHER, guess.words.as_slice(), guess.until);
+        }
     }
 
     /// Sends the viewer what is settled, and has it run. A viewer may as well run on a thread of its own.
@@ -141,15 +169,6 @@ impl Side {
         self.wait = self.wait.saturating_sub(1);
         waits
     }
-}
-
-/// Has the workers run what comes of it if the other presses the next buttons. A guess that is refused costs nothing.
-fn guess(host: &mut Host<Fight>)
-    ensures { places_of host.new.pool ≡ places_of host.old.pool }
-{
-    let frame = host.session().frame();
-    let next = host.session().confirmed(OTHER).unwrap_or(0);
-    let _ = host.speculate(OTHER, &[buttons(OTHER, next)], frame);
 }
 
 /// What a player presses in a frame: it stands for a controller.

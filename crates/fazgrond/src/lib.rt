@@ -26,7 +26,7 @@
 //! The program `example_two_peers` is this loop, and `example_on_threads` the one with a host; both use this crate alone.
 #![tactic(auto)]
 
-pub use roll_branch::{Branch, Done, Job, extend};
+pub use roll_branch::{Branch, Done, Job, PackedRoute, extend};
 pub use roll_cert as claims;
 pub use roll_frame::{
     Advice, Cell, Claim, Entry, Event, FRAME_LIMIT, LOG_LIMIT, PLAYER_LIMIT, Path, Profile,

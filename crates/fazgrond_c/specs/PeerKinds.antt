@@ -79,6 +79,7 @@ stats_out stats = record {
   sent = stats.sent;
   received = stats.received;
   lost = stats.lost;
+  words_queued = stats.words_queued;
   frames_behind = stats.frames_behind;
   their_frames_behind = stats.their_frames_behind;
 }

@@ -10,13 +10,12 @@ use Rattle.roll_mesh.specs.Machines.{leave}
 use Rattle.roll_mesh.specs.Meshes.{leave_refusal, stepped}
 use Rattle.roll_mesh.specs.declared.limits.TheConstants.{MACHINE_LIMIT}
 use Rattle.roll_mesh.specs.declared.refusal.MeshRefusal.{MeshRefusal}
-use Rattle.roll_peer.specs.Contacts.{stats_of}
 use Rattle.roll_peer.specs.Digests.{noted}
 use Rattle.roll_peer.specs.Events.{popped}
 use Rattle.roll_peer.specs.Peered.{contact_at, GivesWord, IsNotGiven, IsOpenedAs, Peered}
 use Rattle.roll_peer.specs.Receiving.{ignored, opened as what_is_in, Receives}
 use Rattle.roll_peer.specs.Seals.{sealed}
-use Rattle.roll_peer.specs.Sending.{after_send, is_lost, IsSent}
+use Rattle.roll_peer.specs.Sending.{after_send, is_lost, stats_of, IsSent}
 use Rattle.roll_peer.specs.Turning.{over, with_session, IsNotAdvanced, IsNotSynced, Polls}
 use Rattle.roll_peer.specs.declared.received.Ignored.{Ignored}
 use Rattle.roll_peer.specs.declared.received.Received.{Received}
@@ -250,4 +249,4 @@ pub record IsNoted (digest : ℕ) (old new : PeerLive) (code : ℤ) : Type 0 whe
 abbrev pub stats_at : ℕ → PeerLive → Option StatsOut
 stats_at machine live =
     if nat_lt machine live.peer.member.mesh.seat.machines && nat_lt machine MACHINE_LIMIT
-    then Some (stats_out (stats_of (contact_at live.peer machine))) else None
+    then Some (stats_out (stats_of live.peer machine)) else None

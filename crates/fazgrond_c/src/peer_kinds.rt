@@ -167,6 +167,7 @@ pub struct StatsOut {
     pub sent: u32,
     pub received: u32,
     pub lost: u32,
+    pub words_queued: u32,
     pub frames_behind: i32,
     pub their_frames_behind: i32,
 }
@@ -182,6 +183,7 @@ impl StatsOut {
             sent: stats.sent,
             received: stats.received,
             lost: stats.lost,
+            words_queued: stats.words_queued,
             frames_behind: stats.frames_behind,
             their_frames_behind: stats.their_frames_behind,
         }

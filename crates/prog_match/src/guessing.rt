@@ -8,6 +8,7 @@ use arrayvec::ArrayVec;
 use roll_branch::{Done, extend};
 use roll_frame::{PATH_LIMIT, Refusal};
 use roll_game::Game;
+use roll_guess::Habits;
 use roll_session::Session;
 use std::alloc::Global;
 
@@ -36,10 +37,14 @@ impl Guessed {
 
 /// What is guessed of a player's next words.
 #[derive(Clone, Copy, Debug)]
-pub struct Outlook {
+pub struct Outlook<'a> {
     pub player: u8,
     /// Which guesses are made.
     pub guesses: Guesses,
+    /// How many jobs the best guesses give at most.
+    pub jobs: u32,
+    /// What was seen of it.
+    pub habits: &'a Habits,
     /// The words that it chooses among.
     pub choices: [u32; CHOICES],
     /// Its last word that is known.
@@ -50,31 +55,67 @@ pub struct Outlook {
     pub until: u32,
 }
 
-impl Outlook {
-    /// For how many frames at most the last word is held on, or none where there are no guesses.
-    fn longest(&self) -> Option<u32> {
-        match self.guesses {
-            _ if self.unknown == 0 => None,
-            Guesses::Off => None,
-            Guesses::Words => Some(0),
-            Guesses::Turns => Some(HELD_LIMIT.min(self.unknown - 1)),
-        }
-    }
-}
-
 /// Makes all guesses, has each run ahead, and takes in its branch before the next is made.
 pub fn guess_all<G: Game>(
     alloc: Global,
     session: &mut Session<G>,
     helper: &mut G,
-    outlook: &Outlook,
+    outlook: &Outlook<'_>,
+) -> Result<Guessed, Refusal>
+    ensures { OnOk result (OnlySaves session.old session.new) }
+{
+    if outlook.unknown == 0 {
+        return Ok(Guessed::default());
+    }
+    match outlook.guesses {
+        Guesses::Off => Ok(Guessed::default()),
+        Guesses::Words => guess_up_to(alloc, session, helper, outlook, 0),
+        Guesses::Turns => {
+            let longest = HELD_LIMIT.min(outlook.unknown - 1);
+            guess_up_to(alloc, session, helper, outlook, longest)
+        }
+        Guesses::Best => guess_best(alloc, session, helper, outlook),
+    }
+}
+
+/// Makes the best guesses, until so many of them were run ahead as there may be.
+fn guess_best<G: Game>(
+    alloc: Global,
+    session: &mut Session<G>,
+    helper: &mut G,
+    outlook: &Outlook<'_>,
 ) -> Result<Guessed, Refusal>
     ensures { OnOk result (OnlySaves session.old session.new) }
 {
     let mut all = Guessed::default();
-    let Some(longest) = outlook.longest() else {
-        return Ok(all);
-    };
+    let ranking = outlook.habits.choose(session, outlook.player);
+    for best in ranking.as_slice() {
+        if all.guesses >= outlook.jobs {
+            break;
+        }
+        all.add(guess(
+            alloc,
+            session,
+            helper,
+            best.player,
+            best.words.as_slice(),
+            best.until,
+        )?);
+    }
+    Ok(all)
+}
+
+/// Makes the guesses that the last word is held for up to so many frames more.
+fn guess_up_to<G: Game>(
+    alloc: Global,
+    session: &mut Session<G>,
+    helper: &mut G,
+    outlook: &Outlook<'_>,
+    longest: u32,
+) -> Result<Guessed, Refusal>
+    ensures { OnOk result (OnlySaves session.old session.new) }
+{
+    let mut all = Guessed::default();
     for held in 0..longest.saturating_add(1) {
         all.add(guess_held(alloc, session, helper, outlook, held)?);
     }
@@ -86,7 +127,7 @@ fn guess_held<G: Game>(
     alloc: Global,
     session: &mut Session<G>,
     helper: &mut G,
-    outlook: &Outlook,
+    outlook: &Outlook<'_>,
     held: u32,
 ) -> Result<Guessed, Refusal>
     ensures { OnOk result (OnlySaves session.old session.new) }
@@ -95,7 +136,8 @@ fn guess_held<G: Game>(
     for choice in outlook.choices {
         if held == 0 || choice != outlook.last {
             let words = held_then(outlook.last, held, choice);
-            all.add(guess(alloc, session, helper, outlook, words.as_slice())?);
+            let (player, until) = (outlook.player, outlook.until);
+            all.add(guess(alloc, session, helper, player, words.as_slice(), until)?);
         }
     }
     Ok(all)
@@ -116,12 +158,13 @@ fn guess<G: Game>(
     alloc: Global,
     session: &mut Session<G>,
     helper: &mut G,
-    outlook: &Outlook,
+    player: u8,
     words: &[u32],
+    until: u32,
 ) -> Result<Guessed, Refusal>
     ensures { OnOk result (OnlySaves session.old session.new) }
 {
-    let Some(job) = session.guess(alloc, outlook.player, words, outlook.until)? else {
+    let Some(job) = session.guess(alloc, player, words, until)? else {
         return Ok(Guessed::default());
     };
     let Done::Grown(branch) = extend(helper, job) else {

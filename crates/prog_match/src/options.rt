@@ -11,6 +11,8 @@ pub enum Guesses {
     Words,
     /// Those, and turns: the other's last word held for 1 to 8 frames more, and then each of the four words.
     Turns,
+    /// The best, by what was seen of the other player in this match.
+    Best,
 }
 
 /// How a match of two peers is played. The ranges are those of the command line: out of them a match plays as well, or
@@ -33,6 +35,8 @@ pub struct MatchOptions {
     pub threshold: u32,
     /// Which guesses both peers make; `Off`.
     pub guesses: Guesses,
+    /// How many jobs the best guesses give after each frame at most, 1 to 32; 4.
+    pub jobs: u32,
     /// The game that they play; `Tally`.
     pub game: GameName,
 }

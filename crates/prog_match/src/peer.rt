@@ -6,12 +6,14 @@ ghost use Rattle.prog_match.specs.Sides.{SideGoesOn};
 ghost use Rattle.prog_match.specs.Totals.{is_played, wrongs_in};
 
 use crate::options::MatchOptions;
+use crate::policy::word_at;
 use crate::side::{Side, check_claim};
 use crate::totals::is_played;
 use crate::turn::Turn;
 use crate::way::Way;
 use roll_frame::Refusal;
 use roll_game::Game;
+use roll_guess::Habits;
 use std::alloc::Global;
 
 /// A side, its way to the other, and what it did.
@@ -21,6 +23,8 @@ pub struct Peer<G: Game> {
     pub way: Way,
     /// One for each simulated frame so far.
     pub turns: Vec<Turn>,
+    /// What was seen of the other player.
+    pub habits: Habits,
 }
 
 impl<G: Game> Peer<G> {
@@ -39,7 +43,14 @@ impl<G: Game> Peer<G> {
         ensures same { let side = self.new.side in
             side ≡ record self.old.side { session = side.session; helper = side.helper } }
     {
-        let turn = take_turn(&mut self.side, alloc, options, words, there)?;
+        let turn = take_turn(
+            &mut self.side,
+            &mut self.habits,
+            alloc,
+            options,
+            words,
+            there,
+        )?;
         self.turns.push(turn)?;
         Ok(())
     }
@@ -55,9 +66,17 @@ impl<G: Game> Peer<G> {
     }
 }
 
+/// Notes the words that were heard.
+fn note(habits: &mut Habits, words: &[u32], known: u32, heard: u32) {
+    for frame in known..heard {
+        habits.note(word_at(words, frame));
+    }
+}
+
 /// What a side does in a simulated frame.
 fn take_turn<G: Game>(
     side: &mut Side<G>,
+    habits: &mut Habits,
     alloc: Global,
     options: &MatchOptions,
     words: &[u32],
@@ -82,10 +101,11 @@ fn take_turn<G: Game>(
     let known = side.known();
     let synced = side.hear(words, there)?;
     let heard = side.known();
+    note(habits, words, known, heard);
     let first = check_claim(alloc, &side.session, synced.is_some())?;
     let went = side.play()?;
     let second = check_claim(alloc, &side.session, is_played(went))?;
-    let guessed = side.guess(alloc, options, words)?;
+    let guessed = side.guess(alloc, options, words, habits)?;
     Ok(Turn {
         frame,
         known,

@@ -11,9 +11,10 @@ use crate::options::MatchOptions;
 use crate::peer::Peer;
 use crate::side::Side;
 use crate::way::Way;
-use crate::words::drawn;
+use crate::words::{choices, drawn};
 use roll_frame::{Refusal, Settings, SettingsFault};
 use roll_game::Game;
+use roll_guess::Habits;
 use roll_session::Session;
 use std::alloc::Global;
 
@@ -165,6 +166,7 @@ fn peer<G: Game + Drop>(
         side,
         way,
         turns: Vec::new(alloc),
+        habits: Habits::new(choices(options.game).as_slice()),
     })
 }
 

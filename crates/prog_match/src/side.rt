@@ -16,6 +16,7 @@ use crate::words::choices;
 use roll_cert::check;
 use roll_frame::Refusal;
 use roll_game::Game;
+use roll_guess::Habits;
 use roll_session::Session;
 use std::alloc::Global;
 
@@ -102,6 +103,7 @@ impl<G: Game> Side<G> {
         alloc: Global,
         options: &MatchOptions,
         words: &[u32],
+        habits: &Habits,
     ) -> Result<Guessed, Refusal>
         ensures saves { OnOk result (OnlySaves self.old.session self.new.session) }
         ensures same { self.new
@@ -112,6 +114,8 @@ impl<G: Game> Side<G> {
         let outlook = Outlook {
             player: self.other,
             guesses: options.guesses,
+            jobs: options.jobs,
+            habits,
             choices: choices(options.game),
             last: last_of(words, known),
             unknown: until.saturating_sub(known),

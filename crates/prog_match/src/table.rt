@@ -47,6 +47,7 @@ fn guesses_name(guesses: Guesses) -> &'static str {
         Guesses::Off => "none",
         Guesses::Words => "words",
         Guesses::Turns => "turns",
+        Guesses::Best => "best",
     }
 }
 
@@ -70,17 +71,17 @@ fn push_heading(out: &mut String, options: &MatchOptions) -> Result<(), AllocErr
         threshold,
         ..
     } = *options;
-    let guesses = guesses_name(options.guesses);
     let game = game_name(options.game);
     writeln!(out, "{frames} frames of {game}, seed {seed}")?;
     writeln!(
         out,
         "words 0 to {late} frames late, {lost} in 100 lost, held {hold} frames on average"
     )?;
-    writeln!(
-        out,
-        "delay {delay}, threshold {threshold}, guesses {guesses}\n"
-    )
+    write!(out, "delay {delay}, threshold {threshold}, guesses ")?;
+    match options.guesses {
+        Guesses::Best => writeln!(out, "best, {} jobs a frame\n", options.jobs),
+        guesses => writeln!(out, "{}\n", guesses_name(guesses)),
+    }
 }
 
 /// A row of the table.
@@ -140,6 +141,9 @@ fn push_options(out: &mut String, options: &MatchOptions) -> Result<(), AllocErr
     write!(out, " delay={}", options.delay)?;
     write!(out, " threshold={}", options.threshold)?;
     write!(out, " guesses={}", guesses_name(options.guesses))?;
+    if options.guesses == Guesses::Best {
+        write!(out, " jobs={}", options.jobs)?;
+    }
     write!(out, " game={}", game_name(options.game))
 }
 

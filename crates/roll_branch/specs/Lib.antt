@@ -1,2 +1,5 @@
 pub mod Routed
 pub mod Ends
+pub mod Changes
+pub mod Packing
+pub mod Packed

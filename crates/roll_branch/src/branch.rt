@@ -3,7 +3,8 @@ ghost use Rattle.std.specs.Prelude.{◌≡◌, ◌≤◌, length, take};
 ghost use Rattle.roll_frame.specs.Paths.{run};
 ghost use Rattle.roll_branch.specs.Routed.{AreStates};
 
-use roll_frame::{Boxed, Route};
+use crate::packed::PackedRoute;
+use roll_frame::Route;
 use roll_game::Game;
 use std::marker::Model;
 
@@ -11,7 +12,7 @@ use std::marker::Model;
 #[derive(Drop)]
 pub struct Branch<G: Game> {
     pub(crate) ticket: u64,
-    pub(crate) route: Boxed<Route>,
+    pub(crate) route: PackedRoute,
     pub(crate) from: G::Snapshot,
     pub(crate) states: Vec<G::Snapshot>,
 }
@@ -39,7 +40,7 @@ pub enum Done<G: Game> {
 #[derive(Drop)]
 pub struct Parts<G: Game> {
     pub ticket: u64,
-    pub route: Boxed<Route>,
+    pub route: PackedRoute,
     /// The state after each row.
     pub states: Vec<G::Snapshot>,
 }
@@ -53,8 +54,8 @@ impl<G: Game> Branch<G> {
     }
 
     /// Where it ran.
-    pub fn route(&self) -> &Route
-        ensures { result.now ≡ self.now.route }
+    pub fn route(&self) -> Route
+        ensures { result ≡ self.now.route }
     {
         self.route.get()
     }

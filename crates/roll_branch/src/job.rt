@@ -3,18 +3,18 @@ ghost use Rattle.std.specs.Prelude.{◌≡◌, ◌↔◌, ◌≤◌, [], length,
 ghost use Rattle.roll_branch.specs.Routed.{AreStates};
 
 use crate::branch::Branch;
-use roll_frame::{Boxed, Route};
+use crate::packed::PackedRoute;
+use roll_frame::Route;
 use roll_game::Game;
 use std::marker::Model;
 
 /// Rows that are to be run from a saved state, one at least.
 ///
-/// Its route lies apart, so that it moves through job and branch into a log's entry, and a job is small to hand between
-/// threads.
+/// Its route is packed, and moves through job and branch into a log's entry. So a job is small to hand between threads.
 #[derive(Drop)]
 pub struct Job<G: Game> {
     pub(crate) ticket: u64,
-    pub(crate) route: Boxed<Route>,
+    pub(crate) route: PackedRoute,
     pub(crate) from: G::Snapshot,
     // Empty, with room for a state for each row.
     pub(crate) room: Vec<G::Snapshot>,
@@ -35,13 +35,13 @@ impl<G: Game> Model for Job<G> {
 impl<G: Game> Job<G> {
     /// The job of a route's rows, with ticket 0. There is none where there are no rows. It takes no memory: it is handed
     /// an empty list with room for a state for each row.
-    pub fn new(route: Boxed<Route>, from: G::Snapshot, room: Vec<G::Snapshot>) -> Option<Job<G>>
+    pub fn new(route: PackedRoute, from: G::Snapshot, room: Vec<G::Snapshot>) -> Option<Job<G>>
         requires empty { room.items ≡ [] }
         requires room { length route.rows.items ≤ vec_capacity room }
         ensures none { IsNone result ↔ (route.rows.items ≡ []) }
         ensures job { IfSome result (λ job. job ≡ record { ticket = 0; route = route; from = G.snapshot_value from }) }
     {
-        if route.get().rows.is_empty() {
+        if route.count() == 0 {
             return None;
         }
         Some(Job {
@@ -67,8 +67,8 @@ impl<G: Game> Job<G> {
     }
 
     /// Where it is to run.
-    pub fn route(&self) -> &Route
-        ensures { result.now ≡ self.now.route }
+    pub fn route(&self) -> Route
+        ensures { result ≡ self.now.route }
     {
         self.route.get()
     }

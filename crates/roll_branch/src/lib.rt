@@ -2,9 +2,13 @@
 #![tactic(auto)]
 
 mod branch;
+mod change;
 mod job;
+mod packed;
+mod packing;
 mod running;
 
 pub use branch::{Branch, Done, Parts};
 pub use job::Job;
+pub use packed::PackedRoute;
 pub use running::extend;

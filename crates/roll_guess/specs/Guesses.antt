@@ -1,8 +1,7 @@
 -- What a guess is worth, how far it is run, and what a ranking of guesses is.
-use Rattle.std.specs.Prelude.{◌≡◌, ◌≢◌, ℕ, ◌+◌, ◌-◌, ◌*◌, ◌^◌, ◌<◌, ◌≤◌, List, length, min, max, fold, All, slice_index_or, Some, false}
+use Rattle.std.specs.Prelude.{◌≡◌, ◌≢◌, ◌⊎◌, ℕ, ◌+◌, ◌-◌, ◌*◌, ◌^◌, ◌<◌, ◌≤◌, List, [], ◌∷◌, ◌++◌, length, min, max, fold, replicate, All, Any, Contains, slice_index_or, Bool, not, ◌&&◌, nat_lt}
 use Rattle.roll_frame.specs.Core.{settled}
-use Rattle.roll_frame.specs.Inputs.{player_at}
-use Rattle.roll_frame.specs.Timeline.{Player}
+use Rattle.roll_frame.specs.Inputs.{of_player}
 use Rattle.roll_frame.specs.declared.limits.TheConstants.{PATH_LIMIT}
 use Rattle.roll_inputs.specs.Boards.{count_of}
 use Rattle.roll_session.specs.Seen.{Seen}
@@ -10,7 +9,7 @@ use Rattle.roll_guess.specs.Habits.{chance_of, held_after, part}
 use Rattle.roll_guess.specs.declared.course.Course.{Course}
 use Rattle.roll_guess.specs.declared.habits.Habits.{Habits}
 use Rattle.roll_guess.specs.declared.habits.Held.{Held}
-use Rattle.roll_guess.specs.declared.limits.TheConstants.{CERTAIN, REACH, UNKNOWN_LIMIT}
+use Rattle.roll_guess.specs.declared.limits.TheConstants.{CERTAIN, GUESS_LIMIT, REACH, UNKNOWN_LIMIT}
 use Rattle.roll_guess.specs.declared.ranking.Guess.{Guess}
 use Rattle.roll_guess.specs.declared.ranking.View.{View}
 
@@ -37,6 +36,10 @@ view_of s p =
       reach = min (settled s.core + PATH_LIMIT) s.settings.limit;
     }
 
+-- whether a session takes guesses of a player: there is one, who hasn't left, and not every frame is settled
+abbrev pub takes_guesses : Seen → ℕ → Bool
+takes_guesses s p = of_player (λ player. not player.gone) s.core.players p && nat_lt (settled s.core) s.settings.limit
+
 -- the frame to which a guess of so many words is run: as far past the last of them as a job goes, and no further than is taken
 abbrev pub until_of : View → ℕ → ℕ
 until_of view count = max (view.settled + 1) (min (view.from + count + (REACH - 1)) view.reach)
@@ -45,13 +48,16 @@ until_of view count = max (view.settled + 1) (min (view.from + count + (REACH - 
 abbrev pub worth_of : View → ℕ → ℕ → ℕ
 worth_of view count chance = min (chance * (view.unknown - count + 1)) (2 ^ 32 - 1)
 
+abbrev pub worth_of_words : Habits → View → List ℕ → ℕ
+worth_of_words habits view words = worth_of view (length words) (along habits words).1
+
 -- a guess of the player, of 1 to 24 words, run as far and worth as much as it is to be
 pub record Suits (habits : Habits) (view : View) (guess : Guess) : Type 0 where
   pub player : guess.player ≡ view.player
   pub some : 1 ≤ length guess.words.items
   pub few : length guess.words.items ≤ PATH_LIMIT
   pub until : guess.until ≡ until_of view (length guess.words.items)
-  pub worth : guess.worth ≡ worth_of view (length guess.words.items) (along habits guess.words.items).1
+  pub worth : guess.worth ≡ worth_of_words habits view guess.words.items
 
 -- what is worth more comes first
 abbrev pub IsFalling : List Guess → Type 0
@@ -76,14 +82,53 @@ pub record IsPlace (guesses : List Guess) (worth place : ℕ) : Type 0 where
   pub before : (k : ℕ) (d : Guess) → k < place → worth ≤ (slice_index_or guesses k d).worth
   pub behind : (d : Guess) → place < length guesses → (slice_index_or guesses place d).worth < worth
 
--- none of the guesses is of these words
-abbrev pub HasNone : List Guess → List ℕ → Type 0
-HasNone guesses words = (k : ℕ) (d : Guess) → k < length guesses → (slice_index_or guesses k d).words.items ≢ words
+-- one of the guesses is of these words, or none is
+abbrev pub HasOne : List Guess → List ℕ → Type 0
+HasOne guesses words = Any (λ guess. guess.words.items ≡ words) guesses
 
--- what a choice needs to know of a session that takes guesses of a player
-pub record IsViewOf (s : Seen) (p : ℕ) (view : View) : Type 0 where
-  pub is : view ≡ view_of s p
-  pub player : Player
-  pub there : player_at s.core.players p ≡ Some player
-  pub stays : player.gone ≡ false
-  pub room : view.settled < view.reach
+abbrev pub HasNone : List Guess → List ℕ → Type 0
+HasNone guesses words = All (λ guess. guess.words.items ≢ words) guesses
+
+-- there are as many guesses as there may be, and each is worth at least what these words are
+pub record IsBeaten (habits : Habits) (view : View) (guesses : List Guess) (words : List ℕ) : Type 0 where
+  pub full : length guesses ≡ GUESS_LIMIT
+  pub worth : All (λ guess. worth_of_words habits view words ≤ guess.worth) guesses
+
+abbrev pub StandsOrIsBeaten : Habits → View → List Guess → List ℕ → Type 0
+StandsOrIsBeaten habits view guesses words = HasOne guesses words ⊎ IsBeaten habits view guesses words
+
+-- what a ranking becomes where guesses of certain words are offered: it gets no others, and leaves nothing out that is worth
+-- more than what it has
+pub record AreOffered (habits : Habits) (view : View) (IsOffered : List ℕ → Type 0) (old new : List Guess) : Type 0 where
+  pub ranked : IsRanking habits view new
+  pub only : All (λ guess. HasOne old guess.words.items ⊎ IsOffered guess.words.items) new
+  pub kept : (words : List ℕ) → StandsOrIsBeaten habits view old words → StandsOrIsBeaten habits view new words
+  pub all : (words : List ℕ) → IsOffered words → StandsOrIsBeaten habits view new words
+
+-- a ranking of all guesses of certain words, or of the best of them
+pub record RanksAll (habits : Habits) (view : View) (IsOffered : List ℕ → Type 0) (guesses : List Guess) : Type 0 where
+  pub ranked : IsRanking habits view guesses
+  pub only : All (λ guess. IsOffered guess.words.items) guesses
+  pub all : (words : List ℕ) → IsOffered words → StandsOrIsBeaten habits view guesses words
+
+-- after these words, the one that is held then comes so many times more, and then another one that is known
+pub record IsChangeAfter (habits : Habits) (words : List ℕ) (more : ℕ) (next : List ℕ) : Type 0 where
+  pub word : ℕ
+  pub known : Contains habits.known.items word
+  pub other : word ≢ (along habits words).0.word
+  pub is : next ≡ words ++ replicate more (along habits words).0.word ++ word ∷ []
+
+-- the change is in one of the frames that have no word yet
+abbrev pub IsChange : Habits → View → List ℕ → List ℕ → Type 0
+IsChange habits view words next = (more : ℕ) × (length words + more < view.unknown) × IsChangeAfter habits words more next
+
+-- one change, or one after one of these guesses
+abbrev pub IsChangeOrSecond : Habits → View → List Guess → List ℕ → Type 0
+IsChangeOrSecond habits view singles words =
+    IsChange habits view [] words ⊎ Any (λ single. IsChange habits view single.words.items words) singles
+
+-- the guesses of one change, and of a second one after the best of these
+pub record IsComplete (habits : Habits) (view : View) (guesses : List Guess) : Type 0 where
+  pub singles : List Guess
+  pub best : RanksAll habits view (IsChange habits view []) singles
+  pub ranks : RanksAll habits view (IsChangeOrSecond habits view singles) guesses

@@ -1,7 +1,9 @@
 //! The choice of guesses.
-ghost use Rattle.std.specs.Prelude.{◌≡◌, ◌<◌, ◌≤◌, length, All, None, Some, IfSome, false};
-ghost use Rattle.roll_frame.specs.Inputs.{of_player};
-ghost use Rattle.roll_guess.specs.Guesses.{view_of, AreUnlike, IsCourse, IsFalling, IsRanking, IsViewOf, Suits};
+ghost use Rattle.std.specs.Prelude.{◌≡◌, ◌<◌, ◌≤◌, [], length, All, None};
+ghost use Rattle.std.specs.Bool.{then_some, IsFalse, IsTrue};
+ghost use Rattle.roll_frame.specs.declared.limits.TheConstants.{PATH_LIMIT};
+ghost use Rattle.roll_guess.specs.Guesses.{takes_guesses, view_of, AreOffered, AreUnlike, IsChange, IsChangeAfter, IsComplete, IsCourse, IsFalling, IsRanking, Suits};
+ghost use Rattle.roll_guess.specs.declared.limits.TheConstants.{UNKNOWN_LIMIT};
 ghost use Rattle.roll_session.specs.Guessing.{guess_refusal_of};
 
 use crate::course::Course;
@@ -14,9 +16,9 @@ use roll_game::Game;
 use roll_inputs::Source;
 use roll_session::Session;
 
-/// What a choice needs to know of a session. None if the session takes no guess of this player.
+/// What a choice needs to know of a session. None if and only if the session takes no guess of this player.
 fn view_of<G: Game>(session: &Session<G>, player: u8) -> Option<View>
-    ensures { IfSome result (IsViewOf session.now player) }
+    ensures { result ≡ then_some (takes_guesses session.now player) (view_of session.now player) }
 {
     let from = session.confirmed(player)?;
     let Some(Source::Predicted) = session.source(player, from) else {
@@ -40,7 +42,8 @@ fn view_of<G: Game>(session: &Session<G>, player: u8) -> Option<View>
 
 impl Habits {
     /// The guesses of a player's next words that are worth making now, best first: that its word is held for some frames
-    /// and then changes, and perhaps changes once more. The session is to have taken all words that were noted.
+    /// and then changes, and perhaps changes once more. None is left out for one that is worth less; what may follow a
+    /// first change is guessed of the 32 best. The session is to have taken all words that were noted.
     ///
     /// Make them in this order, until as many gave jobs as there is time for: one that gives none is kept already. Each is
     /// run a job's 8 rows past its change, so it gives its next job only 8 frames later, or once another player's word
@@ -50,6 +53,9 @@ impl Habits {
         ensures suits { All (Suits self.now (view_of session.now player)) result.items }
         ensures falling { IsFalling result.items }
         ensures unlike { AreUnlike result.items }
+        ensures complete { IsTrue (takes_guesses session.now player)
+            → IsComplete self.now (view_of session.now player) result.items }
+        ensures none { IsFalse (takes_guesses session.now player) → result.items ≡ [] }
     {
         match view_of(session, player) {
             Some(view) => self.ranking(&view),
@@ -57,37 +63,37 @@ impl Habits {
         }
     }
 
-    /// The guesses in order.
+    /// The guesses of one change, and of a second one after the best of these.
     fn ranking(&self, view: &View) -> Ranking
-        requires { view.now.settled < view.now.reach }
-        ensures { IsRanking self.now view.now result.items }
+        requires reach { view.now.settled < view.now.reach }
+        requires few { view.now.unknown ≤ UNKNOWN_LIMIT }
+        ensures { IsComplete self.now view.now result.items }
     {
         let mut singles = ArrayVec::new();
         self.offer_changes(view, Course::start(self), &mut singles);
         let mut ranking = ArrayVec::new();
         self.offer_changes(view, Course::start(self), &mut ranking);
         for single in singles.as_slice() {
-            if let Some(course) = Course::along(self, single.words.as_slice()) {
-                self.offer_changes(view, course, &mut ranking);
-            }
+            let course = Course::along(self, single.words.as_slice());
+            self.offer_changes(view, course, &mut ranking);
         }
         ranking
     }
 
-    /// Offers the guesses that the word is held on after a course for some frames, or none, and then changes.
+    /// Offers the guesses that the word is held on after a course for some frames, or none, and then changes, within the
+    /// frames that have no word yet.
     fn offer_changes(&self, view: &View, course: Course, ranking: &mut Ranking)
         requires reach { view.now.settled < view.now.reach }
+        requires few { view.now.unknown ≤ UNKNOWN_LIMIT }
         requires course { IsCourse self.now course }
         requires ranked { IsRanking self.now view.now ranking.old.items }
-        ensures { IsRanking self.now view.now ranking.new.items }
+        ensures { AreOffered self.now view.now (IsChange self.now view.now course.words.items)
+            ranking.old.items ranking.new.items }
     {
         let mut course = course;
-        for _ in course.words.len()..usize::from(view.unknown) {
+        while course.words.len() < usize::from(view.unknown) {
             self.offer_words(view, &course, ranking);
-            let Some(next) = course.then(self, course.held.word) else {
-                return;
-            };
-            course = next;
+            course = course.then(self, course.held.word);
         }
     }
 
@@ -95,25 +101,20 @@ impl Habits {
     fn offer_words(&self, view: &View, course: &Course, ranking: &mut Ranking)
         requires reach { view.now.settled < view.now.reach }
         requires course { IsCourse self.now course.now }
+        requires room { length course.now.words.items < PATH_LIMIT }
         requires ranked { IsRanking self.now view.now ranking.old.items }
-        ensures { IsRanking self.now view.now ranking.new.items }
+        ensures { AreOffered self.now view.now
+            (IsChangeAfter self.now course.now.words.items 0) ranking.old.items ranking.new.items }
     {
         for word in self.known.as_slice() {
             if *word != course.held.word {
-                self.offer_word(view, course, *word, ranking);
+                offer(
+                    self,
+                    view,
+                    ranking,
+                    view.guess(self, course.then(self, *word)),
+                );
             }
-        }
-    }
-
-    /// Offers the guess that a word comes after a course.
-    fn offer_word(&self, view: &View, course: &Course, word: u32, ranking: &mut Ranking)
-        requires reach { view.now.settled < view.now.reach }
-        requires course { IsCourse self.now course.now }
-        requires ranked { IsRanking self.now view.now ranking.old.items }
-        ensures { IsRanking self.now view.now ranking.new.items }
-    {
-        if let Some(next) = course.then(self, word) {
-            offer(self, view, ranking, view.guess(self, next));
         }
     }
 }

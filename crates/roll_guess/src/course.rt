@@ -1,6 +1,7 @@
 //! Words that may come next, one after another.
-ghost use Rattle.std.specs.Prelude.{◌≡◌, ◌++◌, ◌∷◌, [], IfSome};
+ghost use Rattle.std.specs.Prelude.{◌≡◌, ◌<◌, ◌≤◌, ◌++◌, ◌∷◌, [], length};
 ghost use Rattle.roll_guess.specs.Guesses.{IsCourse};
+ghost use Rattle.roll_guess.specs.Habits.{held_after};
 
 use crate::habits::{Habits, Held, part};
 use crate::limits::CERTAIN;
@@ -28,31 +29,34 @@ impl Course {
         }
     }
 
-    /// The course and one more word. None if it has 24.
-    pub(crate) fn then(&self, habits: &Habits, word: u32) -> Option<Course>
-        requires { IsCourse habits.now self.now }
-        ensures course { IfSome result (IsCourse habits.now) }
-        ensures words { IfSome result (λ course. course.words.items
-            ≡ self.now.words.items ++ word ∷ []) }
+    /// The course and one more word.
+    pub(crate) fn then(&self, habits: &Habits, word: u32) -> Course
+        requires course { IsCourse habits.now self.now }
+        requires room { length self.now.words.items < PATH_LIMIT }
+        ensures course { IsCourse habits.now result }
+        ensures words { result.words.items ≡ self.now.words.items ++ word ∷ [] }
+        ensures held { result.held ≡ held_after self.now.held word }
     {
         let mut words = ArrayVec::new();
-        words.try_extend_from_slice(self.words.as_slice()).ok()?;
-        words.try_push(word).ok()?;
-        Some(Course {
+        words.try_extend_from_slice(self.words.as_slice()).unwrap();
+        words.push(word);
+        Course {
             words,
             held: self.held.then(word),
             chance: part(self.chance, habits.chance(self.held, word)),
-        })
+        }
     }
 
-    /// The course of these words. None if there are more than 24.
-    pub(crate) fn along(habits: &Habits, words: &[u32]) -> Option<Course>
-        ensures { IfSome result (IsCourse habits.now) }
+    /// The course of these words.
+    pub(crate) fn along(habits: &Habits, words: &[u32]) -> Course
+        requires { length words.now ≤ PATH_LIMIT }
+        ensures course { IsCourse habits.now result }
+        ensures words { result.words.items ≡ words.now }
     {
         let mut course = Course::start(habits);
         for word in words {
-            course = course.then(habits, *word)?;
+            course = course.then(habits, *word);
         }
-        Some(course)
+        course
     }
 }

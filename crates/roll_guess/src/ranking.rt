@@ -1,7 +1,7 @@
 //! The guesses that are worth the most, in order.
 ghost use Rattle.std.specs.Prelude.{◌≡◌, ◌<◌, ◌≤◌, ◌-◌, length, take};
-ghost use Rattle.std.specs.Bool.{OnFalse};
-ghost use Rattle.roll_guess.specs.Guesses.{until_of, worth_of, HasNone, IsCourse, IsPlace, IsRanking, Suits};
+ghost use Rattle.std.specs.Bool.{OnFalse, OnTrue};
+ghost use Rattle.roll_guess.specs.Guesses.{until_of, worth_of, AreOffered, HasNone, HasOne, IsCourse, IsPlace, IsRanking, Suits};
 ghost use Rattle.roll_guess.specs.declared.limits.TheConstants.{GUESS_LIMIT};
 
 use crate::course::Course;
@@ -60,7 +60,8 @@ impl View {
         requires reach { self.now.settled < self.now.reach }
         requires course { IsCourse habits.now course }
         requires some { 1 ≤ length course.words.items }
-        ensures { Suits habits.now self.now result }
+        ensures suits { Suits habits.now self.now result }
+        ensures words { result.words.items ≡ course.words.items }
     {
         let Course { words, chance, .. } = course;
         let count = words.len() as u32;
@@ -89,7 +90,8 @@ fn place_of(ranking: &[Guess], worth: u32) -> usize
 
 /// Whether one of the guesses is of these words.
 fn has_words(ranking: &[Guess], words: &[u32]) -> bool
-    ensures { OnFalse result (HasNone ranking.now words.now) }
+    ensures one { OnTrue result (HasOne ranking.now words.now) }
+    ensures none { OnFalse result (HasNone ranking.now words.now) }
 {
     for guess in ranking {
         if guess.words.as_slice() == words {
@@ -113,7 +115,8 @@ fn make_room(ranking: &mut Ranking)
 pub(crate) fn offer(habits: &Habits, view: &View, ranking: &mut Ranking, guess: Guess)
     requires ranked { IsRanking habits.now view.now ranking.old.items }
     requires suits { Suits habits.now view.now guess }
-    ensures { IsRanking habits.now view.now ranking.new.items }
+    ensures { AreOffered habits.now view.now (λ words. words ≡ guess.words.items)
+        ranking.old.items ranking.new.items }
 {
     let place = place_of(ranking.as_slice(), guess.worth);
     if place < GUESS_LIMIT && !has_words(ranking.as_slice(), guess.words.as_slice()) {

@@ -1,4 +1,5 @@
-//! What no clause says: which guesses there are. Those expected are what bench/choices.py makes of the same words.
+//! A choice in a match that is played, and the jobs that it gives. The guesses expected are what bench/choices.py makes of
+//! the same words.
 use crate::habits::Habits;
 use crate::ranking::Guess;
 use roll_frame::{Refusal, Settings};

@@ -80,7 +80,8 @@ module _ {G S N : Type 0} (step : Step) where
   guessed old new player words until (Err why) (inl h) n = unchanged old new h.2
   guessed old new player words until (Err why) (inr (inl h)) n = unchanged old new h.2
   guessed old new player words until (Err why) (inr (inr (inl h))) n = absurd (n (ap Err h.0))
-  guessed old new player words until (Err why) (inr (inr (inr h))) n = ap bare (sym h.1.made.session)
+  guessed old new player words until (Err why) (inr (inr (inr (inl h)))) n = ap bare (sym h.1.made.session)
+  guessed old new player words until (Err why) (inr (inr (inr (inr h)))) n = ap bare (sym h.1.made.session)
 
   linked : (old new : Hosted (Done G S N)) (said : Result Sending Refusal) → AddsLink old new said → bare old.session ≡ bare new.session
   linked old new (Ok sender) h = ap (λ (k : Hosted (Done G S N)). bare k.session) (sym h.0)

@@ -5,7 +5,7 @@ use Rattle.roll_frame.specs.declared.refusal.Refusal.{Refusal}
 use Rattle.roll_frame.specs.declared.refusal.Refusal.TheVariants.{InvalidRequest, LogFull}
 use Rattle.roll_link.specs.Linked.{Linked, Sending, left}
 use Rattle.roll_link.specs.Rings.{Ring}
-use Rattle.roll_pool.specs.Owners.{Pool}
+use Rattle.roll_pool.specs.Owners.{Pool, out_of}
 use Rattle.roll_pool.specs.Rings.{Place}
 use Rattle.roll_session.specs.Changes.{FitsLog}
 use Rattle.roll_session.specs.Seen.{Seen}
@@ -57,6 +57,15 @@ module _ {D : Type 0} where
   abbrev pub issued_of : Option (Pool D) → List Routed
   issued_of None = []
   issued_of (Some pool) = pool.issued
+
+  -- those that were withdrawn, and how many are out
+  abbrev pub withdrawn_of : Option (Pool D) → List Routed
+  withdrawn_of None = []
+  withdrawn_of (Some pool) = pool.withdrawn
+
+  abbrev pub jobs_out : Option (Pool D) → ℕ
+  jobs_out None = 0
+  jobs_out (Some pool) = out_of pool
 
   -- what was collected from each worker
   abbrev pub came_by : Option (Pool D) → List (List D)

@@ -1,16 +1,17 @@
 //! A session, its links and its workers.
-ghost use Rattle.std.specs.Prelude.{◌≡◌, ◌+◌, ◌<◌, ◌≤◌, [], ◌∷◌, ◌++◌, drop, length, map, max, nat_le, option_map, slice_get, None, Some, if◌then◌else◌, IfNone, IfOk, IfErr, OnOk, OnErr};
+ghost use Rattle.std.specs.Prelude.{◌≡◌, ◌+◌, ◌<◌, ◌≤◌, [], ◌∷◌, ◌++◌, false, true, drop, length, map, max, nat_le, option_map, slice_get, None, Some, if◌then◌else◌, IfNone, IfSome, IfOk, IfErr, OnOk, OnErr};
 ghost use Rattle.roll_frame.specs.Timeline.{row_at};
 ghost use Rattle.roll_session.specs.Answered.{IsReplied, IsShort};
 ghost use Rattle.roll_session.specs.Calls.{asked};
 ghost use Rattle.roll_session.specs.Changes.{advance_refusal, after_advance, after_disconnect, after_local, after_sync, disconnect_refusal, local_refusal, reached_by, reserve_refusal, sync_refusal, FitsLog, IsRefused, IsRollRefused, IsWhy};
 ghost use Rattle.roll_session.specs.Seen.{IsLeast};
 ghost use Rattle.roll_host.specs.Absorbs.{IsAbsorbed};
-ghost use Rattle.roll_host.specs.Guesses.{Speculates};
-ghost use Rattle.roll_host.specs.Hosted.{came_by, issued_of, new_link, places_of, rings_of, with_came, EndsLink};
+ghost use Rattle.roll_host.specs.Guesses.{IsAsBefore, MakesPlace, Speculates, Withdraws, WithdrawsNone};
+ghost use Rattle.roll_host.specs.Hosted.{came_by, issued_of, jobs_out, new_link, places_of, rings_of, with_came, withdrawn_of, EndsLink};
 ghost use Rattle.roll_host.specs.Pumps.{IsPumped};
 ghost use Rattle.roll_host.specs.declared.limits.TheConstants.{LINK_LIMIT as LINKS};
-ghost use Rattle.roll_pool.specs.Owners.{collected};
+ghost use Rattle.roll_pool.specs.Owners.{collected, out_of};
+ghost use Rattle.roll_pool.specs.declared.owner.TheConstants.{JOBS_OUT as MOST};
 ghost use Rattle.roll_pool.specs.Rule.{SameItems};
 ghost use Rattle.roll_pool.specs.Settled.{Settles, tickets_of};
 ghost use Rattle.std.specs.List.{range_with_len};
@@ -151,12 +152,13 @@ impl<G: Game> Host<G> {
     }
 
     /// Hands the job of a guess to the workers: if this player gave these words next, up to a frame. The number of the job,
-    /// or `None` if all that it would run is kept already.
+    /// or `None` if all that it would run is kept already. If 64 jobs are out, the oldest that no worker has taken is
+    /// withdrawn for it, and let go of.
     ///
     /// # Errors
     ///
-    /// `Full` if 64 jobs are out, or if there are no workers; else those of `Session::guess`; else those of
-    /// `Owner::issue`, and the job is dropped.
+    /// `Full` if there are no workers; else those of `Session::guess`; else `Full` if 64 jobs are out and the workers have
+    /// taken all of them; else those of `Owner::issue`. In the last two cases the job is dropped.
     pub fn speculate(
         &mut self,
         player: u8,
@@ -170,15 +172,42 @@ impl<G: Game> Host<G> {
         let Some(owner) = &mut self.pool else {
             return Err(Refusal::Full);
         };
-        if owner.out() >= JOBS_OUT {
-            return Err(Refusal::Full);
-        }
         let Some(job) = self.session.guess(self.alloc, player, words, until)? else {
             return Ok(None);
         };
+        if !make_place(owner) {
+            return Err(Refusal::Full);
+        }
         match owner.issue(job) {
             Ok(ticket) => Ok(Some(ticket)),
             Err(fault) => Err(fault.why),
+        }
+    }
+
+    /// Withdraws the oldest job that no worker has taken, and lets go of it: its number. `None` if none is seen. Before the
+    /// guesses of a new frame, what is left of those of older ones can be withdrawn so: workers take the oldest job first.
+    pub fn withdraw(&mut self) -> Option<u64>
+        ensures some { IfSome result (λ ticket. Withdraws self.old.pool self.new.pool ticket) }
+        ensures none { IfNone result (WithdrawsNone self.old.pool self.new.pool) }
+        ensures rest { self.new ≡ record self.old { pool = self.new.pool } }
+        ensures places { places_of self.new.pool ≡ places_of self.old.pool }
+    {
+        match &mut self.pool {
+            Some(owner) => {
+                let job = owner.withdraw()?;
+                Some(job.ticket())
+            }
+            None => None,
+        }
+    }
+
+    /// How many jobs are out: issued, and neither collected nor withdrawn.
+    pub fn jobs_out(&self) -> usize
+        ensures { result ≡ jobs_out self.now.pool }
+    {
+        match &self.pool {
+            Some(owner) => owner.out(),
+            None => 0,
         }
     }
 
@@ -309,14 +338,16 @@ impl<G: Game> Host<G> {
         requires { map (λ end. end.place) ends.items ≡ places_of self.pool }
         ensures session { result.0 ≡ self.session }
         ensures counts { (result.1.issued ≡ length (issued_of self.pool))
-            × (result.1.collected ≡ length (collected (came_by self.pool))) }
-        ensures jobs { Settles (issued_of self.pool) (collected (came_by self.pool))
-            result.1.late.items result.1.left.items }
+            × (result.1.collected ≡ length (collected (came_by self.pool)))
+            × (result.1.withdrawn ≡ length (withdrawn_of self.pool)) }
+        ensures jobs { Settles (issued_of self.pool) (withdrawn_of self.pool)
+            (collected (came_by self.pool)) result.1.late.items result.1.left.items }
         ensures left { result.1.left.items ≡ drop
-            (length (collected (came_by self.pool)) + length result.1.late.items) (issued_of self.pool) }
+            (length (collected (came_by self.pool)) + length (withdrawn_of self.pool)
+            + length result.1.late.items) (issued_of self.pool) }
         ensures tickets { SameItems
-            (tickets_of (collected (came_by self.pool) ++ result.1.late.items) result.1.left.items)
-            (range_with_len 0 result.1.issued) }
+            (tickets_of (collected (came_by self.pool) ++ result.1.late.items)
+            (withdrawn_of self.pool ++ result.1.left.items)) (range_with_len 0 result.1.issued) }
     {
         let Host {
             session,
@@ -330,6 +361,7 @@ impl<G: Game> Host<G> {
                 let outcome = Outcome {
                     issued: 0,
                     collected: 0,
+                    withdrawn: 0,
                     late: Vec::new(alloc),
                     left: Vec::new(alloc),
                 };
@@ -344,4 +376,14 @@ impl<G: Game> Host<G> {
     {
         self.session
     }
+}
+
+/// Whether there is a place for a job more. Where 64 are out, the oldest that no worker has taken is withdrawn, and let go of.
+fn make_place<G: Game>(owner: &mut Owner<G>) -> bool
+    ensures made { result ≡ true → MakesPlace owner.old owner.new }
+    ensures room { result ≡ true → out_of owner.new < MOST }
+    ensures crowded { result ≡ false → (MOST ≤ out_of owner.old) × IsAsBefore owner.old owner.new }
+    ensures places { owner.new.places ≡ owner.old.places }
+{
+    owner.out() < JOBS_OUT || owner.withdraw().is_some()
 }

@@ -15,7 +15,7 @@ pub record Linked : Type 0 where
   pub applied : List Remote
   -- the item that was taken and given back
   pub held : Option Remote
-  -- the items that are known to be in the ring
+  -- the items that are known to come next
   pub known : List Remote
   -- the sender has finished, and all that it sent is known
   pub ended : Bool
@@ -36,7 +36,6 @@ Begins items all = (more : List Remote) × (items ++ more ≡ all)
 abbrev pub but_last : List Remote → List Remote
 but_last items = take (length items - 1) items
 
--- what was popped, but for the last item where it is held
-abbrev pub but_held : List Remote → Option Remote → List Remote
-but_held popped None = popped
-but_held popped (Some item) = but_last popped
+-- what was popped, but for the last items, which aren't applied
+abbrev pub but_waiting : List Remote → List Remote → List Remote
+but_waiting popped waiting = take (length popped - length waiting) popped

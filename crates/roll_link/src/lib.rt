@@ -3,6 +3,7 @@
 
 mod link;
 mod remote;
+mod run;
 mod sender;
 
 pub use link::{LINK_ROOM, Link};

@@ -4,6 +4,7 @@ ghost use Rattle.std.specs.Option.{option_to_list};
 ghost use Rattle.roll_link.specs.Linked.{but_last, left, Begins};
 
 use crate::remote::Remote;
+use crate::run::Run;
 use crate::sender::{Finished, LinkSender};
 use rtrb::{Consumer, RingBuffer};
 use std::alloc::{AllocError, Global};
@@ -16,7 +17,9 @@ pub const LINK_ROOM: usize = 64;
 #[derive(Drop)]
 pub struct Link {
     consumer: Consumer<Remote>,
-    /// The last item that was popped, if the owner gave it back.
+    /// What was popped, and the owner hasn't taken.
+    run: Run,
+    /// The last item that the owner took, if it gave it back.
     held: Option<Remote>,
     /// Whether the sender has finished, and all that it sent is known.
     ended: bool,
@@ -27,14 +30,14 @@ impl Model for Link {
     ghost use Rattle.std.specs.Prelude.{◌≡◌, ◌++◌};
     ghost use Rattle.rtrb.specs.Ring.{consumer_capacity, known_items, received};
     ghost use Rattle.roll_link.specs.Rings.{ring_at};
-    ghost use Rattle.roll_link.specs.Linked.{Linked, but_held, held_list};
+    ghost use Rattle.roll_link.specs.Linked.{Linked, but_waiting, held_list};
     ghost use Rattle.roll_link.specs.declared.link.TheConstants.{LINK_ROOM};
 
     ghost Value = { Linked };
 
-    ghost view = { λ l. record { ring = ring_at l.consumer.end; applied = but_held (received l.consumer) l.held; held = l.held; known = known_items l.consumer; ended = l.ended } };
+    ghost view = { λ l. record { ring = ring_at l.consumer.end; applied = but_waiting (received l.consumer) (held_list l.held ++ l.run); held = l.held; known = l.run ++ known_items l.consumer; ended = l.ended } };
 
-    ghost invariant = { λ l. (consumer_capacity l.consumer ≡ LINK_ROOM) × (but_held (received l.consumer) l.held ++ held_list l.held ≡ received l.consumer) };
+    ghost invariant = { λ l. (consumer_capacity l.consumer ≡ LINK_ROOM) × (but_waiting (received l.consumer) (held_list l.held ++ l.run) ++ (held_list l.held ++ l.run) ≡ received l.consumer) };
 }
 
 impl Link {
@@ -48,6 +51,7 @@ impl Link {
         let (producer, consumer) = RingBuffer::new(alloc, LINK_ROOM)?;
         let link = Link {
             consumer,
+            run: Run::new(),
             held: None,
             ended: false,
         };
@@ -71,13 +75,17 @@ impl Link {
         if let Some(item) = self.held.take() {
             return Some(item);
         }
+        if let Some(item) = self.run.next() {
+            return Some(item);
+        }
         if self.ended {
             if self.consumer.cached_slots() == 0 {
                 return None;
             }
             return Some(self.consumer.pop_known());
         }
-        self.consumer.pop().ok()
+        self.run.refill(&mut self.consumer);
+        self.run.next()
     }
 
     /// Gives the last item back: it is the next one again.
@@ -98,11 +106,11 @@ impl Link {
         ensures count { result ≡ length (left self.new) }
     {
         let mut ring = finished.ring;
-        let known = self.consumer.slots_after(&mut ring) as u32;
+        let known = self.run.len() + self.consumer.slots_after(&mut ring);
         self.ended = true;
         match self.held {
-            Some(_) => known + 1,
-            None => known,
+            Some(_) => known as u32 + 1,
+            None => known as u32,
         }
     }
 }

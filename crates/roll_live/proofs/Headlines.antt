@@ -44,7 +44,8 @@ guess_counts {D = D} step old new player words until said h = go said h
     go (Err why) (inl h) = same h.2
     go (Err why) (inr (inl h)) = same h.2
     go (Err why) (inr (inr (inl h))) = short h.1.session
-    go (Err why) (inr (inr (inr h))) = copied h.1.made.session
+    go (Err why) (inr (inr (inr (inl h)))) = copied h.1.made.session
+    go (Err why) (inr (inr (inr (inr h)))) = copied h.1.made.session
 
 -- counts without those of copies and refusals
 abbrev without_guesses : Counts → Counts

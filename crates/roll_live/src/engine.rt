@@ -1,7 +1,7 @@
 //! Scripts that are played live, from a reader to a writer.
 ghost use Rattle.std.specs.Prelude.{◌≡◌, ◌≢◌, ◌≤◌, ◌⊎◌, ◌<◌, ◌+◌, ◌^◌, ◌++◌, ℕ, List, Err, IfErr, IfOk};
 ghost use Rattle.std.specs.Prelude.{length, vec_len};
-ghost use Rattle.roll_host.specs.Hosted.{came_by, issued_of, places_of};
+ghost use Rattle.roll_host.specs.Hosted.{came_by, issued_of, places_of, withdrawn_of};
 ghost use Rattle.roll_pool.specs.Crews.{places_in};
 ghost use Rattle.roll_pool.specs.Owners.{collected};
 ghost use Rattle.roll_pool.specs.Settled.{Settles};
@@ -231,7 +231,7 @@ where
 /// Has the workers stop, waits for them, and settles what became of their jobs.
 fn end<RT: Threads, G: Game + Drop>(rt: &RT, host: Host<G>, crew: Crew<G>) -> Outcome<G>
     requires { places_in crew ≡ places_of host.pool }
-    ensures { Settles (issued_of host.pool)
+    ensures { Settles (issued_of host.pool) (withdrawn_of host.pool)
         (collected (came_by host.pool)) result.late.items result.left.items }
 {
     let (ends, _games) = crew.join(rt);

@@ -1,5 +1,5 @@
 -- What a machine tells another: as many words as a packet has room for, and none that it hasn't.
-use Rattle.std.proofs.Common.{◌≡◌, ◌⊎◌, ◌∙◌, ◌≤◌, ◌<◌, ℕ, zero, suc, ◌+◌, ◌-◌, min, List, [], ◌∷◌, ◌++◌, drop, get_or, length, map, replicate, set, take, refl, ap, sym, subst, arith, append_assoc, append-nil, Bool, true, false, inl, inr, length-append}
+use Rattle.std.proofs.Common.{◌≡◌, ◌⊎◌, ◌∙◌, ◌≤◌, ◌<◌, ℕ, zero, suc, ◌+◌, ◌-◌, ◌*◌, min, List, [], ◌∷◌, ◌++◌, drop, get_or, length, map, replicate, set, take, refl, ap, sym, subst, arith, append_assoc, append-nil, Bool, true, false, inl, inr, length-append}
 use Rattle.std.specs.List.{range_with_len, sum}
 use Rattle.std.specs.Prelude.{slice_index, slice_index_or, ◌==◌, ◌||◌, if◌then◌else◌}
 use Rattle.std.proofs.lemmas.Bool.{cases_lt, eq-eqb, le-leb, lt-ltb}
@@ -20,7 +20,7 @@ use Rattle.roll_mesh.specs.Words.{offered_words, tell_words}
 use Rattle.roll_member.specs.Joined.{held, IsTied, Joined}
 use Rattle.roll_member.specs.Taking.{shares}
 use Rattle.roll_member.proofs.Holding.{same_places}
-use Rattle.roll_member.specs.Telling.{room_for, rooms, wanted as wanted_of, words_at, words_told, IsOfferOf, IsTold}
+use Rattle.roll_member.specs.Telling.{queued, room_for, rooms, wanted as wanted_of, words_at, words_told, IsOfferOf, IsTold}
 use Rattle.roll_mesh.specs.declared.packet.Packet.{Packet}
 
 -- how many words an offer has, and each of several
@@ -116,6 +116,21 @@ told_fits mesh m =
     let all : count_of (map offer (range_with_len 0 (length room))) ≤ WORD_LIMIT =
     omega (arith, sizes_fit offer room 0 each, rooms_fit WORD_LIMIT (counts_of offers)) in
     subst (λ (n : ℕ). count_of (map offer (range_with_len 0 n)) ≤ WORD_LIMIT) as_many all
+
+-- what a machine would be told can be counted
+pub wanted_few : (mesh : Seated) (m : ℕ)
+    → length (wanted_of mesh m).offers ≡ PLAYER_LIMIT → queued mesh m ≤ PLAYER_LIMIT * WORD_LIMIT
+unfolding tell at_places
+wanted_few mesh m many =
+    let as_many : length mesh.machine.has ≡ PLAYER_LIMIT =
+    sym (length_places (offer_of mesh.seat mesh.machine m (replicate PLAYER_LIMIT WORD_LIMIT)) mesh.machine.has) ∙ many in
+    let room : List ℕ = replicate PLAYER_LIMIT WORD_LIMIT in
+    let offer : ℕ → Offer = offer_of mesh.seat mesh.machine m room in
+    let each : (k : ℕ) → size (offer (0 + k)) ≤ slice_index room k =
+    λ k. subst (λ (p : ℕ). size (offer p) ≤ slice_index room k) (omega arith)
+    (offer_fits mesh.seat mesh.machine m room k).fits in
+    subst (λ (n : ℕ). count_of (map offer (range_with_len 0 n)) ≤ PLAYER_LIMIT * WORD_LIMIT) (sym as_many)
+    (sizes_fit offer room 0 each)
 
 -- what a member tells is there
 pub told_there : (m : Joined) → IsTied m.session m.mesh → (machine : ℕ) (room : List ℕ) (p : ℕ)

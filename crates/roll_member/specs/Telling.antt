@@ -25,6 +25,10 @@ wanted mesh m = tell mesh.seat m (replicate PLAYER_LIMIT WORD_LIMIT) mesh.machin
 abbrev pub room_for : Seated → ℕ → List ℕ
 room_for mesh m = rooms WORD_LIMIT (map (λ o. o.end - o.first) (wanted mesh m).offers)
 
+-- how many words a machine hasn't said that it has: of each player, as many as a packet has room for, and no more
+abbrev pub queued : Seated → ℕ → ℕ
+queued mesh m = count_of (wanted mesh m).offers
+
 -- an offer of words that there are
 pub record IsOfferOf (words : List ℕ) (offer : Offer) : Type 0 where
   pub forward : offer.first ≤ offer.end

@@ -4,7 +4,7 @@ ghost use Rattle.roll_frame.specs.Timeline.{row_at as row_of};
 ghost use Rattle.roll_member.specs.Joined.{held, join_refusal, IsJoinedAs, IsTied};
 ghost use Rattle.roll_member.specs.Hearing.{HearsPacket};
 ghost use Rattle.roll_member.specs.Leaving.{Leaves};
-ghost use Rattle.roll_member.specs.Telling.{IsTold};
+ghost use Rattle.roll_member.specs.Telling.{queued, IsTold};
 ghost use Rattle.roll_mesh.specs.Machines.{give, leave, left};
 ghost use Rattle.roll_mesh.specs.Words.{give_word, with_machine};
 ghost use Rattle.roll_mesh.specs.Meshes.{hear_refusal, leave_refusal, stepped};
@@ -13,7 +13,7 @@ ghost use Rattle.roll_session.specs.Guessing.{guess_job_of, guess_refusal_of, Is
 
 use crate::join::{JoinFault, give_all, give_own, join_refusal};
 use crate::leaving::{Left, disconnect_all};
-use crate::telling::{Told, room_for, words_of};
+use crate::telling::{Told, queued, room_for, words_of};
 use crate::words::{counts, take_all};
 use roll_branch::{Branch, Job};
 use roll_frame::{Refusal, Row};
@@ -166,6 +166,13 @@ impl<G: Game> Member<G> {
         let packet = self.mesh.tell(machine, &room);
         let words = words_of(&self.session, &packet);
         Told { packet, words }
+    }
+
+    /// How many words that this machine could tell another the other hasn't said that it has, at most 160 of each player.
+    pub fn queued(&self, machine: u8) -> u32
+        ensures { result ≡ queued self.now.mesh machine }
+    {
+        queued(&self.mesh, machine)
     }
 
     /// The session's own `synchronize_input`.

@@ -1,6 +1,6 @@
 //! What a machine tells another, with its words.
 ghost use Rattle.std.specs.Prelude.{◌≡◌, ℕ, ◌+◌, ◌-◌, ◌<◌, ◌≤◌, ◌++◌, length};
-ghost use Rattle.roll_member.specs.Telling.{room_for, words_at, words_told, IsOfferOf};
+ghost use Rattle.roll_member.specs.Telling.{queued, room_for, wanted, words_at, words_told, IsOfferOf};
 ghost use Rattle.roll_mesh.specs.Machines.{offer_at};
 ghost use Rattle.roll_mesh.specs.declared.limits.TheConstants.{PLAYER_LIMIT};
 ghost use Rattle.roll_session.specs.Headline.{words_of as words_in};
@@ -11,7 +11,7 @@ use arrayvec::ArrayVec;
 use roll_game::Game;
 use roll_mesh::{Mesh, Offer, PLAYER_LIMIT, Packet};
 use roll_session::Session;
-use roll_wire::WORD_LIMIT;
+use roll_wire::{WORD_LIMIT, count_of};
 
 /// What a machine tells another.
 #[derive(Debug, Drop)]
@@ -22,11 +22,25 @@ pub struct Told {
     pub words: ArrayVec<u32, WORD_LIMIT>,
 }
 
+/// What a machine would be told if there were as much room for each player as a packet has.
+fn wanted(mesh: &Mesh, machine: u8) -> Packet
+    ensures { result ≡ wanted mesh.now machine }
+{
+    mesh.tell(machine, &[WORD_LIMIT as u32; PLAYER_LIMIT])
+}
+
+/// How many words a machine hasn't said that it has, of each player as many as fit.
+pub(crate) fn queued(mesh: &Mesh, machine: u8) -> u32
+    ensures { result ≡ queued mesh.now machine }
+{
+    count_of(&wanted(mesh, machine).offers) as u32
+}
+
 /// How many words of each player fit: those that a machine needs, player by player, until there is no more room.
 pub(crate) fn room_for(mesh: &Mesh, machine: u8) -> [u32; PLAYER_LIMIT]
     ensures { result ≡ room_for mesh.now machine }
 {
-    let wanted = mesh.tell(machine, &[WORD_LIMIT as u32; PLAYER_LIMIT]);
+    let wanted = wanted(mesh, machine);
     let mut left = WORD_LIMIT as u32;
     let mut room = [0; PLAYER_LIMIT];
     for place in 0..PLAYER_LIMIT {

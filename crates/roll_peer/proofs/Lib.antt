@@ -1,5 +1,6 @@
 pub mod Heard
 pub mod Queues
 pub mod Seals
+pub mod Said
 pub mod Sent
 pub mod Untils

@@ -6,7 +6,6 @@ use Rattle.roll_wire.specs.declared.datagram.Clocks.{Clocks}
 use Rattle.roll_peer.specs.declared.contact.Contact.{Contact}
 use Rattle.roll_peer.specs.declared.contact.Stage.{Stage}
 use Rattle.roll_peer.specs.declared.contact.Stage.TheVariants.{Silent, Greeted, Playing, Mismatched}
-use Rattle.roll_peer.specs.declared.contact.Stats.{Stats}
 use Rattle.roll_peer.specs.declared.contact.TheirClocks.{TheirClocks}
 use Rattle.roll_peer.specs.declared.contact.TheConstants.{BEHIND_LIMIT, ROUND_TRIP_LIMIT}
 use Rattle.roll_peer.specs.declared.settings.Field.{Field}
@@ -143,16 +142,4 @@ clocks_for contact frame now = record {
   clock = max now 1;
   heard_clock = option_map_or (λ theirs. theirs.clock) contact.their_clocks 0;
   held = option_map_or (λ theirs. since now theirs.heard_at) contact.their_clocks 0;
-}
-
--- ---- what is told of it
-
-abbrev pub stats_of : Contact → Stats
-stats_of contact = record {
-  round_trip = contact.round_trip;
-  sent = contact.sent;
-  received = contact.received;
-  lost = contact.expected - contact.received;
-  frames_behind = contact.behind;
-  their_frames_behind = contact.their_behind;
 }

@@ -38,7 +38,7 @@ read_sealed None = Err NotSealed
 read_sealed (Some text) = read (all_of text)
 
 -- what bytes hold, if they are sealed for a match
-abbrev pub opened : ℕ → List ℕ → Result Message Ignored
+unfoldable pub opened : ℕ → List ℕ → Result Message Ignored
 opened match_number bytes = read_sealed (unsealed match_number bytes)
 
 -- a datagram, or why there is none
@@ -73,7 +73,7 @@ unheard peer sender (Greets hello) = None
 unheard peer sender Leaves = None
 
 -- why what came isn't heard
-abbrev pub ignored : Peered → Result Message Ignored → Option Ignored
+unfoldable pub ignored : Peered → Result Message Ignored → Option Ignored
 ignored peer (Err why) = Some why
 ignored peer (Ok what) =
     if is_some (deaf_to peer what.envelope.sender) then deaf_to peer what.envelope.sender

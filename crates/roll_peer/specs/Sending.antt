@@ -1,11 +1,12 @@
 -- What a peer sends.
-use Rattle.std.specs.Prelude.{◌≡◌, ℕ, List, ◌%◌, Bool, true, false, ◌||◌, ◌==◌, nat_le, Option, Some, None, if◌then◌else◌, slice_set}
-use Rattle.roll_member.specs.Telling.{IsTold}
+use Rattle.std.specs.Prelude.{◌≡◌, ℕ, List, ◌-◌, ◌%◌, Bool, true, false, ◌||◌, ◌==◌, nat_le, Option, Some, None, if◌then◌else◌, slice_set}
+use Rattle.roll_member.specs.Telling.{queued, IsTold}
 use Rattle.roll_mesh.specs.Machines.{is_in}
 use Rattle.roll_wire.specs.Spelling.{spelling, Content, Greets, Leaves, Plays}
 use Rattle.roll_wire.specs.declared.datagram.Clocks.{Clocks}
 use Rattle.roll_wire.specs.declared.datagram.Settled.{Settled}
 use Rattle.roll_peer.specs.Contacts.{clocks_for, counted, is_playing}
+use Rattle.roll_peer.specs.declared.contact.Stats.{Stats}
 use Rattle.roll_peer.specs.declared.contact.Stage.{Stage}
 use Rattle.roll_peer.specs.declared.contact.Stage.TheVariants.{Greeted}
 use Rattle.roll_peer.specs.Peered.{contact_at, Peered}
@@ -56,8 +57,20 @@ pub record IsSent (peer : Peered) (m now : ℕ) (bytes : List ℕ) : Type 0 wher
     content = content;
   }))
 
+-- what was counted and measured of a machine
+unfoldable pub stats_of : Peered → ℕ → Stats
+stats_of peer m = record {
+  round_trip = (contact_at peer m).round_trip;
+  sent = (contact_at peer m).sent;
+  received = (contact_at peer m).received;
+  lost = (contact_at peer m).expected - (contact_at peer m).received;
+  words_queued = if is_lost peer m then 0 else queued peer.member.mesh m;
+  frames_behind = (contact_at peer m).behind;
+  their_frames_behind = (contact_at peer m).their_behind;
+}
+
 -- a datagram more was sent to a machine
-abbrev pub after_send : Peered → ℕ → Peered
+unfoldable pub after_send : Peered → ℕ → Peered
 after_send peer m =
     if is_lost peer m then peer
     else record peer { contacts = slice_set peer.contacts m (counted (contact_at peer m)) }

@@ -91,7 +91,7 @@ pub record IsParted (old new : Peered) (refusal : Option Refusal) : Type 0 where
   }
 
 -- the match begins once all are ready
-abbrev pub begun : Peered → Peered
+unfoldable pub begun : Peered → Peered
 begun peer =
     if not peer.running && are_ready peer peer.member.mesh
     then record peer { running = true; waiting = pushed peer.waiting Running }
@@ -106,7 +106,7 @@ abbrev pub lead_in : Peered → Option (ℤ × ℤ)
 lead_in peer = slowest peer.member.mesh.machine.gone peer.contacts MACHINE_LIMIT
 
 -- a frame is over: it is noted how far the machines are from one another, and now and then told how long to wait
-abbrev pub over : Peered → Peered
+unfoldable pub over : Peered → Peered
 over peer = record peer {
   pace = paced (lead_in peer) peer.pace;
   waiting = told peer.waiting (option_map TimeSync (wait_of (lead_in peer) peer.pace));

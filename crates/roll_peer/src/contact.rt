@@ -1,6 +1,6 @@
 //! What this machine knows of one other machine.
 ghost use Rattle.std.specs.Prelude.{◌≡◌};
-ghost use Rattle.roll_peer.specs.Contacts.{are_newer, behind_of, clocks_for, counted, frame_after, greeted, heard, hushed, is_hushed, is_playing, measured, played, silence, stats_of, stranger, told, with_stage};
+ghost use Rattle.roll_peer.specs.Contacts.{are_newer, behind_of, clocks_for, counted, frame_after, greeted, heard, hushed, is_hushed, is_playing, measured, played, silence, stranger, told, with_stage};
 
 use crate::settings::Field;
 use roll_wire::Clocks;
@@ -34,6 +34,8 @@ pub struct Stats {
     pub received: u32,
     /// How many packets of the other were lost, or are late.
     pub lost: u32,
+    /// How many words the other hasn't said that it has, at most 160 of each player. 0 if nothing is sent to it.
+    pub words_queued: u32,
     /// How many frames this machine is behind the other: negative if it is ahead.
     pub frames_behind: i32,
     /// How many frames the other says that it is behind this machine: negative if it is ahead.
@@ -228,20 +230,6 @@ impl Contact {
         self.interrupted = false;
         self.received = self.received.saturating_add(1);
         self.expected = self.expected.saturating_add(1);
-    }
-
-    /// What was counted and measured.
-    pub(crate) fn stats(&self) -> Stats
-        ensures { result ≡ stats_of self.now }
-    {
-        Stats {
-            round_trip: self.round_trip,
-            sent: self.sent,
-            received: self.received,
-            lost: self.expected.saturating_sub(self.received),
-            frames_behind: self.behind,
-            their_frames_behind: self.their_behind,
-        }
     }
 }
 

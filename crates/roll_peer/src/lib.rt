@@ -1,8 +1,6 @@
 //! A peer of a match over a network.
 #![tactic(auto)]
 
-#[cfg(test)]
-mod clock_tests;
 mod contact;
 mod digests;
 mod event;
@@ -13,8 +11,6 @@ mod received;
 mod receiving;
 mod refusal;
 pub mod seal;
-#[cfg(test)]
-mod seal_tests;
 mod sending;
 mod settings;
 mod turning;

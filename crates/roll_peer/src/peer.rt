@@ -1,11 +1,10 @@
 //! A peer: a session in its seat of a match, and the datagrams that it hears and sends.
-ghost use Rattle.std.specs.Prelude.{◌≡◌, max, nat_lt, true, Some, None, IfErr, IfOk, OnErr, OnOk, slice_get, if◌then◌else◌};
+ghost use Rattle.std.specs.Prelude.{◌≡◌, max, true, Some, None, IfErr, IfOk, OnErr, OnOk, slice_get};
 ghost use Rattle.roll_member.specs.Joined.{join_refusal};
 ghost use Rattle.roll_mesh.specs.Machines.{leave};
 ghost use Rattle.roll_mesh.specs.Meshes.{leave_refusal, stepped};
 ghost use Rattle.roll_mesh.specs.declared.limits.TheConstants.{MACHINE_LIMIT};
 ghost use Rattle.roll_frame.specs.Core.{settled};
-ghost use Rattle.roll_peer.specs.Contacts.{stats_of};
 ghost use Rattle.roll_peer.specs.Digests.{noted};
 ghost use Rattle.roll_peer.specs.Events.{popped};
 ghost use Rattle.roll_peer.specs.Peered.{contact_at, GivesWord, IsNotGiven, IsOpenedAs, IsWhyNot};
@@ -13,7 +12,7 @@ ghost use Rattle.roll_peer.specs.Settings.{seat_of};
 ghost use Rattle.roll_session.specs.Changes.{after_graft, graft_refusal, local_refusal, reserve_refusal, IsRefused, IsWhy};
 ghost use Rattle.roll_session.specs.Guessing.{guess_job_of, guess_refusal_of};
 
-use crate::contact::{Contact, Stage, Stats};
+use crate::contact::{Contact, Stage};
 use crate::digests::Digests;
 use crate::event::{Events, PeerEvent};
 use crate::pace::Pace;
@@ -171,19 +170,6 @@ impl<G: Game> Peer<G> {
         ensures rest { self.new ≡ record self.old { waiting = popped self.old.waiting } }
     {
         self.events.pop()
-    }
-
-    /// What was counted and measured of a machine. None if there is none of this number.
-    pub fn stats(&self, machine: u8) -> Option<Stats>
-        ensures { result ≡ (if nat_lt machine MACHINE_LIMIT
-            then Some (stats_of (contact_at self.now machine)) else None) }
-    {
-        let place = usize::from(machine);
-        if place < MACHINE_LIMIT {
-            Some(self.contacts[place].stats())
-        } else {
-            None
-        }
     }
 
     /// How far this machine and another have come to play with each other. `Silent` if there is no such machine.

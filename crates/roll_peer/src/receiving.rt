@@ -24,6 +24,7 @@ impl<G: Game> Peer<G> {
     /// # Errors
     ///
     /// Why they weren't heard. They changed nothing then.
+    #[tactic(auto, using(crate::proofs::Said::ignored_unread, crate::proofs::Said::ignored_read))]
     pub fn receive(&mut self, bytes: &[u8], now: u32) -> Result<Received, Ignored>
         ensures received { IfOk result (Receives G.step self.old self.new bytes.now now) }
         ensures accepted { OnOk result
@@ -159,6 +160,7 @@ impl<G: Game> Peer<G> {
 }
 
 /// What bytes hold, if they are sealed for the match.
+#[tactic(auto, using(crate::proofs::Said::opened_is))]
 fn open(match_number: u64, bytes: &[u8]) -> Result<Datagram, Ignored>
     ensures { IsOpened result (opened match_number bytes.now) }
 {

@@ -1,14 +1,14 @@
 //! What a peer sends.
-ghost use Rattle.std.specs.Prelude.{◌≡◌, ◌<◌, ◌%◌, ◌==◌, true, is_none, Some, None, IfSome, if◌then◌else◌};
+ghost use Rattle.std.specs.Prelude.{◌≡◌, ◌<◌, ◌%◌, ◌==◌, true, is_none, nat_lt, Some, None, IfSome, if◌then◌else◌};
 ghost use Rattle.roll_member.specs.Telling.{IsTold};
 ghost use Rattle.roll_mesh.specs.declared.limits.TheConstants.{MACHINE_LIMIT};
 ghost use Rattle.roll_peer.specs.Contacts.{clocks_for};
 ghost use Rattle.roll_peer.specs.Receiving.{packet_of};
 ghost use Rattle.roll_peer.specs.Seals.{sealed};
-ghost use Rattle.roll_peer.specs.Sending.{after_send, clocks_in, is_lost, settled_in, IsContentFor, IsSent};
+ghost use Rattle.roll_peer.specs.Sending.{after_send, clocks_in, is_lost, settled_in, stats_of, IsContentFor, IsSent};
 ghost use Rattle.roll_wire.specs.Spelling.{content, is_whole, spelling, turn, Leaves};
 
-use crate::contact::{Contact, Stage};
+use crate::contact::{Contact, Stage, Stats};
 use crate::peer::Peer;
 use crate::seal::seal;
 use arrayvec::ArrayVec;
@@ -25,6 +25,7 @@ const SETTLED_EVERY: u32 = 64;
 impl<G: Game> Peer<G> {
     /// The bytes to send to a machine in this turn: until both have heard each other who this machine takes the match's machines
     /// to be, and then what the machine hasn't said that it has. None if there is no such machine, it is this one, or it is gone.
+    #[tactic(auto, using(crate::proofs::Said::after_send_is))]
     pub fn send(&mut self, machine: u8, now: u32) -> Option<ArrayVec<u8, DATAGRAM_LIMIT>>
         ensures sent { IfSome result (λ bytes. IsSent self.old machine now bytes.items) }
         ensures lost { is_none result ≡ is_lost self.old machine }
@@ -134,6 +135,29 @@ impl<G: Game> Peer<G> {
             offers,
         };
         Play { head, words }
+    }
+
+    /// What was counted and measured of a machine. None if there is none of this number.
+    #[tactic(auto, using(crate::proofs::Said::stats_are))]
+    pub fn stats(&self, machine: u8) -> Option<Stats>
+        ensures { result ≡ (if nat_lt machine MACHINE_LIMIT
+            then Some (stats_of self.now machine) else None) }
+    {
+        let contact = self.contacts.get(usize::from(machine))?;
+        let words_queued = if self.is_lost(machine) {
+            0
+        } else {
+            self.member.queued(machine)
+        };
+        Some(Stats {
+            round_trip: contact.round_trip,
+            sent: contact.sent,
+            received: contact.received,
+            lost: contact.expected.saturating_sub(contact.received),
+            words_queued,
+            frames_behind: contact.behind,
+            their_frames_behind: contact.their_behind,
+        })
     }
 
     /// The bytes that say that this machine leaves the match, for all others. Send them a few times, since they may be lost.

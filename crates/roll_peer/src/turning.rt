@@ -200,6 +200,7 @@ impl<G: Game> Peer<G> {
     }
 
     /// The match begins once all are ready.
+    #[tactic(auto, using(crate::proofs::Said::begun_is))]
     fn begin(&mut self)
         ensures { self.new ≡ begun self.old }
     {
@@ -261,6 +262,7 @@ impl<G: Game> Peer<G> {
     }
 
     /// Notes how far the machines are from one another, and says how long to wait, if this machine is ahead.
+    #[tactic(auto, using(crate::proofs::Said::over_is))]
     fn note_pace(&mut self)
         ensures { self.new ≡ over self.old }
     {

@@ -4,6 +4,9 @@ pub mod Claims
 pub mod Seen
 pub mod Ranking
 pub mod Spelling
+pub mod Beginnings
+pub mod Climbing
+pub mod Taking
 pub mod Making
 pub mod Passing
 pub mod Longest

@@ -1,7 +1,10 @@
 -- A plan that is made of a tree.
-use Rattle.std.proofs.Common.{◌≡◌, ℕ, suc, ◌+◌, ◌-◌, ◌≤◌, List, [], ◌∷◌, length, length-take, map, max, Bool, true, false, cond, refl, sym, ap, subst, ◌∙◌, arith, inl, inr, Option, None}
-use Rattle.std.specs.Prelude.{All, option_map, ◌&&◌, nat_lt, nat_le}
+use Rattle.std.proofs.Common.{◌≡◌, ℕ, suc, ◌+◌, ◌-◌, ◌≤◌, List, [], ◌∷◌, ◌++◌, length, length-take, map, max, Bool, true, false, cond, refl, sym, ap, subst, ◌∙◌, arith, inl, inr, Option, Some, None, take}
+use Rattle.std.specs.Prelude.{All, IsSomeAnd, option_map, ◌&&◌, nat_lt, nat_le}
 use Rattle.std.specs.List.{AllByRecursion, cons_option}
+use Rattle.std.specs.List.Sorted.{IsPermutation}
+use Rattle.std.specs.Option.{option_map_or}
+use Rattle.std.proofs.lemmas.List.Sorted.{All-permutation, IsPermutation-sym, IsPermutation-trans}
 use Rattle.std.specs.Ordering.{is_lt}
 use Rattle.std.proofs.lemmas.Bool.{leb-true}
 use Rattle.std.proofs.lemmas.List.Elements.{All-from_recursion, recursion_from_All}
@@ -13,15 +16,18 @@ use Rattle.roll_frame.specs.Order.{in_order, placed, rows_cmp}
 use Rattle.roll_frame.specs.Paths.{begins_with, contains, longest}
 use Rattle.roll_laws.proofs.Fair.{in_ordered, ordered_in}
 use Rattle.roll_laws.proofs.Saved.{In, has_in, in_has}
-use Rattle.roll_tree.specs.SavedStates.{SavedStates, path_of, paths_of, time_to}
-use Rattle.roll_frame.specs.declared.limits.TheConstants.{PATH_LIMIT, PLAYER_LIMIT}
+use Rattle.roll_tree.specs.SavedStates.{Saved, SavedStates, path_of, paths_of, state_named, time_to}
+use Rattle.roll_frame.specs.declared.limits.TheConstants.{PATH_LIMIT, PLAYER_LIMIT, TREE_LIMIT}
 use Rattle.roll_frame.proofs.Beginnings.{longest_within}
-use Rattle.roll_frame.proofs.Sorting.{order_again}
-use Rattle.roll_plan.specs.Fields.{IsFit, IsLast, planned_in}
+use Rattle.roll_frame.proofs.PathOrder.{rows_cmp_total, same_rows}
+use Rattle.roll_frame.proofs.Sorting.{order_again, order_permutes, order_sorted, sorted_once}
+use Rattle.roll_plan.specs.Fields.{IsFit, IsLast, planned_in, way_in}
 use Rattle.roll_plan.specs.declared.planner.Planner.TheInside.{Inside}
 use Rattle.roll_plan.specs.Plans.{CanPlan, IsPlanOf, PlannedRoll, planned_roll, roll_of}
 use Rattle.roll_plan.specs.Ranks.{entries_by, marked_for}
-use Rattle.roll_plan.specs.Spelled.{spelled}
+use Rattle.roll_plan.specs.Ranks.{path_named}
+use Rattle.roll_plan.specs.Spelled.{all_paths, beginnings, spelled}
+use Rattle.roll_plan.specs.declared.planner.Taken.{Taken}
 use Rattle.roll_plan.proofs.Entries.{entries_on, entry_for}
 use Rattle.roll_plan.proofs.Settled.{on, order_on}
 
@@ -63,7 +69,13 @@ all_ordered P ps all =
 pub root_ordered : (ps : List Rows) → contains ps [] ≡ true → contains (in_order ps) [] ≡ true
 root_ordered ps h = in_has (in_order ps) [] (ordered_in [] ps (has_in ps [] h))
 
-module _ {S : Type 0} (players start to : ℕ) (t : SavedStates S) (can : CanPlan players t to) (starts : start ≡ t.base + longest (paths_of t) (time_to t to)) where
+-- the same paths have the same order
+order_once : (ps qs : List Rows) → IsPermutation ps qs → in_order ps ≡ in_order qs
+order_once ps qs moved =
+    sorted_once rows_cmp rows_cmp_total same_rows (in_order ps) (in_order qs) (order_sorted ps) (order_sorted qs)
+    (IsPermutation-trans (in_order ps) ps (in_order qs) (IsPermutation-sym ps (in_order ps) (order_permutes ps)) (IsPermutation-trans ps qs (in_order qs) moved (order_permutes qs)))
+
+module _ {S : Type 0} (players start_name start to : ℕ) (t : SavedStates S) (can : CanPlan players t to) (starts : start ≡ t.base + longest (paths_of t) (time_to t to)) where
   -- the timeline's rows up to the frame
   abbrev rows : Rows
   rows = time_to t to
@@ -127,6 +139,16 @@ module _ {S : Type 0} (players start to : ℕ) (t : SavedStates S) (can : CanPla
   pub goes_on : start ≤ to
   goes_on = omega (arith, starts, end_is, longest_within (paths_of t) rows)
 
+  taken_short : (on_way : ℕ) (taken : List Taken) → IsPermutation (paths_of t) (all_paths (path_named t start_name) on_way taken) → All (λ (path : Rows). length path ≤ PATH_LIMIT) (paths_of t) → All (λ (path : Rows). length path ≤ PATH_LIMIT) (spelled (path_named t start_name) taken)
+  taken_short on_way taken moved short =
+      let way = path_named t start_name in
+      All-from_recursion (λ (path : Rows). length path ≤ PATH_LIMIT) (spelled way taken)
+      (front (spelled way taken) (beginnings way on_way) (recursion_from_All (λ (path : Rows). length path ≤ PATH_LIMIT) (all_paths way on_way taken) (All-permutation (λ (path : Rows). length path ≤ PATH_LIMIT) (paths_of t) (all_paths way on_way taken) moved short)))
+    where
+      front : (ps qs : List Rows) → AllByRecursion (λ (path : Rows). length path ≤ PATH_LIMIT) (ps ++ qs) → AllByRecursion (λ (path : Rows). length path ≤ PATH_LIMIT) ps
+      front [] qs all = tt
+      front (p ∷ ps) qs all = (all.0, front ps qs all.1)
+
   -- the fields of a planner after a plan
   pub record IsDone (p : Inside) : Type 0 where
     pub some : 1 ≤ p.players
@@ -136,15 +158,38 @@ module _ {S : Type 0} (players start to : ℕ) (t : SavedStates S) (can : CanPla
     pub short : length t.time ≤ PATH_LIMIT
     pub base : p.base ≡ t.base
     pub time : p.time.items ≡ rows
-    pub taken : spelled p.taken.items ≡ paths_of t
+    pub way : way_in p ≡ path_named t start_name
+    pub taken : IsPermutation (paths_of t) (all_paths (path_named t start_name) p.on_way p.taken.items)
+    pub on_way : p.on_way ≤ length (path_named t start_name) + 1
+    pub others : length p.taken.items ≤ TREE_LIMIT
     pub paths : All (λ (path : Rows). length path ≤ PATH_LIMIT) (paths_of t)
     pub to_is : p.plan.to ≡ to
     pub from_is : p.plan.from ≡ start
     pub rerun : p.plan.rerun ≡ p.plan.to - p.plan.from
     pub differs : p.plan.differs.items ≡ entries_by (marked_for t start to) 0 (map (path_of t.base) (in_order (paths_of t)))
 
+  -- the start ends where its path does
+  pub start_ends : IsSomeAnd (state_named t start_name) (λ s. s.path ≡ take (longest (paths_of t) rows) rows) → start ≡ t.base + length (path_named t start_name)
+  start_ends there = go (state_named t start_name) there
+    where
+      go : (o : Option (Saved S)) → IsSomeAnd o (λ s. s.path ≡ take (longest (paths_of t) rows) rows) → start ≡ t.base + length (option_map_or (λ s. s.path) o [])
+      go None h = absurd h
+      go (Some s) h = omega (arith, starts, ap (λ (l : Rows). length l) h, length-take (longest (paths_of t) rows) rows, longest_within (paths_of t) rows)
+
+  -- the rows that lead to the start are the path of the state there
+  pub way_is : IsSomeAnd (state_named t start_name) (λ s. s.path ≡ take (longest (paths_of t) rows) rows) → (p : Inside) → p.base ≡ t.base → p.plan.from ≡ start → p.time.items ≡ rows → way_in p ≡ path_named t start_name
+  way_is there p base from time =
+      let long : p.plan.from - p.base ≡ longest (paths_of t) rows = omega (arith, base, from, starts) in
+      ap (take (p.plan.from - p.base)) time ∙ ap (λ n. take n rows) long ∙ go (state_named t start_name) there
+    where
+      go : (o : Option (Saved S)) → IsSomeAnd o (λ s. s.path ≡ take (longest (paths_of t) rows) rows) → take (longest (paths_of t) rows) rows ≡ option_map_or (λ s. s.path) o []
+      go None h = absurd h
+      go (Some s) h = sym h
+
   pub made_is : (p : Inside) → IsDone p → planned_in p ≡ planned_roll t rows
-  made_is p done = λ i. record { settled = done.base i; kept = in_order (done.taken i); time = done.time i; from = (done.from_is ∙ starts) i }
+  made_is p done =
+      let kept_is : in_order (all_paths (way_in p) p.on_way p.taken.items) ≡ in_order (paths_of t) = ap (λ (way : Rows). in_order (all_paths way p.on_way p.taken.items)) done.way ∙ sym (order_once (paths_of t) (all_paths (path_named t start_name) p.on_way p.taken.items) done.taken) in
+      λ i. record { settled = done.base i; kept = kept_is i; time = done.time i; from = (done.from_is ∙ starts) i }
 
   done_plan : (p : Inside) → IsDone p → IsPlanOf players (planned_roll t rows) p.plan
   done_plan p done =
@@ -161,5 +206,7 @@ module _ {S : Type 0} (players start to : ℕ) (t : SavedStates S) (can : CanPla
       record {
         fit = subst (λ (n : ℕ). IsFit n (planned_in p)) (sym done.players_are) (subst (IsFit players) (sym made) (planned_is_fit (omega (arith, done.some, done.players_are)) (omega (arith, done.few, done.players_are)) done.short done.root));
         plan = subst (λ (n : ℕ). IsPlanOf n (planned_in p) p.plan) (sym done.players_are) (subst (λ (m : PlannedRoll). IsPlanOf players m p.plan) (sym made) (done_plan p done));
-        paths = subst (All (λ (path : Rows). length path ≤ PATH_LIMIT)) (sym done.taken) done.paths;
+        on_way = subst (λ (way : Rows). p.on_way ≤ length way + 1) (sym done.way) done.on_way;
+        few = done.others;
+        paths = subst (λ (way : Rows). All (λ (path : Rows). length path ≤ PATH_LIMIT) (spelled way p.taken.items)) (sym done.way) (taken_short p.on_way p.taken.items done.taken done.paths);
       }

@@ -1,7 +1,7 @@
 -- In the order of paths, those that a plan passes over come one after another, and so do their entries.
 use Rattle.std.proofs.Common.{◌≡◌, ℕ, suc, ◌+◌, ◌<◌, ◌≤◌, List, [], ◌∷◌, ◌++◌, length, map, take, Bool, true, false, cond, refl, sym, ap, ◌∙◌, arith, None}
 use Rattle.std.specs.Prelude.{nat_lt, nat_le, ◌&&◌}
-use Rattle.std.specs.List.{cons_option, count_by, filter}
+use Rattle.std.specs.List.{AllByRecursion, cons_option, count_by, filter}
 use Rattle.std.specs.Ordering.{is_gt, nat_cmp, ordering_then}
 use Rattle.std.specs.declared.cmp.Ordering.{Ordering}
 use Rattle.std.specs.declared.cmp.Ordering.TheVariants.{Less, Equal, Greater}
@@ -136,6 +136,13 @@ module _ {S : Type 0} (t : SavedStates S) (from to : ℕ) where
       go false false e f rest =
           let none = none_passed p ps (neither_is_beyond from to (t.base + length p) e f) ascends.0 in
           rest ∙ ap (marked (suc place + count_by before ps)) none ∙ sym (ap (marked (place + count_by before (p ∷ ps))) none)
+
+  -- none is passed over where none ends after the start
+  pub no_entries : (place : ℕ) (paths : List Rows) → AllByRecursion (λ (p : Rows). t.base + length p ≤ from) paths → [] ≡ entries place paths
+  no_entries place [] low = refl
+  no_entries place (p ∷ ps) low =
+      no_entries (suc place) ps low.1
+      ∙ ap (λ b. cons_option (cond b (entry_by_marks t place (path_of t.base p)) None) (entries (suc place) ps)) (sym (not_behind from to (t.base + length p) low.0))
 
   -- the entries of the kept paths are those of the ones that are passed over, which these names have
   pub entries_passed : (names : List ℕ) (first : ℕ) → map (path_named t) names ≡ filter passed (in_order (paths_of t)) → first ≡ count_by before (in_order (paths_of t))

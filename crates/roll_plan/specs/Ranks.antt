@@ -1,13 +1,14 @@
 -- What is taken down of the states of a tree.
-use Rattle.std.specs.Prelude.{ℕ, suc, List, [], ◌∷◌, ◌&&◌, nat_lt, nat_le, Bool, Option, None, option_map, IsSome, if◌then◌else◌}
+use Rattle.std.specs.Prelude.{◌≡◌, ℕ, suc, ◌-◌, ◌<◌, length, take, slice_index_or, IsSomeAnd, List, [], ◌∷◌, ◌&&◌, nat_lt, nat_le, Bool, Option, None, option_map, IsSome, if◌then◌else◌}
 use Rattle.std.specs.List.{cons_option}
 use Rattle.std.specs.Option.{option_map_or}
 use Rattle.roll_frame.specs.Cells.{Rows}
 use Rattle.roll_frame.specs.declared.claim.Differ.{Differ}
 use Rattle.roll_frame.specs.declared.path.Path.{Path}
 use Rattle.roll_frame.specs.Order.{frames_of}
-use Rattle.roll_tree.specs.SavedStates.{SavedStates, state_named}
+use Rattle.roll_tree.specs.SavedStates.{IsAbove, SavedStates, state_named}
 use Rattle.roll_frame.specs.Claims.{least_place}
+use Rattle.roll_plan.specs.declared.planner.Taken.{Taken}
 
 -- the entries that are made of these, the first of them at this place
 abbrev pub entries_by : {X : Type 0} → (ℕ → X → Option Differ) → ℕ → List X → List Differ
@@ -30,6 +31,17 @@ module _ {S : Type 0} where
   -- a state of this name is kept
   abbrev pub IsKept : SavedStates S → ℕ → Type 0
   IsKept t name = IsSome (state_named t name)
+
+  -- the names of the states on the way of these rows but for the root, the deepest first
+  pub record IsWay (t : SavedStates S) (rows : Rows) (names : List ℕ) : Type 0 where
+    pub count : length names ≡ length rows
+    pub each : (k : ℕ) → k < length names → IsSomeAnd (state_named t (slice_index_or names k 0)) (λ s. s.path ≡ take (length rows - k) rows)
+
+  -- what is taken down of the state of this name
+  pub record IsTaken (t : SavedStates S) (name : ℕ) (k : Taken) : Type 0 where
+    pub node : k.node ≡ name
+    pub above : IsAbove t (path_named t name) k.above
+    pub depth : k.depth ≡ length (path_named t name) - 1
 
   -- the entry of a path by its marks
   abbrev pub entry_by_marks : SavedStates S → ℕ → Path → Option Differ

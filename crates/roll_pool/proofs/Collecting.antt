@@ -26,14 +26,16 @@ module _ {D : Type 0} where
   one_more (xs ∷ came) zero d lt = omega (arith, length-append (xs ++ d ∷ []) (collected came), length-append xs (d ∷ []), length-append xs (collected came))
   one_more (xs ∷ came) (suc i) d lt = omega (arith, one_more came i d (omega arith), length-append xs (collected came), length-append xs (collected (set came i (get_or came i [] ++ d ∷ []))))
 
-pub sound_after : (v : Tally Routed) (flavor index capacity workers workers' issued count : ℕ) → IsSound v flavor index capacity workers issued count → workers' ≡ workers → count < issued → IsSound v flavor index capacity workers' issued (count + 1)
-sound_after v flavor index capacity workers workers' issued count was same some = record {
-  knows = was.knows ∙ ap (λ n. tally true v.issued n 0 []) (sym same);
+pub sound_after : (v : Tally Routed) (flavor index capacity workers workers' issued count withdrawn : ℕ) → IsSound v flavor index capacity workers issued count withdrawn → workers' ≡ workers → count + withdrawn < issued
+    → IsSound v flavor index capacity workers' issued (count + 1) withdrawn
+sound_after v flavor index capacity workers workers' issued count withdrawn was same some = record {
+  knows = was.knows ∙ ap (λ n. tally true v.issued n 0 v.jobs) (sym same);
   fifo = was.fifo;
   next = was.next;
   places = was.places;
   many = was.many;
   numbered = was.numbered;
+  back = was.back;
   taken = omega (arith, some);
   few = omega (arith, was.few);
   most = was.most;

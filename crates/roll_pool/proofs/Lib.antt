@@ -3,5 +3,6 @@ pub mod Moves
 pub mod Zipped
 pub mod Issuing
 pub mod Collecting
+pub mod Withdrawing
 pub mod Serving
 pub mod Settling

@@ -8,7 +8,7 @@ use Rattle.std.proofs.lemmas.List.Sums.{sum_by-cons, sum_by-append, sum_by_push}
 use Rattle.crossbeam_deque.specs.Tasks.{Pushes, Takes, Finds, Forks, Merges}
 use Rattle.crossbeam_deque.proofs.Lists.{at_set, at_snoc}
 use Rattle.roll_pool.specs.declared.rule.Tally.{Tally}
-use Rattle.roll_pool.specs.Rule.{owner_first, worker_first, worker_spent, issuing, taking, counting_out, counting_back, FitsWorker, FitsOwner, Shares, AreNext, HasAll}
+use Rattle.roll_pool.specs.Rule.{owner_first, worker_first, worker_spent, issuing, taking, counting_out, counting_back, FitsWorker, FitsOwner, Shares, AreLater, AreNext, HasAll}
 use Rattle.roll_pool.proofs.Passes.{sum_set, sum_within, sum_only, each_set}
 
 pub sum_ones : {T : Type 0} (xs : List T) → sum_by (λ _. 1) xs ≡ length xs
@@ -71,6 +71,24 @@ module _ {T : Type 0} where
               (λ j u apart old. old);
         },
         refl,
+      )
+
+  -- the same for the owner while others are out, which learns that these jobs come after all that it has
+  pub withdraws : (port : ℕ) (v : Tally T) (most : ℕ) → v.owns ≡ true → Takes Shares port v most (λ xs w. (w ≡ taking v xs) × AreLater v xs)
+  withdraws port v most owns xs items views any few h at =
+      let t = takes port v most (inl owns) xs items views any few h at in
+      let mine = (h.fits port v at).1 owns in (
+        t.0,
+        t.1,
+        (
+          t.2,
+          record {
+            first = h.gone;
+            rest = items;
+            whole = mine.1 ∙ h.whole;
+            earlier = λ f. omega (arith, h.once f, sum_within (λ (u : Tally T). sum_by f u.jobs) views port v at);
+          },
+        ),
       )
 
   others_idle : (views : List (Tally T)) → sum_by (λ (u : Tally T). u.out) views ≡ 0 → (j : ℕ) (u : Tally T) → get_elem? views j ≡ some u → u.out ≡ 0

@@ -68,8 +68,8 @@ module _ {D : Type 0} where
       isw ∙ ap (λ (u : Tally Routed). counting_back u (working jobs)) isv ∙ (λ i. tally true (sym (ap (λ (u : Tally Routed). u.issued) isw) i) (n i) 0 (sym (ap (λ (u : Tally Routed). u.jobs) isw) i))
 
 module _ {G S N : Type 0} where
-  pub one_more_in : (jobs more jobs' : List Routed) (came rest came' rest' results late late' : List (Done G S N)) → TakenIn jobs came rest late → jobs' ≡ jobs ++ more → rest ≡ came' ++ rest' → IsLate came' results late late' → AreResults more results → TakenIn jobs' came rest' late'
-  one_more_in jobs more jobs' came rest came' rest' results late late' was joined is one told =
+  pub one_more_in : (jobs more jobs' withdrawn : List Routed) (came rest came' rest' results late late' : List (Done G S N)) → TakenIn jobs withdrawn came rest late → jobs' ≡ jobs ++ more → rest ≡ came' ++ rest' → IsLate came' results late late' → AreResults more results → TakenIn jobs' withdrawn came rest' late'
+  one_more_in jobs more jobs' withdrawn came rest came' rest' results late late' was joined is one told =
       let parts = zip_parts Ends more came' one.more (subst (λ (l : List (Done G S N)). AreResults more l) (sym one.all) told) in record {
         come = was.come ++ parts.0;
         belated = was.belated ++ parts.1;
@@ -77,7 +77,7 @@ module _ {G S N : Type 0} where
         whole = append_assoc was.first came' rest' ∙ ap (λ l. was.first ++ l) (sym is) ∙ was.whole;
         of_come = zip_append Ends was.come parts.0 was.first came' was.of_come parts.3;
         of_belated = subst (λ (l : List (Done G S N)). AreResults (was.belated ++ parts.1) l) (sym one.grown) (zip_append Ends was.belated parts.1 late one.more was.of_belated parts.4);
-        all = λ f. omega (arith, was.all f, sum_by-append f was.come was.belated, sum_by-append f (was.come ++ parts.0) (was.belated ++ parts.1), sum_by-append f was.come parts.0, sum_by-append f was.belated parts.1, sum_by-append f jobs more, ap (sum_by f) joined, ap (sum_by f) parts.2, sum_by-append f parts.0 parts.1);
+        all = λ f. omega (arith, was.all f, sum_by-append f withdrawn (was.come ++ was.belated), sum_by-append f withdrawn ((was.come ++ parts.0) ++ (was.belated ++ parts.1)), sum_by-append f was.come was.belated, sum_by-append f (was.come ++ parts.0) (was.belated ++ parts.1), sum_by-append f was.come parts.0, sum_by-append f was.belated parts.1, sum_by-append f jobs more, ap (sum_by f) joined, ap (sum_by f) parts.2, sum_by-append f parts.0 parts.1);
       }
 
   -- one end more is taken in: its results that were not collected come next
@@ -105,31 +105,34 @@ module _ {G S N : Type 0} where
   numbers (j ∷ js) (d ∷ ds) h = λ i. number j d h.0 i ∷ numbers js ds h.1 i
 
   -- with no ring left, all that was collected came from the ends that were taken in
-  pub at_end : (jobs : List Routed) (came late : List (Done G S N)) (rest : List (Inbox (Done G S N))) → length rest ≡ 0 → TakenIn jobs came (collected (came_by rest)) late → TakenIn jobs came [] late
-  at_end jobs came late [] none t = t
-  at_end jobs came late (r ∷ rest) none t = absurd (omega arith)
+  pub at_end : (jobs withdrawn : List Routed) (came late : List (Done G S N)) (rest : List (Inbox (Done G S N))) → length rest ≡ 0 → TakenIn jobs withdrawn came (collected (came_by rest)) late → TakenIn jobs withdrawn came [] late
+  at_end jobs withdrawn came late [] none t = t
+  at_end jobs withdrawn came late (r ∷ rest) none t = absurd (omega arith)
 
-  pub taken_length : (jobs : List Routed) (came late : List (Done G S N)) → TakenIn jobs came [] late → length jobs ≡ length came + length late
-  taken_length jobs came late t =
+  pub taken_length : (jobs withdrawn : List Routed) (came late : List (Done G S N)) → TakenIn jobs withdrawn came [] late → length jobs ≡ (length came + length withdrawn) + length late
+  taken_length jobs withdrawn came late t =
       let first : length t.first ≡ length came = ap length (sym (append-nil t.first) ∙ t.whole) in
-      omega (arith, same_length (t.come ++ t.belated) jobs t.all, length-append t.come t.belated, AllZip-long Ends t.come t.first t.of_come, AllZip-long Ends t.belated late t.of_belated)
+      omega (arith, same_length (withdrawn ++ (t.come ++ t.belated)) jobs t.all, length-append withdrawn (t.come ++ t.belated), length-append t.come t.belated, AllZip-long Ends t.come t.first t.of_come, AllZip-long Ends t.belated late t.of_belated)
 
-  pub settles : (jobs issued issued' : List Routed) (came came' late : List (Done G S N)) (left : List Routed) → TakenIn jobs came [] late → SameItems (jobs ++ left) issued → issued ≡ issued' → came ≡ came' → Settles issued' came' late left
-  settles jobs issued issued' came came' late left t all same seen = record {
+  pub settles : (jobs issued issued' withdrawn : List Routed) (came came' late : List (Done G S N)) (left : List Routed) → TakenIn jobs withdrawn came [] late → SameItems (jobs ++ left) issued → issued ≡ issued' → came ≡ came'
+      → Settles issued' withdrawn came' late left
+  settles jobs issued issued' withdrawn came came' late left t all same seen = record {
     come = t.come;
     belated = t.belated;
     of_come = subst (λ (l : List (Done G S N)). AreResults t.come l) (sym (append-nil t.first) ∙ t.whole ∙ seen) t.of_come;
     of_belated = t.of_belated;
-    all = λ f. sum_by-append f (t.come ++ t.belated) left ∙ ap (λ n. n + sum_by f left) (t.all f) ∙ sym (sum_by-append f jobs left) ∙ all f ∙ ap (sum_by f) same;
+    all = λ f. omega (arith, t.all f, all f, ap (sum_by f) same, sum_by-append f (t.come ++ t.belated) (withdrawn ++ left), sum_by-append f withdrawn left, sum_by-append f withdrawn (t.come ++ t.belated), sum_by-append f jobs left);
   }
 
-  pub settled_sum : (issued : List Routed) (came late : List (Done G S N)) (left : List Routed) → Settles issued came late left → length issued ≡ length came + length late + length left
-  settled_sum issued came late left s =
-      omega (arith, same_length ((s.come ++ s.belated) ++ left) issued s.all, length-append (s.come ++ s.belated) left, length-append s.come s.belated, AllZip-long Ends s.come came s.of_come, AllZip-long Ends s.belated late s.of_belated)
+  pub settled_sum : (issued withdrawn : List Routed) (came late : List (Done G S N)) (left : List Routed) → Settles issued withdrawn came late left → length issued ≡ length came + length withdrawn + length late + length left
+  settled_sum issued withdrawn came late left s =
+      omega (arith, same_length ((s.come ++ s.belated) ++ (withdrawn ++ left)) issued s.all, length-append (s.come ++ s.belated) (withdrawn ++ left), length-append withdrawn left, length-append s.come s.belated, AllZip-long Ends s.come came s.of_come, AllZip-long Ends s.belated late s.of_belated)
 
-  pub settled_tickets : (issued : List Routed) (n : ℕ) (came late : List (Done G S N)) (left : List Routed) → Settles issued came late left → map (λ j. j.ticket) issued ≡ range_with_len 0 n → SameItems (tickets_of (came ++ late) left) (range_with_len 0 n)
-  settled_tickets issued n came late left s numbered f =
-      let all = (s.come ++ s.belated) ++ left in
+  pub settled_tickets : (issued : List Routed) (n : ℕ) (withdrawn : List Routed) (came late : List (Done G S N)) (left : List Routed) → Settles issued withdrawn came late left → map (λ j. j.ticket) issued ≡ range_with_len 0 n
+      → SameItems (tickets_of (came ++ late) (withdrawn ++ left)) (range_with_len 0 n)
+  settled_tickets issued n withdrawn came late left s numbered f =
+      let unrun = withdrawn ++ left in
+      let all = (s.come ++ s.belated) ++ unrun in
       let results : map ticket_of (came ++ late) ≡ map (λ j. j.ticket) (s.come ++ s.belated) = numbers _ _ (zip_append Ends s.come s.belated came late s.of_come s.of_belated) in
-      let tickets : tickets_of (came ++ late) left ≡ map (λ j. j.ticket) all = ap (λ l. l ++ map (λ (j : Routed). j.ticket) left) results ∙ sym (map-append (λ (j : Routed). j.ticket) (s.come ++ s.belated) left) in
+      let tickets : tickets_of (came ++ late) unrun ≡ map (λ j. j.ticket) all = ap (λ l. l ++ map (λ (j : Routed). j.ticket) unrun) results ∙ sym (map-append (λ (j : Routed). j.ticket) (s.come ++ s.belated) unrun) in
       ap (sum_by f) tickets ∙ sum_map f all ∙ s.all (λ j. f j.ticket) ∙ sym (sum_map f issued) ∙ ap (sum_by f) numbered

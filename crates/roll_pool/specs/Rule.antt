@@ -1,5 +1,5 @@
 -- Each job that left the deque is with one pass.
-use Rattle.std.specs.Prelude.{◌≡◌, ℕ, ◌+◌, ◌-◌, Bool, true, false, List, [], ◌++◌, length, drop}
+use Rattle.std.specs.Prelude.{◌≡◌, ℕ, ◌+◌, ◌-◌, ◌≤◌, Bool, true, false, List, [], ◌++◌, length, drop}
 use Rattle.std.specs.List.{sum_by}
 use mathlib.Core.Option.{some}
 use lib.ListN.{get_elem?}
@@ -58,6 +58,13 @@ module _ {T : Type 0} where
     pub once : (weight : T → ℕ) → sum_by (λ v. sum_by weight v.jobs) views ≡ sum_by weight gone
     pub outside : sum_by (λ v. v.out) views ≡ others
     pub fits : (port : ℕ) (v : Tally T) → get_elem? views port ≡ some v → FitsWorker v × FitsOwner seat issued others port v
+
+  -- these jobs were issued one after another, and those that the pass has before all of them
+  pub record AreLater (v : Tally T) (jobs : List T) : Type 0 where
+    pub first : List T
+    pub rest : List T
+    pub whole : v.issued ≡ first ++ (jobs ++ rest)
+    pub earlier : (weight : T → ℕ) → sum_by weight v.jobs ≤ sum_by weight first
 
   -- where no other pass is out: these jobs come next, after as many of the issued ones as the pass has
   abbrev pub AreNext : Tally T → List T → Type 0

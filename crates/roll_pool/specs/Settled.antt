@@ -7,14 +7,14 @@ use Rattle.roll_pool.specs.Rule.{SameItems}
 use Rattle.roll_pool.specs.Workers.{Seated}
 
 module _ {G S N : Type 0} where
-  -- the jobs that were issued are, each once, those whose results were collected, those whose results came late, and those that
-  -- are left
-  pub record Settles (issued : List Routed) (came late : List (Done G S N)) (left : List Routed) : Type 0 where
+  -- the jobs that were issued are, each once, those whose results were collected, those whose results came late, those that
+  -- were withdrawn, and those that are left
+  pub record Settles (issued withdrawn : List Routed) (came late : List (Done G S N)) (left : List Routed) : Type 0 where
     pub come : List Routed
     pub belated : List Routed
     pub of_come : AreResults come came
     pub of_belated : AreResults belated late
-    pub all : SameItems ((come ++ belated) ++ left) issued
+    pub all : SameItems ((come ++ belated) ++ (withdrawn ++ left)) issued
 
   -- the numbers of results and jobs
   abbrev pub tickets_of : List (Done G S N) → List Routed → List ℕ
@@ -31,13 +31,13 @@ module _ {G S N : Type 0} where
     pub all : came ++ more ≡ results
     pub grown : new ≡ old ++ more
 
-  -- with some of the ends taken in: the owner's jobs are, each once, those of the results that were collected from these ends
-  -- and of those that came late. The results of `rest` were collected from the others
-  pub record TakenIn (jobs : List Routed) (came rest late : List (Done G S N)) : Type 0 where
+  -- with some of the ends taken in: the owner's jobs are, each once, those that were withdrawn, and those of the results that
+  -- were collected from these ends and that came late. The results of `rest` were collected from the others
+  pub record TakenIn (jobs withdrawn : List Routed) (came rest late : List (Done G S N)) : Type 0 where
     pub come : List Routed
     pub belated : List Routed
     pub first : List (Done G S N)
     pub whole : first ++ rest ≡ came
     pub of_come : AreResults come first
     pub of_belated : AreResults belated late
-    pub all : SameItems (come ++ belated) jobs
+    pub all : SameItems (withdrawn ++ (come ++ belated)) jobs

@@ -34,7 +34,8 @@ impl<G: Game> Owner<G> {
         ensures ends { IfOk result (λ pool. pool.1.items ≡ map fresh pool.0.places) }
         ensures team { IfOk result
             (λ pool. (length pool.0.places ≡ workers) × (pool.0.came ≡ replicate workers [])) }
-        ensures new { IfOk result (λ pool. pool.0.issued ≡ []) }
+        ensures new { IfOk result
+            (λ pool. (pool.0.issued ≡ []) × (pool.0.withdrawn ≡ [])) }
         ensures capacity { IfOk result (λ pool. MOST ≤ pool.0.capacity) }
         ensures refused { IfErr result
             (λ why. why ≡
@@ -53,6 +54,7 @@ impl<G: Game> Owner<G> {
             rings,
             issued: 0,
             collected: 0,
+            withdrawn: 0,
             signals,
             late,
             left,

@@ -3,7 +3,7 @@ ghost use Rattle.std.specs.Prelude.{◌≡◌, ◌<◌, [], ◌∷◌, ◌++◌,
 ghost use Rattle.roll_pool.specs.Owners.{came_by, rings_of};
 
 use crate::results::Results;
-use crate::rule::{Deque, Issues};
+use crate::rule::{Deque, Issues, Withdraws};
 use crate::signals::Signals;
 use roll_branch::{Done, Job};
 use roll_frame::Refusal;
@@ -12,7 +12,7 @@ use std::alloc::Global;
 use std::marker::Model;
 use std::sync::Arc;
 
-/// The most jobs that are out at a time: issued, and not collected.
+/// The most jobs that are out at a time: issued, and neither collected nor withdrawn.
 pub const JOBS_OUT: usize = 64;
 
 /// The most workers of a pool.
@@ -27,13 +27,15 @@ pub struct Owner<G: Game> {
     pub(crate) rings: Vec<Results<G>>,
     pub(crate) issued: u64,
     pub(crate) collected: u64,
+    pub(crate) withdrawn: u64,
     pub(crate) signals: Arc<Signals, Global>,
     // Room for what is out at the end.
     pub(crate) late: Vec<Done<G>>,
     pub(crate) left: Vec<Job<G>>,
 }
 
-/// A clause sees the jobs that were issued, and for each worker its place and what was collected from it.
+/// A clause sees the jobs that were issued and those that were withdrawn, and for each worker its place and what was collected
+/// from it.
 impl<G: Game> Model for Owner<G> {
     ghost use Rattle.std.specs.Arc.{arc_value};
     ghost use Rattle.std.specs.Prelude.{◌≡◌, length, vec_len, vec_capacity};
@@ -44,9 +46,9 @@ impl<G: Game> Model for Owner<G> {
 
     ghost Value = { Pool (Done G G.State G.Snapshot) };
 
-    ghost view = { λ o. record { places = places_at (worker_deque o.deque) (signals_at (arc_value o.signals)) (rings_of o.rings.items); issued = (worker_view o.deque).issued; came = came_by o.rings.items; capacity = worker_capacity o.deque } };
+    ghost view = { λ o. record { places = places_at (worker_deque o.deque) (signals_at (arc_value o.signals)) (rings_of o.rings.items); issued = (worker_view o.deque).issued; withdrawn = (worker_view o.deque).jobs; came = came_by o.rings.items; capacity = worker_capacity o.deque } };
 
-    ghost invariant = { λ o. IsSound (worker_view o.deque) (worker_flavor o.deque) (worker_index o.deque) (worker_capacity o.deque) (vec_len o.rings) o.issued o.collected × (o.collected ≡ length (in_all (came_by o.rings.items))) × HasRoom o.late.items (vec_capacity o.late) × HasRoom o.left.items (vec_capacity o.left) };
+    ghost invariant = { λ o. IsSound (worker_view o.deque) (worker_flavor o.deque) (worker_index o.deque) (worker_capacity o.deque) (vec_len o.rings) o.issued o.collected o.withdrawn × (o.collected ≡ length (in_all (came_by o.rings.items))) × HasRoom o.late.items (vec_capacity o.late) × HasRoom o.left.items (vec_capacity o.left) };
 }
 
 /// Why a job was not issued, and the job.
@@ -58,7 +60,7 @@ pub struct IssueFault<G: Game> {
 
 impl<G: Game> Owner<G> {
     ghost use Rattle.std.specs.Prelude.{◌≡◌, ◌+◌, ◌≤◌, ◌⊎◌, ◌^◌, [], ◌∷◌, ◌++◌, length, nat_le, if◌then◌else◌, IfOk, IfErr, OnErr, OnOk, IfSome, IfNone};
-    ghost use Rattle.roll_pool.specs.Owners.{collected, out_of, IsCollected};
+    ghost use Rattle.roll_pool.specs.Owners.{back_of, out_of, IsCollected, IsWithdrawn};
     ghost use Rattle.roll_pool.specs.declared.owner.TheConstants.{JOBS_OUT as MOST};
 
     /// Numbers a job and hands it out. The numbers are 0, 1, 2, and so on.
@@ -81,7 +83,7 @@ impl<G: Game> Owner<G> {
         ensures back { IfErr result (λ fault. fault.job ≡ job) }
         ensures unchanged { OnErr result (self.new.issued ≡ self.old.issued) }
         ensures same { (self.new.places ≡ self.old.places) × (self.new.came ≡ self.old.came)
-            × (self.old.capacity ≤ self.new.capacity) }
+            × (self.new.withdrawn ≡ self.old.withdrawn) × (self.old.capacity ≤ self.new.capacity) }
     {
         if self.out() >= JOBS_OUT {
             return Err(IssueFault {
@@ -112,7 +114,7 @@ impl<G: Game> Owner<G> {
         ensures none { IfNone result (self.new ≡ self.old) }
         ensures same { self.new ≡ record self.old { came = self.new.came } }
     {
-        if self.issued == self.collected {
+        if self.out() == 0 {
             return None;
         }
         for place in 0..self.rings.len() {
@@ -125,6 +127,21 @@ impl<G: Game> Owner<G> {
         None
     }
 
+    /// Takes back the oldest job that no worker has taken. `None` if none is seen.
+    pub fn withdraw(&mut self) -> Option<Job<G>>
+        ensures some { IfSome result (λ job. IsWithdrawn self.old self.new job) }
+        ensures none { IfNone result
+            (self.new ≡ record self.old { capacity = self.new.capacity }) }
+        ensures queue { self.old.capacity ≤ self.new.capacity }
+    {
+        if self.out() == 0 {
+            return None;
+        }
+        let job = self.deque.pop_as::<Withdraws>()?;
+        self.withdrawn += 1;
+        Some(job)
+    }
+
     /// How many jobs were issued.
     pub fn issued(&self) -> u64
         ensures { result ≡ length self.now.issued }
@@ -132,12 +149,12 @@ impl<G: Game> Owner<G> {
         self.issued
     }
 
-    /// How many jobs are out: issued, and not collected.
+    /// How many jobs are out: issued, and neither collected nor withdrawn.
     pub fn out(&self) -> usize
-        ensures count { result + length (collected self.now.came) ≡ length self.now.issued }
+        ensures count { result + back_of self.now ≡ length self.now.issued }
         ensures few { result ≤ MOST }
     {
-        (self.issued - self.collected) as usize
+        (self.issued - self.collected - self.withdrawn) as usize
     }
 
     /// Tells the workers to stop. Each still ends the job that it is at.

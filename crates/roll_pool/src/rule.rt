@@ -51,6 +51,16 @@ impl<G: Game> Outcome<Job<G>, Tally<Job<G>>> for Takes {
     ghost then = { λ v xs w. w ≡ taking v xs };
 }
 
+/// The owner takes a job back while workers are out, and learns that it was issued after those that it took back before.
+pub(crate) struct Withdraws;
+
+impl<G: Game> Outcome<Job<G>, Tally<Job<G>>> for Withdraws {
+    ghost use Rattle.std.specs.Prelude.{◌≡◌};
+    ghost use Rattle.roll_pool.specs.Rule.{taking, AreLater};
+
+    ghost then = { λ v xs w. (w ≡ taking v xs) × AreLater v xs };
+}
+
 /// The owner takes a job back, and learns that it is the next of those that were issued; once there is none, that it has all.
 pub(crate) struct TakesBack;
 

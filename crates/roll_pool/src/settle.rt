@@ -21,6 +21,8 @@ pub struct Outcome<G: Game> {
     pub issued: u64,
     /// How many results were collected before.
     pub collected: u64,
+    /// How many jobs were withdrawn before.
+    pub withdrawn: u64,
     /// The results that were not collected, by worker.
     pub late: Vec<Done<G>>,
     /// The jobs that no worker took, in the order of their numbers.
@@ -30,7 +32,7 @@ pub struct Outcome<G: Game> {
 impl<G: Game> Owner<G> {
     ghost use Rattle.std.specs.Prelude.{◌≡◌, ◌+◌, ◌++◌, length, map, drop, vec_len};
     ghost use Rattle.std.specs.List.{range_with_len};
-    ghost use Rattle.roll_pool.specs.Owners.{collected};
+    ghost use Rattle.roll_pool.specs.Owners.{collected, back_of};
     ghost use Rattle.roll_pool.specs.Rule.{SameItems};
     ghost use Rattle.roll_pool.specs.Settled.{Settles, late_of, tickets_of};
 
@@ -38,22 +40,24 @@ impl<G: Game> Owner<G> {
     pub fn settle(self, ends: Vec<WorkerEnd<G>>) -> Outcome<G>
         requires { map (λ end. end.place) ends.items ≡ self.places }
         ensures counts { (result.issued ≡ length self.issued)
-            × (result.collected ≡ length (collected self.came)) }
-        ensures jobs { Settles self.issued
+            × (result.collected ≡ length (collected self.came))
+            × (result.withdrawn ≡ length self.withdrawn) }
+        ensures jobs { Settles self.issued self.withdrawn
             (collected self.came) result.late.items result.left.items }
         ensures late { result.late.items ≡ late_of self.came ends.items }
         ensures left { result.left.items
-            ≡ drop (length (collected self.came) + length result.late.items) self.issued }
-        ensures tickets { SameItems
-            (tickets_of (collected self.came ++ result.late.items) result.left.items)
-            (range_with_len 0 result.issued) }
-        ensures sum { result.issued ≡ result.collected + vec_len result.late + vec_len result.left }
+            ≡ drop (back_of self + length result.late.items) self.issued }
+        ensures tickets { SameItems (tickets_of (collected self.came ++ result.late.items)
+            (self.withdrawn ++ result.left.items)) (range_with_len 0 result.issued) }
+        ensures sum { result.issued ≡ result.collected + result.withdrawn
+            + vec_len result.late + vec_len result.left }
     {
         let Owner {
             mut deque,
             rings,
             issued,
             collected,
+            withdrawn,
             signals,
             mut late,
             mut left,
@@ -70,6 +74,7 @@ impl<G: Game> Owner<G> {
         Outcome {
             issued,
             collected,
+            withdrawn,
             late,
             left,
         }

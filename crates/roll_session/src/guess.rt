@@ -8,8 +8,8 @@ ghost use Rattle.roll_session.specs.Saves.{HaveValues};
 
 use crate::saves::Saves;
 use arrayvec::ArrayVec;
-use roll_branch::Job;
-use roll_frame::{BRANCH_LIMIT, Boxed, PATH_LIMIT, Path, Refusal, Route, Row};
+use roll_branch::{Job, PackedRoute};
+use roll_frame::{BRANCH_LIMIT, PATH_LIMIT, Path, Refusal, Route, Row};
 use roll_game::Game;
 use roll_inputs::Board;
 use std::alloc::Global;
@@ -81,9 +81,7 @@ pub fn job_along<G: Game>(
     if depth == rows.len() {
         return Ok(None);
     }
-    let Ok(route) = Boxed::new(alloc, route_at(base, rows, depth)) else {
-        return Err(Refusal::NoMemory);
-    };
+    let route = PackedRoute::new(alloc, &route_at(base, rows, depth))?;
     let room = Vec::with_capacity(alloc, BRANCH_LIMIT)?;
     let from = game.copy(tree.get(node))?;
     Ok(Job::new(route, from, room))

@@ -6,12 +6,13 @@ ghost use Rattle.roll_session.specs.Logs.{entry_in, logged_entry, IsWithin};
 ghost use Rattle.roll_session.specs.declared.log.Origin.{Origin};
 
 use crate::event::Call;
-use roll_frame::{Boxed, LOG_LIMIT, Route};
+use roll_branch::PackedRoute;
+use roll_frame::LOG_LIMIT;
 use std::alloc::{AllocError, Global};
 use std::marker::Model;
 
 /// The accepted events of a session. An entry takes 12 bytes. What one of a branch takes besides lies apart, since a log
-/// has many entries and few of these: 24 bytes, and its route.
+/// has many entries and few of these: 16 bytes, and its packed route.
 #[derive(Drop)]
 pub struct Log {
     slots: Vec<Slot>,
@@ -19,11 +20,11 @@ pub struct Log {
 }
 
 /// An entry of a log.
-#[derive(Clone, Copy, Debug, PartialEq, Eq)]
+#[derive(Clone, Copy, Debug)]
 pub enum Logged<'a> {
     Call(Call),
     /// A branch was taken in: its job's number, and where it ran.
-    Graft { ticket: u64, route: &'a Route },
+    Graft { ticket: u64, route: &'a PackedRoute },
     /// The game refused in a roll to a frame, after so many new states were saved.
     Partial { to: u32, made: u32 },
 }
@@ -46,8 +47,10 @@ const _: () = prove!(size_of::<Slot>() == 12);
 #[derive(Drop)]
 struct Origin {
     ticket: u64,
-    route: Boxed<Route>,
+    route: PackedRoute,
 }
+
+const _: () = prove!(size_of::<Origin>() == 16);
 
 impl Model for Log {
     ghost use Rattle.roll_session.specs.Logs.{Filed, IsFiled, filed};
@@ -119,7 +122,7 @@ impl Log {
                 let origin = &self.grafts[place as usize];
                 Logged::Graft {
                     ticket: origin.ticket,
-                    route: origin.route.get(),
+                    route: &origin.route,
                 }
             }
             Slot::Partial { to, made } => Logged::Partial { to, made },
@@ -149,7 +152,7 @@ impl Log {
     }
 
     /// Adds a branch that was taken in, if there is room for it.
-    pub fn add_graft(&mut self, ticket: u64, route: Boxed<Route>)
+    pub fn add_graft(&mut self, ticket: u64, route: PackedRoute)
         requires room { 1 ≤ self.old.room }
         requires few { length self.old.entries ≤ LOG_LIMIT }
         ensures entries { self.new.entries ≡ self.old.entries ++ Grafts ticket route ∷ [] }

@@ -173,8 +173,10 @@ fn is_same_there<G: Game>(
     game: &G,
     saves: &Saves<G::Snapshot>,
     branch: &Branch<G>,
+    route: &Route,
     place: &Place,
 ) -> bool
+    requires route { route.now ≡ branch.now.route }
     requires place { IsPlaceFor saves.now branch.now.route place.now }
     requires base { branch.now.route.path.base ≤ saves.now.inputs.settled }
     requires reached { saves.now.inputs.settled < end_of branch.now.route }
@@ -186,7 +188,6 @@ fn is_same_there<G: Game>(
         ≡ is_same_there G.step opening saves.now branch.now.route branch.now.from }
 {
     saves.laws();
-    let route = branch.route();
     let run = (anchor_of(saves, route) - start_of(route)) as usize;
     let node = anchor_node(saves, route, place);
     game.same(branch.state(run), saves.tree().get(node))
@@ -201,25 +202,27 @@ fn has_no_room<S>(saves: &Saves<S>, route: &Route, place: &Place, most: usize) -
     count > 0 && saves.tree().len() + count > most
 }
 
-/// Why a branch can't be grafted, if it can't. `most` is how many kept states branches may fill.
+/// Why a branch along this route can't be grafted, if it can't. `most` is how many kept states branches may fill.
 pub fn branch_refusal<G: Game>(
     game: &G,
     saves: &Saves<G::Snapshot>,
     branch: &Branch<G>,
+    route: &Route,
     most: usize,
 ) -> Option<Refusal>
+    requires { route.now ≡ branch.now.route }
     ensures { (opening : Value)
         → HaveValues G.snapshot_value G.step opening
         (timeline saves.now.inputs.players saves.now.inputs.settled) saves.now.tree.states → result
         ≡ first_refusal (branch_tests G.step opening most saves.now branch.now) }
 {
-    let place = match find_place(saves, branch.route()) {
+    let place = match find_place(saves, route) {
         Ok(place) => place,
         Err(why) => return Some(why),
     };
-    if !is_same_there(game, saves, branch, &place) {
+    if !is_same_there(game, saves, branch, route, &place) {
         Some(Refusal::Stranger)
-    } else if has_no_room(saves, branch.route(), &place, most) {
+    } else if has_no_room(saves, route, &place, most) {
         Some(Refusal::TreeFull)
     } else {
         None

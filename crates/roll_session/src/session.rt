@@ -32,7 +32,7 @@ use crate::roll::{Rolled, roll};
 use crate::room::Room;
 use crate::saves::Saves;
 use roll_branch::{Branch, Job, Parts as BranchParts};
-use roll_frame::{Claim, Event, Path, Refusal, Reply, Row, Settings};
+use roll_frame::{Claim, Event, Path, Refusal, Reply, Route, Row, Settings};
 use roll_game::{Game, StartFault};
 use roll_inputs::{Board, Heard, Source};
 use roll_plan::{Plan, Planner};
@@ -226,8 +226,15 @@ impl<G: Game> Session<G> {
     pub fn graft_refusal(&self, branch: &Branch<G>) -> Option<Refusal>
         ensures { result ≡ graft_refusal G.step self.now branch.now }
     {
+        self.refusal_along(branch, &branch.route())
+    }
+
+    fn refusal_along(&self, branch: &Branch<G>, route: &Route) -> Option<Refusal>
+        requires { route.now ≡ branch.now.route }
+        ensures { result ≡ graft_refusal G.step self.now branch.now }
+    {
         let most = usize::from(self.settings.profile.branch_limit());
-        let refusal = branch_refusal(&self.game, &self.saves, branch, most);
+        let refusal = branch_refusal(&self.game, &self.saves, branch, route, most);
         if refusal.is_some() {
             refusal
         } else if self.log.len() >= self.settings.log as usize {
@@ -251,11 +258,12 @@ impl<G: Game> Session<G> {
         ensures refused { IfErr result
             (IsRefused (graft_refusal G.step self.old branch) self.old self.new) }
     {
-        if let Some(why) = self.graft_refusal(&branch) {
+        let route = branch.route();
+        if let Some(why) = self.refusal_along(&branch, &route) {
             return Err(why);
         }
         self.reserve_log(1)?;
-        Ok(self.take_branch(branch))
+        Ok(self.take_branch(branch, &route))
     }
 
     /// A guess: if this player gave these words next. The job is to run the timeline that this would make, up to a frame,
@@ -373,8 +381,9 @@ impl<G: Game> Session<G> {
         self.room.spend();
     }
 
-    /// Takes in a branch that the rules accept.
-    fn take_branch(&mut self, branch: Branch<G>) -> Grafted
+    /// Takes in a branch that the rules accept, and that ran along this route.
+    fn take_branch(&mut self, branch: Branch<G>, along: &Route) -> Grafted
+        requires along { along.now ≡ branch.route }
         requires accepted { graft_refusal G.step self.old branch ≡ None }
         requires room { 1 ≤ self.old.reserved }
         ensures entered { self.new ≡ after_graft self.old branch }
@@ -386,7 +395,7 @@ impl<G: Game> Session<G> {
             route,
             states,
         } = branch.into_parts();
-        let added = add_new_states(&mut self.saves, route.get(), states);
+        let added = add_new_states(&mut self.saves, along, states);
         self.saves.settle();
         self.log.add_graft(ticket, route);
         self.room.spend();

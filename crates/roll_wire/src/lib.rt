@@ -14,5 +14,5 @@ pub use datagram::{Body, Clocks, Datagram, Envelope, Head, Hello, Play, Settled}
 pub use fault::WireFault;
 pub use laws::{one_text, read_again};
 pub use limits::{DATAGRAM_LIMIT, MAGIC, WORD_LIMIT};
-pub use reading::decode;
+pub use reading::{count_of, decode};
 pub use writing::encode;

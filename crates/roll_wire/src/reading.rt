@@ -354,7 +354,7 @@ fn head_of(bytes: &[u8]) -> Result<(Head, &[u8]), WireFault>
 }
 
 /// How many words are offered.
-pub(crate) fn count_of(offers: &[Offer; PLAYER_LIMIT]) -> usize
+pub fn count_of(offers: &[Offer; PLAYER_LIMIT]) -> usize
     ensures { result ≡ count_of offers.now }
 {
     let mut count = 0;

@@ -9,7 +9,7 @@ use Rattle.clap.specs.declared.error.kind.ErrorKind.TheVariants.{DisplayHelp, Di
 use Rattle.prog_parts.specs.declared.ending.Ending.{Ending}
 use Rattle.prog_parts.specs.declared.ending.GameName.TheVariants.{Tally, Duel}
 use Rattle.prog_parts.specs.declared.task.Task.TheVariants.{Play, SyncTest, Certify}
-use Rattle.prog_match.specs.declared.options.Guesses.TheVariants.{Off, Turns}
+use Rattle.prog_match.specs.declared.options.Guesses.TheVariants.{Best, Off}
 use Rattle.rollduel.specs.Commands.{Choices, app_with, rollduel_app}
 use Rattle.rollduel.specs.Endings.{EndsRefused}
 use Rattle.rollduel.specs.Requests.{asked_by, live, «match», on_text, peers}
@@ -69,12 +69,13 @@ pub plays_a_match : asked_by (codes "rollduel" ∷ codes "match" ∷ []) ≡ «m
   delay = 0;
   threshold = 8;
   guesses = Off;
+  jobs = 4;
   game = Tally;
 })
 unfolding clap_on_literals
 plays_a_match = refl
 
-pub plays_a_match_so : asked_by (codes "rollduel" ∷ codes "match" ∷ codes "--seed=18446744073709551615" ∷ codes "--delay" ∷ codes "9" ∷ codes "--guesses" ∷ codes "turns" ∷ codes "--game=duel" ∷ codes "--lost=99" ∷ []) ≡ «match» (record {
+pub plays_a_match_so : asked_by (codes "rollduel" ∷ codes "match" ∷ codes "--seed=18446744073709551615" ∷ codes "--delay" ∷ codes "9" ∷ codes "--guesses" ∷ codes "best" ∷ codes "--jobs=32" ∷ codes "--game=duel" ∷ codes "--lost=99" ∷ []) ≡ «match» (record {
   frames = 1000;
   seed = 18446744073709551615;
   late = 8;
@@ -82,7 +83,8 @@ pub plays_a_match_so : asked_by (codes "rollduel" ∷ codes "match" ∷ codes "-
   hold = 10;
   delay = 9;
   threshold = 8;
-  guesses = Turns;
+  guesses = Best;
+  jobs = 32;
   game = Duel;
 })
 unfolding clap_on_literals

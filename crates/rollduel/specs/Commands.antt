@@ -17,7 +17,7 @@ abbrev pub AreGames : Choices → Type 0
 AreGames games = texts games.now ≡ the_games
 
 abbrev pub the_guesses : List Text
-the_guesses = codes "none" ∷ codes "words" ∷ codes "turns" ∷ []
+the_guesses = codes "none" ∷ codes "words" ∷ codes "turns" ∷ codes "best" ∷ []
 
 abbrev pub AreGuesses : Choices → Type 0
 AreGuesses guesses = texts guesses.now ≡ the_guesses
@@ -98,7 +98,7 @@ abbrev pub two_peers_app : Choices → Choices → App
 two_peers_app games guesses = with_rules line_app (
     number_rule (codes "delay") (codes "0") 0 255 ∷
     number_rule (codes "threshold") (codes "8") 0 255 ∷
-    guesses_rule guesses ∷ game_rule games ∷ [])
+    guesses_rule guesses ∷ number_rule (codes "jobs") (codes "4") 1 32 ∷ game_rule games ∷ [])
 
 abbrev pub match_app : Choices → Choices → App
 match_app games guesses = with_rules (two_peers_app games guesses) (

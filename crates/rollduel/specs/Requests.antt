@@ -12,7 +12,7 @@ use Rattle.prog_parts.specs.declared.task.Task.{Task}
 use Rattle.prog_parts.specs.declared.task.Task.TheVariants.{Play, SyncTest, Certify}
 use Rattle.roll_live.specs.declared.program.Live.{Live}
 use Rattle.prog_match.specs.declared.options.Guesses.{Guesses}
-use Rattle.prog_match.specs.declared.options.Guesses.TheVariants.{Off, Words, Turns}
+use Rattle.prog_match.specs.declared.options.Guesses.TheVariants.{Best, Off, Words, Turns}
 use Rattle.prog_match.specs.declared.options.MatchOptions.{MatchOptions}
 use Rattle.prog_peers.specs.Options.{fault_of}
 use Rattle.prog_peers.specs.Stops.{no_stops, NamesStops}
@@ -41,7 +41,9 @@ game_named (Some value) = if bytes_eq value (codes "duel") then Duel else Tally
 -- the guesses that the value of --guesses names
 abbrev pub guesses_named : Option Text → Guesses
 guesses_named None = Off
-guesses_named (Some value) = if bytes_eq value (codes "words") then Words else (if bytes_eq value (codes "turns") then Turns else Off)
+guesses_named (Some value) = if bytes_eq value (codes "words") then Words
+    else (if bytes_eq value (codes "turns") then Turns
+    else (if bytes_eq value (codes "best") then Best else Off))
 
 -- the number that the value of --frames names in decimal; what names none below 256, and no parse takes, counts as 0
 abbrev pub frames_named : Option Text → ℕ
@@ -90,6 +92,7 @@ options_named value = record {
   delay = number_named 32 (value (codes "delay"));
   threshold = number_named 32 (value (codes "threshold"));
   guesses = guesses_named (value (codes "guesses"));
+  jobs = number_named 32 (value (codes "jobs"));
   game = game_named (value (codes "game"));
 }
 

@@ -9,8 +9,8 @@ ghost use Rattle.rollduel.specs.Commands.{rollduel_app};
 ghost use Rattle.rollduel.specs.Requests.{AreNamed, HasOptions, HasWorkers, asked_by, asked_named, asked_of, frames_named, game_named, guesses_named, is_named, live_named, match_named, number_in, number_named, options_named, path_named, path_of, rows_by, stop_texts, task_named, workers_named};
 
 use crate::commands::{
-    DELAY, EXPLAIN, FILE, FRAMES, GAME, GUESSES, HOLD, HOSTILE, LATE, LOST, PEERS, SEED, STOP,
-    THRESHOLD, WORKERS, games, guesses, program_command,
+    DELAY, EXPLAIN, FILE, FRAMES, GAME, GUESSES, HOLD, HOSTILE, JOBS, LATE, LOST, PEERS, SEED,
+    STOP, THRESHOLD, WORKERS, games, guesses, program_command,
 };
 use clap::{ArgMatches, Error};
 use prog_match::{Guesses, MatchOptions};
@@ -181,6 +181,7 @@ fn options_of(found: &ArgMatches<'_>) -> MatchOptions
         delay: number_of(found, DELAY),
         threshold: number_of(found, THRESHOLD),
         guesses: guesses_of(found),
+        jobs: number_of(found, JOBS),
         game: game_of(found),
     }
 }
@@ -209,6 +210,7 @@ fn guesses_of(found: &ArgMatches<'_>) -> Guesses
     match found.get_str(GUESSES) {
         Some("words") => Guesses::Words,
         Some("turns") => Guesses::Turns,
+        Some("best") => Guesses::Best,
         _ => Guesses::Off,
     }
 }

@@ -29,6 +29,8 @@ pub const LOST: &str = "lost";
 
 pub const HOLD: &str = "hold";
 
+pub const JOBS: &str = "jobs";
+
 pub const DELAY: &str = "delay";
 
 pub const THRESHOLD: &str = "threshold";
@@ -52,7 +54,7 @@ pub fn games() -> &'static [&'static str]
 pub fn guesses() -> &'static [&'static str]
     ensures { AreGuesses result }
 {
-    ["none", "words", "turns"].as_slice()
+    ["none", "words", "turns", "best"].as_slice()
 }
 
 /// The program with its commands, whose help tells of scripts what `script` says.
@@ -126,6 +128,7 @@ fn two_peers_command<'a>(
         .arg(number_arg(alloc, DELAY, "D", "0", 0, 255, help::DELAY))?
         .arg(number_arg(alloc, THRESHOLD, "K", "8", 0, 255, help::THRESHOLD))?
         .arg(guesses_arg(alloc, guesses))?
+        .arg(number_arg(alloc, JOBS, "J", "4", 1, 32, help::JOBS))?
         .arg(game_arg(alloc, games))
 }
 
@@ -198,7 +201,7 @@ fn guesses_arg<'a>(alloc: Global, guesses: &'a [&'a str]) -> Arg<'a>
         .value_name("GUESSES")
         .value_parser(guesses)
         .default_value("none")
-        .help("Whether likely words are guessed: none, words held from now on, or turns too")
+        .help("Which words are guessed: none, words held from now on, turns too, or the best")
 }
 
 /// `--name N`, a number from `least` to `most`.

@@ -137,6 +137,8 @@ next that arrives. The guesses are:
   words    for each of four likely words, that the other player holds it from now on
   turns    those too; and that the player holds the last word for 1 to 8 frames more, and then each
            of the four
+  best     those that are likely to save the most frames, by what was seen of the player in this match:
+           `--jobs J` of them after each frame, for as long as it takes to run them
 
 A table is printed, with a column for each peer, of these numbers:
 
@@ -157,7 +159,7 @@ and at last a line of all numbers for scripts: name=value, or name=first,second 
 
 A delay over 8, or a threshold of 0 or over 8, is answered by `refused 11`: no session starts with it.
 
-A match keeps all that it was told: 2 MB for 1,000 frames, but some 41 MB with `--guesses turns`. A log
+A match keeps all that it was told: 3 MB for 1,000 frames, and some 5 MB with `--guesses turns`. A log
 that is full, at 16777216 entries, is answered by `refused 114`.
 
 Example:
@@ -222,6 +224,8 @@ pub const HOLD: &str = "For how many frames a player holds a word on average, up
 pub const DELAY: &str = "Each peer's input delay in frames, up to 8";
 
 pub const THRESHOLD: &str = "How many frames a peer may go past the confirmed ones, from 1 to 8";
+
+pub const JOBS: &str = "How many of the best guesses are run after each frame, up to 32";
 
 pub const SYNCTEST: &str =
     "Tests whether a game comes out the same twice, and prints what is found at each row";

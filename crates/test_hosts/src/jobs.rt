@@ -3,8 +3,8 @@
 use crate::game::Staged;
 use crate::rows::Hand;
 use arrayvec::ArrayVec;
-use roll_branch::{Done, Job};
-use roll_frame::{Boxed, Path, Route, Row};
+use roll_branch::{Done, Job, PackedRoute};
+use roll_frame::{Path, Route, Row};
 use roll_game::Game;
 use roll_pool::{Outcome, Worked};
 use std::alloc::Global;
@@ -23,7 +23,7 @@ pub fn job_of<G: Staged>(alloc: Global, hand: &Hand) -> Result<Job<G>, Fault> {
     }
     let path = path_of(hand.base, &hand.own);
     let room = Vec::with_capacity(alloc, rows.len())?;
-    let route = Boxed::new(alloc, Route { path, rows })?;
+    let route = PackedRoute::new(alloc, &Route { path, rows })?;
     let Some(mut job) = Job::new(route, G::worth(hand.from), room) else {
         return Err(Fault::Unreadable);
     };
@@ -45,8 +45,9 @@ fn path_of(base: u32, rows: &[Row]) -> Path {
 /// Writes a job's number, how many rows it has, and how many its path has.
 pub fn put_job<G: Game>(out: &mut Vec<u8>, number: usize, job: &Job<G>) -> Answer {
     put_count(out, b"job ", number)?;
-    put_count(out, b" rows ", job.route().rows.len())?;
-    put_count(out, b" path ", job.route().path.rows.len())
+    let route = job.route();
+    put_count(out, b" rows ", route.rows.len())?;
+    put_count(out, b" path ", route.path.rows.len())
 }
 
 /// Writes a result: its job's number, and the state after each row.
@@ -73,10 +74,11 @@ fn ticket_of<G: Game>(done: &Done<G>) -> u64 {
     }
 }
 
-/// Writes what became of the jobs of a pool: how many were issued and collected, and the numbers of the others.
+/// Writes what became of the jobs of a pool: how many were issued, collected and withdrawn, and the numbers of the others.
 pub fn put_outcome<G: Game>(out: &mut Vec<u8>, outcome: &Outcome<G>) -> Answer {
     put_long(out, b"issued ", outcome.issued)?;
     put_long(out, b" collected ", outcome.collected)?;
+    put_long(out, b" withdrawn ", outcome.withdrawn)?;
     put(out, b" late")?;
     for done in &outcome.late {
         put_long(out, b" ", ticket_of(done))?;

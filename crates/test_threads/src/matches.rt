@@ -11,9 +11,10 @@ use crate::workers::staffed;
 use rand_core::utils::NextWord;
 use rand_pcg::Pcg32;
 use roll_frame::Refusal;
+use roll_guess::Habits;
 use roll_host::Host;
 use roll_link::{LinkSender, Remote};
-use roll_pool::{Crew, Outcome};
+use roll_pool::{Crew, JOBS_OUT, Outcome};
 use std::alloc::{AllocError, Global};
 use std::rt::Runtime;
 use std::sync::Wait;
@@ -26,6 +27,9 @@ const FRAME: u64 = 16_666_667;
 
 /// How long a paced match rests in nanoseconds before it looks again for results of the workers.
 const REST: u64 = 1_000_000;
+
+/// The words that a player gives.
+const LIKELY: [u32; 4] = [0, 1, 2, 3];
 
 /// How many words a guess has at the most: the last one held for up to 8 frames, and then another.
 const LONGEST: usize = 9;
@@ -44,7 +48,8 @@ pub struct Rules {
     /// By how many frames a word comes late at the most.
     pub late: u32,
     pub seed: u64,
-    /// Whether the workers run all guesses at each 64th frame, before its words are heard.
+    /// Whether all guesses of a kind are made, and the workers run all of them at each 64th frame, before its words are heard.
+    /// Else those are made that are worth the most.
     pub waits: bool,
 }
 
@@ -109,9 +114,12 @@ struct Match<'a> {
     /// How many words were sent.
     sent: u32,
     serial: Serial<'a>,
-    /// The guesses whose jobs were issued, and those for which there was no place.
+    /// What was seen of player 2.
+    habits: Habits,
+    /// The guesses whose jobs were issued, those for which there was no place, and those that were withdrawn.
     issued: u64,
     full: u64,
+    withdrawn: u64,
     /// The results that were taken in, the states that they added, and those of them that were dropped.
     taken: u64,
     added: u64,
@@ -136,8 +144,10 @@ impl<'a> Match<'a> {
             sender,
             sent: 0,
             serial: Serial::new(2, words),
+            habits: Habits::new(&LIKELY),
             issued: 0,
             full: 0,
+            withdrawn: 0,
             taken: 0,
             added: 0,
             dropped: 0,
@@ -173,6 +183,7 @@ impl<'a> Match<'a> {
                 word: drawn.word,
             };
             self.serial.is_well &= self.sender.send(item).is_ok();
+            self.habits.note(drawn.word);
             self.sent = self.sent.saturating_add(1);
         }
         self.sent.saturating_sub(before)
@@ -204,12 +215,23 @@ fn take_in(host: &mut Host<Slow>, game: &mut Match)
     game.dropped = game.dropped.saturating_add(u64::from(did.dropped));
 }
 
+/// Withdraws the guesses that no worker has taken.
+fn withdraw_left(host: &mut Host<Slow>)
+    ensures { places_of host.new.pool ≡ places_of host.old.pool }
+{
+    for _ in 0..JOBS_OUT {
+        if host.withdraw().is_none() {
+            return;
+        }
+    }
+}
+
 /// Takes in all that the workers have to run.
 fn take_all(host: &mut Host<Slow>, game: &mut Match)
     ensures { places_of host.new.pool ≡ places_of host.old.pool }
 {
     for _ in 0..TURNS {
-        if game.taken == game.issued {
+        if host.jobs_out() == 0 {
             return;
         }
         take_in(host, game);
@@ -218,14 +240,21 @@ fn take_all(host: &mut Host<Slow>, game: &mut Match)
 }
 
 /// Guesses that player 2 holds the last word for some frames more, and then gives another.
-fn guess(host: &mut Host<Slow>, game: &mut Match, held: usize, word: u32)
+fn guess_change(host: &mut Host<Slow>, game: &mut Match, held: usize, word: u32)
     requires { held < LONGEST }
     ensures { places_of host.new.pool ≡ places_of host.old.pool }
 {
     let mut words = [game.last_word(); LONGEST];
     words[held] = word;
     let until = host.session().frame();
-    match host.speculate(2, &words[..held + 1], until) {
+    guess(host, game, &words[..held + 1], until);
+}
+
+/// Makes a guess of player 2's next words.
+fn guess(host: &mut Host<Slow>, game: &mut Match, words: &[u32], until: u32)
+    ensures { places_of host.new.pool ≡ places_of host.old.pool }
+{
+    match host.speculate(2, words, until) {
         Ok(Some(_)) => game.issued = game.issued.saturating_add(1),
         Ok(None) => {}
         Err(Refusal::Full) => game.full = game.full.saturating_add(1),
@@ -242,12 +271,22 @@ fn guess_all(host: &mut Host<Slow>, game: &mut Match)
     for number in 0..unknown.min(LONGEST as u32) * WORDS {
         let (held, word) = (number / WORDS, number % WORDS);
         if held == 0 || word != last {
-            guess(host, game, held as usize, word);
+            guess_change(host, game, held as usize, word);
         }
     }
 }
 
-/// Makes guesses, and lets the workers run all of them where they are waited for.
+/// Makes the guesses that are worth the most.
+fn guess_best(host: &mut Host<Slow>, game: &mut Match)
+    ensures { places_of host.new.pool ≡ places_of host.old.pool }
+{
+    let best = game.habits.choose(host.session(), 2);
+    for it in best.as_slice() {
+        guess(host, game, it.words.as_slice(), it.until);
+    }
+}
+
+/// Makes guesses in place of those of older frames, and lets the workers run all of them where they are waited for.
 fn look_ahead(host: &mut Host<Slow>, game: &mut Match)
     ensures { places_of host.new.pool ≡ places_of host.old.pool }
 {
@@ -255,7 +294,12 @@ fn look_ahead(host: &mut Host<Slow>, game: &mut Match)
     if waits {
         take_all(host, game);
     }
-    guess_all(host, game);
+    withdraw_left(host);
+    if game.rules.waits {
+        guess_all(host, game);
+    } else {
+        guess_best(host, game);
+    }
     if waits {
         take_all(host, game);
     }
@@ -359,16 +403,17 @@ where
     let (ends, _games) = crew.join(rt);
     let (_session, outcome) = host.settle(ends);
     let mut game = played?;
+    game.withdrawn = outcome.withdrawn;
     game.serial.is_well &= are_counted(&game, &outcome);
     Ok(game)
 }
 
-/// Whether all jobs that were issued were taken in or come back.
+/// Whether all jobs that were issued were taken in, withdrawn, or come back.
 fn are_counted(game: &Match, outcome: &Outcome<Slow>) -> bool {
     let back = outcome.late.len().saturating_add(outcome.left.len());
     outcome.issued == game.issued
         && outcome.collected == game.taken
-        && game.issued.saturating_sub(game.taken) == back as u64
+        && game.issued.saturating_sub(game.taken) == outcome.withdrawn.saturating_add(back as u64)
 }
 
 /// What is shown is the serial run, whatever was guessed, and words whose guesses had all been run cost no frame.
@@ -378,8 +423,9 @@ where
 {
     let words = drawn(alloc, Rules::EXAMPLE)?;
     let game = play_staffed(rt, alloc, Rules::EXAMPLE, &words)?;
-    let guessed = game.foreseen > 0 && game.issued > 0 && game.taken == game.issued;
-    Ok(game.serial.is_well && guessed)
+    let guessed = game.foreseen > 0 && game.taken > 0;
+    let returned = game.taken.saturating_add(game.withdrawn) == game.issued;
+    Ok(game.serial.is_well && guessed && returned)
 }
 
 /// Plays a match without workers.
@@ -417,6 +463,7 @@ fn print<R: Runtime>(rt: &R, game: &Match) -> bool {
     let counted = [
         game.issued,
         game.full,
+        game.withdrawn,
         game.taken,
         game.added,
         game.dropped,

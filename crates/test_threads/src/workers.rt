@@ -5,8 +5,8 @@ ghost use Rattle.roll_pool.specs.Crews.{places_in};
 use crate::hosts::TURNS;
 use crate::slow::Slow;
 use arrayvec::ArrayVec;
-use roll_branch::{Done, Job};
-use roll_frame::{Boxed, Cell, Path, Refusal, Route, Row};
+use roll_branch::{Done, Job, PackedRoute};
+use roll_frame::{Cell, Path, Refusal, Route, Row};
 use roll_game::Tally;
 use roll_pool::{Crew, Gate, Outcome, Owner, Worked, WorkerEnd, start_all};
 use std::alloc::{AllocError, Global};
@@ -68,7 +68,7 @@ fn job(alloc: Global) -> Result<Job<Slow>, AllocError> {
     let mut rows = ArrayVec::new();
     rows.push(Row::from_cells(&[Cell::Word(1), Cell::Word(3)]));
     let path = Path::new(0);
-    let route = Boxed::new(alloc, Route { path, rows })?;
+    let route = PackedRoute::new(alloc, &Route { path, rows })?;
     let room = Vec::with_capacity(alloc, 1)?;
     Job::new(route, Tally::opening(), room).ok_or(AllocError)
 }

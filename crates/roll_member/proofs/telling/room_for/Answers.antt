@@ -9,7 +9,7 @@ loop-place-preserved c =
     let place = c.loop-place.place in
     let room = c.loop-place.room in
     let left = c.loop-place.left in
-    let offers = c.tell-wanted.result.offers in
+    let offers = c.wanted-wanted.result.offers in
     let inside : place < length offers = omega (arith, c.loop-place-test.true) in
     let there : place < length (counts_of offers) =
     omega (arith, inside, length-map offers size) in

@@ -26,12 +26,12 @@ depth g c =
 below : (g : given.Over) (c : goal.After-new-2 g) → kept_of c.args.saves.now c.args.rows.now < length c.args.rows.now
 below g c = omega (arith, depth g c, longest_within (paths_of c.args.saves.now.tree) c.args.rows.now, c.if-depth-rows.false)
 
-route : (g : given.Over) (c : goal.After-new-2 g) → c.in-Ok.route ≡ route_along c.args.saves.now c.args.rows.now
+route : (g : given.Over) (c : goal.After-new-2 g) → c.in_ok-route.route ≡ route_along c.args.saves.now c.args.rows.now
 route g c =
     let R : Rows = c.args.rows.now in
     let base = rw c.tree-tree.ensures at c.base-base.ensures in
     let start = base ∙ c.laws.ensures.base in
-    c.in-Ok.ensures.boxed ∙ c.route_at.ensures ∙ (λ i. record { path = record { base = start i; rows = record { items = take (depth g c i) R } }; rows = record { items = take BRANCH_LIMIT (drop (depth g c i) R) } })
+    c.in_ok-route.ensures ∙ c.route_at.ensures ∙ (λ i. record { path = record { base = start i; rows = record { items = take (depth g c i) R } }; rows = record { items = take BRANCH_LIMIT (drop (depth g c i) R) } })
 
 pub returns-clause-job : goal.returns-clause-job
 returns-clause-job g c = λ opening values.
@@ -46,10 +46,10 @@ returns-clause-job g c = λ opening values.
     let copied : value c.in_ok-from.from ≡ run step opening (T ++ take deep R) =
     c.in_ok-from.ensures.value ∙ ap value (sym (snapshot_is (state_named saves.tree c.longest-node.result.0) s.0 c.get.result.now (rw c.tree-tree.ensures at c.get.ensures) s.1))
     ∙ of_held (λ u. value u.snapshot ≡ run step opening (T ++ u.path)) saves.tree c.longest-node.result.0 s.0 values s.1 ∙ ap (λ (r : Rows). run step opening (T ++ r)) s.2 in
-    made_along saves R c.new-2.result c.in-Ok.route (value c.in_ok-from.from) (route g c) (below g c) c.new-2.ensures.none.0 c.new-2.ensures.job step opening copied
+    made_along saves R c.new-2.result c.in_ok-route.route (value c.in_ok-from.from) (route g c) (below g c) c.new-2.ensures.none.0 c.new-2.ensures.job step opening copied
 
 pub returns-clause-counts : goal.returns-clause-counts
 returns-clause-counts g c =
     let value = g.G.RawGame.snapshot_value in
-    let one = made_one c.args.saves.now c.args.rows.now c.new-2.result c.in-Ok.route (value c.in_ok-from.from) (route g c) (below g c) c.new-2.ensures.none.0 c.new-2.ensures.job in
+    let one = made_one c.args.saves.now c.args.rows.now c.new-2.result c.in_ok-route.route (value c.in_ok-from.from) (route g c) (below g c) c.new-2.ensures.none.0 c.new-2.ensures.job in
     subst (λ (o : Option Routed). IsCopied (g.G.RawGame.call_counts c.args.game.now) (g.G.RawGame.call_counts c.copy.new.self) (Ok o)) (sym one) c.in_ok-from.ensures.counts

@@ -20,13 +20,13 @@ returns g c = λ opening values.
     let step = g.G.Game.step in
     let T : Rows = timeline saves.inputs.players saves.inputs.settled in
     let q : Rows = take (anchor_of saves.inputs route - saves.inputs.settled) (ahead_of saves.inputs route) in
-    let there = subst (λ (r : Route). IsSomeAnd (state_named saves.tree c.anchor_node-node.result) (λ s. s.path ≡ take (anchor_of saves.inputs r - saves.inputs.settled) (ahead_of saves.inputs r))) c.route-route.ensures c.anchor_node-node.ensures in
+    let there = subst (λ (r : Route). IsSomeAnd (state_named saves.tree c.anchor_node-node.result) (λ s. s.path ≡ take (anchor_of saves.inputs r - saves.inputs.settled) (ahead_of saves.inputs r))) c.requires.route c.anchor_node-node.ensures in
     let s = some_is (state_named saves.tree c.anchor_node-node.result) (λ s. s.path ≡ q) there in
     let saved : value c.get.result.now ≡ run step opening (T ++ q) =
     ap value (sym (snapshot_is (state_named saves.tree c.anchor_node-node.result) s.0 c.get.result.now (rw c.tree.ensures at c.get.ensures) s.1))
     ∙ of_held (λ u. value u.snapshot ≡ run step opening (T ++ u.path)) saves.tree c.anchor_node-node.result s.0 values s.1 ∙ ap (λ (r : Rows). run step opening (T ++ r)) s.2 in
-    let anchor : c.anchor_of.result ≡ anchor_of saves.inputs route = subst (λ (r : Route). c.anchor_of.result ≡ anchor_of saves.inputs r) c.route-route.ensures c.anchor_of.ensures in
-    let start : c.start_of.result ≡ start_of route = c.start_of.ensures.start ∙ ap start_of c.route-route.ensures in
+    let anchor : c.anchor_of.result ≡ anchor_of saves.inputs route = subst (λ (r : Route). c.anchor_of.result ≡ anchor_of saves.inputs r) c.requires.route c.anchor_of.ensures in
+    let start : c.start_of.result ≡ start_of route = c.start_of.ensures.start ∙ ap start_of c.requires.route in
     let count : c.anchor_of.result - c.start_of.result ≡ anchor_of saves.inputs route - start_of route = omega (arith, anchor, start) in
     let run_is : value c.state.result.now ≡ run step c.args.branch.now.from (take (anchor_of saves.inputs route - start_of route) route.rows.items) = subst (λ n. value c.state.result.now ≡ run step c.args.branch.now.from (take n route.rows.items)) count c.state.ensures in
     subst (λ v. c.same.result ≡ same_value v (run step opening (T ++ q))) run_is

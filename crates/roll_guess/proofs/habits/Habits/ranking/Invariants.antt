@@ -1,5 +1,8 @@
-use Rattle.roll_guess.specs.Guesses.{IsRanking}
+use Rattle.std.proofs.Common.{[]}
+use Rattle.roll_guess.specs.Guesses.{AreOffered}
+use Rattle.roll_guess.proofs.Turns.{IsChangeOrSecondBefore}
 use Rattle.roll_guess.proofs.habits.Habits.ranking.Given as goal
 
 abbrev pub invariant-loop-single : goal.invariant-loop-single
-invariant-loop-single l = IsRanking l.self l.view l.ranking.items
+invariant-loop-single l =
+    AreOffered l.self l.view (IsChangeOrSecondBefore l.self l.view l.single-items l.single-index) [] l.ranking.items

@@ -14,17 +14,19 @@ pub invariant_of-owner : goal.invariant_of-owner
 invariant_of-owner g c =
     let hired = c.in_ok-rings.ensures in
     let issued : (worker_view c.hire_all.new.deque).issued ≡ [] = ap (λ v. v.issued) hired.view in
+    let jobs : (worker_view c.hire_all.new.deque).jobs ≡ [] = ap (λ v. v.jobs) hired.view in
     let fifo : worker_flavor c.hire_all.new.deque ≡ 0 = search rules in
-    let next : worker_index c.hire_all.new.deque ≡ 0 = search rules in
+    let next : worker_index c.hire_all.new.deque ≤ 0 = search rules in
     let places : JOBS_OUT ≤ worker_capacity c.hire_all.new.deque = search rules in
     let team : vec_len c.in_ok-rings.rings ≤ WORKER_LIMIT = search rules in (
       record {
-        knows = hired.view ∙ (λ i. tally true (sym issued i) (sym hired.came.1 i) 0 []);
+        knows = hired.view ∙ (λ i. tally true (sym issued i) (sym hired.came.1 i) 0 (sym jobs i));
         fifo = fifo;
         next = next;
         places = places;
         many = ap length issued;
         numbered = ap (map (λ j. j.ticket)) issued;
+        back = ap length jobs;
         taken = omega arith;
         few = omega arith;
         most = omega arith;

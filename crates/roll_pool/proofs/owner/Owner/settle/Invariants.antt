@@ -18,7 +18,7 @@ invariant-loop-end g l =
     × (worker_flavor l.deque ≡ 0)
     × (v ≡ tally true v.issued (length rest) 0 v.jobs)
     × (v.issued ≡ (worker_view l.initial.deque).issued)
-    × TakenIn v.jobs (collected (came_by (into_iter_items l.initial.in_order))) (collected (came_by rest)) l.late.items
+    × TakenIn v.jobs (worker_view l.initial.deque).jobs (collected (came_by (into_iter_items l.initial.in_order))) (collected (came_by rest)) l.late.items
     × (vec_len l.late + RESULT_PLACES * length rest ≤ JOBS_OUT)
     × (vec_capacity l.late ≡ vec_capacity l.initial.late)
     × (l.late.items ++ late_of (came_by rest) (into_iter_items l.end-iterator) ≡ late_of (came_by (into_iter_items l.initial.in_order)) l.fn.ends.items)

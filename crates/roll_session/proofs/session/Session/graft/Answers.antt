@@ -11,7 +11,7 @@ returns g c =
     let old : Seen = c.args.self.now in
     let reserved = c.in_ok-reserve_log.ensures.reserved in
     record {
-      accepted = sym c.graft_refusal.ensures ∙ c.in_default.is;
+      accepted = sym c.refusal_along.ensures ∙ c.in_default.is;
       grafted = c.take_branch.ensures.added ∙ ap (λ (s : Seen). length (new_paths s.core (branch_of c.args.branch.route))) reserved;
       taken = c.take_branch.ensures.entered ∙ ap (λ (s : Seen). after_graft s c.args.branch) reserved ∙ graft_reserved old c.args.branch;
       refused = tt;

@@ -9,38 +9,38 @@ use Rattle.roll_session.proofs.session.Session.take_branch.Goals as goal
 pub add_new_states-added-requires-clause-reached : goal.add_new_states-added-requires-clause-reached
 add_new_states-added-requires-clause-reached g c =
     let fine = rw (← c.self.view_is) at c.requires.accepted in
-    rw (c.get.ensures, c.into_parts-ticket.ensures.route) (omega (arith, (can_graft c.self.invariant.0 c.args.branch fine).reached))
+    rw c.requires.along (omega (arith, (can_graft c.self.invariant.0 c.args.branch fine).reached))
 
 pub add_new_states-added-requires-clause-near : goal.add_new_states-added-requires-clause-near
 add_new_states-added-requires-clause-near g c =
     let fine = rw (← c.self.view_is) at c.requires.accepted in
-    rw (c.get.ensures, c.into_parts-ticket.ensures.route) (can_graft c.self.invariant.0 c.args.branch fine).near
+    rw c.requires.along (can_graft c.self.invariant.0 c.args.branch fine).near
 
 pub add_new_states-added-requires-clause-from : goal.add_new_states-added-requires-clause-from
 add_new_states-added-requires-clause-from g c =
     let fine = rw (← c.self.view_is) at c.requires.accepted in
-    rw (c.get.ensures, c.into_parts-ticket.ensures.route) (can_graft c.self.invariant.0 c.args.branch fine).low
+    rw c.requires.along (can_graft c.self.invariant.0 c.args.branch fine).low
 
 pub add_new_states-added-requires-clause-possible : goal.add_new_states-added-requires-clause-possible
 add_new_states-added-requires-clause-possible g c =
     let fine = rw (← c.self.view_is) at c.requires.accepted in
-    rw (c.get.ensures, c.into_parts-ticket.ensures.route) (can_graft c.self.invariant.0 c.args.branch fine).possible
+    rw c.requires.along (can_graft c.self.invariant.0 c.args.branch fine).possible
 
 pub add_new_states-added-requires-clause-fits : goal.add_new_states-added-requires-clause-fits
 add_new_states-added-requires-clause-fits g c =
     let fine = rw (← c.self.view_is) at c.requires.accepted in
-    rw (c.get.ensures, c.into_parts-ticket.ensures.route) (can_graft c.self.invariant.0 c.args.branch fine).fits
+    rw c.requires.along (can_graft c.self.invariant.0 c.args.branch fine).fits
 
 pub settle-requires : goal.settle-requires
 settle-requires g c =
     let fine = rw (← c.self.view_is) at c.requires.accepted in
-    let e = rw (c.get.ensures, c.into_parts-ticket.ensures.route) at c.add_new_states-added.ensures in
+    let e = rw c.requires.along at c.add_new_states-added.ensures in
     grafted_settles c.self.invariant.0 c.args.branch fine c.into_parts-ticket.result.states.items c.add_new_states-added.new.saves (record { are = c.into_parts-ticket.ensures.states; inputs = e.inputs; paths = e.paths; values = e.values })
 
 pub invariant_of-self : goal.invariant_of-self
 invariant_of-self g c =
     let fine = rw (← c.self.view_is) at c.requires.accepted in
-    let e = rw (c.get.ensures, c.into_parts-ticket.ensures.route) at c.add_new_states-added.ensures in (
+    let e = rw c.requires.along at c.add_new_states-added.ensures in (
       rw (c.add_graft.ensures.entries, c.into_parts-ticket.ensures.ticket, c.into_parts-ticket.ensures.route)
           (grafted_session c.self.invariant.0 c.args.branch fine c.into_parts-ticket.result.states.items c.add_new_states-added.new.saves c.settle.new.self
           (record { are = c.into_parts-ticket.ensures.states; inputs = e.inputs; paths = e.paths; values = e.values }) c.settle.ensures.inputs c.settle.ensures.states),
@@ -50,7 +50,7 @@ invariant_of-self g c =
 pub returns-clause-added : goal.returns-clause-added
 returns-clause-added g c =
     let fine = rw (← c.self.view_is) at c.requires.accepted in
-    let e = rw (c.get.ensures, c.into_parts-ticket.ensures.route) at c.add_new_states-added.ensures in
+    let e = rw c.requires.along at c.add_new_states-added.ensures in
     rw (← c.self.view_is) (e.added ∙ sym (grafted_count c.self.invariant.0 c.args.branch fine))
 
 pub returns-clause-entered : goal.returns-clause-entered

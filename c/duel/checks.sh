@@ -1,0 +1,75 @@
+# For tests in which machines play the duel: sourced in the folder above, it has a folder $work, counts of checks, and machines.
+work=$(mktemp -d) || exit 2
+pids=
+trap 'kill $pids 2> /dev/null; rm -rf -- "$work"' EXIT
+passed=0
+failed=0
+strict="-Wall -Wextra -Wpedantic -Werror -I. -Iggponet"
+clean="-g -O1 -fsanitize=address,undefined -fno-sanitize-recover=all"
+
+# A check: its name, and a command.
+check() {
+    what=$1
+    shift
+    if "$@" > "$work/said" 2>&1; then
+        passed=$((passed + 1))
+    else
+        failed=$((failed + 1))
+        echo "failed: $what"
+        cat "$work/said"
+    fi
+}
+
+# Whether there is a program; else what is skipped.
+has() {
+    command -v "$1" > "$work/where" && return
+    echo "skipped: $2 (no $1)"
+    return 1
+}
+
+# A machine of a match, by its name, in the background: its words are after it. It ends after a minute at the latest.
+machine() {
+    name=$1
+    shift
+    timeout 60 "$work/duel" --headless --speed 10 "$@" > "$work/$name.out" 2> "$work/$name.err" &
+    pids="$pids $!"
+    eval "pid_$name=$!"
+}
+
+# Waits until machines have ended, with 0; else shows what they said.
+ended() {
+    for name; do
+        eval "wait \$pid_$name" && continue
+        echo "machine $name ended with $?:"
+        cat "$work/$name.out" "$work/$name.err"
+        return 1
+    done
+}
+
+# Waits until machines are in the match, or watch it.
+began() {
+    for name; do
+        at=0
+        until grep -q "the match begins" "$work/$name.err"; do
+            at=$((at + 1))
+            [ $at -lt 300 ] || return 1
+            sleep 0.1
+        done
+    done
+}
+
+# Whether machines printed the same, and something.
+agree() {
+    [ -s "$work/$1.out" ] || return 1
+    for name; do
+        diff "$work/$1.out" "$work/$name.out" || return 1
+    done
+}
+
+# If the compiler has no sanitizers, none are used.
+without_sanitizers() {
+    echo 'int main(void) { return 0; }' > "$work/empty.c"
+    cc $clean "$work/empty.c" -o "$work/empty" 2> "$work/said" && "$work/empty" && return
+    echo "skipped: sanitizers (cc has none)"
+    clean=-O1
+}

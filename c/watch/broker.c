@@ -1,0 +1,125 @@
+#include "broker.h"
+
+#include <inttypes.h>
+#include <stdio.h>
+#include <stdlib.h>
+#include <string.h>
+
+enum { SERVERS = 16, WAIT = 2000 };
+#define SECOND INT64_C(1000000000)
+
+/* What the broker refuses to do is told to nobody else. */
+static void on_error(natsConnection *connection, natsSubscription *subscription, natsStatus why, void *closure) {
+    const char *text = NULL;
+    (void)subscription, (void)closure;
+    if (why != NATS_SLOW_CONSUMER && natsConnection_GetLastError(connection, &text) != NATS_OK && text != NULL)
+        fprintf(stderr, "broker: %s\n", text);
+}
+
+/* Without such a function the first connection would be waited for. */
+static void on_connected(natsConnection *connection, void *closure) { (void)connection, (void)closure; }
+
+static natsStatus set_servers(natsOptions *options, char *text) {
+    const char *servers[SERVERS];
+    int count = 0;
+    for (char *at = strtok(text, ","); at != NULL && count < SERVERS; at = strtok(NULL, ","))
+        servers[count++] = at;
+    return natsOptions_SetServers(options, servers, count);
+}
+
+static natsStatus connect_to(faz_broker *self, const char *servers) {
+    natsOptions *options = NULL;
+    char *text = malloc(strlen(servers) + 1);
+    natsStatus status = text != NULL ? natsOptions_Create(&options) : NATS_NO_MEMORY;
+    if (status == NATS_OK)
+        status = set_servers(options, strcpy(text, servers));
+    if (status == NATS_OK) {
+        natsOptions_SetMaxReconnect(options, -1);
+        natsOptions_SetReconnectWait(options, 100);
+        natsOptions_SetReconnectJitter(options, 100, 100);
+        natsOptions_SetRetryOnFailedConnect(options, true, on_connected, NULL);
+        natsOptions_SetTimeout(options, WAIT);
+        natsOptions_SetPingInterval(options, WAIT);
+        natsOptions_SetErrorHandler(options, on_error, NULL);
+        status = natsConnection_Connect(&self->connection, options);
+    }
+    natsOptions_Destroy(options);
+    free(text);
+    return status;
+}
+
+bool faz_broker_open(faz_broker *self, const char *servers) {
+    *self = (faz_broker){ 0 };
+    natsStatus status = connect_to(self, servers);
+    if (status == NATS_OK || status == NATS_NOT_YET_CONNECTED)
+        status = natsConnection_JetStream(&self->stream, self->connection, NULL);
+    if (status != NATS_OK)
+        faz_broker_close(self);
+    return status == NATS_OK;
+}
+
+void faz_broker_close(faz_broker *self) {
+    jsCtx_Destroy(self->stream);
+    natsConnection_Destroy(self->connection);
+    *self = (faz_broker){ 0 };
+}
+
+natsStatus faz_broker_create(faz_broker *self, int replicas) {
+    const char *subjects[] = { "faz.>" };
+    jsRePublish live;
+    jsStreamConfig config;
+    jsStreamInfo *info = NULL;
+    jsErrCode code = 0;
+    natsStatus status = js_GetStreamInfo(&info, self->stream, FAZ_STREAM, NULL, &code);
+    jsStreamInfo_Destroy(info);
+    if (status != NATS_NOT_FOUND)
+        return status;
+    jsRePublish_Init(&live);
+    live.Source = "faz.*.rows.*";
+    live.Destination = FAZ_LIVE ".{{wildcard(1)}}.{{wildcard(2)}}";
+    jsStreamConfig_Init(&config);
+    config.Name = FAZ_STREAM;
+    config.Subjects = subjects;
+    config.SubjectsLen = 1;
+    config.Replicas = replicas;
+    config.AllowDirect = true;
+    config.RePublish = &live;
+    config.MaxAge = 24 * 3600 * SECOND;
+    config.Duplicates = 600 * SECOND;
+    info = NULL;
+    status = js_AddStream(&info, self->stream, &config, NULL, &code);
+    jsStreamInfo_Destroy(info);
+    return status;
+}
+
+natsStatus faz_broker_look(faz_broker *self, char *out, size_t room) {
+    jsStreamInfo *info = NULL;
+    natsStatus status = js_GetStreamInfo(&info, self->stream, FAZ_STREAM, NULL, NULL);
+    if (status == NATS_OK)
+        snprintf(out, room, "%" PRIu64 " messages, %" PRIu64 " bytes, led by %s", info->State.Msgs, info->State.Bytes,
+                 info->Cluster != NULL && info->Cluster->Leader != NULL ? info->Cluster->Leader : "the one server");
+    jsStreamInfo_Destroy(info);
+    return status;
+}
+
+static natsStatus get(faz_broker *self, natsMsg **message, jsDirectGetMsgOptions *which) {
+    jsOptions options;
+    jsOptions_Init(&options);
+    options.Wait = WAIT;
+    return js_DirectGetMsg(message, self->stream, FAZ_STREAM, &options, which);
+}
+
+natsStatus faz_broker_next(faz_broker *self, natsMsg **message, const char *subject, uint64_t place) {
+    jsDirectGetMsgOptions which;
+    jsDirectGetMsgOptions_Init(&which);
+    which.Sequence = place > 0 ? place : 1;
+    which.NextBySubject = subject;
+    return get(self, message, &which);
+}
+
+natsStatus faz_broker_last(faz_broker *self, natsMsg **message, const char *subject) {
+    jsDirectGetMsgOptions which;
+    jsDirectGetMsgOptions_Init(&which);
+    which.LastBySubject = subject;
+    return get(self, message, &which);
+}

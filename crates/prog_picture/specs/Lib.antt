@@ -1,0 +1,5 @@
+pub mod Cells
+pub mod Escapes
+pub mod Pictures
+pub mod Rolls
+pub mod Views

@@ -1,0 +1,18 @@
+use Rattle.std.proofs.Common.{refl, subst}
+use Rattle.roll_member.specs.Joined.{IsJoinedAs}
+use Rattle.roll_mesh.specs.declared.seat.Seat.{Seat}
+use Rattle.roll_peer.proofs.peer.Peer.open.Goals as goal
+
+pub returns-in-Ok-join-clause-opened : goal.returns-in-Ok-join-clause-opened
+returns-in-Ok-join-clause-opened g c = record {
+  member = subst (λ (seat : Seat). IsJoinedAs c.args.session seat c.in-Ok-join.member)
+      c.seat.ensures c.in-Ok-join.ensures.joined;
+  settings_are = refl;
+  contacts = rw c.new-in-Ok-join.ensures refl;
+  running = refl;
+  news = refl;
+  waiting = c.new-in-Ok-join-2.ensures;
+  known_gone = refl;
+  digests = c.new-in-Ok-join-3.ensures;
+  pace = c.in-Ok.ensures;
+}
