@@ -20,7 +20,7 @@ static const uint8_t hello[32] = {
     0x46, 0x5a, 0x47, 0x31, 0xdd, 0x8d, 0x44, 0xc5, 0x82, 0x8c, 0x25, 0xd1, 0x01, 0x00, 0x01, 0x02,
     0x00, 0x01, 0xff, 0xff, 0xff, 0xff, 0xff, 0xff, 0x01, 0x23, 0x45, 0x67, 0x89, 0xab, 0xcd, 0xef,
 };
-static const uint8_t play[45] = {
+static const uint8_t turn[45] = {
     0x46, 0x5a, 0x47, 0x31, 0xae, 0x83, 0xfd, 0xe0, 0xaf, 0x8b, 0x0a, 0x63, 0x01, 0x01, 0x01, 0x82,
     0x01, 0x78, 0x76, 0xe0, 0x0f, 0xc0, 0x0f, 0x10, 0x00, 0x03, 0x77, 0x7b, 0x01, 0x6e, 0xfe, 0xdc,
     0xba, 0x98, 0x76, 0x54, 0x32, 0x10, 0x02, 0x75, 0x06, 0x02, 0x05, 0x02, 0x07,
@@ -62,7 +62,7 @@ static void examples(void) {
     IS(length, sizeof bye);
     IS(memcmp(bytes, bye, length), 0);
     IS(fazgrond_peer_receive(&one, hello, sizeof hello, 0), FAZGROND_OK);
-    IS(fazgrond_peer_receive(&one, play, sizeof play, 0), FAZGROND_OK);
+    IS(fazgrond_peer_receive(&one, turn, sizeof turn, 0), FAZGROND_OK);
     IS(fazgrond_peer_receive(&one, held, sizeof held, 0), FAZGROND_OK);
     IS(fazgrond_peer_receive(&one, bye, sizeof bye, 0), FAZGROND_OK);
     IS(fazgrond_peer_receive(&one, bye, sizeof bye, 0), FAZGROND_MACHINE_GONE);
@@ -73,7 +73,7 @@ static void examples(void) {
 /* An example isn't heard if any bit of it is another. */
 static void is_whole(const uint8_t *text, size_t length) {
     fazgrond_peer one = opened(0, MATCH);
-    uint8_t bytes[sizeof play];
+    uint8_t bytes[sizeof turn];
     memcpy(bytes, text, length);
     for (size_t bit = 0; bit < 8 * length; bit++) {
         bytes[bit / 8] ^= (uint8_t)(1 << bit % 8);
@@ -109,12 +109,26 @@ static void no_event_but(fazgrond_peer *peer, uint32_t code) {
     IS(found, code != 0);
 }
 
+/* Plays so many frames, all of which a machine may predict. */
+static void play(fazgrond_peer *peer, uint8_t player, int frames) {
+    fazgrond_request requests[8];
+    fazgrond_reached reached;
+    for (int at = 0; at < frames; at++) {
+        IS(fazgrond_peer_add_local_input(peer, player, 0), FAZGROND_OK);
+        IS(fazgrond_peer_advance_frame(peer, &reached), FAZGROND_OK);
+        while (fazgrond_peer_take_requests(peer, requests, 8) > 0)
+            ;
+    }
+}
+
 /* The clock of the first machine begins anew. Every 16th datagram tells clocks: the first of these after 48 milliseconds, of which
  * the other held it for 8. */
 static void clocks(void) {
     const uint32_t start = UINT32_MAX - 9;
     fazgrond_peer one = opened(0, MATCH), two = opened(1, MATCH);
     fazgrond_stats stats;
+    uint8_t bytes[FAZGROND_DATAGRAM];
+    size_t length;
     pass(&two, &one, 0, 500, start);
     for (int at = 0; at < 16; at++)
         pass(&one, &two, 1, start, 500);
@@ -122,7 +136,14 @@ static void clocks(void) {
         pass(&two, &one, 0, 508, start);
     IS(fazgrond_peer_stats(&one, 1, &stats), FAZGROND_OK);
     IS(stats.is_measured, 0);
+    IS(fazgrond_peer_poll(&one, start), FAZGROND_OK);
+    IS(fazgrond_peer_poll(&two, 508), FAZGROND_OK);
+    no_event_but(&one, FAZGROND_RUNNING);
+    play(&one, 1, 4);
+    play(&two, 2, 1);
     pass(&one, &two, 1, start, 500);
+    play(&one, 1, 1);
+    play(&two, 2, 1);
     pass(&two, &one, 0, 508, start + 48);
     IS(fazgrond_peer_stats(&one, 1, &stats), FAZGROND_OK);
     IS(stats.is_measured, 1);
@@ -130,9 +151,9 @@ static void clocks(void) {
     IS(stats.sent, 17);
     IS(stats.received, 17);
     IS(stats.lost, 0);
+    IS(stats.frames_behind, -3);      /* the first was at frame 5 and heard of frame 2 */
+    IS(stats.their_frames_behind, 3); /* the other was at 2, and took the first to be at 5: at 4 as it told, and one more */
     /* 750 milliseconds of silence aren't told, and 751 are, once */
-    IS(fazgrond_peer_poll(&one, start + 48), FAZGROND_OK);
-    no_event_but(&one, FAZGROND_RUNNING);
     IS(fazgrond_peer_poll(&one, start + 48 + 750), FAZGROND_OK);
     no_event_but(&one, 0);
     IS(fazgrond_peer_poll(&one, start + 48 + 751), FAZGROND_OK);
@@ -141,6 +162,13 @@ static void clocks(void) {
     no_event_but(&one, 0);
     pass(&two, &one, 0, 600, start + 900);
     no_event_but(&one, FAZGROND_RESUMED);
+    /* one of the datagrams up to the next that tells clocks isn't heard */
+    IS(fazgrond_peer_send(&two, 0, 600, bytes, sizeof bytes, &length), FAZGROND_OK);
+    for (int at = 19; at < 33; at++)
+        pass(&two, &one, 0, 600, start + 900);
+    IS(fazgrond_peer_stats(&one, 1, &stats), FAZGROND_OK);
+    IS(stats.received, 32);
+    IS(stats.lost, 1);
     fazgrond_peer_close(&one);
     fazgrond_peer_close(&two);
 }
