@@ -1,7 +1,9 @@
 #!/bin/bash
 # Measures rollduel against the plain program, and what guesses save and cost: bench/run.sh ROLLDUEL
-# Both play the same scripts, and must write the same bytes. A time is that of a whole run, the least of 25. It takes some
-# two minutes.
+# Both play the same scripts, and must write the same bytes. A time is that of a whole run, the least of 25. Then come the pages
+# that both touch at 50,000 frames, the instructions of 3,000 (by callgrind, if there is valgrind), and what a match of
+# 120,000 frames with `--guesses turns` takes. `st` is the share of this machine that its host took meanwhile. It takes some three
+# minutes.
 #
 # Measures which guesses are worth making, in some two minutes; with ROLLDUEL it plays a part of each match through it too:
 #     bench/run.sh --choices [ROLLDUEL]
@@ -53,10 +55,13 @@ fi
 [ $# = 1 ] || { echo "$usage" >&2; exit 2; }
 rollduel=$(realpath -- "$1")
 rustc -O -o "$work/plain" "$here/plain.rs"
-for frames in 1000 10000 50000; do
+for frames in 1000 3000 10000 50000; do
     python3 "$here/script.py" "$frames" 1 > "$work/$frames.roll"
 done
 python3 - "$rollduel" "$work" 1000 10000 50000 <<'END'
+import os
+import re
+import shutil
 import subprocess
 import sys
 import time
@@ -73,6 +78,32 @@ def seconds(program, script, output):
         return time.perf_counter() - start
 
 
+def used(words, source=os.devnull):
+    """How many seconds a run takes, how many pages it touches, and how many KB it has at most."""
+    with open(source, "rb") as text:
+        start = time.perf_counter()
+        run = subprocess.Popen(words, stdin=text, stdout=subprocess.DEVNULL)
+        _, status, used = os.wait4(run.pid, 0)
+    if status:
+        sys.exit(f"{words} ended with {status}")
+    return time.perf_counter() - start, used.ru_minflt, used.ru_maxrss
+
+
+def instructions(program, script):
+    """How many instructions a run takes, in millions."""
+    words = ["valgrind", "--tool=callgrind", f"--callgrind-out-file={os.devnull}", program]
+    with open(script, "rb") as text:
+        said = subprocess.run(words, stdin=text, stdout=subprocess.DEVNULL, stderr=subprocess.PIPE, check=True).stderr.decode()
+    return int(re.search(r"Collected : (\d+)", said)[1]) / 1e6
+
+
+def stolen():
+    """The ticks that the host took, and all ticks."""
+    ticks = [*map(int, Path("/proc/stat").read_text().split("\n")[0].split()[1:9])]
+    return ticks[7], sum(ticks)
+
+
+before = stolen()
 print("| Frames | rollduel | plain | ratio | rollduel, a frame | plain, a frame |")
 print("|---|---|---|---|---|---|")
 for size in sizes:
@@ -84,6 +115,16 @@ for size in sizes:
     each = 1e6 / int(size)
     row = f"| {size} | {a * 1e3:.1f} ms | {b * 1e3:.1f} ms | {a / b:.2f} | {a * each:.3f} µs | {b * each:.3f} µs |"
     print(row, flush=True)
+print()
+pages = [used([program], work / "50000.roll")[1] for program in (rollduel, work / "plain")]
+print(f"pages at 50000 frames: {pages[0]} and {pages[1]}, {pages[0] / pages[1]:.2f}")
+if shutil.which("valgrind"):
+    counts = [instructions(program, work / "3000.roll") for program in (rollduel, work / "plain")]
+    print(f"instructions at 3000 frames: {counts[0]:.2f} M and {counts[1]:.2f} M, {counts[0] / counts[1]:.2f}")
+took, _, most = used([rollduel, "match", "--frames", "120000", "--guesses", "turns"])
+print(f"a match of 120000 frames with turns: {took:.1f} s, {most / 1000:.0f} MB, {most / 240000:.1f} KB a frame and side")
+taken, ticks = (after - then for after, then in zip(stolen(), before))
+print(f"st {100 * taken / ticks:.1f}\n", flush=True)
 END
 
 python3 "$here/guesses.py" "$rollduel" "$work/plain"
