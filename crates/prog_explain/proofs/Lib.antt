@@ -1,2 +1,4 @@
 mod Unread
 mod Noting
+mod Watching
+mod Drawing

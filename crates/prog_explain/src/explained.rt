@@ -69,7 +69,7 @@ pub fn explain<R: Read, W: Write>(
 }
 
 /// Notes that a text is too long.
-fn note_unread(notes: &mut String, fault: ReadFault) -> Result<(), AllocError> {
+pub fn note_unread(notes: &mut String, fault: ReadFault) -> Result<(), AllocError> {
     if fault == ReadFault::TooLong {
         notes.push_str("more than 1,048,576 bytes\n")?;
     }
@@ -77,7 +77,7 @@ fn note_unread(notes: &mut String, fault: ReadFault) -> Result<(), AllocError> {
 }
 
 /// Does what `explain` does, with a text that was read.
-fn explain_text<W: Write>(
+pub fn explain_text<W: Write>(
     alloc: Global,
     task: Task,
     text: &[u8],

@@ -12,3 +12,4 @@ pub mod Finishing
 pub mod Starting
 pub mod Stepping
 pub mod Reporting
+pub mod Showing

@@ -9,3 +9,4 @@ pub mod Agreement
 pub mod Hearing
 pub mod Sides
 pub mod Endings
+pub mod Pictures

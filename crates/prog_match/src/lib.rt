@@ -1,4 +1,4 @@
-//! Matches of two peers in one process, over a bad line: what their sessions run again, and what guesses save.
+//! Matches of two peers in one process, over a bad line: what their sessions run again, what guesses save, and a picture of it.
 #![tactic(auto)]
 
 mod agreement;
@@ -7,6 +7,7 @@ mod guessing;
 mod line;
 mod options;
 mod peer;
+mod picture;
 mod playing;
 mod policy;
 mod program;

@@ -1,5 +1,5 @@
 //! A match, from its first simulated frame to its last.
-ghost use Rattle.std.specs.Prelude.{◌≡◌, ◌<◌, ◌≤◌, ◌+◌, ◌^◌, IfOk, IsTrue, OnOk, vec_len};
+ghost use Rattle.std.specs.Prelude.{◌≡◌, ◌<◌, ◌≤◌, ◌+◌, ◌^◌, IfOk, IsTrue, OnOk, false, is_some, vec_len};
 ghost use Rattle.prog_match.specs.Agreement.{AreDelivered};
 ghost use Rattle.prog_match.specs.Options.{side_settings, IsPlayable};
 ghost use Rattle.prog_match.specs.Sides.{ArePeers, IsSideAtStart};
@@ -9,9 +9,11 @@ use crate::draws::{Draws, Stream};
 use crate::line::Line;
 use crate::options::MatchOptions;
 use crate::peer::Peer;
+use crate::picture::observer;
 use crate::side::Side;
 use crate::way::Way;
 use crate::words::{choices, drawn};
+use prog_picture::Window;
 use roll_frame::{Refusal, Settings, SettingsFault};
 use roll_game::Game;
 use roll_guess::Habits;
@@ -34,10 +36,11 @@ pub struct Engines<G: Game> {
 }
 
 impl<G: Game + Drop> Match<G> {
-    /// Both sides before the first frame.
+    /// Both sides before the first frame. Player 1's session is watched, if a picture is asked for.
     pub fn new(
         alloc: Global,
         options: &MatchOptions,
+        window: Option<Window>,
         first: Engines<G>,
         second: Engines<G>,
     ) -> Result<Match<G>, Refusal>
@@ -48,10 +51,12 @@ impl<G: Game + Drop> Match<G> {
             (wrongs_in both.first.turns.items ≡ 0) × (wrongs_in both.second.turns.items ≡ 0)) }
         ensures peers { G.snapshot_value first.opening ≡ G.snapshot_value second.opening
             → IfOk result (λ both. ArePeers both.first.side both.second.side) }
+        ensures watched { IfOk result (λ both.
+            (is_some both.first.observer ≡ is_some window) × (is_some both.second.observer ≡ false)) }
     {
         Ok(Match {
-            first: peer(alloc, options, 1, first)?,
-            second: peer(alloc, options, 2, second)?,
+            first: peer(alloc, options, 1, window, first)?,
+            second: peer(alloc, options, 2, None, second)?,
         })
     }
 
@@ -71,6 +76,7 @@ impl<G: Game + Drop> Match<G> {
             × (wrongs_in self.new.second.turns.items ≡ wrongs_in self.old.second.turns.items)) }
         ensures delivered { OnOk result (ArePeers self.old.first.side self.old.second.side
             → AreDelivered self.new.first.side.session self.new.second.side.session) }
+        ensures watched { is_some self.new.first.observer ≡ is_some self.old.first.observer }
     {
         for _ in 0..u32::MAX {
             if self.is_over() {
@@ -102,6 +108,7 @@ impl<G: Game + Drop> Match<G> {
             × (wrongs_in self.new.second.turns.items ≡ wrongs_in self.old.second.turns.items)) }
         ensures peers { OnOk result (ArePeers self.old.first.side self.old.second.side
             → ArePeers self.new.first.side self.new.second.side) }
+        ensures watched { is_some self.new.first.observer ≡ is_some self.old.first.observer }
     {
         let to_first = self.second.way.line.words();
         let to_second = self.first.way.line.words();
@@ -137,11 +144,12 @@ fn side_settings(options: &MatchOptions, me: u8) -> Result<Settings, SettingsFau
         .with_frame_limit(options.frames)
 }
 
-/// A side before the first frame, with its way to the other.
+/// A side before the first frame, with its way to the other, and what watches it, if a picture is asked for.
 fn peer<G: Game + Drop>(
     alloc: Global,
     options: &MatchOptions,
     me: u8,
+    window: Option<Window>,
     engines: Engines<G>,
 ) -> Result<Peer<G>, Refusal>
     requires low { 1 ≤ me }
@@ -151,6 +159,7 @@ fn peer<G: Game + Drop>(
     ensures right { IfOk result (λ peer. wrongs_in peer.turns.items ≡ 0) }
     ensures starts { IfOk result (λ peer.
         IsSideAtStart options.now me (G.snapshot_value engines.opening) peer.side) }
+    ensures watched { IfOk result (λ peer. is_some peer.observer ≡ is_some window) }
 {
     let side = side(alloc, options, me, engines)?;
     let way = if me == 1 {
@@ -167,6 +176,7 @@ fn peer<G: Game + Drop>(
         way,
         turns: Vec::new(alloc),
         habits: Habits::new(choices(options.game).as_slice()),
+        observer: observer(alloc, window)?,
     })
 }
 

@@ -1,9 +1,10 @@
 //! A match from its options to what is written of it.
-ghost use Rattle.std.specs.Prelude.{◌≡◌, ◌⊎◌, ◌<◌, ◌≤◌, ◌^◌, ◌++◌, ◌↔◌, IfErr, IfOk, IfSome, IsTrue, MatchOption, OnOk, false, vec_len};
+ghost use Rattle.std.specs.Prelude.{◌≡◌, ◌⊎◌, ◌<◌, ◌≤◌, ◌^◌, ◌++◌, ◌↔◌, IfErr, IfOk, IfSome, IsTrue, MatchOption, None, OnErr, OnOk, false, vec_len};
 ghost use Rattle.std.specs.String.{string_bytes};
 ghost use Rattle.prog_match.specs.Agreement.{Agree, AgreeTo, AreDelivered};
 ghost use Rattle.prog_match.specs.Endings.{refused_line, TellsRefusal, WritesRefusal};
 ghost use Rattle.prog_match.specs.Options.{IsPlayable};
+ghost use Rattle.prog_match.specs.Pictures.{IsDrawn, OnlyDraws};
 ghost use Rattle.prog_match.specs.Totals.{totals_of};
 ghost use Rattle.roll_duel.specs.Duels.{field_in};
 ghost use Rattle.roll_duel.specs.Frame.{opening_of};
@@ -11,11 +12,13 @@ ghost use Rattle.prog_parts.specs.declared.fault.PlayFault.TheVariants.{Write as
 
 use crate::agreement::{agreed, agrees};
 use crate::options::MatchOptions;
+use crate::picture::show;
 use crate::playing::{Engines, Match};
 use crate::side::Side;
 use crate::table::{Report, push_report};
 use crate::totals::sum_up;
 use prog_parts::{Ending, GameName, PlayFault};
+use prog_picture::Sight;
 use roll_duel::Duel;
 use roll_frame::Refusal;
 use roll_game::{Shown, Tally};
@@ -25,16 +28,26 @@ use std::fmt::Write as _;
 use std::io::Write;
 
 /// Plays a match, and writes its table and its line. Settings that no session starts with are answered `refused 11` alone. So
-/// the status is 1 only if the match was refused: one that was played is well.
-pub fn run<W: Write>(alloc: Global, options: &MatchOptions, writer: &mut W) -> Ending
+/// the status is 1 only if the match was refused: one that was played is well. If a picture is asked for it is made before
+/// anything is written, unless the match was refused.
+pub fn run<W: Write>(
+    alloc: Global,
+    options: &MatchOptions,
+    sight: &mut Sight,
+    writer: &mut W,
+) -> Ending
     ensures status { MatchOption result.fault (result.status ≤ 1) (λ fault. result.status ≡ 2) }
     ensures played { result.status ≡ 0 → IsPlayable options.now }
     ensures refused { result.status ≡ 1
         → WritesRefusal (W.contents writer.old) (W.contents writer.new) }
     ensures untouched { IfSome result.fault
         (λ fault. (fault ≡ CannotWrite) ⊎ (writer.new ≡ writer.old)) }
+    ensures window { sight.new.window ≡ sight.old.window }
+    ensures none { sight.old.window ≡ None → sight.new ≡ sight.old }
+    ensures drawn { result.status ≡ 0 → IsDrawn sight.new }
+    ensures undrawn { result.status ≡ 1 → sight.new ≡ sight.old }
 {
-    match perform(alloc, options, writer) {
+    match perform(alloc, options, sight, writer) {
         Ok(true) => Ending {
             status: 0,
             fault: None,
@@ -51,26 +64,38 @@ pub fn run<W: Write>(alloc: Global, options: &MatchOptions, writer: &mut W) -> E
 fn perform<W: Write>(
     alloc: Global,
     options: &MatchOptions,
+    sight: &mut Sight,
     writer: &mut W,
 ) -> Result<bool, PlayFault>
     ensures played { IfOk result (λ well. IsTrue well → IsPlayable options.now) }
     ensures refused { IfOk result (λ well. well ≡ false
         → WritesRefusal (W.contents writer.old) (W.contents writer.new)) }
     ensures untouched { IfErr result (λ fault. (fault ≡ CannotWrite) ⊎ (writer.new ≡ writer.old)) }
+    ensures asked { OnlyDraws sight.old sight.new }
+    ensures drawn { IfOk result (λ well. IsTrue well → IsDrawn sight.new) }
+    ensures undrawn { IfOk result (λ well. well ≡ false → sight.new ≡ sight.old) }
 {
     let mut out = String::new(alloc);
-    let well = tell(alloc, options, &mut out)?;
+    let well = tell(alloc, options, sight, &mut out)?;
     write_all(writer, out.as_bytes())?;
     Ok(well)
 }
 
 /// Plays a match and tells what came of it, and answers whether all is well: unless it was refused.
-fn tell(alloc: Global, options: &MatchOptions, out: &mut String) -> Result<bool, PlayFault>
+fn tell(
+    alloc: Global,
+    options: &MatchOptions,
+    sight: &mut Sight,
+    out: &mut String,
+) -> Result<bool, PlayFault>
     ensures played { IfOk result (λ well. IsTrue well → IsPlayable options.now) }
     ensures refused { IfOk result (λ well. well ≡ false
         → TellsRefusal (string_bytes out.old) (string_bytes out.new)) }
+    ensures asked { OnlyDraws sight.old sight.new }
+    ensures drawn { IfOk result (λ well. IsTrue well → IsDrawn sight.new) }
+    ensures undrawn { IfOk result (λ well. well ≡ false → sight.new ≡ sight.old) }
 {
-    match play(alloc, options) {
+    match play(alloc, options, sight) {
         Ok(report) => {
             push_report(out, options, &report)?;
             Ok(report.is_well())
@@ -91,19 +116,22 @@ pub fn push_refused(out: &mut String, why: Refusal) -> Result<(), AllocError>
     writeln!(out, "refused {code}")
 }
 
-/// Plays a match, and answers how it came out: both sides agree, and no claim is wrong.
+/// Plays a match, and answers how it came out: both sides agree, and no claim is wrong. If a picture is asked for it is made.
 ///
 /// # Errors
 ///
 /// `InvalidRequest` for settings that no session starts with, `NoMemory`, or what refused a session's call.
-pub fn play(alloc: Global, options: &MatchOptions) -> Result<Report, Refusal>
+pub fn play(alloc: Global, options: &MatchOptions, sight: &mut Sight) -> Result<Report, Refusal>
     ensures playable { OnOk result (IsPlayable options.now) }
     ensures agrees { IfOk result (λ report. IsTrue report.agrees) }
     ensures right { IfOk result (λ report. (report.first.wrong ≡ 0) × (report.second.wrong ≡ 0)) }
+    ensures asked { OnlyDraws sight.old sight.new }
+    ensures drawn { OnOk result (IsDrawn sight.new) }
+    ensures undrawn { OnErr result (sight.new ≡ sight.old) }
 {
     match options.game {
-        GameName::Tally => play_out(alloc, options, tally(), tally()),
-        GameName::Duel => play_out(alloc, options, duel(alloc, 2)?, duel(alloc, 2)?),
+        GameName::Tally => play_out(alloc, options, sight, tally(), tally()),
+        GameName::Duel => play_out(alloc, options, sight, duel(alloc, 2)?, duel(alloc, 2)?),
     }
 }
 
@@ -131,10 +159,11 @@ pub fn duel(alloc: Global, ships: u8) -> Result<Engines<Duel>, Refusal>
     })
 }
 
-/// Plays a match with these engines.
+/// Plays a match with these engines, and draws it if a picture is asked for.
 fn play_out<G: Shown + Drop>(
     alloc: Global,
     options: &MatchOptions,
+    sight: &mut Sight,
     first: Engines<G>,
     second: Engines<G>,
 ) -> Result<Report, Refusal>
@@ -142,10 +171,15 @@ fn play_out<G: Shown + Drop>(
     ensures right { IfOk result (λ report. (report.first.wrong ≡ 0) × (report.second.wrong ≡ 0)) }
     ensures agrees { G.snapshot_value first.opening ≡ G.snapshot_value second.opening
         → IfOk result (λ report. IsTrue report.agrees) }
+    ensures asked { OnlyDraws sight.old sight.new }
+    ensures drawn { OnOk result (IsDrawn sight.new) }
+    ensures undrawn { OnErr result (sight.new ≡ sight.old) }
 {
-    let mut both = Match::new(alloc, options, first, second)?;
+    let mut both = Match::new(alloc, options, sight.window, first, second)?;
     both.play(alloc, options)?;
-    report(alloc, &mut both)
+    let report = report(alloc, &mut both)?;
+    show(alloc, options, &mut both.first, sight)?;
+    Ok(report)
 }
 
 /// How a match came out.
@@ -166,6 +200,7 @@ fn report<G: Shown>(alloc: Global, both: &mut Match<G>) -> Result<Report, Refusa
     ensures delivered { IfOk result
         (λ report. AreDelivered both.old.first.side.session both.old.second.side.session
         → IsTrue report.agrees) }
+    ensures watched { both.new.first.observer ≡ both.old.first.observer }
 {
     let first = sum_up(&both.second.side.words, &both.first.turns);
     let second = sum_up(&both.first.side.words, &both.second.turns);

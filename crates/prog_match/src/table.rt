@@ -42,7 +42,8 @@ pub fn push_report(
     push_line(out, options, report)
 }
 
-fn guesses_name(guesses: Guesses) -> &'static str {
+/// The name of guesses on the command line.
+pub fn guesses_name(guesses: Guesses) -> &'static str {
     match guesses {
         Guesses::Off => "none",
         Guesses::Words => "words",

@@ -20,6 +20,10 @@ stays options machine = option_map_or is_none (slice_get options.stops machine) 
 abbrev pub stop_of : PeersOptions → ℕ → Option ℕ
 stop_of options machine = option_map_or (λ stop. stop) (slice_get options.stops machine) None
 
+-- the first machine that stays
+abbrev pub first_staying : PeersOptions → Option ℕ
+first_staying options = find (stays options) (range_with_len 0 options.machines)
+
 -- whether some machine stays
 abbrev pub has_staying : PeersOptions → Bool
 has_staying options = list_any (stays options) (range_with_len 0 options.machines)

@@ -7,6 +7,7 @@ mod enemy;
 mod machine;
 mod network;
 mod options;
+mod picture;
 mod playing;
 mod program;
 mod report;

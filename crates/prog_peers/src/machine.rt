@@ -8,6 +8,7 @@ use crate::enemy::{Enemy, Trick};
 use crate::network::{Letter, Network, Route};
 use crate::options::PeersOptions;
 use prog_match::{Draws, Engines, drawn, word_at};
+use prog_observer::{Observer, has_rolled};
 use roll_frame::{Refusal, Settings, SettingsFault};
 use roll_game::Shown;
 use roll_mesh::MACHINE_LIMIT;
@@ -59,6 +60,8 @@ pub struct Machine<G: Shown> {
     /// How many frames are settled whose state was digested last.
     noted: u32,
     enemy: Option<Enemy>,
+    /// What was seen of its session, if its view is to be shown.
+    pub observer: Option<Observer>,
 }
 
 impl<G: Shown + Drop> Machine<G> {
@@ -68,6 +71,7 @@ impl<G: Shown + Drop> Machine<G> {
         options: &PeersOptions,
         me: u8,
         engines: Engines<G>,
+        observer: Option<Observer>,
     ) -> Result<Machine<G>, Refusal>
         ensures { IfOk result (λ machine. machine.me ≡ me) }
     {
@@ -96,6 +100,7 @@ impl<G: Shown + Drop> Machine<G> {
             counts: Counts::default(),
             noted: 0,
             enemy,
+            observer,
         })
     }
 
@@ -126,8 +131,10 @@ impl<G: Shown + Drop> Machine<G> {
             return Ok(());
         }
         let now = clock(tick);
+        let before = self.peer.session().log().len();
         self.hear_all(alloc, options, network.letters(), tick)?;
         self.play(now)?;
+        self.watch(alloc, before)?;
         self.note_settled(alloc)?;
         self.note_events();
         self.send_all(alloc, options, network, tick)
@@ -203,6 +210,17 @@ impl<G: Shown + Drop> Machine<G> {
             }
         }
         self.peer.turn(now)?;
+        Ok(())
+    }
+
+    /// Has its observer note what became of its session, whose log had so many entries at the beginning of the tick.
+    fn watch(&mut self, alloc: Global, before: usize) -> Result<(), Refusal>
+        ensures { self.new.me ≡ self.old.me }
+    {
+        if let Some(observer) = &mut self.observer {
+            let session = self.peer.session();
+            observer.watch(alloc, session, has_rolled(session.log(), before))?;
+        }
         Ok(())
     }
 

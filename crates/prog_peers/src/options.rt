@@ -1,6 +1,6 @@
 //! What a match of several machines is played with, and why one isn't played.
 ghost use Rattle.std.specs.Prelude.{◌≡◌};
-ghost use Rattle.prog_peers.specs.Options.{fault_of, has_staying, is_odd_stop, lacks_ships, makes_guesses, odd_stop_of, stays, stop_fault_at, stop_of};
+ghost use Rattle.prog_peers.specs.Options.{fault_of, first_staying, has_staying, is_odd_stop, lacks_ships, makes_guesses, odd_stop_of, stays, stop_fault_at, stop_of};
 
 use prog_match::{Guesses, MatchOptions};
 use prog_parts::GameName;
@@ -83,6 +83,13 @@ impl PeersOptions {
             Some(stop) => stop.is_none(),
             None => false,
         }
+    }
+
+    /// The first machine that never goes silent.
+    pub fn first_staying(&self) -> Option<u8>
+        ensures { result ≡ first_staying self.now }
+    {
+        (0..self.machines).find(|machine| self.stays(*machine))
     }
 
     /// Whether some machine never goes silent.

@@ -1,18 +1,21 @@
 //! A match from its options to what is written of it.
-ghost use Rattle.std.specs.Prelude.{◌≡◌, ◌⊎◌, ◌≤◌, ◌++◌, ◌∷◌, [], IfErr, IfOk, IfSome, IsTrue, MatchOption, None, OnOk, map};
+ghost use Rattle.std.specs.Prelude.{◌≡◌, ◌⊎◌, ◌≤◌, ◌++◌, ◌∷◌, [], IfErr, IfOk, IfSome, IsSome, IsTrue, MatchOption, None, OnOk, map};
 ghost use Rattle.prog_parts.specs.declared.fault.PlayFault.TheVariants.{Write as CannotWrite};
 ghost use Rattle.prog_peers.specs.Agreement.{HasAgreed};
 ghost use Rattle.prog_peers.specs.Options.{fault_of};
+ghost use Rattle.prog_peers.specs.Sights.{IsPictured};
 ghost use Rattle.prog_peers.specs.declared.playing.End.TheVariants.{Over as IsEnded};
 ghost use Rattle.std.specs.List.{range_with_len};
 
 use crate::machine::Machine;
 use crate::options::PeersOptions;
+use crate::picture::{observer_of, picture_of};
 use crate::playing::Table;
 use crate::report::{Report, sum_up};
 use crate::table::push_report;
 use prog_match::{Engines, duel, push_refused, tally};
 use prog_parts::{Ending, GameName, PlayFault};
+use prog_picture::{Sight, Window};
 use roll_duel::Duel;
 use roll_frame::Refusal;
 use roll_game::{Shown, Tally};
@@ -20,16 +23,31 @@ use roll_text::write_all;
 use std::alloc::Global;
 use std::io::Write;
 
+/// What came of a match, and the picture of it if one was asked for.
+#[derive(Drop)]
+struct Played {
+    report: Report,
+    picture: Option<String>,
+}
+
 /// Plays a match, and writes its tables and its last line. The status is 0 only if all is well. Options that no match is
-/// played with are answered `refused 11`.
-pub fn run<W: Write>(alloc: Global, options: &PeersOptions, writer: &mut W) -> Ending
+/// played with are answered `refused 11`. If a picture is asked for, it shows what the first machine that stays saw.
+pub fn run<W: Write>(
+    alloc: Global,
+    options: &PeersOptions,
+    sight: &mut Sight,
+    writer: &mut W,
+) -> Ending
     ensures status { MatchOption result.fault (result.status ≤ 1) (λ fault. result.status ≡ 2) }
     ensures played { result.status ≡ 0 → fault_of options.now ≡ None }
     ensures agreed { result.status ≡ 0 → HasAgreed options.now }
     ensures untouched { IfSome result.fault
         (λ fault. (fault ≡ CannotWrite) ⊎ (writer.new ≡ writer.old)) }
+    ensures window { sight.new.window ≡ sight.old.window }
+    ensures none { sight.old.window ≡ None → sight.new ≡ sight.old }
+    ensures pictured { result.status ≡ 0 → IsSome sight.old.window → IsPictured sight.new.picture }
 {
-    match perform(alloc, options, writer) {
+    match perform(alloc, options, sight, writer) {
         Ok(true) => Ending {
             status: 0,
             fault: None,
@@ -46,27 +64,43 @@ pub fn run<W: Write>(alloc: Global, options: &PeersOptions, writer: &mut W) -> E
 fn perform<W: Write>(
     alloc: Global,
     options: &PeersOptions,
+    sight: &mut Sight,
     writer: &mut W,
 ) -> Result<bool, PlayFault>
     ensures played { IfOk result (λ well. IsTrue well → fault_of options.now ≡ None) }
     ensures agreed { IfOk result (λ well. IsTrue well → HasAgreed options.now) }
     ensures untouched { IfErr result (λ fault. (fault ≡ CannotWrite) ⊎ (writer.new ≡ writer.old)) }
+    ensures window { sight.new.window ≡ sight.old.window }
+    ensures none { sight.old.window ≡ None → sight.new ≡ sight.old }
+    ensures pictured { IfOk result (λ well. IsTrue well → IsSome sight.old.window
+        → IsPictured sight.new.picture) }
 {
     let mut out = String::new(alloc);
-    let well = tell(alloc, options, &mut out)?;
+    let well = tell(alloc, options, sight, &mut out)?;
     write_all(writer, out.as_bytes())?;
     Ok(well)
 }
 
 /// Plays a match and tells what came of it, and answers whether all is well.
-fn tell(alloc: Global, options: &PeersOptions, out: &mut String) -> Result<bool, PlayFault>
+fn tell(
+    alloc: Global,
+    options: &PeersOptions,
+    sight: &mut Sight,
+    out: &mut String,
+) -> Result<bool, PlayFault>
     ensures played { IfOk result (λ well. IsTrue well → fault_of options.now ≡ None) }
     ensures agreed { IfOk result (λ well. IsTrue well → HasAgreed options.now) }
+    ensures window { sight.new.window ≡ sight.old.window }
+    ensures none { sight.old.window ≡ None → sight.new ≡ sight.old }
+    ensures pictured { IfOk result (λ well. IsTrue well → IsSome sight.old.window
+        → IsPictured sight.new.picture) }
 {
-    match play(alloc, options) {
-        Ok(report) => {
-            push_report(out, options, &report)?;
-            Ok(report.is_well())
+    match play(alloc, options, sight.window) {
+        Ok(played) => {
+            push_report(out, options, &played.report)?;
+            let well = played.report.is_well();
+            keep(sight, played.picture);
+            Ok(well)
         }
         Err(Refusal::NoMemory) => Err(PlayFault::NoMemory),
         Err(why) => {
@@ -76,48 +110,74 @@ fn tell(alloc: Global, options: &PeersOptions, out: &mut String) -> Result<bool,
     }
 }
 
+/// Keeps the picture, if there is one.
+fn keep(sight: &mut Sight, picture: Option<String>)
+    ensures window { sight.new.window ≡ sight.old.window }
+    ensures none { picture ≡ None → sight.new ≡ sight.old }
+    ensures pictured { IsPictured picture → IsPictured sight.new.picture }
+{
+    if let Some(picture) = picture {
+        sight.picture = Some(picture);
+    }
+}
+
 /// Plays a match, and answers how it came out.
-fn play(alloc: Global, options: &PeersOptions) -> Result<Report, Refusal>
+fn play(alloc: Global, options: &PeersOptions, window: Option<Window>) -> Result<Played, Refusal>
     ensures played { OnOk result (fault_of options.now ≡ None) }
-    ensures agreed { IfOk result (λ report. report.end ≡ IsEnded → IsTrue report.agree
+    ensures agreed { IfOk result (λ p. p.report.end ≡ IsEnded → IsTrue p.report.agree
         → HasAgreed options.now) }
+    ensures none { IfOk result (λ p. window ≡ None → p.picture ≡ None) }
+    ensures pictured { IfOk result (λ p. IsSome window → IsPictured p.picture) }
 {
     if options.fault().is_some() {
         return Err(Refusal::InvalidRequest);
     }
     match options.common.game {
-        GameName::Tally => play_tally(alloc, options),
-        GameName::Duel => play_duel(alloc, options),
+        GameName::Tally => play_tally(alloc, options, window),
+        GameName::Duel => play_duel(alloc, options, window),
     }
 }
 
-fn play_tally(alloc: Global, options: &PeersOptions) -> Result<Report, Refusal>
-    ensures { IfOk result (λ report. report.end ≡ IsEnded → IsTrue report.agree
+fn play_tally(
+    alloc: Global,
+    options: &PeersOptions,
+    window: Option<Window>,
+) -> Result<Played, Refusal>
+    ensures agreed { IfOk result (λ p. p.report.end ≡ IsEnded → IsTrue p.report.agree
         → HasAgreed options.now) }
+    ensures none { IfOk result (λ p. window ≡ None → p.picture ≡ None) }
+    ensures pictured { IfOk result (λ p. IsSome window → IsPictured p.picture) }
 {
     let mut table: Table<Tally> = Table::new(alloc, options);
     for me in 0..options.machines {
-        seat(alloc, options, &mut table, me, tally())?;
+        seat(alloc, options, window, &mut table, me, tally())?;
     }
-    play_out(alloc, options, &mut table)
+    play_and_show(alloc, options, window, &mut table)
 }
 
-fn play_duel(alloc: Global, options: &PeersOptions) -> Result<Report, Refusal>
-    ensures { IfOk result (λ report. report.end ≡ IsEnded → IsTrue report.agree
+fn play_duel(
+    alloc: Global,
+    options: &PeersOptions,
+    window: Option<Window>,
+) -> Result<Played, Refusal>
+    ensures agreed { IfOk result (λ p. p.report.end ≡ IsEnded → IsTrue p.report.agree
         → HasAgreed options.now) }
+    ensures none { IfOk result (λ p. window ≡ None → p.picture ≡ None) }
+    ensures pictured { IfOk result (λ p. IsSome window → IsPictured p.picture) }
 {
     let mut table: Table<Duel> = Table::new(alloc, options);
     for me in 0..options.machines {
         let engines = duel(alloc, options.machines)?;
-        seat(alloc, options, &mut table, me, engines)?;
+        seat(alloc, options, window, &mut table, me, engines)?;
     }
-    play_out(alloc, options, &mut table)
+    play_and_show(alloc, options, window, &mut table)
 }
 
 /// A machine takes its place.
 fn seat<G: Shown + Drop>(
     alloc: Global,
     options: &PeersOptions,
+    window: Option<Window>,
     table: &mut Table<G>,
     me: u8,
     engines: Engines<G>,
@@ -125,9 +185,29 @@ fn seat<G: Shown + Drop>(
     ensures { OnOk result (map (λ m. m.me) table.new.machines.items
         ≡ map (λ m. m.me) table.old.machines.items ++ me ∷ []) }
 {
-    let machine = Machine::new(alloc, options, me, engines)?;
+    let observer = observer_of(alloc, options, window, me)?;
+    let machine = Machine::new(alloc, options, me, engines, observer)?;
     table.machines.push(machine)?;
     Ok(())
+}
+
+/// Plays a match whose machines have taken their places, and makes the picture if one is asked for.
+fn play_and_show<G: Shown + Drop>(
+    alloc: Global,
+    options: &PeersOptions,
+    window: Option<Window>,
+    table: &mut Table<G>,
+) -> Result<Played, Refusal>
+    requires { map (λ m. m.me) table.old.machines.items
+        ≡ range_with_len 0 options.now.machines }
+    ensures agreed { IfOk result (λ p. p.report.end ≡ IsEnded → IsTrue p.report.agree
+        → HasAgreed options.now) }
+    ensures none { IfOk result (λ p. window ≡ None → p.picture ≡ None) }
+    ensures pictured { IfOk result (λ p. IsSome window → IsPictured p.picture) }
+{
+    let report = play_out(alloc, options, table)?;
+    let picture = picture_of(alloc, options, window, &mut table.machines)?;
+    Ok(Played { report, picture })
 }
 
 /// Plays a match whose machines have taken their places.

@@ -114,7 +114,7 @@ fn count_staying<G: Shown>(options: &PeersOptions, machines: &[Machine<G>]) -> u
 }
 
 /// The place of the first machine that stays.
-fn first_that_stays<G: Shown>(options: &PeersOptions, machines: &[Machine<G>]) -> Option<usize>
+pub fn first_that_stays<G: Shown>(options: &PeersOptions, machines: &[Machine<G>]) -> Option<usize>
     ensures { IfSome result (λ place. place < length machines.now) }
 {
     for place in 0..machines.len() {

@@ -3,6 +3,8 @@ use Rattle.std.specs.Prelude.{◌≤◌, ◌-◌, ◌*◌, ◌%◌, ◌++◌, �
 use Rattle.std.specs.Fmt.{decimal}
 use Rattle.prog_picture.specs.Views.{x_of}
 use Rattle.prog_picture.specs.declared.rolls.RollMark.{RollMark}
+use Rattle.prog_picture.specs.declared.scene.Cause.{Cause}
+use Rattle.prog_picture.specs.declared.scene.Cause.TheVariants.{Word, Leaving, Nothing}
 use Rattle.prog_picture.specs.declared.scene.Roll.{Roll}
 use Rattle.prog_picture.specs.declared.view.View.{View}
 
@@ -10,12 +12,18 @@ use Rattle.prog_picture.specs.declared.view.View.{View}
 abbrev pub is_shown : View → Roll → Bool
 is_shown view roll = nat_le view.from roll.at && nat_le roll.at view.to
 
+-- how many frames late, at this frame, came what made a rollback
+abbrev pub late_of : ℕ → Cause → ℕ
+late_of at (Word player frame) = at - frame
+late_of at (Leaving player frame) = at - frame
+late_of at Nothing = 0
+
 -- the mark of a rollback: its numbers; how far its frames and GGPO's reach back; and a row of eight, by its frame
 abbrev pub roll_mark : View → Roll → RollMark
 roll_mark view roll = record {
   roll = roll;
   from = roll.at - roll.rerun;
-  late = roll.at - roll.frame;
+  late = late_of roll.at roll.cause;
   rerun_x = x_of view (roll.at - roll.rerun);
   ggpo_x = x_of view (roll.at - roll.ggpo);
   end_x = x_of view roll.at;
@@ -38,11 +46,14 @@ numbers_text mark =
     codes "<g><title>frame " ++ (decimal mark.roll.at ++ (codes ": " ++ (decimal mark.roll.rerun
     ++ (codes " run again, from " ++ (decimal mark.from ++ (codes " on; GGPO: " ++ decimal mark.roll.ggpo))))))
 
--- whose late word it was
-abbrev pub cause_text : RollMark → List ℕ
-cause_text mark =
-    codes ". Word of player " ++ (decimal mark.roll.player ++ (codes " for frame "
-    ++ (decimal mark.roll.frame ++ (codes ", " ++ (decimal mark.late ++ codes " late</title>")))))
+-- what made it: whose word, so many frames late, or who left
+abbrev pub cause_of : ℕ → Cause → List ℕ
+cause_of late (Word player frame) =
+    codes ". Word of player " ++ (decimal player ++ (codes " for frame "
+    ++ (decimal frame ++ (codes ", " ++ (decimal late ++ codes " late</title>")))))
+cause_of late (Leaving player frame) =
+    codes ". Player " ++ (decimal player ++ (codes " left, from frame " ++ (decimal frame ++ codes " on</title>")))
+cause_of late Nothing = codes ". No word had changed</title>"
 
 -- a bar of this style, from one place to another
 abbrev pub bar_text : List ℕ → ℕ → ℕ → ℕ → List ℕ
@@ -53,5 +64,5 @@ bar_text style x y end =
 -- the element of a mark: its numbers, its cause, the frames that GGPO runs, and on them those that were run again
 unfoldable pub roll_text : RollMark → List ℕ
 roll_text mark =
-    numbers_text mark ++ (cause_text mark ++ (bar_text (codes "o") mark.ggpo_x mark.y mark.end_x
+    numbers_text mark ++ (cause_of mark.late mark.roll.cause ++ (bar_text (codes "o") mark.ggpo_x mark.y mark.end_x
     ++ (bar_text (codes "f") mark.rerun_x mark.y mark.end_x ++ codes "</g>\n")))

@@ -5,7 +5,7 @@ use Rattle.prog_picture.specs.declared.view.View.{View}
 
 -- how wide a frame is where so many are shown
 abbrev pub step_of : ℕ → ℕ
-step_of frames = min (max (1200 / max frames 1) 2) 24
+step_of frames = min (max (1200 / max frames 1) 2) 60
 
 -- the frames that are shown, 600 at most
 abbrev pub end_of : ℕ → ℕ → ℕ
@@ -21,7 +21,7 @@ view_of scene = record {
 pub record IsView (view : View) : Type 0 where
   pub order : view.from ≤ view.to
   pub few : view.to - view.from ≤ 600
-  pub step : view.step ≤ 24
+  pub step : view.step ≤ 60
 
 -- where a frame begins; one that isn't shown lies at the nearer end
 abbrev pub x_of : View → ℕ → ℕ

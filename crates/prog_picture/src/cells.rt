@@ -1,6 +1,6 @@
 //! The words of a lane.
 ghost use Rattle.std.specs.Prelude.{◌≡◌, ◌≤◌, IfOk};
-ghost use Rattle.prog_picture.specs.Cells.{cell_marks, look_of, mark_at};
+ghost use Rattle.prog_picture.specs.Cells.{cell_marks, goes_on, look_of, mark_at};
 ghost use Rattle.prog_picture.specs.Views.{IsView};
 
 use crate::scene::Cell;
@@ -22,6 +22,8 @@ pub enum Look {
     Predicted,
     /// It came late, and another word was shown.
     Wrong,
+    /// It hasn't come.
+    Unheard,
 }
 
 /// A word in the picture.
@@ -31,18 +33,36 @@ pub struct CellMark {
     pub cell: Cell,
 }
 
+/// Frames one after another with one word, which was known in each of them.
+#[derive(Clone, Copy)]
+pub struct Run {
+    pub first: CellMark,
+    /// How many frames.
+    pub count: u32,
+}
+
 impl CellMark {
     /// What became of the word.
     pub fn look(&self) -> Look
         ensures { result ≡ look_of self.now }
     {
-        if self.cell.heard <= self.frame {
-            Look::Known
-        } else if self.cell.shown == self.cell.word {
-            Look::Predicted
-        } else {
-            Look::Wrong
+        match self.cell.heard {
+            None => Look::Unheard,
+            Some(heard) if heard <= self.frame => Look::Known,
+            Some(_) if self.cell.shown == self.cell.word => Look::Predicted,
+            Some(_) => Look::Wrong,
         }
+    }
+}
+
+impl Run {
+    /// Whether a word goes on with a run: both were known, and are the same.
+    fn goes_on(&self, mark: &CellMark) -> bool
+        ensures { result ≡ goes_on self.now mark.now }
+    {
+        self.first.look() == Look::Known
+            && mark.look() == Look::Known
+            && self.first.cell.word == mark.cell.word
     }
 }
 
@@ -65,39 +85,74 @@ fn mark_at(cells: &[Cell], frame: u32) -> Option<CellMark>
     }
 }
 
-/// Writes a word: its colour, the line to the frame in which it was heard, and what is told of it.
-pub fn push_cell(
-    out: &mut String,
-    mark: &CellMark,
-    view: &View,
-    colour: usize,
-) -> Result<(), AllocError>
+/// The words one after another, those of a run as one.
+pub fn runs(alloc: Global, marks: &[CellMark]) -> Result<Vec<Run>, AllocError> {
+    let mut runs: Vec<Run> = Vec::new(alloc);
+    for mark in marks {
+        match runs.last_mut() {
+            Some(run) if run.goes_on(mark) => run.count = run.count.saturating_add(1),
+            _ => runs.push(Run {
+                first: *mark,
+                count: 1,
+            })?,
+        }
+    }
+    Ok(runs)
+}
+
+/// Writes a run, or a word: its colour, the line to the frame in which it was heard, and what is told of it.
+pub fn push_run(out: &mut String, run: &Run, view: &View, colour: usize) -> Result<(), AllocError>
     requires { IsView view.now }
 {
-    let CellMark { frame, cell } = *mark;
-    let Cell { word, shown, heard } = cell;
-    let look = mark.look();
+    let Run { first, count } = *run;
+    let CellMark { frame, cell } = first;
+    let look = first.look();
     let x = view.x_of(frame);
-    let step = view.step;
+    let wide = view.x_of(frame.saturating_add(count)).saturating_sub(x);
     let class = class_of(look);
-    write!(out, "<g><title>frame {frame}: word {word}")?;
-    if look != Look::Known {
-        write!(out, ", shown {shown}, heard in frame {heard}")?;
-    }
-    writeln!(
+    out.push_str("<g><title>")?;
+    push_told(out, run)?;
+    write!(
         out,
-        "</title><path class=\"{class}{colour}\" d=\"M{x} 0h{step}v{CELL_HEIGHT}h-{step}z\"/>"
+        "</title><path class=\"{class}{colour}\" d=\"M{x} 0h{wide}v{CELL_HEIGHT}h-{wide}z\""
     )?;
-    push_late(out, look, x, view, heard)?;
-    push_word(out, word, x, step)?;
-    writeln!(out, "</g>")
+    out.push_str(opacity_of(look))?;
+    if let Some(heard) = cell.heard {
+        push_late(out, look, x, view, heard)?;
+    }
+    push_word(out, cell.word, x, wide)?;
+    out.push_str("</g>\n")
+}
+
+/// Writes what is told of a run, or of a word.
+fn push_told(out: &mut String, run: &Run) -> Result<(), AllocError> {
+    let CellMark { frame, cell } = run.first;
+    let Cell { word, shown, heard } = cell;
+    if run.count > 1 {
+        let last = frame.saturating_add(run.count - 1);
+        return write!(out, "frames {frame} to {last}: word {word}");
+    }
+    write!(out, "frame {frame}: word {word}")?;
+    match heard {
+        None => out.push_str(", predicted: the true one hasn't come"),
+        Some(heard) if frame < heard => write!(out, ", shown {shown}, heard in frame {heard}"),
+        Some(_) => Ok(()),
+    }
 }
 
 /// The first letter of the name of a word's style.
 fn class_of(look: Look) -> char {
     match look {
         Look::Known => 'c',
-        Look::Predicted | Look::Wrong => 'p',
+        Look::Predicted | Look::Wrong | Look::Unheard => 'p',
+    }
+}
+
+/// How a word that hasn't come looks, and the end of its element.
+fn opacity_of(look: Look) -> &'static str {
+    match look {
+        Look::Unheard => " opacity=\".45\"/>",
+        Look::Known | Look::Predicted | Look::Wrong => "/>",
     }
 }
 
@@ -110,13 +165,13 @@ fn push_late(
     heard: u32,
 ) -> Result<(), AllocError>
     requires view { IsView view.now }
-    requires x { x ≤ 14500 }
+    requires x { x ≤ 36100 }
 {
     let step = view.step;
     let end = view.x_of(heard);
     let middle = x + step / 2;
     let class = match look {
-        Look::Known => return Ok(()),
+        Look::Known | Look::Unheard => return Ok(()),
         Look::Predicted => "l",
         Look::Wrong => "w",
     };
@@ -131,18 +186,17 @@ fn push_late(
             "M{x} 0l{step} {CELL_HEIGHT}M{x} {CELL_HEIGHT}l{step} -{CELL_HEIGHT}"
         )?;
     }
-    write!(out, "\"/>")
+    out.push_str("\"/>")
 }
 
-/// Writes a word's number, where there is room for it.
-fn push_word(out: &mut String, word: u32, x: u32, step: u32) -> Result<(), AllocError>
-    requires x { x ≤ 14500 }
-    requires step { step ≤ 24 }
+/// Writes a word's number, if there is room for it.
+fn push_word(out: &mut String, word: u32, x: u32, wide: u32) -> Result<(), AllocError>
+    requires { x ≤ 36100 }
 {
-    if step < 12 || 99 < word {
+    if wide < 12 || 99 < word {
         return Ok(());
     }
-    let middle = x + step / 2;
+    let middle = x.saturating_add(wide / 2);
     write!(
         out,
         "<text class=\"n\" x=\"{middle}\" y=\"15\">{word}</text>"

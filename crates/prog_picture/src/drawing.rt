@@ -4,16 +4,18 @@ ghost use Rattle.std.specs.String.{string_bytes};
 ghost use Rattle.prog_picture.specs.Pictures.{HasRolls};
 ghost use Rattle.prog_picture.specs.Views.{IsView};
 
-use crate::cells::{CELL_HEIGHT, HEARD_DEPTH, cell_marks, push_cell};
+use crate::cells::{CELL_HEIGHT, HEARD_DEPTH, cell_marks, push_run, runs};
 use crate::page::{COLOURS, push_axis, push_colours, push_head, push_legend, push_title};
 use crate::rolls::{ROW_HEIGHT, ROWS, RollMark, push_rolls, roll_marks, worst};
-use crate::scene::{Lane, Roll, Scene};
+use crate::scene::{Lane, Scene};
+use crate::tree::{Node, nodes, push_tree, tree_height, tree_width};
 use crate::view::{View, view_of};
+use crate::worst::push_worst;
 use std::alloc::{AllocError, Global};
 use std::fmt::Write;
 
 /// Where the first lane begins, and how tall a lane is with the lines of its late words.
-const TOP: u32 = 118;
+const TOP: u32 = 142;
 
 const LANE_HEIGHT: u32 = CELL_HEIGHT + HEARD_DEPTH + 18;
 
@@ -32,9 +34,10 @@ pub fn draw(alloc: Global, scene: &Scene) -> Result<String, AllocError>
     let view = view_of(scene);
     let marks = roll_marks(alloc, &scene.rolls, &view)?;
     let palette = palette(alloc, scene, &view)?;
-    let mut picture = front(alloc, scene, &view, &marks, &palette)?;
+    let nodes = nodes(alloc, scene.tree.as_ref())?;
+    let mut picture = front(alloc, scene, &view, &marks, &palette, &nodes)?;
     push_rolls(&mut picture, &marks)?;
-    let end = end(alloc, scene, &palette)?;
+    let end = end(alloc, scene, &palette, &nodes)?;
     picture.push_str(&end)?;
     Ok(picture)
 }
@@ -61,6 +64,7 @@ fn front(
     view: &View,
     marks: &[RollMark],
     palette: &[u32],
+    nodes: &[Node],
 ) -> Result<String, AllocError>
     requires { IsView view.now }
 {
@@ -68,10 +72,10 @@ fn front(
     let lanes = lane_count(scene);
     let rolls = rolls_top(lanes);
     let bottom = rolls + ROWS * ROW_HEIGHT;
-    let width = view.x_of(view.to).max(960) + 40;
-    push_head(&mut out, width, bottom + 74)?;
+    let width = view.x_of(view.to).max(tree_width(nodes)).max(1080) + 40;
+    push_head(&mut out, width, tree_top(bottom) + tree_height(nodes))?;
     push_title(alloc, &mut out, scene, view)?;
-    push_worst(&mut out, worst(marks), bottom)?;
+    push_worst(&mut out, worst(marks), TOP - 4, bottom)?;
     push_axis(&mut out, view, TOP - 10, bottom)?;
     for (place, lane) in scene.lanes.iter().take(LANE_LIMIT).enumerate() {
         push_lane(alloc, &mut out, lane, view, palette, place as u32)?;
@@ -79,51 +83,6 @@ fn front(
     write!(out, "<text x=\"12\" y=\"{}\">rollbacks</text>", rolls + 24)?;
     writeln!(out, "<g transform=\"translate(0 {rolls})\">")?;
     Ok(out)
-}
-
-/// Writes the deepest rollback in words, and marks its frames.
-fn push_worst(out: &mut String, worst: Option<RollMark>, bottom: u32) -> Result<(), AllocError> {
-    out.push_str("<text class=\"b\" x=\"12\" y=\"72\">")?;
-    let Some(mark) = worst else {
-        return out.push_str("No rollback: no late word had been shown wrong.</text>\n");
-    };
-    let RollMark {
-        late,
-        ggpo_x,
-        end_x,
-        ..
-    } = mark;
-    let Roll {
-        at,
-        rerun,
-        ggpo,
-        player,
-        frame,
-    } = mark.roll;
-    if rerun == 0 {
-        write!(
-            out,
-            "No frame was run again: guesses had all that late words changed. One was"
-        )?;
-        return writeln!(
-            out,
-            " player {player}'s for frame {frame}, {late} frames late.</text>"
-        );
-    }
-    write!(
-        out,
-        "Worst rollback: {rerun} frames run again at frame {at}. The word of player "
-    )?;
-    write!(out, "{player} for frame {frame} came {late} frames late")?;
-    if rerun < ggpo {
-        write!(out, "; without guesses: {ggpo} frames")?;
-    }
-    let top = TOP - 4;
-    writeln!(
-        out,
-        ".</text><path class=\"m\" d=\"M{ggpo_x} {top}H{end_x}V{bottom}H{ggpo_x}z\"/>"
-    )?;
-    writeln!(out, "<path class=\"k\" d=\"M{end_x} {top}V{bottom}\"/>")
 }
 
 /// Writes the words of a player.
@@ -140,6 +99,7 @@ fn push_lane(
 {
     let marks = cell_marks(alloc, &lane.cells, view)?;
     let y = TOP + place * LANE_HEIGHT;
+    let runs = runs(alloc, &marks)?;
     let player = lane.player;
     let heard = CELL_HEIGHT + HEARD_DEPTH;
     let end = view.x_of(view.to);
@@ -147,9 +107,12 @@ fn push_lane(
         out,
         "<g transform=\"translate(0 {y})\"><text x=\"12\" y=\"16\">player {player}</text>"
     )?;
+    if lane.is_local {
+        out.push_str("<text class=\"s\" x=\"12\" y=\"32\">local</text>")?;
+    }
     writeln!(out, "<path class=\"h\" d=\"M100 {heard}H{end}\"/>")?;
-    for mark in &marks {
-        push_cell(out, mark, view, colour_of(palette, mark.cell.word))?;
+    for run in &runs {
+        push_run(out, run, view, colour_of(palette, run.first.cell.word))?;
     }
     out.push_str("</g>\n")
 }
@@ -182,13 +145,29 @@ fn note_word(palette: &mut Vec<u32>, word: u32) -> Result<(), AllocError> {
     Ok(())
 }
 
+/// Where the saved states begin.
+fn tree_top(bottom: u32) -> u32
+    requires { bottom ≤ 2000 }
+    ensures { result ≤ 2100 }
+{
+    bottom + 74
+}
+
 /// All that stands after the rollbacks.
-fn end(alloc: Global, scene: &Scene, palette: &[u32]) -> Result<String, AllocError> {
+fn end(
+    alloc: Global,
+    scene: &Scene,
+    palette: &[u32],
+    nodes: &[Node],
+) -> Result<String, AllocError> {
     let mut out = String::new(alloc);
     let bottom = rolls_top(lane_count(scene)) + ROWS * ROW_HEIGHT;
     out.push_str("</g>\n")?;
     push_legend(&mut out, bottom + 16)?;
     push_colours(&mut out, palette, bottom + 44)?;
+    if let Some(claim) = &scene.tree {
+        push_tree(&mut out, claim, nodes, tree_top(bottom))?;
+    }
     out.push_str("</svg>\n")?;
     Ok(out)
 }

@@ -1,5 +1,5 @@
 //! Texts from outside, as an SVG holds them.
-ghost use Rattle.std.specs.Prelude.{◌≡◌, ◌++◌, IfOk, OnOk};
+ghost use Rattle.std.specs.Prelude.{◌≡◌, ◌++◌, take, IfOk, OnOk};
 ghost use Rattle.std.specs.List.{flat_map};
 ghost use Rattle.std.specs.Str.{chars};
 ghost use Rattle.std.specs.String.{string_bytes};
@@ -7,21 +7,27 @@ ghost use Rattle.prog_picture.specs.Escapes.{escaped};
 
 use std::alloc::{AllocError, Global};
 
-/// Writes a text: what an SVG would take for its own is escaped, and what it can't hold is a question mark.
-pub fn push_escaped(alloc: Global, out: &mut String, text: &str) -> Result<(), AllocError>
+/// Writes the first characters of a text, so many at most: what an SVG would take for its own is escaped, and what it can't
+/// hold is a question mark.
+pub fn push_escaped(
+    alloc: Global,
+    out: &mut String,
+    text: &str,
+    most: usize,
+) -> Result<(), AllocError>
     ensures { OnOk result
-        (string_bytes out.new ≡ string_bytes out.old ++ flat_map escaped (chars text.now)) }
+        (string_bytes out.new ≡ string_bytes out.old ++ flat_map escaped (take most (chars text.now))) }
 {
-    for c in &characters(alloc, text)? {
+    for c in &characters(alloc, text, most)? {
         push_char(out, *c)?;
     }
     Ok(())
 }
 
-fn characters(alloc: Global, text: &str) -> Result<Vec<char>, AllocError>
-    ensures { IfOk result (λ found. found.items ≡ chars text.now) }
+fn characters(alloc: Global, text: &str, most: usize) -> Result<Vec<char>, AllocError>
+    ensures { IfOk result (λ found. found.items ≡ take most (chars text.now)) }
 {
-    text.chars().collect(alloc)
+    text.chars().take(most).collect(alloc)
 }
 
 /// Writes a character.

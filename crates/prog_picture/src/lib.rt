@@ -7,8 +7,11 @@ mod escape;
 mod page;
 mod rolls;
 mod scene;
+mod tree;
 mod view;
+mod worst;
 
 pub use drawing::draw;
-pub use scene::{Cell, Lane, Roll, Scene};
+pub use page::TITLE_LIMIT;
+pub use scene::{Cause, Cell, Lane, Roll, Scene, Sight, Window};
 pub use view::FRAME_LIMIT;

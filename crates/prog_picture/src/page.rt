@@ -8,6 +8,12 @@ use crate::view::View;
 use std::alloc::{AllocError, Global};
 use std::fmt::Write;
 
+/// The most characters of a title that are shown.
+pub const TITLE_LIMIT: usize = 200;
+
+/// How many of them stand on the page; the rest are told as the mouse rests on it.
+const HEADING_LIMIT: usize = 120;
+
 /// How many words have a colour of their own. The last colour is that of all others.
 pub const COLOURS: usize = 8;
 
@@ -20,7 +26,7 @@ const FILLS: [&str; COLOURS] = [
 const STYLES: &str = r#"<style>
 .q{fill:#fff}
 text{font:13px system-ui,sans-serif;fill:#1d232b}
-.t{font-size:17px;font-weight:600}.b{font-size:15px;font-weight:700;fill:#c3211f}
+.t{font-size:16px;font-weight:600}.b{font-size:15px;font-weight:700;fill:#c3211f}
 .s{font-size:12px;fill:#5a6572}.n{font-size:11px;text-anchor:middle;fill:#10151b}
 .a{font-size:11px;text-anchor:middle;fill:#5a6572}
 .g{stroke:#5a6572;stroke-opacity:.25;fill:none}.h{stroke:#5a6572;stroke-opacity:.55;fill:none}
@@ -29,9 +35,11 @@ text{font:13px system-ui,sans-serif;fill:#1d232b}
 .m{fill:#d62728;fill-opacity:.13}.k{stroke:#d62728;stroke-width:2.5;fill:none}
 .f{fill:#e2622c}.o{fill:none;stroke:#7a8592;stroke-dasharray:3 2}
 .y{fill:#fff;fill-opacity:.62}
+.u,.v{fill:#8fd19e;stroke:#2e8b4a}.v{stroke-width:3}.x{fill:#f2b8b5;stroke:#d62728}.e{fill:#c9d1da;stroke:#7a8592}
 @media (prefers-color-scheme:dark){.q{fill:#14181d}text{fill:#e8ecf0}.b{fill:#ff8078}
 .s,.a{fill:#a9b4c0}.n{fill:#fff;stroke:#14181d}.g,.h,.l{stroke:#a9b4c0}.w,.k{stroke:#ff5a52}
-.m{fill:#ff5a52;fill-opacity:.2}.o{stroke:#a9b4c0}.y{fill:#14181d;fill-opacity:.55}}
+.m{fill:#ff5a52;fill-opacity:.2}.o{stroke:#a9b4c0}.y{fill:#14181d;fill-opacity:.55}
+.u,.v{fill:#2e6b40;stroke:#6fce86}.x{fill:#6e2a28;stroke:#ff5a52}.e{fill:#3a444f;stroke:#a9b4c0}}
 "#;
 
 /// Writes the beginning of the page, which is this wide and tall, with its styles.
@@ -74,19 +82,15 @@ pub fn push_title(
     view: &View,
 ) -> Result<(), AllocError> {
     out.push_str("<title>")?;
-    push_escaped(alloc, out, &scene.title)?;
+    push_escaped(alloc, out, &scene.title, TITLE_LIMIT)?;
     out.push_str("</title>\n<text class=\"t\" x=\"12\" y=\"26\">")?;
-    push_escaped(alloc, out, &scene.title)?;
+    push_escaped(alloc, out, &scene.title, HEADING_LIMIT)?;
     let View { from, to, .. } = *view;
-    let viewer = scene.viewer;
     write!(
         out,
-        "</text>\n<text class=\"s\" x=\"12\" y=\"46\">What the machine of player "
+        "</text>\n<text class=\"s\" x=\"12\" y=\"46\">What this machine knew and ran, "
     )?;
-    write!(
-        out,
-        "{viewer} knew and ran, frame by frame: frames {from} to "
-    )?;
+    write!(out, "frame by frame: frames {from} to ")?;
     writeln!(out, "{}, from left to right</text>", to.saturating_sub(1))
 }
 
@@ -128,36 +132,41 @@ struct Meaning {
 }
 
 /// What the marks mean.
-const MEANINGS: [Meaning; 6] = [
+const MEANINGS: [Meaning; 7] = [
     Meaning {
         x: 12,
         mark: "<path class=\"c1\" d=\"M0 0h24v14h-24z\"/>",
         text: "known in time",
     },
     Meaning {
-        x: 150,
+        x: 140,
         mark: "<path class=\"p1\" d=\"M0 0h24v14h-24z\"/>",
         text: "predicted, rightly",
     },
     Meaning {
-        x: 310,
+        x: 305,
         mark: "<path class=\"p1\" d=\"M0 0h24v14h-24z\"/><path class=\"w\" d=\"M0 0l24 14M0 14l24 -14\"/>",
         text: "predicted, wrongly",
     },
     Meaning {
         x: 470,
-        mark: "<path class=\"w\" d=\"M0 0L24 14\"/>",
-        text: "to the frame in which it came",
+        mark: "<path class=\"p1\" opacity=\".45\" d=\"M0 0h24v14h-24z\"/>",
+        text: "hasn't come",
     },
     Meaning {
-        x: 690,
+        x: 595,
+        mark: "<path class=\"w\" d=\"M0 0L24 14\"/>",
+        text: "when it came",
+    },
+    Meaning {
+        x: 725,
         mark: "<path class=\"f\" d=\"M0 3h24v9h-24z\"/>",
         text: "frames run again",
     },
     Meaning {
-        x: 840,
+        x: 880,
         mark: "<path class=\"o\" d=\"M0 3h24v9h-24z\"/>",
-        text: "run again without guesses (GGPO)",
+        text: "the same without guesses",
     },
 ];
 

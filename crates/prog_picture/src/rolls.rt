@@ -2,10 +2,10 @@
 ghost use Rattle.std.specs.Prelude.{◌≡◌, ◌++◌, IfOk, IfSome, MatchOption, OnOk, length};
 ghost use Rattle.std.specs.List.{flat_map};
 ghost use Rattle.std.specs.String.{string_bytes};
-ghost use Rattle.prog_picture.specs.Rolls.{IsDeepest, bar_text, cause_text, is_shown, numbers_text, roll_mark, roll_marks, roll_text};
+ghost use Rattle.prog_picture.specs.Rolls.{IsDeepest, bar_text, cause_of, is_shown, late_of, numbers_text, roll_mark, roll_marks, roll_text};
 ghost use Rattle.prog_picture.specs.Views.{IsView};
 
-use crate::scene::Roll;
+use crate::scene::{Cause, Roll};
 use crate::view::View;
 use std::alloc::{AllocError, Global};
 use std::fmt::Write;
@@ -21,7 +21,7 @@ pub struct RollMark {
     pub roll: Roll,
     /// The first frame that was run again.
     pub from: u32,
-    /// How many frames late the word came.
+    /// How many frames late it came.
     pub late: u32,
     /// Where the frames begin that were run again, and those that GGPO runs.
     pub rerun_x: u32,
@@ -61,11 +61,21 @@ fn roll_mark(roll: &Roll, view: &View) -> RollMark
     RollMark {
         roll: *roll,
         from,
-        late: roll.at.saturating_sub(roll.frame),
+        late: late_of(roll),
         rerun_x: view.x_of(from),
         ggpo_x: view.x_of(shown_from),
         end_x: view.x_of(roll.at),
         y: roll.at % ROWS * ROW_HEIGHT,
+    }
+}
+
+/// How many frames late came what made a rollback.
+fn late_of(roll: &Roll) -> u32
+    ensures { result ≡ late_of roll.now.at roll.now.cause }
+{
+    match roll.cause {
+        Cause::Word { frame, .. } | Cause::Leaving { frame, .. } => roll.at.saturating_sub(frame),
+        Cause::Nothing => 0,
     }
 }
 
@@ -85,7 +95,7 @@ fn push_roll(out: &mut String, mark: &RollMark) -> Result<(), AllocError>
     ensures { OnOk result (string_bytes out.new ≡ string_bytes out.old ++ roll_text mark.now) }
 {
     push_numbers(out, mark)?;
-    push_cause(out, mark)?;
+    push_cause(out, mark.roll.cause, mark.late)?;
     push_bar(out, "o", mark.ggpo_x, mark.y, mark.end_x)?;
     push_bar(out, "f", mark.rerun_x, mark.y, mark.end_x)?;
     out.push_str("</g>\n")?;
@@ -109,16 +119,20 @@ fn push_numbers(out: &mut String, mark: &RollMark) -> Result<(), AllocError>
     )
 }
 
-/// Writes whose late word it was.
-fn push_cause(out: &mut String, mark: &RollMark) -> Result<(), AllocError>
-    ensures { OnOk result (string_bytes out.new ≡ string_bytes out.old ++ cause_text mark.now) }
+/// Writes what made it: whose late word, or who left.
+fn push_cause(out: &mut String, cause: Cause, late: u32) -> Result<(), AllocError>
+    ensures { OnOk result (string_bytes out.new ≡ string_bytes out.old ++ cause_of late cause) }
 {
-    let Roll { player, frame, .. } = mark.roll;
-    let late = mark.late;
-    write!(
-        out,
-        ". Word of player {player} for frame {frame}, {late} late</title>"
-    )
+    match cause {
+        Cause::Word { player, frame } => write!(
+            out,
+            ". Word of player {player} for frame {frame}, {late} late</title>"
+        ),
+        Cause::Leaving { player, frame } => {
+            write!(out, ". Player {player} left, from frame {frame} on</title>")
+        }
+        Cause::Nothing => out.push_str(". No word had changed</title>"),
+    }
 }
 
 /// Writes a bar of a row.

@@ -34,9 +34,9 @@ pub fn view_of(scene: &Scene) -> View
 /// How wide a frame is where so many are shown.
 fn step_of(frames: u32) -> u32
     ensures value { result ≡ step_of frames }
-    ensures range { (2 ≤ result) × (result ≤ 24) }
+    ensures range { (2 ≤ result) × (result ≤ 60) }
 {
-    (1200 / frames.max(1)).max(2).min(24)
+    (1200 / frames.max(1)).max(2).min(60)
 }
 
 impl View {
@@ -44,7 +44,7 @@ impl View {
     pub fn x_of(&self, frame: u32) -> u32
         requires { IsView self.now }
         ensures value { result ≡ x_of self.now frame }
-        ensures within { result ≤ 14500 }
+        ensures within { result ≤ 36100 }
     {
         let shown = frame.max(self.from).min(self.to);
         100 + self.step * (shown - self.from)

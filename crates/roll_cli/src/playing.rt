@@ -60,6 +60,15 @@ impl<G: Shown> Playing<G> {
         }
     }
 
+    /// The session that is asked.
+    pub fn session(&self) -> &Session<G>
+        ensures settings { result.now.settings ≡ self.now.settings }
+        ensures opening { result.now.opening ≡ self.now.opening }
+        ensures core { result.now.core ≡ self.now.now.core }
+    {
+        &self.session
+    }
+
     /// Makes room at once for the events that so long a text of commands asks for, about. If it is refused, room is made
     /// as they come.
     pub fn expect(&mut self, commands: &[u8])

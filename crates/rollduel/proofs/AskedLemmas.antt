@@ -10,7 +10,7 @@ use Rattle.clap.specs.Walk.{Row, Text, rows_of}
 use Rattle.clap.specs.declared.parser.matches.ArgMatches.{ArgMatches}
 use Rattle.clap.specs.declared.parser.matches.ArgMatches.TheViews.{out-ArgMatches, out-SubCommand}
 use Rattle.clap.specs.declared.parser.matches.Found.{Found}
-use Rattle.rollduel.specs.Requests.{HasOptions, asked_in, asked_named, stop_texts}
+use Rattle.rollduel.specs.Requests.{HasOptions, asked_in, asked_named, picture_in, picture_named, stop_texts}
 use Rattle.rollduel.specs.declared.command_line.Request.{Request}
 
 both_parts : {A X Y : Type 0} (f : A → X) (g : A → Y) (o : Option A) (x : X) (y : Y) → Some x ≡ option_map f o
@@ -34,6 +34,10 @@ not_met m e = sym (none_met (λ p. p.1) (subcommand_rows_of m) e)
 -- what a command's name and its matches ask for
 pub asked_of_found : (name : Text) (f : Found) → asked_named name (first_value f) ≡ asked_in (Some (name, rows_of f))
 asked_of_found name f = ap (asked_named name) (λ i id. first_value-rows f id i)
+
+-- and which picture its matches ask for
+pub picture_of_found : (name : Text) (f : Found) → picture_named (first_value f) ≡ picture_in (Some (name, rows_of f))
+picture_of_found name f = ap picture_named (λ i id. first_value-rows f id i)
 
 -- the values of --stop, where it is given, and where it isn't
 pub some_stop_texts : (f : Found) (texts : List Text) → Some texts ≡ option_map raw_values (matched_of f (codes "stop"))

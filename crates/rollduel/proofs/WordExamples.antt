@@ -12,7 +12,8 @@ use Rattle.prog_parts.specs.declared.task.Task.TheVariants.{Play, SyncTest, Cert
 use Rattle.prog_match.specs.declared.options.Guesses.TheVariants.{Best, Off}
 use Rattle.rollduel.specs.Commands.{Choices, app_with, rollduel_app}
 use Rattle.rollduel.specs.Endings.{EndsRefused}
-use Rattle.rollduel.specs.Requests.{asked_by, live, «match», on_text, peers}
+use Rattle.rollduel.specs.Requests.{asked_by, live, «match», on_text, peers, picture_by, refused}
+use Rattle.rollduel.specs.declared.picture.PictureFault.TheVariants.{NoFrames, NoPicture}
 
 pub simple : (games guesses : Choices) → is_simple (app_with games guesses) ≡ true
 simple games guesses = refl
@@ -94,6 +95,48 @@ pub plays_peers : asked_by (codes "rollduel" ∷ codes "match" ∷ codes "--peer
 unfolding clap_on_literals
 plays_peers = refl
 
+pub draws_a_file : picture_by (codes "rollduel" ∷ codes "play" ∷ codes "a.roll" ∷ codes "--picture" ∷ codes "b.svg" ∷ []) ≡ Some (
+  codes "b.svg",
+  record {
+    from = 0;
+    to = 600;
+    tree = None;
+  },
+)
+unfolding clap_on_literals
+draws_a_file = refl
+
+pub draws_what_it_plays : asked_by (codes "rollduel" ∷ codes "play" ∷ codes "a.roll" ∷ codes "--picture" ∷ codes "b.svg" ∷ []) ≡ on_text (Some (codes "a.roll")) (Play Tally) false
+unfolding clap_on_literals
+draws_what_it_plays = refl
+
+pub draws_nothing : picture_by (codes "rollduel" ∷ codes "play" ∷ codes "a.roll" ∷ []) ≡ None
+unfolding clap_on_literals
+draws_nothing = refl
+
+pub draws_peers : asked_by (codes "rollduel" ∷ codes "match" ∷ codes "--peers" ∷ codes "3" ∷ codes "--picture=b.svg" ∷ []) ≡ peers
+unfolding clap_on_literals
+draws_peers = refl
+
+pub draws_a_window : picture_by (codes "rollduel" ∷ codes "match" ∷ codes "--picture=b.svg" ∷ codes "--from" ∷ codes "5" ∷ codes "--to=65" ∷ codes "--tree" ∷ codes "9" ∷ []) ≡ Some (
+  codes "b.svg",
+  record {
+    from = 5;
+    to = 65;
+    tree = Some 9;
+  },
+)
+unfolding clap_on_literals
+draws_a_window = refl
+
+pub draws_no_frame : asked_by (codes "rollduel" ∷ codes "play" ∷ codes "a.roll" ∷ codes "--picture" ∷ codes "b.svg" ∷ codes "--from" ∷ codes "5" ∷ codes "--to" ∷ codes "5" ∷ []) ≡ refused NoFrames
+unfolding clap_on_literals
+draws_no_frame = refl
+
+pub draws_a_part_of_nothing : asked_by (codes "rollduel" ∷ codes "match" ∷ codes "--tree=9" ∷ []) ≡ refused NoPicture
+unfolding clap_on_literals
+draws_a_part_of_nothing = refl
+
 pub takes_nothing : takes rollduel_app (codes "rollduel" ∷ []) ≡ true
 unfolding clap_on_literals
 takes_nothing = refl
@@ -117,6 +160,10 @@ takes_a_claim = refl
 pub takes_eight_frames : takes rollduel_app (codes "rollduel" ∷ codes "synctest" ∷ codes "-" ∷ codes "--frames" ∷ codes "8" ∷ codes "--game=duel" ∷ []) ≡ true
 unfolding clap_on_literals
 takes_eight_frames = refl
+
+pub takes_a_picture : takes rollduel_app (codes "rollduel" ∷ codes "play" ∷ codes "a.roll" ∷ codes "--picture" ∷ codes "b.svg" ∷ codes "--to=4294967295" ∷ []) ≡ true
+unfolding clap_on_literals
+takes_a_picture = refl
 
 pub no_file : takes rollduel_app (codes "rollduel" ∷ codes "play" ∷ []) ≡ false
 unfolding clap_on_literals
@@ -157,6 +204,14 @@ stray_file_fault = refl
 pub unexplained_fault : fault_of rollduel_app (codes "rollduel" ∷ codes "live" ∷ codes "a" ∷ codes "--explain" ∷ []) ≡ UnknownArgument ∷ []
 unfolding clap_on_literals
 unexplained_fault = refl
+
+pub undrawn_fault : fault_of rollduel_app (codes "rollduel" ∷ codes "live" ∷ codes "a" ∷ codes "--picture" ∷ codes "b.svg" ∷ []) ≡ UnknownArgument ∷ []
+unfolding clap_on_literals
+undrawn_fault = refl
+
+pub no_frame_fault : fault_of rollduel_app (codes "rollduel" ∷ codes "play" ∷ codes "a" ∷ codes "--picture" ∷ codes "b.svg" ∷ codes "--from=4294967296" ∷ []) ≡ ValueValidation ∷ []
+unfolding clap_on_literals
+no_frame_fault = refl
 
 pub stray_option_fault : fault_of rollduel_app (codes "rollduel" ∷ codes "certify" ∷ codes "a.claim" ∷ codes "--game" ∷ codes "duel" ∷ []) ≡ UnknownArgument ∷ []
 unfolding clap_on_literals

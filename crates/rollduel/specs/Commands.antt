@@ -69,6 +69,18 @@ stop_rule = record (new_rule (codes "stop")) {
   action = Some Append;
 }
 
+-- --picture FILE
+abbrev pub picture_rule : Rule
+picture_rule = record (new_rule (codes "picture")) { long = Some (codes "picture"); value_names = 1 }
+
+-- an option that takes the number of a frame
+abbrev pub frame_rule : Text → Rule
+frame_rule name = free_number_rule name 0 (2 ^ 32 - 1)
+
+-- --picture FILE, --from FRAME, --to FRAME and --tree FRAME
+abbrev pub picture_rules : List Rule
+picture_rules = picture_rule ∷ frame_rule (codes "from") ∷ frame_rule (codes "to") ∷ frame_rule (codes "tree") ∷ []
+
 -- --explain
 abbrev pub explain_rule : Rule
 explain_rule = record (new_rule (codes "explain")) { long = Some (codes "explain"); action = Some SetTrue }
@@ -79,7 +91,7 @@ with_rules app [] = app
 with_rules app (rule ∷ rules) = with_rules (with_rule app rule) rules
 
 abbrev pub play_app : Choices → App
-play_app games = with_rules (new_app (codes "play")) (file_rule ∷ game_rule games ∷ explain_rule ∷ [])
+play_app games = with_rules (with_rules (new_app (codes "play")) (file_rule ∷ game_rule games ∷ explain_rule ∷ [])) picture_rules
 
 abbrev pub live_app : Choices → App
 live_app games = with_rules (new_app (codes "live")) (file_rule ∷ game_rule games ∷ number_rule (codes "workers") (codes "1") 1 4 ∷ [])
@@ -101,9 +113,9 @@ two_peers_app games guesses = with_rules line_app (
     guesses_rule guesses ∷ number_rule (codes "jobs") (codes "4") 1 32 ∷ game_rule games ∷ [])
 
 abbrev pub match_app : Choices → Choices → App
-match_app games guesses = with_rules (two_peers_app games guesses) (
+match_app games guesses = with_rules (with_rules (two_peers_app games guesses) (
     free_number_rule (codes "peers") 2 8 ∷ stop_rule ∷
-    free_number_rule (codes "hostile") 0 (2 ^ 64 - 1) ∷ [])
+    free_number_rule (codes "hostile") 0 (2 ^ 64 - 1) ∷ [])) picture_rules
 
 abbrev pub synctest_app : Choices → App
 synctest_app games = with_rules (new_app (codes "synctest")) (file_rule ∷ game_rule games ∷ number_rule (codes "frames") (codes "1") 1 8 ∷ explain_rule ∷ [])

@@ -1,21 +1,27 @@
 -- How the program ends.
-use Rattle.std.specs.Prelude.{◌≡◌, ◌≢◌, ◌≤◌, ◌⊎◌, ℕ, List, [], ◌∷◌, IfSome, MatchOption, Option, None, Some, Result, Ok, Err, ⊤}
+use Rattle.std.specs.Prelude.{◌≡◌, ◌≢◌, ◌≤◌, ◌⊎◌, ℕ, List, [], ◌∷◌, IfSome, MatchOption, Option, None, Some, Result, Ok, Err, option_map, string_bytes, ⊤}
 use Rattle.clap.specs.Kinds.{Kinds}
 use Rattle.clap.specs.declared.error.kind.ErrorKind.{ErrorKind}
 use Rattle.clap.specs.declared.error.kind.ErrorKind.TheVariants.{DisplayHelp, DisplayVersion, OutOfMemory}
 use Rattle.prog_parts.specs.declared.fault.PlayFault.{PlayFault}
 use Rattle.prog_parts.specs.declared.fault.PlayFault.TheVariants.{NoMemory, Read, Write}
 use Rattle.prog_parts.specs.declared.ending.Ending.{Ending}
-use Rattle.clap.specs.Walk.{Row}
+use Rattle.clap.specs.Walk.{Row, Text}
 use Rattle.prog_match.specs.Options.{IsPlayable}
 use Rattle.prog_match.specs.declared.options.MatchOptions.{MatchOptions}
 use Rattle.prog_peers.specs.Agreement.{HasAgreed}
 use Rattle.prog_peers.specs.declared.options.PeersOptions.{PeersOptions}
 use Rattle.rollduel.specs.Requests.{AreNamed}
+use Rattle.rollduel.specs.declared.picture.Done.{Done}
+use Rattle.rollduel.specs.declared.picture.PictureFault.{PictureFault}
 
 -- the program ends with a fault
 abbrev pub faulted : PlayFault → Ending
 faulted fault = record { status = 2; fault = Some fault }
+
+-- the words are refused, and why is told
+abbrev pub misused : Ending
+misused = record { status = 2; fault = None }
 
 -- 0, 1 or 2, and 2 at a fault
 abbrev pub HasStatus : Ending → Type 0
@@ -29,6 +35,23 @@ EndsMatch ending options = ending.status ≡ 0 → IsPlayable options
 abbrev pub EndsPeers : List Row → Ending → Type 0
 EndsPeers rows ending = ending.status ≡ 0
     → (options : PeersOptions) × AreNamed rows options × HasAgreed options
+
+-- how the program ends at words of which the picture can't be drawn
+abbrev pub EndsUnpictured : Ending → PictureFault → Type 0
+EndsUnpictured ending fault = (ending ≡ misused) ⊎ (ending ≡ faulted NoMemory)
+
+-- the file and the text of the picture that is to be saved: one that was made, where nothing failed
+abbrev pub picture_after : Option PlayFault → Option Text → Option Text → Option (Text × Text)
+picture_after None (Some path) (Some text) = Some (path, text)
+picture_after _ _ _ = None
+
+abbrev pub to_save : Done → Option (Text × Text)
+to_save done = picture_after done.ending.fault (option_map (λ path. path.now) done.path) (option_map string_bytes done.picture)
+
+-- how the program ends where its work ended so, and the picture was saved or couldn't be
+abbrev pub ending_after : {E : Type 0} → Ending → Result (Unit {0}) E → Ending
+ending_after ending (Ok saved) = ending
+ending_after ending (Err error) = faulted Write
 
 -- the status after help, or after a fault of usage
 abbrev pub usage_status : ErrorKind → ℕ

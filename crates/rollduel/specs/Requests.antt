@@ -1,5 +1,5 @@
 -- What the words ask for.
-use Rattle.std.specs.Prelude.{◌≡◌, ◌≤◌, ◌^◌, ◌&&◌, ◌||◌, ℕ, Bool, false, List, [], Option, None, Some, ⊤, codes, if◌then◌else◌, is_some, nat_le, nat_lt, option_map, unwrap_or, IfOk}
+use Rattle.std.specs.Prelude.{◌≡◌, ◌≤◌, ◌+◌, ◌-◌, ◌^◌, ◌&&◌, ◌||◌, ℕ, Bool, false, List, [], Option, None, Some, ⊤, codes, if◌then◌else◌, is_some, min, nat_le, nat_lt, option_and_then, option_map, unwrap_or, IfOk}
 use Rattle.std.specs.Option.{option_map_or}
 use Rattle.std.specs.Str.{bytes_eq}
 use Rattle.std.specs.Str.Parse.{digits_value, without_leading_plus}
@@ -17,11 +17,16 @@ use Rattle.prog_match.specs.declared.options.MatchOptions.{MatchOptions}
 use Rattle.prog_peers.specs.Options.{fault_of}
 use Rattle.prog_peers.specs.Stops.{no_stops, NamesStops}
 use Rattle.prog_peers.specs.declared.options.PeersOptions.{PeersOptions}
+use Rattle.prog_picture.specs.declared.scene.Window.{Window}
+use Rattle.prog_picture.specs.declared.view.TheConstants.{FRAME_LIMIT}
 use Rattle.rollduel.specs.Commands.{rollduel_app}
 use Rattle.rollduel.specs.declared.command_line.Input.{Input}
 use Rattle.rollduel.specs.declared.command_line.Input.TheVariants.{Standard, File}
 use Rattle.rollduel.specs.declared.command_line.Request.{Request}
 use Rattle.rollduel.specs.declared.command_line.Request.TheVariants as request
+use Rattle.rollduel.specs.declared.picture.PictureFault.{PictureFault}
+use Rattle.rollduel.specs.declared.picture.PictureFault.TheVariants.{NoFrames, NoPicture}
+use Rattle.rollduel.specs.declared.picture.PictureRequest.{PictureRequest}
 
 -- the path of an input, none of standard input
 abbrev pub path_of : Input → Option Text
@@ -96,19 +101,59 @@ options_named value = record {
   game = game_named (value (codes "game"));
 }
 
+-- the number of a frame that the value of an option names, if it is given
+abbrev pub frame_named : Option Text → Option ℕ
+frame_named = option_map (number_in 32)
+
+-- the frame after the last one of a picture that begins at this frame, if none is named
+abbrev pub end_after : ℕ → ℕ
+end_after from = min (from + FRAME_LIMIT) (2 ^ 32 - 1)
+
+-- what a picture is to show
+abbrev pub window_named : (Text → Option Text) → Window
+window_named value = record {
+  from = number_named 32 (value (codes "from"));
+  to = unwrap_or (frame_named (value (codes "to"))) (end_after (number_named 32 (value (codes "from"))));
+  tree = frame_named (value (codes "tree"));
+}
+
+-- a picture that is asked for: the path of its file, and what it is to show
+abbrev pub Picture : Type 0
+Picture = Text × Window
+
+abbrev pub picture_of : Option PictureRequest → Option Picture
+picture_of = option_map (λ asked. (asked.path.now, asked.window))
+
+abbrev pub picture_named : (Text → Option Text) → Option Picture
+picture_named value = option_map (λ path. (path, window_named value)) (value (codes "picture"))
+
+-- whether a part of a picture is named
+abbrev pub names_part : (Text → Option Text) → Bool
+names_part value =
+    is_some (value (codes "from")) || (is_some (value (codes "to")) || is_some (value (codes "tree")))
+
+-- why what is said of a picture can't be followed: a part of no picture is named, or one without a frame
+abbrev pub picture_fault : (Text → Option Text) → Option PictureFault
+picture_fault value = if is_some (value (codes "picture"))
+    then (if nat_lt (window_named value).from (window_named value).to then None else Some NoFrames)
+    else (if names_part value then Some NoPicture else None)
+
 -- what is asked for: something with a text, the path of which is none where it is standard input, and whether that is
--- to be explained; a script that is played live; a match of two peers; or one of several machines
+-- to be explained; a script that is played live; a match of two peers; one of several machines; or nothing, for what is
+-- said of a picture can't be followed
 pub data Asked : Type 0 where
   on_text : Option Text → Task → Bool → Asked
   live : Option Text → Live → Asked
   «match» : MatchOptions → Asked
   peers : Asked
+  refused : PictureFault → Asked
 
 abbrev pub asked_of : Request → Asked
 asked_of (request.Text asked) = on_text (path_of asked.input) asked.task asked.explain
 asked_of (request.Live input how) = live (path_of input) how
 asked_of (request.Match options) = «match» options
 asked_of (request.Peers options) = peers
+asked_of (request.Refused fault) = refused fault
 
 -- there are 1 to 4 workers
 abbrev pub HasWorkers : Request → Type 0
@@ -139,11 +184,19 @@ abbrev pub HasOptions : List Row → Request → Type 0
 HasOptions rows (request.Peers options) = IfOk options (AreNamed rows)
 HasOptions rows _ = ⊤
 
--- what the command of this name asks for
-abbrev pub asked_named : Text → (Text → Option Text) → Asked
-asked_named name value = if bytes_eq name (codes "live") then live (path_named (value (codes "FILE"))) (live_named value)
+-- what the command of this name asks for, but for a picture
+abbrev pub work_named : Text → (Text → Option Text) → Asked
+work_named name value = if bytes_eq name (codes "live") then live (path_named (value (codes "FILE"))) (live_named value)
     else (if bytes_eq name (codes "match") then match_named value
     else on_text (path_named (value (codes "FILE"))) (task_named name (value (codes "game")) (value (codes "frames"))) (is_named (value (codes "explain"))))
+
+-- the same, unless what is said of a picture can't be followed
+abbrev pub unless : Option PictureFault → Asked → Asked
+unless None asked = asked
+unless (Some fault) asked = refused fault
+
+abbrev pub asked_named : Text → (Text → Option Text) → Asked
+asked_named name value = unless (picture_fault value) (work_named name value)
 
 -- what a command with these arguments asks for, or no command
 abbrev pub asked_in : Option (Text × List Row) → Asked
@@ -153,6 +206,14 @@ asked_in (Some met) = asked_named met.0 (λ name. first_of name met.1)
 -- what the words ask for, of which the first is the program's name
 abbrev pub asked_by : List Text → Asked
 asked_by words = asked_in (subcommand_of rollduel_app words)
+
+-- the picture that a command with these arguments asks for, or no command
+abbrev pub picture_in : Option (Text × List Row) → Option Picture
+picture_in = option_and_then (λ met. picture_named (λ name. first_of name met.1))
+
+-- the picture that the words ask for
+abbrev pub picture_by : List Text → Option Picture
+picture_by words = picture_in (subcommand_of rollduel_app words)
 
 -- the arguments of the command that the words name
 abbrev pub rows_by : List Text → List Row
@@ -177,3 +238,8 @@ IfMatch _ P = ⊤
 abbrev pub IfPeers : Asked → Type 0 → Type 0
 IfPeers peers P = P
 IfPeers _ P = ⊤
+
+-- a fact where what is said of a picture can't be followed
+abbrev pub IfRefused : Asked → (PictureFault → Type 0) → Type 0
+IfRefused (refused fault) P = P fault
+IfRefused _ P = ⊤

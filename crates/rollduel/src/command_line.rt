@@ -6,12 +6,13 @@ ghost use Rattle.clap.specs.Kinds.{FailsBy};
 ghost use Rattle.clap.specs.Words.{first_value, found_of, kind_of, rows_of, takes};
 ghost use Rattle.clap.specs.declared.error.kind.ErrorKind.TheVariants.{OutOfMemory};
 ghost use Rattle.rollduel.specs.Commands.{rollduel_app};
-ghost use Rattle.rollduel.specs.Requests.{AreNamed, HasOptions, HasWorkers, asked_by, asked_named, asked_of, frames_named, game_named, guesses_named, is_named, live_named, match_named, number_in, number_named, options_named, path_named, path_of, rows_by, stop_texts, task_named, workers_named};
+ghost use Rattle.rollduel.specs.Requests.{AreNamed, HasOptions, HasWorkers, asked_by, asked_named, asked_of, frames_named, game_named, guesses_named, is_named, live_named, match_named, number_in, number_named, options_named, path_named, path_of, picture_by, picture_of, rows_by, stop_texts, task_named, work_named, workers_named};
 
 use crate::commands::{
     DELAY, EXPLAIN, FILE, FRAMES, GAME, GUESSES, HOLD, HOSTILE, JOBS, LATE, LOST, PEERS, SEED,
     STOP, THRESHOLD, WORKERS, games, guesses, program_command,
 };
+use crate::picture::{PictureFault, PictureRequest, picture_fault, picture_of};
 use clap::{ArgMatches, Error};
 use prog_match::{Guesses, MatchOptions};
 use prog_parts::{GameName, Task};
@@ -19,6 +20,14 @@ use prog_peers::{PeersFault, PeersOptions, read_stops};
 use roll_live::Live;
 use roll_mesh::MACHINE_LIMIT;
 use std::alloc::Global;
+
+/// What the words ask for.
+#[derive(Clone, Copy, Debug, PartialEq, Eq)]
+pub struct CommandLine<'a> {
+    pub request: Request<'a>,
+    /// The picture that is to be made of it, if one is.
+    pub picture: Option<PictureRequest<'a>>,
+}
 
 /// What is to be done.
 #[derive(Clone, Copy, Debug, PartialEq, Eq)]
@@ -31,6 +40,8 @@ pub enum Request<'a> {
     Match(MatchOptions),
     /// A match of several machines is to be played, or why it can't be.
     Peers(Result<PeersOptions, PeersFault>),
+    /// Nothing, for what is said of a picture can't be followed.
+    Refused(PictureFault),
 }
 
 /// What is to be done with a text.
@@ -52,28 +63,51 @@ pub enum Input<'a> {
 
 /// Reads the words, of which the first is the program's name. The error is a fault of usage, or help that was asked
 /// for: `script` is what it tells of scripts.
-pub fn read<'a>(alloc: Global, words: &'a [String], script: &'a str) -> Result<Request<'a>, Error>
-    ensures request { IfOk result (λ request. asked_of request ≡ asked_by (map string_bytes words.now)) }
-    ensures options { IfOk result (HasOptions (rows_by (map string_bytes words.now))) }
-    ensures workers { IfOk result HasWorkers }
+pub fn read<'a>(
+    alloc: Global,
+    words: &'a [String],
+    script: &'a str,
+) -> Result<CommandLine<'a>, Error>
+    ensures request { IfOk result (λ line. asked_of line.request ≡ asked_by (map string_bytes words.now)) }
+    ensures picture { IfOk result (λ line. picture_of line.picture ≡ picture_by (map string_bytes words.now)) }
+    ensures options { IfOk result (λ line. HasOptions (rows_by (map string_bytes words.now)) line.request) }
+    ensures workers { IfOk result (λ line. HasWorkers line.request) }
     ensures taken { IfErr result (λ error. takes rollduel_app (map string_bytes words.now) ≡ true → kind_of error ≡ OutOfMemory) }
     ensures kinds { FailsBy (fault_of rollduel_app (map string_bytes words.now)) result }
 {
     let command = program_command(alloc, script, games(), guesses())?;
     let matches = command.try_get_matches_from(words)?;
     match matches.subcommand() {
-        Some((name, found)) => Ok(request_of(name, found)),
-        None => Ok(Request::Text(TextRequest {
-            input: Input::Standard,
-            task: Task::Play(GameName::Tally),
-            explain: false,
-        })),
+        Some((name, found)) => Ok(CommandLine {
+            request: request_of(name, found),
+            picture: picture_of(found),
+        }),
+        None => Ok(CommandLine {
+            request: Request::Text(TextRequest {
+                input: Input::Standard,
+                task: Task::Play(GameName::Tally),
+                explain: false,
+            }),
+            picture: None,
+        }),
     }
 }
 
 /// The request of the command of this name.
 fn request_of<'a>(name: &str, found: &ArgMatches<'a>) -> Request<'a>
     ensures asked { asked_of result ≡ asked_named name.now (first_value (found_of found.now)) }
+    ensures options { HasOptions (rows_of (found_of found.now)) result }
+    ensures workers { HasWorkers result }
+{
+    match picture_fault(found) {
+        Some(fault) => Request::Refused(fault),
+        None => work_of(name, found),
+    }
+}
+
+/// What the command of this name asks for, but for a picture.
+fn work_of<'a>(name: &str, found: &ArgMatches<'a>) -> Request<'a>
+    ensures asked { asked_of result ≡ work_named name.now (first_value (found_of found.now)) }
     ensures options { HasOptions (rows_of (found_of found.now)) result }
     ensures workers { HasWorkers result }
 {
@@ -126,7 +160,7 @@ fn match_of<'a>(found: &ArgMatches<'a>) -> Request<'a>
     }
 }
 
-fn is_given(found: &ArgMatches<'_>, name: &str) -> bool
+pub fn is_given(found: &ArgMatches<'_>, name: &str) -> bool
     ensures { result ≡ is_some (first_value (found_of found.now) name.now) }
 {
     found.get_str(name).is_some()
@@ -254,7 +288,7 @@ fn seed_of(found: &ArgMatches<'_>) -> u64
     }
 }
 
-fn number_of(found: &ArgMatches<'_>, name: &str) -> u32
+pub fn number_of(found: &ArgMatches<'_>, name: &str) -> u32
     ensures { result ≡ number_named 32 (first_value (found_of found.now) name.now) }
 {
     match found.get_str(name) {

@@ -2,7 +2,8 @@
 ghost use Rattle.std.specs.Prelude.{◌≡◌, false, IfOk};
 ghost use Rattle.clap.specs.declared.builder.command.Command.TheViews.{out-Command as fields_of};
 ghost use Rattle.clap.specs.Words.{app_of, new_app, rule_of};
-ghost use Rattle.rollduel.specs.Commands.{AreGames, AreGuesses, app_with, certify_app, explain_rule, file_rule, free_number_rule, game_rule, guesses_rule, line_app, live_app, match_app, number_rule, play_app, stop_rule, synctest_app, two_peers_app};
+ghost use Rattle.rollduel.specs.Commands.{AreGames, AreGuesses, app_with, certify_app, line_app, live_app, match_app, play_app, synctest_app, two_peers_app, with_rules};
+ghost use Rattle.rollduel.specs.Commands.{explain_rule, file_rule, frame_rule, free_number_rule, game_rule, guesses_rule, number_rule, picture_rule, picture_rules, stop_rule};
 
 use crate::help;
 use clap::builder::ValueParser;
@@ -42,6 +43,14 @@ pub const PEERS: &str = "peers";
 pub const STOP: &str = "stop";
 
 pub const HOSTILE: &str = "hostile";
+
+pub const PICTURE: &str = "picture";
+
+pub const FROM: &str = "from";
+
+pub const TO: &str = "to";
+
+pub const TREE: &str = "tree";
 
 /// What `--game` takes.
 pub fn games() -> &'static [&'static str]
@@ -85,10 +94,11 @@ fn play_command<'a>(
     ensures app { IfOk result (λ command. app_of command ≡ play_app games.entry) }
     ensures local { IfOk result (λ command. (fields_of command).has_globals ≡ false) }
 {
-    new_command(alloc, "play", help::PLAY, script)
+    let command = new_command(alloc, "play", help::PLAY, script)
         .arg(file_arg(alloc, "The script; - is standard input"))?
         .arg(game_arg(alloc, games))?
-        .arg(explain_arg(alloc))
+        .arg(explain_arg(alloc))?;
+    with_picture(alloc, command)
 }
 
 fn live_command<'a>(alloc: Global, games: &'a [&'a str]) -> Result<Command<'a>, AllocError>
@@ -109,10 +119,11 @@ fn match_command<'a>(
     ensures app { IfOk result (λ command. app_of command ≡ match_app games.entry guesses.entry) }
     ensures local { IfOk result (λ command. (fields_of command).has_globals ≡ false) }
 {
-    two_peers_command(alloc, games, guesses)?
+    let command = two_peers_command(alloc, games, guesses)?
         .arg(free_number_arg(alloc, PEERS, "N", 2, 8, help::PEERS))?
         .arg(stop_arg(alloc))?
-        .arg(free_number_arg(alloc, HOSTILE, "SEED", 0, u64::MAX, help::HOSTILE))
+        .arg(free_number_arg(alloc, HOSTILE, "SEED", 0, u64::MAX, help::HOSTILE))?;
+    with_picture(alloc, command)
 }
 
 /// The command of a match, as far as a match of two peers goes.
@@ -163,6 +174,18 @@ fn certify_command<'a>(alloc: Global) -> Result<Command<'a>, AllocError>
     new_command(alloc, "certify", help::CERTIFY, help::CLAIM)
         .arg(file_arg(alloc, "The claim; - is standard input"))?
         .arg(explain_arg(alloc))
+}
+
+/// A command with the options of a picture besides.
+fn with_picture<'a>(alloc: Global, command: Command<'a>) -> Result<Command<'a>, AllocError>
+    ensures app { IfOk result (λ more. app_of more ≡ with_rules (app_of command.entry) picture_rules) }
+    ensures local { IfOk result (λ more. (fields_of more).has_globals ≡ (fields_of command.entry).has_globals) }
+{
+    command
+        .arg(picture_arg(alloc))?
+        .arg(frame_arg(alloc, FROM, help::FROM))?
+        .arg(frame_arg(alloc, TO, help::TO))?
+        .arg(frame_arg(alloc, TREE, help::TREE))
 }
 
 /// A command without arguments: a line of help, and what its `--help` tells after its arguments.
@@ -254,6 +277,25 @@ fn stop_arg<'a>(alloc: Global) -> Arg<'a>
         .value_name("M:FRAME")
         .action(ArgAction::Append)
         .help(help::STOP)
+}
+
+/// `--picture FILE`.
+fn picture_arg<'a>(alloc: Global) -> Arg<'a>
+    ensures rule { rule_of result ≡ picture_rule }
+    ensures local { result.global ≡ false }
+{
+    Arg::new(alloc, PICTURE)
+        .long(PICTURE)
+        .value_name("FILE")
+        .help(help::PICTURE)
+}
+
+/// `--name FRAME`, which needn't be given.
+fn frame_arg<'a>(alloc: Global, name: &'a str, help: &'a str) -> Arg<'a>
+    ensures rule { rule_of result ≡ frame_rule name.entry.now }
+    ensures local { result.global ≡ false }
+{
+    free_number_arg(alloc, name, "FRAME", 0, u64::from(u32::MAX), help)
 }
 
 fn explain_arg<'a>(alloc: Global) -> Arg<'a>

@@ -66,8 +66,11 @@ It prints:
   taken
   frame 2 from 0 rerun 2 settled 1 state 77
 
+With `rollduel play FILE --picture OUT.svg` the play is drawn too: the players' words frame by frame
+as the session knew them, its rollbacks, and the states that were saved at one of them.
+
 Exit status: 0; 1 where an answer was `refused N`; 2 where the script can't be read, a line of it
-is unreadable, memory runs out, or the answers can't be written.";
+is unreadable, memory runs out, or the answers or the picture can't be written.";
 
 /// What is told of scripts: their lines, the answers, and at the end the refusals.
 pub fn script(alloc: Global) -> Result<String, AllocError> {
@@ -200,9 +203,12 @@ changed, sealed for another match, or of machines that are gone, and old real on
 and the last line are the same as without. Old ones of machines that stay are heard again, so what was
 measured may differ.
 
+With `--picture OUT.svg` the match is drawn too, as one of its sessions saw it: the players' words frame by
+frame, its rollbacks, and the states that were saved at one of them.
+
 Exit status: 0; 1 where the answer is `refused 11` or `refused 114`, where the peers differ or a claim is
 wrong, neither of which can be, or where machines that stay don't agree, or not in time; 2 where memory
-runs out, the table can't be written, or the words ask for no match.";
+runs out, the table or the picture can't be written, or the words ask for no match.";
 
 pub const PEERS: &str = "Plays a match of so many machines instead, 2 to 8, by datagrams";
 
@@ -210,6 +216,15 @@ pub const STOP: &str =
     "Machine M goes silent for ever at this frame; for several machines it is given several times";
 
 pub const HOSTILE: &str = "Hostile datagrams come too, drawn from this seed";
+
+pub const PICTURE: &str = "Draws the play as an SVG into this file";
+
+pub const FROM: &str = "The first frame of the picture; 0 if not given";
+
+pub const TO: &str = "The frame after its last one; 600 frames at most";
+
+pub const TREE: &str =
+    "Shows the states saved at this frame's rollback; if not given, at the deepest one";
 
 pub const LENGTH: &str = "How many frames each peer plays, up to 1048576";
 

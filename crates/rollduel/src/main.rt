@@ -1,29 +1,32 @@
 //! The program `rollduel`: plays scripts and prints what the session shows, plays matches, tests games, and checks claims.
 //!
-//! The work is done in `roll_cli`, `prog_explain`, `roll_live`, `prog_match` and `prog_peers`. Here are the command line, the streams and the exit status.
+//! The work is done in `roll_cli`, `prog_explain`, `roll_live`, `prog_match` and `prog_peers`. Here are the command line, the
+//! streams, the file of a picture and the exit status.
 #![tactic(auto)]
 
 ghost use Rattle.std.specs.Fn.{FnOnceReturnsAt};
-ghost use Rattle.std.specs.Prelude.{◌≡◌, ◌⊎◌, [], IfErr, IfOk, IfSome, None, map, string_bytes};
+ghost use Rattle.std.specs.Prelude.{◌≡◌, ◌⊎◌, [], IfErr, IfOk, IfSome, None, map, option_map, string_bytes};
 ghost use Rattle.std.specs.Process.{exit_status};
 ghost use Rattle.clap.specs.Faults.{fault_of};
 ghost use Rattle.clap.specs.Kinds.{FailsBy};
 ghost use Rattle.clap.specs.Words.{kind_of};
 ghost use Rattle.prog_parts.specs.declared.fault.PlayFault.TheVariants.{NoMemory, Read as CannotRead, Write as CannotWrite};
 ghost use Rattle.rollduel.specs.Commands.{rollduel_app};
-ghost use Rattle.rollduel.specs.Endings.{HasStatus, EndsMatch, EndsPeers, EndsOn, EndsOnFile, EndsRefused, IsPrinted};
-ghost use Rattle.rollduel.specs.Requests.{IfLive, IfMatch, IfPeers, IfText, asked_by, rows_by};
+ghost use Rattle.rollduel.specs.Endings.{HasStatus, EndsMatch, EndsPeers, EndsOn, EndsOnFile, EndsRefused, EndsUnpictured, IsPrinted, misused};
+ghost use Rattle.rollduel.specs.Requests.{IfLive, IfMatch, IfPeers, IfRefused, IfText, asked_by, picture_by, rows_by};
 ghost use Rattle.roll_cli.specs.Programs.{Ends};
 ghost use Rattle.roll_live.specs.Lives.{Ends as EndsLive};
 
 mod command_line;
 mod commands;
 mod help;
+mod picture;
 mod work;
 
 use clap::Error;
 use clap::error::ErrorKind;
 use command_line::Request;
+use picture::{Done, path_of, save, sight_of};
 use prog_explain::Notes;
 use prog_parts::{Ending, PlayFault};
 use std::alloc::AllocGlobal;
@@ -78,8 +81,13 @@ where
     ensures refused { EndsRefused (fault_of rollduel_app (map string_bytes words.now)) result }
     ensures match_ends { fault_of rollduel_app (map string_bytes words.now) ≡ [] → IfMatch (asked_by (map string_bytes words.now)) (EndsMatch result) }
     ensures peers_ends { fault_of rollduel_app (map string_bytes words.now) ≡ [] → IfPeers (asked_by (map string_bytes words.now)) (EndsPeers (rows_by (map string_bytes words.now)) result) }
+    ensures unpictured { fault_of rollduel_app (map string_bytes words.now) ≡ []
+        → IfRefused (asked_by (map string_bytes words.now)) (EndsUnpictured result) }
     ensures status { HasStatus result }
 {
+    let Ok(script) = help::script(rt.alloc()) else {
+        return Ending::from(PlayFault::NoMemory);
+    };
     let opener = |path: &str| fs::open(rt, path);
     let mut standard = rt.reader();
     let is_typed = standard.is_terminal();
@@ -91,28 +99,34 @@ where
     match perform(
         threads,
         words,
+        &script,
         &mut standard,
         notice,
         opener,
         &mut io::writer(rt),
         notes,
     ) {
-        Ok(ending) => ending,
+        Ok(done) => save(
+            done,
+            |path: &str, text: &str| fs::write(rt, path, text),
+            notes,
+        ),
         Err(error) => print(rt, &error),
     }
 }
 
 /// Does what the words ask for, with standard input, of which notice is given, or the file that is opened, and notes what
-/// it explains. The error is to be printed.
-fn perform<T, S, N, F, W, O>(
+/// it explains. The help tells of scripts what `script` says. The error is to be printed.
+fn perform<'a, T, S, N, F, W, O>(
     threads: &T,
-    words: &[String],
+    words: &'a [String],
+    script: &'a str,
     standard: &mut S,
     notice: N,
     opener: O,
     writer: &mut W,
     notes: &mut Notes,
-) -> Result<Ending, Error>
+) -> Result<Done<'a>, Error>
 where
     T: AllocGlobal + Threads + Wait + Copy + Send + 'static,
     S: Read,
@@ -122,39 +136,78 @@ where
     O: FnOnce(&str) -> io::Result<F>,
     requires notice { N.IsAlwaysCallable notice }
     requires opener { O.IsAlwaysCallable opener }
-    ensures standard { IfOk result (λ ending. IfText (asked_by (map string_bytes words.now)) (λ path task. path ≡ None
-        → EndsOn W.contents (Ends task) writer.old writer.new ending (S.remaining standard.old))) }
-    ensures file { IfOk result (λ ending. IfText (asked_by (map string_bytes words.now)) (λ path task. IfSome path (λ path.
+    ensures standard { IfOk result (λ done. IfText (asked_by (map string_bytes words.now)) (λ path task. path ≡ None
+        → EndsOn W.contents (Ends task) writer.old writer.new done.ending (S.remaining standard.old))) }
+    ensures file { IfOk result (λ done. IfText (asked_by (map string_bytes words.now)) (λ path task. IfSome path (λ path.
         (standard.new ≡ standard.old) × ((opened : _) × FnOnceReturnsAt O.FnOnce opener path opened
-        × EndsOnFile W.contents (Ends task) writer.old writer.new ending F.remaining opened)))) }
-    ensures live { IfOk result (λ ending. IfLive (asked_by (map string_bytes words.now)) (λ path live. path ≡ None
-        → EndsOn W.contents (EndsLive live.game) writer.old writer.new ending (S.remaining standard.old))) }
-    ensures live_file { IfOk result (λ ending. IfLive (asked_by (map string_bytes words.now)) (λ path live. IfSome path (λ path.
+        × EndsOnFile W.contents (Ends task) writer.old writer.new done.ending F.remaining opened)))) }
+    ensures live { IfOk result (λ done. IfLive (asked_by (map string_bytes words.now)) (λ path live. path ≡ None
+        → EndsOn W.contents (EndsLive live.game) writer.old writer.new done.ending (S.remaining standard.old))) }
+    ensures live_file { IfOk result (λ done. IfLive (asked_by (map string_bytes words.now)) (λ path live. IfSome path (λ path.
         (standard.new ≡ standard.old) × ((opened : _) × FnOnceReturnsAt O.FnOnce opener path opened
-        × EndsOnFile W.contents (EndsLive live.game) writer.old writer.new ending F.remaining opened)))) }
-    ensures match_ends { IfOk result (λ ending. IfMatch (asked_by (map string_bytes words.now)) (EndsMatch ending)) }
-    ensures match_streams { IfOk result (λ ending. IfMatch (asked_by (map string_bytes words.now)) (λ options.
-        (standard.new ≡ standard.old) × IfSome ending.fault (λ fault. (fault ≡ CannotWrite) ⊎ (writer.new ≡ writer.old)))) }
-    ensures peers_ends { IfOk result (λ ending. IfPeers (asked_by (map string_bytes words.now)) (EndsPeers (rows_by (map string_bytes words.now)) ending)) }
-    ensures status { IfOk result (λ ending. HasStatus ending) }
+        × EndsOnFile W.contents (EndsLive live.game) writer.old writer.new done.ending F.remaining opened)))) }
+    ensures match_ends { IfOk result (λ done. IfMatch (asked_by (map string_bytes words.now)) (EndsMatch done.ending)) }
+    ensures match_streams { IfOk result (λ done. IfMatch (asked_by (map string_bytes words.now)) (λ options.
+        (standard.new ≡ standard.old) × IfSome done.ending.fault (λ fault. (fault ≡ CannotWrite) ⊎ (writer.new ≡ writer.old)))) }
+    ensures peers_ends { IfOk result (λ done. IfPeers (asked_by (map string_bytes words.now)) (EndsPeers (rows_by (map string_bytes words.now)) done.ending)) }
+    ensures unpictured { IfOk result (λ done. IfRefused (asked_by (map string_bytes words.now)) (λ fault.
+        (done.ending ≡ misused) × (done.picture ≡ None) × (standard.new ≡ standard.old) × (writer.new ≡ writer.old))) }
+    ensures path { IfOk result (λ done. option_map (λ path. path.now) done.path
+        ≡ option_map (λ picture. picture.0) (picture_by (map string_bytes words.now))) }
+    ensures no_picture { IfOk result (λ done. picture_by (map string_bytes words.now) ≡ None → done.picture ≡ None) }
+    ensures status { IfOk result (λ done. HasStatus done.ending) }
     ensures untouched { IfErr result (λ error. (standard.new ≡ standard.old) × (writer.new ≡ writer.old)) }
     ensures kinds { FailsBy (fault_of rollduel_app (map string_bytes words.now)) result }
 {
     let alloc = threads.alloc();
-    let script = help::script(alloc)?;
-    let asked = command_line::read(alloc, words, &script)?;
-    match asked {
+    let line = command_line::read(alloc, words, script)?;
+    let mut sight = sight_of(line.picture);
+    let path = path_of(line.picture);
+    match line.request {
         Request::Text(asked) => {
-            let ending = work::answer(alloc, &asked, standard, notice, opener, writer, notes);
-            Ok(ending)
+            let ending = work::answer(
+                alloc, &asked, standard, notice, opener, &mut sight, writer, notes,
+            );
+            Ok(Done {
+                ending,
+                path,
+                picture: sight.picture,
+            })
         }
         Request::Live { input, live } => {
             let ending = work::play_live(threads, input, live, standard, notice, opener, writer);
-            Ok(ending)
+            Ok(Done {
+                ending,
+                path,
+                picture: sight.picture,
+            })
         }
-        Request::Match(options) => Ok(prog_match::run(alloc, &options, writer)),
-        Request::Peers(Ok(options)) => Ok(prog_peers::run(alloc, &options, writer)),
-        Request::Peers(Err(fault)) => Ok(work::refuse(fault, notes)),
+        Request::Match(options) => {
+            let ending = prog_match::run(alloc, &options, &mut sight, writer);
+            Ok(Done {
+                ending,
+                path,
+                picture: sight.picture,
+            })
+        }
+        Request::Peers(Ok(options)) => {
+            let ending = prog_peers::run(alloc, &options, &mut sight, writer);
+            Ok(Done {
+                ending,
+                path,
+                picture: sight.picture,
+            })
+        }
+        Request::Peers(Err(fault)) => Ok(Done {
+            ending: work::refuse(fault, notes),
+            path,
+            picture: None,
+        }),
+        Request::Refused(fault) => Ok(Done {
+            ending: work::refuse(fault, notes),
+            path,
+            picture: None,
+        }),
     }
 }
 

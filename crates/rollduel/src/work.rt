@@ -3,13 +3,13 @@ ghost use Rattle.std.specs.Fn.{FnOnceReturnsAt};
 ghost use Rattle.std.specs.Prelude.{◌≡◌, ◌≤◌, IfSome, None};
 ghost use Rattle.roll_cli.specs.Programs.{Ends};
 ghost use Rattle.roll_live.specs.Lives.{Ends as EndsLive};
-ghost use Rattle.rollduel.specs.Endings.{HasStatus, EndsOn, EndsOnFile};
+ghost use Rattle.rollduel.specs.Endings.{HasStatus, EndsOn, EndsOnFile, misused};
 ghost use Rattle.rollduel.specs.Requests.{path_of};
 
 use crate::command_line::{Input, TextRequest};
-use prog_explain::Notes;
+use prog_explain::{Notes, show};
 use prog_parts::{Ending, PlayFault};
-use prog_peers::PeersFault;
+use prog_picture::Sight;
 use roll_live::Live;
 use std::alloc::{AllocGlobal, Global};
 use std::fmt::{Display, Write as _};
@@ -25,6 +25,7 @@ pub fn answer<S: Read, N: FnOnce(), F: Read + Drop, W: Write, O: FnOnce(&str) ->
     standard: &mut S,
     notice: N,
     opener: O,
+    sight: &mut Sight,
     writer: &mut W,
     notes: &mut Notes,
 ) -> Ending
@@ -36,22 +37,33 @@ pub fn answer<S: Read, N: FnOnce(), F: Read + Drop, W: Write, O: FnOnce(&str) ->
         (standard.new ≡ standard.old) × ((opened : _) × FnOnceReturnsAt O.FnOnce opener path opened
         × EndsOnFile W.contents (Ends asked.now.task) writer.old writer.new result F.remaining opened)) }
     ensures status { HasStatus result }
+    ensures none { sight.old.window ≡ None → sight.new ≡ sight.old }
 {
+    let (task, explain) = (asked.task, asked.explain);
     match asked.input {
         Input::Standard => {
             notice();
-            work(alloc, asked, standard, writer, notes)
+            show(
+                alloc,
+                task,
+                "standard input",
+                explain,
+                standard,
+                sight,
+                writer,
+                notes,
+            )
         }
         Input::File(path) => match opener(path) {
             Ok(mut file) => {
-                let ending = work(alloc, asked, &mut file, writer, notes);
-                if asked.explain && ending.fault == Some(PlayFault::Read) {
+                let ending = show(alloc, task, path, explain, &mut file, sight, writer, notes);
+                if explain && ending.fault == Some(PlayFault::Read) {
                     note_of_file(notes, path, "a read failed");
                 }
                 ending
             }
             Err(error) => {
-                if asked.explain {
+                if explain {
                     note_of_file(notes, path, error);
                 }
                 Ending::from(PlayFault::Read)
@@ -65,32 +77,14 @@ fn note_of_file(notes: &mut Notes, path: &str, why: impl Display + Drop) {
     notes.is_cut |= writeln!(notes.text, "{}: {why}", path.escape_debug()).is_err();
 }
 
-/// Tells why a match isn't played: a fault of usage.
-pub fn refuse(fault: PeersFault, notes: &mut Notes) -> Ending
-    ensures { result ≡ record { status = 2; fault = None } }
+/// Tells why nothing is done: a fault of usage.
+pub fn refuse(why: impl Display + Drop, notes: &mut Notes) -> Ending
+    ensures { result ≡ misused }
 {
-    notes.is_cut |= writeln!(notes.text, "error: {fault}").is_err();
+    notes.is_cut |= writeln!(notes.text, "error: {why}").is_err();
     Ending {
         status: 2,
         fault: None,
-    }
-}
-
-/// Does what is asked for with the text that a reader holds.
-fn work<R: Read, W: Write>(
-    alloc: Global,
-    asked: &TextRequest<'_>,
-    reader: &mut R,
-    writer: &mut W,
-    notes: &mut Notes,
-) -> Ending
-    ensures ends { EndsOn W.contents (Ends asked.now.task) writer.old writer.new result (R.remaining reader.old) }
-    ensures status { HasStatus result }
-{
-    if asked.explain {
-        prog_explain::explain(alloc, asked.task, reader, writer, notes)
-    } else {
-        roll_cli::run(alloc, asked.task, reader, writer)
     }
 }
 

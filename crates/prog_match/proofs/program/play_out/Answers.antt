@@ -1,12 +1,12 @@
 use Rattle.std.proofs.Common.{◌∙◌}
-use Rattle.prog_match.proofs.Reporting.{report_agrees, report_right}
+use Rattle.prog_match.proofs.Reporting.{right_total}
 use Rattle.prog_match.proofs.program.play_out.Goals as goal
 
 pub returns-clause-right : goal.returns-clause-right
-returns-clause-right g c =
-    report_right c.report.result c.play.new.self.second.side.words.items c.play.new.self.first.side.words.items c.play.new.self.first.turns.items c.play.new.self.second.turns.items
-    (c.in_ok-play.ensures.right.0 ∙ c.in_ok-both.ensures.right.0) (c.in_ok-play.ensures.right.1 ∙ c.in_ok-both.ensures.right.1) c.report.ensures.first c.report.ensures.second
+returns-clause-right g c = (
+  right_total c.in_ok-report.report.first c.play.new.self.second.side.words.items c.play.new.self.first.turns.items c.in_ok-report.ensures.first (c.in_ok-play.ensures.right.0 ∙ c.in_ok-both.ensures.right.0),
+  right_total c.in_ok-report.report.second c.play.new.self.first.side.words.items c.play.new.self.second.turns.items c.in_ok-report.ensures.second (c.in_ok-play.ensures.right.1 ∙ c.in_ok-both.ensures.right.1),
+)
 
 pub returns-clause-agrees : goal.returns-clause-agrees
-returns-clause-agrees g c =
-    λ same. report_agrees c.report.result c.play.new.self.first.side.session c.play.new.self.second.side.session (c.in_ok-play.ensures.delivered (c.in_ok-both.ensures.peers same)) c.report.ensures.delivered
+returns-clause-agrees g c = λ same. c.in_ok-report.ensures.delivered (c.in_ok-play.ensures.delivered (c.in_ok-both.ensures.peers same))

@@ -1,5 +1,7 @@
-use Rattle.std.proofs.lemmas.Iterator.{items_from_collect, YieldsList-from_chars}
+use Rattle.std.proofs.Common.{◌∙◌, ap}
+use Rattle.std.proofs.lemmas.Iterator.{items_from_collect, YieldsList-from_chars, YieldsList-from_take}
 use Rattle.prog_picture.proofs.escape.characters.Goals as goal
 
 pub returns : goal.returns
-returns c = items_from_collect c.collect.result c.collect.ensures.ran (YieldsList-from_chars c.args.text.now c.utf8.text c.chars.ensures.rest)
+returns c = items_from_collect c.collect.result c.collect.ensures.ran
+    (YieldsList-from_take c.args.most (YieldsList-from_chars c.args.text.now c.utf8.text (ap (λ s. s.rest.now) c.take.ensures.source ∙ c.chars.ensures.rest)) c.take.ensures.count)

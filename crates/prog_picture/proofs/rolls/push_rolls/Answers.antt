@@ -4,10 +4,11 @@ use Rattle.std.specs.List.{flat_map}
 use Rattle.std.specs.String.{string_bytes}
 use Rattle.prog_picture.specs.Rolls.{roll_text}
 use Rattle.prog_picture.specs.declared.rolls.RollMark.{RollMark}
+use Rattle.prog_picture.specs.declared.scene.Cause.TheVariants.{Word}
 use Rattle.prog_picture.proofs.rolls.push_rolls.Goals as goal
 
 abbrev no_mark : RollMark
-no_mark = record { roll = record { at = 0; rerun = 0; ggpo = 0; player = 0; frame = 0 }; from = 0; late = 0; rerun_x = 0; ggpo_x = 0; end_x = 0; y = 0 }
+no_mark = record { roll = record { at = 0; rerun = 0; ggpo = 0; cause = Word 0 0 }; from = 0; late = 0; rerun_x = 0; ggpo_x = 0; end_x = 0; y = 0 }
 
 pub loop-mark-preserved : goal.loop-mark-preserved
 loop-mark-preserved c =

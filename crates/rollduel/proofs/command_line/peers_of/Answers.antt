@@ -1,4 +1,4 @@
-use Rattle.std.proofs.Common.{ap, codes, rules, sym, ◌∙◌}
+use Rattle.std.proofs.Common.{ap, codes, sym, ◌∙◌}
 use Rattle.std.specs.Prelude.{option_map}
 use Rattle.clap.proofs.WalkLemmas.{first_value-rows}
 use Rattle.clap.specs.Matches.{found_of}

@@ -5,8 +5,8 @@ use Rattle.clap.specs.Faults.{fault_of, is_simple_and_free}
 use Rattle.clap.specs.Matches.{found_of}
 use Rattle.clap.specs.Simple.{is_simple, subcommand_of}
 use Rattle.clap.specs.Takes.{takes}
-use Rattle.rollduel.specs.Requests.{asked_in}
-use Rattle.rollduel.proofs.AskedLemmas.{asked_of_found, met, not_met, options_met}
+use Rattle.rollduel.specs.Requests.{asked_in, picture_in}
+use Rattle.rollduel.proofs.AskedLemmas.{asked_of_found, met, not_met, options_met, picture_of_found}
 use Rattle.rollduel.proofs.FaultPlaces.{fault_same}
 use Rattle.rollduel.proofs.Places.{subcommand_same}
 use Rattle.rollduel.proofs.TakenPlaces.{takes_same}
@@ -59,3 +59,22 @@ returns-in-Some-clause-options c =
     ∙ (parse.ensures.matches (ap is_simple c.in_ok-command.ensures)).1 ∙ ap (λ a. subcommand_of a words) c.in_ok-command.ensures
     ∙ subcommand_same c.games.result c.guesses.result c.games.ensures c.guesses.ensures words)
     c.request_of.ensures.options
+
+pub returns-in-Some-clause-picture : goal.returns-in-Some-clause-picture
+returns-in-Some-clause-picture c =
+    let words = map string_bytes c.args.words.now in
+    let parse = c.in_ok-matches in
+    let name = c.in-Some.name.now in
+    let found = found_of c.in-Some.found.now in
+    c.picture_of.ensures ∙ picture_of_found name found
+    ∙ ap picture_in (met parse.matches name _ c.in-Some.ensures.name c.in-Some.ensures.rows
+    ∙ (parse.ensures.matches (ap is_simple c.in_ok-command.ensures)).1 ∙ ap (λ a. subcommand_of a words) c.in_ok-command.ensures
+    ∙ subcommand_same c.games.result c.guesses.result c.games.ensures c.guesses.ensures words)
+
+pub returns-clause-picture : goal.returns-clause-picture
+returns-clause-picture c =
+    let words = map string_bytes c.args.words.now in
+    let parse = c.in_ok-matches in
+    ap picture_in (not_met parse.matches c.in-None.ensures.rows
+    ∙ (parse.ensures.matches (ap is_simple c.in_ok-command.ensures)).1 ∙ ap (λ a. subcommand_of a words) c.in_ok-command.ensures
+    ∙ subcommand_same c.games.result c.guesses.result c.games.ensures c.guesses.ensures words)

@@ -1,8 +1,8 @@
-use Rattle.std.proofs.Common.{List, map, rules, subst, sym}
+use Rattle.std.proofs.Common.{List, rules, subst, sym}
 use Rattle.std.proofs.lemmas.Result.{IfOk-weaker}
 use Rattle.clap.specs.Matches.{found_of}
 use Rattle.clap.specs.Walk.{Text}
-use Rattle.prog_peers.specs.Stops.{NamesStops, Stops, no_stops}
+use Rattle.prog_peers.specs.Stops.{NamesStops, no_stops}
 use Rattle.rollduel.proofs.AskedLemmas.{no_stop_texts, some_stop_texts}
 use Rattle.rollduel.proofs.command_line.stops_of.Goals as goal
 

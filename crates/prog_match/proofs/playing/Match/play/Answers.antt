@@ -8,4 +8,5 @@ loop-preserved g c = record {
   right_first = c.in_ok-step.ensures.right.0 ∙ c.loop.invariant.right_first;
   right_second = c.in_ok-step.ensures.right.1 ∙ c.loop.invariant.right_second;
   peers = λ peers. c.in_ok-step.ensures.peers (c.loop.invariant.peers peers);
+  watched = c.step.ensures.watched ∙ c.loop.invariant.watched;
 }

@@ -1,0 +1,4 @@
+pub mod Differing
+pub mod Heeding
+pub mod Laning
+pub mod Mapping

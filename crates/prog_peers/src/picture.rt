@@ -1,0 +1,107 @@
+//! The picture of a match: what the first machine that stays saw of it.
+ghost use Rattle.std.specs.Prelude.{◌≡◌, IfOk, IsSome, None};
+ghost use Rattle.std.specs.String.{string_bytes};
+ghost use Rattle.prog_peers.specs.Sights.{IsPictured};
+ghost use Rattle.prog_picture.specs.Pictures.{HasRolls};
+ghost use Rattle.prog_picture.specs.declared.scene.Scene.{Scene};
+
+use crate::machine::Machine;
+use crate::options::PeersOptions;
+use crate::report::first_that_stays;
+use prog_match::{MatchOptions, game_name};
+use prog_observer::Observer;
+use prog_picture::{Window, draw};
+use roll_frame::Refusal;
+use roll_game::Shown;
+use std::alloc::{AllocError, Global};
+use std::fmt::Write;
+
+/// The observer of a machine, if a picture is asked for and it is this machine's view that is shown.
+pub fn observer_of(
+    alloc: Global,
+    options: &PeersOptions,
+    window: Option<Window>,
+    me: u8,
+) -> Result<Option<Observer>, AllocError> {
+    match window {
+        Some(window) if options.first_staying() == Some(me) => {
+            Ok(Some(Observer::new(alloc, options.machines, window)?))
+        }
+        _ => Ok(None),
+    }
+}
+
+/// The picture of a match that was played, if one is asked for.
+pub fn picture_of<G: Shown + Drop>(
+    alloc: Global,
+    options: &PeersOptions,
+    window: Option<Window>,
+    machines: &mut [Machine<G>],
+) -> Result<Option<String>, Refusal>
+    ensures none { IfOk result (λ picture. window ≡ None → picture ≡ None) }
+    ensures pictured { IfOk result (λ picture. IsSome window → IsPictured picture) }
+{
+    match window {
+        None => Ok(None),
+        Some(_) => Ok(Some(view_of(alloc, options, machines)?)),
+    }
+}
+
+/// The picture of what the first machine that stays saw, which had an observer.
+fn view_of<G: Shown + Drop>(
+    alloc: Global,
+    options: &PeersOptions,
+    machines: &mut [Machine<G>],
+) -> Result<String, Refusal>
+    ensures { IfOk result (λ picture. (scene : Scene) × HasRolls scene (string_bytes picture)) }
+{
+    let Some(place) = first_that_stays(options, machines) else {
+        return Err(Refusal::InvalidRequest);
+    };
+    let machine = &mut machines[place];
+    let Some(observer) = machine.observer.take() else {
+        return Err(Refusal::InvalidRequest);
+    };
+    let title = title_of(alloc, options, machine.me)?;
+    let scene = observer.into_scene(alloc, machine.peer.session(), title)?;
+    Ok(draw(alloc, &scene)?)
+}
+
+/// What was played, in words, and which machine saw it.
+fn title_of(alloc: Global, options: &PeersOptions, me: u8) -> Result<String, AllocError> {
+    let common = &options.common;
+    let (machines, frames, seed) = (options.machines, common.frames, common.seed);
+    let game = game_name(common.game);
+    let mut title = String::new(alloc);
+    write!(
+        title,
+        "Match of {machines} machines, {frames} frames of {game}, seed {seed}"
+    )?;
+    push_network(&mut title, common)?;
+    let player = me.saturating_add(1);
+    write!(title, "; seen by player {player}")?;
+    push_stops(&mut title, options)?;
+    Ok(title)
+}
+
+/// How late datagrams were, and how many were lost.
+fn push_network(out: &mut String, common: &MatchOptions) -> Result<(), AllocError> {
+    match common.late.saturating_add(1) {
+        1 => out.push_str(", datagrams 1 tick late")?,
+        late => write!(out, ", datagrams 1 to {late} ticks late")?,
+    }
+    match common.lost {
+        0 => Ok(()),
+        lost => write!(out, ", {lost} in 100 lost"),
+    }
+}
+
+/// Which machines went silent, and when.
+fn push_stops(out: &mut String, options: &PeersOptions) -> Result<(), AllocError> {
+    for machine in 0..options.machines {
+        if let Some(frame) = options.stop(machine) {
+            write!(out, "; machine {machine} stops at frame {frame}")?;
+        }
+    }
+    Ok(())
+}
