@@ -11,6 +11,11 @@ use Rattle.prog_match.specs.Options.{IsPlayable}
 use Rattle.prog_match.specs.declared.options.MatchOptions.{MatchOptions}
 use Rattle.prog_peers.specs.Agreement.{HasAgreed}
 use Rattle.prog_peers.specs.declared.options.PeersOptions.{PeersOptions}
+use Rattle.std.specs.declared.alloc.Global.{Global}
+use Rattle.std.specs.declared.string.String.{String}
+use Rattle.prog_explain.specs.Pictured.{IsShown}
+use Rattle.prog_parts.specs.declared.task.Task.{Task}
+use Rattle.prog_picture.specs.declared.scene.Window.{Window}
 use Rattle.rollduel.specs.Requests.{AreNamed}
 use Rattle.rollduel.specs.declared.picture.Done.{Done}
 use Rattle.rollduel.specs.declared.picture.PictureFault.{PictureFault}
@@ -88,3 +93,14 @@ module _ {W : Type 0} (contents : W → Option (List ℕ)) (ends : List ℕ → 
   abbrev pub EndsOnFile : {F E : Type 0} → (F → Option (List ℕ)) → Result F E → Type 0
   EndsOnFile remaining (Ok file) = EndsOn (remaining file)
   EndsOnFile remaining (Err error) = (ending ≡ faulted Read) × (new ≡ old)
+
+-- the picture that is there after a task, where a reader held this text, if it tells: the one that is asked for, unless there
+-- was a fault
+module _ (task : Task) (window : Option Window) (ending : Ending) (picture : Option (String Global)) where
+  abbrev pub ShowsOn : Option (List ℕ) → Type 0
+  ShowsOn held = ending.fault ≡ None → IfSome held (λ text. IsShown task window text picture)
+
+  -- where it was a file's text, if it could be opened
+  abbrev pub ShowsOnFile : {F E : Type 0} → (F → Option (List ℕ)) → Result F E → Type 0
+  ShowsOnFile remaining (Ok file) = ShowsOn (remaining file)
+  ShowsOnFile remaining (Err error) = ⊤

@@ -215,6 +215,10 @@ picture_in = option_and_then (λ met. picture_named (λ name. first_of name met.
 abbrev pub picture_by : List Text → Option Picture
 picture_by words = picture_in (subcommand_of rollduel_app words)
 
+-- what the picture that the words ask for is to show
+abbrev pub window_by : List Text → Option Window
+window_by words = option_map (λ picture. picture.1) (picture_by words)
+
 -- the arguments of the command that the words name
 abbrev pub rows_by : List Text → List Row
 rows_by words = option_map_or (λ met. met.1) (subcommand_of rollduel_app words) []

@@ -12,8 +12,8 @@ ghost use Rattle.clap.specs.Kinds.{FailsBy};
 ghost use Rattle.clap.specs.Words.{kind_of};
 ghost use Rattle.prog_parts.specs.declared.fault.PlayFault.TheVariants.{NoMemory, Read as CannotRead, Write as CannotWrite};
 ghost use Rattle.rollduel.specs.Commands.{rollduel_app};
-ghost use Rattle.rollduel.specs.Endings.{HasStatus, EndsMatch, EndsPeers, EndsOn, EndsOnFile, EndsRefused, EndsUnpictured, IsPrinted, misused};
-ghost use Rattle.rollduel.specs.Requests.{IfLive, IfMatch, IfPeers, IfRefused, IfText, asked_by, picture_by, rows_by};
+ghost use Rattle.rollduel.specs.Endings.{HasStatus, ShowsOn, ShowsOnFile, EndsMatch, EndsPeers, EndsOn, EndsOnFile, EndsRefused, EndsUnpictured, IsPrinted, misused};
+ghost use Rattle.rollduel.specs.Requests.{IfLive, IfMatch, IfPeers, IfRefused, IfText, asked_by, picture_by, rows_by, window_by};
 ghost use Rattle.roll_cli.specs.Programs.{Ends};
 ghost use Rattle.roll_live.specs.Lives.{Ends as EndsLive};
 
@@ -141,6 +141,11 @@ where
     ensures file { IfOk result (λ done. IfText (asked_by (map string_bytes words.now)) (λ path task. IfSome path (λ path.
         (standard.new ≡ standard.old) × ((opened : _) × FnOnceReturnsAt O.FnOnce opener path opened
         × EndsOnFile W.contents (Ends task) writer.old writer.new done.ending F.remaining opened)))) }
+    ensures shown { IfOk result (λ done. IfText (asked_by (map string_bytes words.now)) (λ path task. path ≡ None
+        → ShowsOn task (window_by (map string_bytes words.now)) done.ending done.picture (S.remaining standard.old))) }
+    ensures shown_file { IfOk result (λ done. IfText (asked_by (map string_bytes words.now)) (λ path task. IfSome path (λ path.
+        (opened : _) × FnOnceReturnsAt O.FnOnce opener path opened
+        × ShowsOnFile task (window_by (map string_bytes words.now)) done.ending done.picture F.remaining opened))) }
     ensures live { IfOk result (λ done. IfLive (asked_by (map string_bytes words.now)) (λ path live. path ≡ None
         → EndsOn W.contents (EndsLive live.game) writer.old writer.new done.ending (S.remaining standard.old))) }
     ensures live_file { IfOk result (λ done. IfLive (asked_by (map string_bytes words.now)) (λ path live. IfSome path (λ path.

@@ -3,7 +3,7 @@ ghost use Rattle.std.specs.Fn.{FnOnceReturnsAt};
 ghost use Rattle.std.specs.Prelude.{◌≡◌, ◌≤◌, IfSome, None};
 ghost use Rattle.roll_cli.specs.Programs.{Ends};
 ghost use Rattle.roll_live.specs.Lives.{Ends as EndsLive};
-ghost use Rattle.rollduel.specs.Endings.{HasStatus, EndsOn, EndsOnFile, misused};
+ghost use Rattle.rollduel.specs.Endings.{HasStatus, EndsOn, EndsOnFile, ShowsOn, ShowsOnFile, misused};
 ghost use Rattle.rollduel.specs.Requests.{path_of};
 
 use crate::command_line::{Input, TextRequest};
@@ -36,6 +36,11 @@ pub fn answer<S: Read, N: FnOnce(), F: Read + Drop, W: Write, O: FnOnce(&str) ->
     ensures file { IfSome (path_of asked.now.input) (λ path.
         (standard.new ≡ standard.old) × ((opened : _) × FnOnceReturnsAt O.FnOnce opener path opened
         × EndsOnFile W.contents (Ends asked.now.task) writer.old writer.new result F.remaining opened)) }
+    ensures shown { path_of asked.now.input ≡ None
+        → ShowsOn asked.now.task sight.old.window result sight.new.picture (S.remaining standard.old) }
+    ensures shown_file { IfSome (path_of asked.now.input) (λ path.
+        (opened : _) × FnOnceReturnsAt O.FnOnce opener path opened
+        × ShowsOnFile asked.now.task sight.old.window result sight.new.picture F.remaining opened) }
     ensures status { HasStatus result }
     ensures none { sight.old.window ≡ None → sight.new ≡ sight.old }
 {
