@@ -1,12 +1,12 @@
 //! Routes, packed.
 ghost use Rattle.std.specs.Prelude.{◌≡◌, ◌+◌, ◌<◌, ◌≤◌, length, All, IfOk};
 ghost use Rattle.roll_branch.specs.Changes.{rows_from, AreFilled, IsPlaced};
+ghost use Rattle.roll_branch.specs.Packed.{changes_of};
 
 use crate::change::{Change, patch};
 use crate::packing::{Packing, ROUTE_LIMIT};
 use arrayvec::ArrayVec;
 use roll_frame::{Path, Route, Row};
-use smallvec::SmallVec;
 use std::alloc::{AllocError, Global};
 use std::marker::Model;
 
@@ -22,10 +22,17 @@ struct Packed {
     base: u32,
     path: u8,
     run: u8,
-    changes: SmallVec<Change, 4>,
+    changes: Changes,
 }
 
 const _: () = prove!(size_of::<Packed>() == 56);
+
+/// The changes of a route: a few lie beside the rest of it, and more in memory of their own.
+#[derive(Debug, Drop)]
+enum Changes {
+    Few(ArrayVec<Change, 4>),
+    Many(Vec<Change>),
+}
 
 impl Model for PackedRoute {
     ghost use Rattle.roll_frame.specs.declared.route.Route.{Route};
@@ -51,7 +58,7 @@ impl PackedRoute {
             base: route.path.base,
             path: route.path.rows.len() as u8,
             run: route.rows.len() as u8,
-            changes: SmallVec::from_slice(alloc, packing.changes.as_slice())?,
+            changes: Changes::new(alloc, packing.changes.as_slice())?,
         };
         Ok(PackedRoute {
             packed: Box::new(alloc, packed)?,
@@ -80,6 +87,26 @@ impl PackedRoute {
     {
         let packed: &Packed = &self.packed;
         usize::from(packed.run)
+    }
+}
+
+impl Changes {
+    fn new(alloc: Global, changes: &[Change]) -> Result<Changes, AllocError>
+        ensures { IfOk result (λ made. changes_of made ≡ changes.now) }
+    {
+        match ArrayVec::try_from(changes) {
+            Ok(few) => Ok(Changes::Few(few)),
+            Err(_) => Ok(Changes::Many(Vec::from_slice(alloc, changes)?)),
+        }
+    }
+
+    fn as_slice(&self) -> &[Change]
+        ensures { result.now ≡ changes_of self.now }
+    {
+        match self {
+            Changes::Few(few) => few.as_slice(),
+            Changes::Many(many) => many.as_slice(),
+        }
     }
 }
 
