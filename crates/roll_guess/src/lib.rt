@@ -9,8 +9,6 @@ mod course;
 mod habits;
 mod limits;
 mod ranking;
-#[cfg(test)]
-mod tests;
 
 pub use habits::{Habits, Held, Tally, Turn};
 pub use limits::{AGE_CLASSES, CERTAIN, GUESS_LIMIT, KNOWN_LIMIT, TURN_LIMIT, UNKNOWN_LIMIT};

@@ -12,8 +12,6 @@ mod mesh;
 mod packet;
 mod refusal;
 mod seat;
-#[cfg(test)]
-mod tests;
 
 pub use heard::Heard;
 pub use laws::{

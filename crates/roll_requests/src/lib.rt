@@ -7,8 +7,6 @@ mod recorder;
 mod request;
 mod shown;
 mod table;
-#[cfg(test)]
-mod tests;
 
 pub use guesses::{guess, limit_slots};
 pub use name::Name;

@@ -6,8 +6,6 @@ mod fault;
 mod laws;
 mod limits;
 mod reading;
-#[cfg(test)]
-mod tests;
 mod writing;
 
 pub use datagram::{Body, Clocks, Datagram, Envelope, Head, Hello, Play, Settled};

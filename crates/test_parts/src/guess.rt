@@ -1,9 +1,8 @@
 //! A choice in a match that is played, and the jobs that it gives. The guesses expected are what bench/choices.py makes of
 //! the same words.
-use crate::habits::Habits;
-use crate::ranking::Guess;
 use roll_frame::{Refusal, Settings};
 use roll_game::Tally;
+use roll_guess::{Guess, Habits};
 use roll_session::Session;
 use std::alloc::Global;
 use std::test::Fail;

@@ -1,6 +1,6 @@
 //! Names of states. The digests are those of an independent program.
-use crate::Name;
 use roll_frame::{Cell, Row};
+use roll_requests::Name;
 use std::rt::Runtime;
 use std::test::Fail;
 

@@ -1,11 +1,10 @@
 //! The examples of docs/WIRE.md, whose bytes another program wrote, and the greatest datagram.
-use crate::datagram::{Body, Clocks, Datagram, Envelope, Head, Hello, Play, Settled};
-use crate::fault::WireFault;
-use crate::limits::{DATAGRAM_LIMIT, WORD_LIMIT};
-use crate::reading::decode;
-use crate::writing::encode;
 use arrayvec::ArrayVec;
 use roll_mesh::{Offer, PLAYER_LIMIT, View};
+use roll_wire::{
+    Body, Clocks, DATAGRAM_LIMIT, Datagram, Envelope, Head, Hello, Play, Settled, WORD_LIMIT,
+    WireFault, decode, encode,
+};
 use std::test::Fail;
 
 const HELLO: [u8; 32] = [
