@@ -1,11 +1,12 @@
 -- Notes on commands that are refused, one after another.
-use Rattle.std.proofs.Common.{◌≡◌, ◌∙◌, ◌+◌, ℕ, List, [], ◌∷◌, ◌++◌, length, refl, ap, sym, subst, arith, append-nil, append_assoc, Option}
-use Rattle.std.specs.Prelude.{fold}
+use Rattle.std.proofs.Common.{◌≡◌, ◌∙◌, ◌+◌, ℕ, List, [], ◌∷◌, ◌++◌, length, refl, ap, sym, subst, arith, append-nil, append_assoc, Option, Some, None, Result, Ok, Err}
+use Rattle.std.specs.Prelude.{◌≢◌, OnOk, fold, unwrap_or}
 use Rattle.std.proofs.lemmas.List.Sums.{fold_push}
 use Rattle.prog_replies.specs.Output.{Playing, after_command, refusal_by}
 use Rattle.prog_scripts.specs.declared.command.Command.{Command}
 use Rattle.roll_frame.specs.Games.{Game}
 use Rattle.roll_frame.specs.declared.refusal.Refusal.{Refusal}
+use Rattle.roll_frame.specs.declared.refusal.Refusal.TheVariants.{NoMemory}
 use Rattle.roll_frame.specs.declared.settings.Settings.{Settings}
 use Rattle.prog_explain.specs.Noted.{AreNoted, IsNoted, refusals_by}
 
@@ -65,3 +66,13 @@ module _ (settings : Settings) (game : Game) where
       → (notes : List ℕ) × AreNoted 2 (refusals_by settings game playing commands) notes × (after ≡ before ++ notes)
   noted_all playing now done commands before after all so_far =
       (so_far.notes, subst (λ (cs : List Command). AreNoted 2 (refusals_by settings game playing cs) so_far.notes) all so_far.are, so_far.after_is)
+
+-- a note on a start that was refused, other than for want of memory
+noted_why : (refusal : Option Refusal) (why : Refusal) (note : List ℕ) → why ≡ unwrap_or refusal NoMemory → why ≢ NoMemory → IsNoted 1 (Some why) note → IsNoted 1 refusal note
+noted_why None why note is other noted = absurd (other is)
+noted_why (Some known) why note is other noted = subst (λ (w : Refusal). IsNoted 1 (Some w) note) is noted
+
+pub noted_start : {E : Type 0} (told : Result (Unit {0}) E) (refusal : Option Refusal) (why : Refusal) (before after : List ℕ) → why ≡ unwrap_or refusal NoMemory → OnOk told (why ≢ NoMemory)
+    → OnOk told ((note : List ℕ) × IsNoted 1 (Some why) note × (after ≡ before ++ note)) → OnOk told ((note : List ℕ) × IsNoted 1 refusal note × (after ≡ before ++ note))
+noted_start (Ok done) refusal why before after is other noted = (noted.0, noted_why refusal why noted.0 is other noted.1, noted.2)
+noted_start (Err fault) refusal why before after is other noted = tt

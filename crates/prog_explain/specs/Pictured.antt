@@ -1,5 +1,5 @@
 -- What is seen of a script's play, and drawn of it.
-use Rattle.std.specs.Prelude.{◌≡◌, ◌&&◌, ℕ, List, [], ◌∷◌, fold, map, min, Bool, true, false, Option, None, Some, is_none, option_map, IfSome, IsNone, IsSome, MatchBool, ⊤}
+use Rattle.std.specs.Prelude.{◌≡◌, ◌&&◌, ℕ, List, [], ◌∷◌, fold, length, map, min, Bool, true, false, Option, None, Some, is_none, option_map, IfSome, IsNone, IsSome, MatchBool, ⊤}
 use Rattle.std.specs.Int.{is_in_range}
 use Rattle.std.specs.String.{string_bytes}
 use Rattle.std.specs.declared.alloc.Global.{Global}
@@ -96,6 +96,12 @@ pub record IsDrawn (s : Seen) (seen : Observed) (picture : List ℕ) : Type 0 wh
   pub rolls : scene.rolls.items ≡ seen.rolls
   pub tree : scene.tree ≡ option_map (λ (sample : Sample). sample.claim) seen.sample
   pub drawn : HasRolls scene picture
+
+-- a picture shows what is seen of commands from here on, where this window is asked for
+abbrev pub AreDrawn : Settings → Game → Playing → List Command → Window → List ℕ → Type 0
+AreDrawn settings game playing commands window =
+    IsDrawn (session_at settings game (played_by settings game playing commands).core)
+    (seen_by settings game playing commands (nothing_seen (length playing.core.players) window))
 
 -- the picture of a play; none if its session doesn't start
 abbrev pub IsPlayDrawn : Game → Window → Play → Option (String Global) → Type 0

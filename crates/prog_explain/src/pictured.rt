@@ -1,12 +1,12 @@
 //! Scripts as pictures.
-ghost use Rattle.std.specs.Prelude.{◌≡◌, ◌&&◌, ◌⊎◌, ◌<◌, ◌≤◌, ◌+◌, ◌^◌, IfOk, IfSome, MatchOption, None, OnOk, is_none, length};
+ghost use Rattle.std.specs.Prelude.{◌≡◌, ◌&&◌, ◌⊎◌, ◌<◌, ◌≤◌, ◌+◌, ◌^◌, [], IfOk, IfSome, MatchOption, None, OnOk, is_none, length, string_bytes};
 ghost use Rattle.roll_text.specs.declared.streams.TheConstants.{TEXT_LIMIT};
 ghost use Rattle.prog_scripts.specs.Faults.{TakesAtMost};
 ghost use Rattle.prog_scripts.specs.Plays.{IsPlay, play_of};
 ghost use Rattle.prog_replies.specs.Output.{game_from};
 ghost use Rattle.roll_cli.specs.Playings.{game_of};
 ghost use Rattle.roll_cli.specs.Programs.{Ends};
-ghost use Rattle.prog_explain.specs.Pictured.{IsGameDrawn, IsPlayDrawn, IsShown, is_roll, played_by, seen_by};
+ghost use Rattle.prog_explain.specs.Pictured.{AreDrawn, IsDrawn, IsGameDrawn, IsPlayDrawn, IsShown, is_roll, played_by, seen_by};
 ghost use Rattle.prog_observer.specs.Observing.{observed};
 ghost use Rattle.prog_parts.specs.declared.fault.PlayFault.TheVariants.{Write as CannotWrite};
 
@@ -170,17 +170,59 @@ fn play_seen<G: Shown + Drop>(
     ensures { IfOk result (λ picture. IsPlayDrawn (game_from (G.snapshot_value opening) G.step)
         window (play_of script.now) picture) }
 {
-    let settings = script.header.settings();
-    let session = match Session::start(alloc, game, opening, settings) {
-        Ok(session) => session,
-        Err(fault) if fault.why == Refusal::NoMemory => return Err(AllocError),
-        Err(_) => return Ok(None),
-    };
-    let mut observer = Observer::new(alloc, session.players(), window)?;
+    match Session::start(alloc, game, opening, script.header.settings()) {
+        Ok(session) => Ok(Some(see_started(alloc, title, script, window, session, helper)?)),
+        Err(fault) if fault.why == Refusal::NoMemory => Err(AllocError),
+        Err(_) => Ok(None),
+    }
+}
+
+/// Plays a script from a session on that was started for it, and draws what was seen.
+fn see_started<G: Shown + Drop>(
+    alloc: Global,
+    title: &str,
+    script: &Script,
+    window: Window,
+    session: Session<G>,
+    helper: G,
+) -> Result<String, AllocError>
+    requires { length script.now.commands.items < 2 ^ 32 }
+    ensures { IfOk result (λ picture. AreDrawn session.settings (game_from session.opening G.step)
+        (record { core = session.core; jobs = [] }) script.now.commands.items window (string_bytes picture)) }
+{
     let mut playing = Playing::new(alloc, session, helper);
-    watch_all(alloc, &mut playing, &mut observer, &script.commands)?;
-    let scene = observer.into_scene(alloc, playing.session(), text_of(alloc, title)?)?;
-    Ok(Some(draw(alloc, &scene)?))
+    see_playing(alloc, title, &script.commands, window, &mut playing)
+}
+
+/// Plays commands, and draws what was seen of them.
+fn see_playing<G: Shown>(
+    alloc: Global,
+    title: &str,
+    commands: &[Command],
+    window: Window,
+    playing: &mut Playing<G>,
+) -> Result<String, AllocError>
+    requires { length playing.old.now.jobs + length commands.now < 2 ^ 32 }
+    ensures { IfOk result (λ picture. AreDrawn playing.old.settings (game_of G.step playing.old)
+        playing.old.now commands.now window (string_bytes picture)) }
+{
+    let mut observer = Observer::new(alloc, playing.session().players(), window)?;
+    watch_all(alloc, playing, &mut observer, commands)?;
+    draw_seen(alloc, title, observer, playing.session())
+}
+
+/// Draws what was seen of a session, as it is now.
+fn draw_seen<G: Shown>(
+    alloc: Global,
+    title: &str,
+    observer: Observer,
+    session: &Session<G>,
+) -> Result<String, AllocError>
+    ensures { IfOk result (λ picture. IsDrawn session.now (observed observer) (string_bytes picture)) }
+{
+    let title = text_of(alloc, title)?;
+    let scene = observer.into_scene(alloc, session, title)?;
+    draw(alloc, &scene)
 }
 
 fn text_of(alloc: Global, text: &str) -> Result<String, AllocError> {
