@@ -1,6 +1,6 @@
 -- The job of a guess, from what is saved.
 use Rattle.std.proofs.Common.{◌≡◌, ◌∙◌, ℕ, ◌+◌, ◌-◌, ◌<◌, ◌≤◌, List, [], ◌++◌, length, take, drop, refl, ap, sym, subst, true, false, not, Option, Some, None, Result, Ok, Err, arith, inl, inr, length-take, length-drop, length-append}
-use Rattle.std.specs.Prelude.{◌⊎◌, option_map, IfOk, IfSome, IsNone, IsSomeAnd}
+use Rattle.std.specs.Prelude.{◌⊎◌, ◌↔◌, option_map, IfOk, IfSome, IsNone, IsSomeAnd, OnErr, OnOk}
 use Rattle.std.specs.Option.{option_map_or}
 use Rattle.std.proofs.Math.Seq.{drop-append-add, take-append-add, take-append_seam}
 use Rattle.std.proofs.lemmas.Bool.{cases_lt, false_from_ne_true, false≢true, lt-ltb, le-ltb}
@@ -24,6 +24,8 @@ use Rattle.roll_frame.proofs.Beginnings.{begins}
 use Rattle.roll_frame.proofs.Refused.{all_fail, in_range}
 use Rattle.roll_frame.proofs.Timelines.{length_timeline}
 use Rattle.roll_inputs.specs.Boards.{Inputs, guess_refusal}
+use Rattle.roll_game.specs.Counts.{counted}
+use Rattle.roll_game.specs.declared.counts.Call.TheVariants.{Copy}
 use Rattle.roll_game.specs.declared.counts.Counts.{Counts}
 use Rattle.roll_laws.proofs.Glue.{always_holds}
 use Rattle.roll_laws.proofs.Grafted.{longest_kept}
@@ -33,7 +35,7 @@ use Rattle.roll_laws.proofs.Saved.{In, has_in, longest_at_least}
 use Rattle.roll_laws.proofs.Sound.{Sound, sound_played}
 use Rattle.roll_plan.specs.Plans.{Planned}
 use Rattle.roll_tree.specs.SavedStates.{SavedStates, paths_of}
-use Rattle.roll_session.specs.Guessing.{guess_job_of, guessed_rows, job_along, kept_of, route_along}
+use Rattle.roll_session.specs.Guessing.{guess_job_of, guessed_rows, job_along, kept_of, route_along, IsCopied}
 use Rattle.roll_session.specs.Held.{IsSession, inputs_of}
 use Rattle.roll_session.specs.Saves.{HaveValues, Standing}
 use Rattle.roll_session.specs.Seen.{Step}
@@ -46,18 +48,29 @@ made_some : (o : Option Routed) (made : Routed) → (IsNone o → made.route.row
 made_some None made none job some = absurd (omega (arith, ap (λ (r : Rows). length r) (none refl), some))
 made_some (Some it) made none job some = ap Some job
 
-module _ {S : Type 0} (s : Standing S) (rows : Rows) (o : Option Routed) (route : Route) (from : Value) (route_is : route ≡ route_along s rows) (below : kept_of s rows < length rows)
-    (none : IsNone o → route.rows.items ≡ []) (job : IfSome o (λ job. job ≡ record { ticket = 0; route = route; from = from })) where
+module _ {S : Type 0} (s : Standing S) (rows : Rows) (route : Route) (from : Value) (route_is : route ≡ route_along s rows) (below : kept_of s rows < length rows) where
   -- there is one where not all rows are kept
-  pub made_one : o ≡ Some (record { ticket = 0; route = route; from = from })
-  made_one =
+  made_one : (o : Option Routed) → (IsNone o ↔ (route.rows.items ≡ [])) → IfSome o (λ job. job ≡ record { ticket = 0; route = route; from = from }) → o ≡ Some (record { ticket = 0; route = route; from = from })
+  made_one o none job =
       let some : 0 < length route.rows.items =
       omega (arith, below, ap (λ (r : Route). length r.rows.items) route_is, length-take BRANCH_LIMIT (drop (kept_of s rows) rows), length-drop (kept_of s rows) rows) in
-      made_some o (record { ticket = 0; route = route; from = from }) none job some
+      made_some o (record { ticket = 0; route = route; from = from }) none.0 job some
 
-  pub made_along : (step : Step) (opening : Value) → from ≡ run step opening (timeline s.inputs.players s.inputs.settled ++ take (kept_of s rows) rows) → o ≡ job_along step opening s rows
-  made_along step opening from_is =
-      rw (lt-ltb (kept_of s rows) (length rows) below) (made_one ∙ (λ i. Some (record { ticket = 0; route = route_is i; from = from_is i })))
+  module _ (r : Result (Option Routed) Refusal) (none : IfOk r (λ o. IsNone o ↔ (route.rows.items ≡ []))) (job : IfOk r (λ o. IfSome o (λ job. job ≡ record { ticket = 0; route = route; from = from }))) where
+    pub made_along : (step : Step) (V : Value → Type 0) → ((opening : Value) → V opening → from ≡ run step opening (timeline s.inputs.players s.inputs.settled ++ take (kept_of s rows) rows)) → IfOk r (λ o. (opening : Value) → V opening → o ≡ job_along step opening s rows)
+    made_along step V from_is = along r none job
+      where
+        along : (r : Result (Option Routed) Refusal) → IfOk r (λ o. IsNone o ↔ (route.rows.items ≡ [])) → IfOk r (λ o. IfSome o (λ job. job ≡ record { ticket = 0; route = route; from = from })) → IfOk r (λ o. (opening : Value) → V opening → o ≡ job_along step opening s rows)
+        along (Err why) none job = tt
+        along (Ok o) none job = λ opening values.
+            rw (lt-ltb (kept_of s rows) (length rows) below) (made_one o none job ∙ (λ i. Some (record { ticket = 0; route = route_is i; from = from_is opening values i })))
+
+    pub made_copied : (old new : Counts) → OnOk r (new ≡ counted Copy true old) → OnErr r ((new ≡ old) ⊎ (new ≡ counted Copy false old)) → IsCopied old new r
+    made_copied old new = copied r none job
+      where
+        copied : (r : Result (Option Routed) Refusal) → IfOk r (λ o. IsNone o ↔ (route.rows.items ≡ [])) → IfOk r (λ o. IfSome o (λ job. job ≡ record { ticket = 0; route = route; from = from })) → OnOk r (new ≡ counted Copy true old) → OnErr r ((new ≡ old) ⊎ (new ≡ counted Copy false old)) → IsCopied old new r
+        copied (Err why) none job done refused = refused
+        copied (Ok o) none job done refused = subst (λ (o : Option Routed). IsCopied old new (Ok o)) (sym (made_one o none job)) done
 
 -- what holds where a guess is accepted
 pub record MayGuess (inputs : Inputs) (p : ℕ) (words : List ℕ) (until : ℕ) : Type 0 where

@@ -1,8 +1,10 @@
 //! What is to be run for a guess of what a player does next.
-ghost use Rattle.std.specs.Prelude.{◌≡◌, ◌≤◌, ◌+◌, length, drop, take, false, IsSomeAnd, IfOk, IfErr};
+ghost use Rattle.std.specs.Prelude.{◌≡◌, ◌≤◌, ◌+◌, ◌↔◌, ◌⊎◌, [], length, drop, take, true, false, IsNone, IfSome, IsSomeAnd, IfOk, IfErr, OnOk, OnErr};
 ghost use Rattle.roll_frame.specs.Games.{Value};
 ghost use Rattle.roll_frame.specs.Inputs.{player_at};
 ghost use Rattle.roll_frame.specs.Timeline.{timeline};
+ghost use Rattle.roll_game.specs.Counts.{counted};
+ghost use Rattle.roll_game.specs.declared.counts.Call.TheVariants.{Copy as Copies};
 ghost use Rattle.roll_session.specs.Guessing.{guessed_rows, job_along, route_along, IsCopied};
 ghost use Rattle.roll_session.specs.Saves.{HaveValues};
 
@@ -53,6 +55,29 @@ fn route_at(base: u32, rows: &[Row], depth: usize) -> Route
     Route { path, rows: next }
 }
 
+/// The job of a route from a saved state, of which the game is asked for a copy last. None if it has no rows to run.
+fn job_of<G: Game>(
+    game: &mut G,
+    from: &G::Snapshot,
+    alloc: Global,
+    route: &Route,
+) -> Result<Option<Job<G>>, Refusal>
+    requires { length route.now.rows.items ≤ BRANCH_LIMIT }
+    ensures none { IfOk result (λ job. IsNone job ↔ (route.now.rows.items ≡ [])) }
+    ensures job { IfOk result (λ made. IfSome made
+        (λ job. job ≡ record { ticket = 0; route = route.now; from = G.snapshot_value from.now })) }
+    ensures refused { IfErr result (λ why. why ≡ Refusal.NoMemory) }
+    ensures copied { OnOk result
+        (G.call_counts game.new ≡ counted Copies true (G.call_counts game.old)) }
+    ensures uncopied { OnErr result ((G.call_counts game.new ≡ G.call_counts game.old)
+        ⊎ (G.call_counts game.new ≡ counted Copies false (G.call_counts game.old))) }
+{
+    let room = Vec::with_capacity(alloc, BRANCH_LIMIT)?;
+    let route = PackedRoute::new(alloc, route)?;
+    let from = game.copy(from)?;
+    Ok(Job::new(route, from, room))
+}
+
 /// The job of rows from the settled frame on. None if all are kept.
 ///
 /// # Errors
@@ -81,8 +106,5 @@ pub fn job_along<G: Game>(
     if depth == rows.len() {
         return Ok(None);
     }
-    let route = PackedRoute::new(alloc, &route_at(base, rows, depth))?;
-    let room = Vec::with_capacity(alloc, BRANCH_LIMIT)?;
-    let from = game.copy(tree.get(node))?;
-    Ok(Job::new(route, from, room))
+    job_of(game, tree.get(node), alloc, &route_at(base, rows, depth))
 }
