@@ -3,6 +3,7 @@ pub mod Moves
 pub mod Zipped
 pub mod Issuing
 pub mod Collecting
+pub mod Hiring
 pub mod Withdrawing
 pub mod Serving
 pub mod Settling

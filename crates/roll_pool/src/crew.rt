@@ -1,5 +1,5 @@
 //! Workers in threads of their own.
-ghost use Rattle.std.specs.Prelude.{◌≡◌, [], ◌∷◌, ◌++◌, map, length, vec_len, IfOk, IfErr, OnOk};
+ghost use Rattle.std.specs.Prelude.{◌≡◌, ◌<◌, ◌≤◌, [], ◌∷◌, ◌++◌, map, length, vec_len, vec_capacity, IfOk, IfErr, OnOk};
 ghost use Rattle.roll_pool.specs.Crews.{places_in};
 ghost use Rattle.roll_pool.specs.Served.{AreBack, HasServed};
 
@@ -102,10 +102,7 @@ impl<G: Game + Drop> Crew<G> {
             (self.new ≡ self.old ++ record { end = end; counts = G.call_counts game } ∷ []) }
         ensures refused { IfErr result (λ why. why ≡ Refusal.NoMemory) }
     {
-        self.posts.reserve(1)?;
-        let room = self.posts.capacity();
-        self.ends.reserve(room)?;
-        self.games.reserve(room)?;
+        make_room(&mut self.posts, &mut self.ends, &mut self.games)?;
         let post = Post::start(rt, end, game)?;
         self.posts.push_reserved(post);
         Ok(())
@@ -130,4 +127,25 @@ impl<G: Game + Drop> Crew<G> {
         }
         (ends, games)
     }
+}
+
+/// Makes room for one post more, and for what comes back of each.
+fn make_room<P, E, N>(
+    posts: &mut Vec<P>,
+    ends: &mut Vec<E>,
+    games: &mut Vec<N>,
+) -> Result<(), AllocError>
+    requires ends { ends.old.items ≡ [] }
+    requires games { games.old.items ≡ [] }
+    ensures posts { posts.new.items ≡ posts.old.items }
+    ensures ends { (ends.new.items ≡ []) × (vec_capacity ends.old ≤ vec_capacity ends.new) }
+    ensures games { (games.new.items ≡ []) × (vec_capacity games.old ≤ vec_capacity games.new) }
+    ensures room { OnOk result ((vec_len posts.old < vec_capacity posts.new)
+        × (vec_len posts.old < vec_capacity ends.new)
+        × (vec_len posts.old < vec_capacity games.new)) }
+{
+    posts.reserve(1)?;
+    let room = posts.capacity();
+    ends.reserve(room)?;
+    games.reserve(room)
 }

@@ -12,7 +12,6 @@ use crate::results::{RESULT_PLACES, Results};
 use crate::rule::{Deque, Hand};
 use crate::signals::Signals;
 use crate::worker::WorkerEnd;
-use roll_branch::{Done, Job};
 use roll_frame::Refusal;
 use roll_game::Game;
 use rtrb::RingBuffer;
@@ -64,7 +63,7 @@ impl<G: Game> Owner<G> {
 }
 
 /// Room for the results and for the jobs that are out at the end.
-fn rooms<G: Game>(alloc: Global) -> Result<(Vec<Done<G>>, Vec<Job<G>>), AllocError>
+fn rooms<D: Drop, J: Drop>(alloc: Global) -> Result<(Vec<D>, Vec<J>), AllocError>
     ensures late { IfOk result (λ rooms. (rooms.0.items ≡ []) × (JOBS_OUT ≤ vec_capacity rooms.0)) }
     ensures left { IfOk result (λ rooms. (rooms.1.items ≡ []) × (JOBS_OUT ≤ vec_capacity rooms.1)) }
 {
@@ -128,9 +127,9 @@ fn hire<G: Game>(
               (arc_value signals.now);
         }))) }
 {
+    let signals = Arc::try_clone(signals)?;
     let thief = deque.stealer()?;
     let (results, consumer) = RingBuffer::new(alloc, RESULT_PLACES)?;
-    let signals = Arc::try_clone(signals)?;
     let end = WorkerEnd {
         thief,
         pass: deque.another::<Hand>(),

@@ -1,7 +1,8 @@
 use Rattle.std.proofs.Common.{◌≡◌, ◌≤◌, [], true, length, map, vec_len, ap, sym, ◌∙◌, rules, arith}
+use Rattle.std.proofs.lemmas.List.{length-map}
 use Rattle.crossbeam_deque.specs.Handles.{worker_view, worker_flavor, worker_index, worker_capacity}
 use Rattle.roll_pool.specs.Rule.{tally}
-use Rattle.roll_pool.specs.Owners.{collected}
+use Rattle.roll_pool.specs.Owners.{collected, rings_of}
 use Rattle.roll_pool.specs.declared.owner.TheConstants.{JOBS_OUT, WORKER_LIMIT}
 use Rattle.roll_pool.proofs.Moves.{begins}
 use Rattle.roll_pool.proofs.Collecting.{none_came, fresh_places}
@@ -39,3 +40,18 @@ invariant_of-owner g c =
 
 pub returns-clause-places : goal.returns-clause-places
 returns-clause-places g c = ap (map (λ e. e.place)) c.in_ok-rings.ensures.ends ∙ fresh_places _ _
+
+pub returns-clause-ends : goal.returns-clause-ends
+returns-clause-ends g c = c.in_ok-rings.ensures.ends
+
+pub returns-clause-team : goal.returns-clause-team
+returns-clause-team g c =
+    let hired = c.in_ok-rings.ensures in
+    let rings = c.in_ok-rings.rings in
+    let many : vec_len rings ≡ length rings.items = search rules in
+    (length-map (rings_of rings.items) _ ∙ length-map rings.items (λ r. r.ring) ∙ sym many ∙ hired.came.1, hired.came.0)
+
+pub returns-clause-new : goal.returns-clause-new
+returns-clause-new g c =
+    let hired = c.in_ok-rings.ensures in
+    (ap (λ v. v.issued) hired.view, ap (λ v. v.jobs) hired.view)
