@@ -21,6 +21,10 @@ module _ {D : Type 0} where
     pub after_is : after ≡ record before { capacity = after.capacity }
     pub capacity : before.capacity ≤ after.capacity
 
+  -- a job is withdrawn, and this is its number
+  abbrev pub IsLetGo : Pool D → Pool D → ℕ → Type 0
+  IsLetGo before after ticket = (job : Routed) × IsWithdrawn before after job × (ticket ≡ job.ticket)
+
   -- for a job more: fewer than 64 are out, or the oldest that no worker has taken is withdrawn
   abbrev pub MakesPlace : Pool D → Pool D → Type 0
   MakesPlace before ready =

@@ -6,7 +6,7 @@ ghost use Rattle.roll_session.specs.Calls.{asked};
 ghost use Rattle.roll_session.specs.Changes.{advance_refusal, after_advance, after_disconnect, after_local, after_sync, disconnect_refusal, local_refusal, reached_by, reserve_refusal, sync_refusal, FitsLog, IsRefused, IsRollRefused, IsWhy};
 ghost use Rattle.roll_session.specs.Seen.{IsLeast};
 ghost use Rattle.roll_host.specs.Absorbs.{IsAbsorbed};
-ghost use Rattle.roll_host.specs.Guesses.{IsAsBefore, MakesPlace, Speculates, Withdraws, WithdrawsNone};
+ghost use Rattle.roll_host.specs.Guesses.{IsAsBefore, IsLetGo, MakesPlace, Speculates, Withdraws, WithdrawsNone};
 ghost use Rattle.roll_host.specs.Hosted.{came_by, issued_of, jobs_out, new_link, places_of, rings_of, with_came, withdrawn_of, EndsLink};
 ghost use Rattle.roll_host.specs.Pumps.{IsPumped};
 ghost use Rattle.roll_host.specs.declared.limits.TheConstants.{LINK_LIMIT as LINKS};
@@ -87,12 +87,14 @@ impl<G: Game> Host<G> {
             (λ host. host ≡ record { session = session; links = []; pool = Some owner }) }
         ensures back { IfErr result (λ failed. failed.value ≡ (session, owner)) }
     {
-        match Host::new(alloc, session) {
-            Ok(host) => Ok(Host {
+        match Vec::with_capacity(alloc, LINK_LIMIT) {
+            Ok(links) => Ok(Host {
+                session,
+                links,
                 pool: Some(owner),
-                ..host
+                alloc,
             }),
-            Err(AllocFailed { value: session }) => Err(AllocFailed {
+            Err(_) => Err(AllocFailed {
                 value: (session, owner),
             }),
         }
@@ -193,10 +195,7 @@ impl<G: Game> Host<G> {
         ensures places { places_of self.new.pool ≡ places_of self.old.pool }
     {
         match &mut self.pool {
-            Some(owner) => {
-                let job = owner.withdraw()?;
-                Some(job.ticket())
-            }
+            Some(owner) => let_go(owner),
             None => None,
         }
     }
@@ -378,6 +377,16 @@ impl<G: Game> Host<G> {
     }
 }
 
+/// Withdraws the oldest job that no worker has taken, and lets go of it: its number.
+fn let_go<G: Game>(owner: &mut Owner<G>) -> Option<u64>
+    ensures some { IfSome result (λ ticket. IsLetGo owner.old owner.new ticket) }
+    ensures none { IfNone result (IsAsBefore owner.old owner.new) }
+    ensures places { owner.new.places ≡ owner.old.places }
+{
+    let job = owner.withdraw()?;
+    Some(job.ticket())
+}
+
 /// Whether there is a place for a job more. Where 64 are out, the oldest that no worker has taken is withdrawn, and let go of.
 fn make_place<G: Game>(owner: &mut Owner<G>) -> bool
     ensures made { result ≡ true → MakesPlace owner.old owner.new }
@@ -385,5 +394,5 @@ fn make_place<G: Game>(owner: &mut Owner<G>) -> bool
     ensures crowded { result ≡ false → (MOST ≤ out_of owner.old) × IsAsBefore owner.old owner.new }
     ensures places { owner.new.places ≡ owner.old.places }
 {
-    owner.out() < JOBS_OUT || owner.withdraw().is_some()
+    owner.out() < JOBS_OUT || let_go(owner).is_some()
 }
