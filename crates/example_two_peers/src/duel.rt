@@ -16,14 +16,8 @@ pub struct Duel {
 }
 
 impl Duel {
-    /// Both sides after a match, whose second side started so many turns late.
-    pub fn played(alloc: Global, late: u32) -> Result<Duel, Fault> {
-        let mut duel = Duel::new(alloc)?;
-        duel.play(late)?;
-        Ok(duel)
-    }
-
-    fn new(alloc: Global) -> Result<Duel, Fault> {
+    /// Both sides before the match.
+    pub fn new(alloc: Global) -> Result<Duel, Fault> {
         Ok(Duel {
             first: Side::new(alloc, 0, 2)?,
             second: Side::new(alloc, 1, 1)?,
@@ -32,8 +26,9 @@ impl Duel {
         })
     }
 
-    /// After the last frame both sides go on until each has all, and knows that the other has.
-    fn play(&mut self, late: u32) -> Result<(), Fault> {
+    /// Plays the match, whose second side starts so many turns late. After the last frame both sides go on until each has all,
+    /// and knows that the other has.
+    pub fn play(&mut self, late: u32) -> Result<(), Fault> {
         for turn in 0..MOST_TURNS {
             if self.first.is_done() && self.second.is_done() {
                 break;

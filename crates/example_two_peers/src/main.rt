@@ -8,7 +8,7 @@ mod peer;
 use duel::Duel;
 use fazgrond::{Refusal, Session};
 use game_fighter::{Fight, Fighter};
-use peer::open;
+use peer::{Fault, open};
 use std::alloc::{AllocGlobal, Global};
 use std::io;
 use std::process::ExitCode;
@@ -26,13 +26,24 @@ fn main(rt: HostRuntime) -> ExitCode {
 
 /// Plays a match whose second side starts so many turns late, prints how it went, and says whether the sides agree in the end.
 fn run<R: Runtime + AllocGlobal>(rt: &R, late: u32) -> io::Result<bool> {
-    match Duel::played(rt.alloc(), late) {
-        Ok(duel) => report(rt, late, &duel),
-        Err(why) => {
-            println!(rt; "{why}")?;
-            Ok(false)
-        }
+    match Duel::new(rt.alloc()) {
+        Ok(mut duel) => play(rt, late, &mut duel),
+        Err(why) => break_off(rt, why),
     }
+}
+
+/// Plays the match, and prints how it went.
+fn play<R: Runtime + AllocGlobal>(rt: &R, late: u32, duel: &mut Duel) -> io::Result<bool> {
+    match duel.play(late) {
+        Ok(()) => report(rt, late, duel),
+        Err(why) => break_off(rt, why),
+    }
+}
+
+/// Prints why a match ends early.
+fn break_off<R: Runtime>(rt: &R, why: Fault) -> io::Result<bool> {
+    println!(rt; "{why}")?;
+    Ok(false)
 }
 
 /// Prints how a match went, and says whether the sides agree.
