@@ -13,7 +13,7 @@ use Rattle.roll_laws.proofs.Sound.{sound_played, staying, Sound}
 use Rattle.roll_session.specs.Headline.{words_of}
 use Rattle.roll_session.specs.Seen.{FollowsLog, Seen, Step}
 use Rattle.roll_session.proofs.Words.{words_at}
-use Rattle.prog_match.specs.Agreement.{AreDelivered}
+use Rattle.prog_sides.specs.Agreement.{AreDelivered}
 use Rattle.prog_match.specs.Known.{known_of}
 use Rattle.prog_match.specs.Sides.{AreBoth, AreFirst, ArePeers, Follows}
 use Rattle.prog_match.specs.declared.side.Side.{Side}

@@ -1,12 +1,12 @@
 -- The first of a player's words.
-use Rattle.std.proofs.Common.{◌≡◌, ◌∙◌, ℕ, ◌+◌, ◌<◌, List, [], ◌∷◌, ◌++◌, length, get_or, refl, ap, sym, subst, arith, Bool, cond, true, false, length-append, append_assoc, append-nil, Some}
+use Rattle.std.proofs.Common.{◌≡◌, ◌∙◌, ℕ, ◌+◌, ◌<◌, List, [], ◌∷◌, ◌++◌, length, get_or, refl, ap, sym, subst, arith, Bool, cond, true, false, length-append, append-nil, Some}
 use Rattle.std.specs.List.{range_with_len}
 use Rattle.std.specs.Prelude.{option_map, slice_get}
 use Rattle.std.proofs.lemmas.List.{get_or_append_left}
 use Rattle.std.proofs.lemmas.List.FromFn.{fill_by_all, get_or-range_with_len, length-range_with_len, map-range_with_len_more}
 use Rattle.std.proofs.lemmas.Option.{slice_get-get_or, slice_get-map}
-use Rattle.prog_match.specs.Policy.{word_at}
-use Rattle.prog_match.specs.Sides.{first_words, AreFirst, BeginWith}
+use Rattle.prog_match.specs.Sides.{first_words, AreFirst}
+use Rattle.prog_sides.specs.Words.{word_at, BeginWith}
 
 -- and the next one
 pub first_more : (words known : List ℕ) (word : ℕ) → word ≡ word_at words (length known) → AreFirst words known → AreFirst words (known ++ word ∷ [])
@@ -38,9 +38,3 @@ pub begin_first : (words known : List ℕ) → BeginWith words known → AreFirs
 begin_first words known begin =
     fill_by_all (word_at words) known (length known) 0 refl
     (λ k below. sym (get_or_append_left known begin.0 0 k below) ∙ ap (λ (ws : List ℕ). get_or ws k 0) (sym begin.1))
-
-pub begin_none : (words : List ℕ) → BeginWith words words
-begin_none words = ([], sym (append-nil words))
-
-pub begin_more : (words more known : List ℕ) → BeginWith words known → BeginWith (words ++ more) known
-begin_more words more known begin = (begin.0 ++ more, ap (λ (ws : List ℕ). ws ++ more) begin.1 ∙ append_assoc known begin.0 more)

@@ -32,7 +32,7 @@ use Rattle.roll_session.proofs.Turns.{came, WasAccepted, WasDeclined}
 use Rattle.roll_session.proofs.Words.{remote_next, words_applied, words_at}
 use Rattle.prog_match.specs.Hearing.{told}
 use Rattle.prog_match.specs.Known.{known_of}
-use Rattle.prog_match.specs.Policy.{word_at}
+use Rattle.prog_sides.specs.Words.{word_at}
 use Rattle.prog_match.specs.Sides.{AreBoth, AreFirst, GoesOn, OnlySaves}
 use Rattle.prog_match.proofs.FirstWords.{first_on}
 

@@ -16,8 +16,9 @@ use Rattle.roll_session.specs.Seen.{Seen}
 use Rattle.roll_session.specs.Started.{first_seen}
 use Rattle.roll_session.proofs.Words.{words_at}
 use Rattle.prog_match.specs.Options.{side_settings}
-use Rattle.prog_match.specs.Sides.{AreBoth, AreFirst, ArePeers, BeginWith, Follows, IsSideAtStart}
-use Rattle.prog_match.specs.declared.options.MatchOptions.{MatchOptions}
+use Rattle.prog_match.specs.Sides.{AreBoth, AreFirst, ArePeers, Follows, IsSideAtStart}
+use Rattle.prog_sides.specs.Words.{BeginWith}
+use Rattle.prog_sides.specs.declared.options.MatchOptions.{MatchOptions}
 use Rattle.prog_match.specs.declared.side.Side.{Side}
 use Rattle.prog_match.proofs.FirstWords.{begin_first}
 

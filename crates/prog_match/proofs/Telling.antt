@@ -13,7 +13,7 @@ use Rattle.roll_session.specs.Seen.{Seen, Step, game_of, plain}
 use Rattle.roll_session.proofs.Runs.{played_more, played_none}
 use Rattle.prog_match.specs.Hearing.{core_told, heard_by, sync_cost, told}
 use Rattle.prog_match.specs.Known.{known_of}
-use Rattle.prog_match.specs.Policy.{word_at}
+use Rattle.prog_sides.specs.Words.{word_at}
 
 -- a word that was taken, now or before
 taken_played : (step : Step) (old new : Seen) (event : CoreEvent) (heard : Heard) → IsAnswered step old new event (heard_reply heard) → IsPlayed step old new (event ∷ [])

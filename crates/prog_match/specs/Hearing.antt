@@ -6,7 +6,7 @@ use Rattle.roll_frame.specs.Events.{CoreEvent, played_from}
 use Rattle.roll_frame.specs.declared.entry.Entry.TheVariants.{Remote}
 use Rattle.roll_session.specs.Seen.{Seen, Step, game_of, plain}
 use Rattle.prog_match.specs.Known.{known_of}
-use Rattle.prog_match.specs.Policy.{word_at}
+use Rattle.prog_sides.specs.Words.{word_at}
 
 -- the events that tell a player's words of so many frames, from one on
 abbrev pub told : ℕ → List ℕ → ℕ → ℕ → List CoreEvent

@@ -4,8 +4,6 @@ pub mod Policy
 pub mod Totals
 pub mod Known
 pub mod Options
-pub mod Drawing
-pub mod Agreement
 pub mod Hearing
 pub mod Sides
 pub mod Endings

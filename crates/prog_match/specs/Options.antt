@@ -1,12 +1,8 @@
--- What a match is asked for, and what its sides are opened with.
-use Rattle.std.specs.Prelude.{◌<◌, ◌≤◌, ◌-◌, ℕ, slice_set}
+-- What the sides of a match are opened with.
+use Rattle.std.specs.Prelude.{◌-◌, ℕ, slice_set}
 use Rattle.roll_frame.specs.Faults.{plain_settings}
 use Rattle.roll_frame.specs.declared.settings.Settings.{Settings}
-use Rattle.prog_match.specs.declared.options.MatchOptions.{MatchOptions}
-
--- some words aren't lost, each is held for a frame at least, and there is a frame
-abbrev pub IsPlayable : MatchOptions → Type 0
-IsPlayable options = (options.lost ≤ 99) × (0 < options.hold) × (0 < options.frames)
+use Rattle.prog_sides.specs.declared.options.MatchOptions.{MatchOptions}
 
 -- the settings of a side whose player has this number, and these bits: two players, with the delay of its own one
 abbrev pub side_settings : MatchOptions → ℕ → ℕ → Settings

@@ -1,11 +1,8 @@
 -- What GGPO runs again: it shows the last word that has come for each frame whose word hasn't, and where words come that
 -- differ from those that it showed, it runs each frame from the first of them on again.
-use Rattle.std.specs.Prelude.{ℕ, ◌-◌, List, drop, not, Bool, nat_lt, ◌==◌, if◌then◌else◌, slice_index_or}
+use Rattle.std.specs.Prelude.{ℕ, ◌-◌, List, drop, not, Bool, nat_lt, ◌==◌, if◌then◌else◌}
 use Rattle.std.specs.List.{position_or_len, range_with_len}
-
--- the word of a frame; 0 past the last
-abbrev pub word_at : List ℕ → ℕ → ℕ
-word_at words frame = slice_index_or words frame 0
+use Rattle.prog_sides.specs.Words.{word_at}
 
 -- the last of the first words, or 0 where there is none
 abbrev pub last_of : List ℕ → ℕ → ℕ

@@ -1,13 +1,13 @@
 -- What the sides of a match know of both players' words, and what stays as it was.
-use Rattle.std.specs.Prelude.{◌≡◌, ◌⊎◌, ◌≤◌, ◌-◌, ◌++◌, ℕ, List, length, map}
+use Rattle.std.specs.Prelude.{◌≡◌, ◌⊎◌, ◌≤◌, ◌-◌, ℕ, List, length, map}
 use Rattle.std.specs.List.{range_with_len}
 use Rattle.roll_frame.specs.Cells.{Rows}
 use Rattle.roll_frame.specs.Games.{Value}
 use Rattle.roll_session.specs.Headline.{IsSaved, time_of, words_of}
 use Rattle.roll_session.specs.Seen.{Seen}
-use Rattle.prog_match.specs.Policy.{word_at}
-use Rattle.prog_match.specs.declared.options.MatchOptions.{MatchOptions}
 use Rattle.prog_match.specs.declared.side.Side.{Side}
+use Rattle.prog_sides.specs.Words.{word_at}
+use Rattle.prog_sides.specs.declared.options.MatchOptions.{MatchOptions}
 
 -- so many of a player's words, from frame 0 on; 0 past the last
 abbrev pub first_words : List ℕ → ℕ → List ℕ
@@ -16,10 +16,6 @@ first_words words count = map (word_at words) (range_with_len 0 count)
 -- all that is known of these words are the first of them
 abbrev pub AreFirst : List ℕ → List ℕ → Type 0
 AreFirst words known = known ≡ first_words words (length known)
-
--- some words begin with others
-abbrev pub BeginWith : List ℕ → List ℕ → Type 0
-BeginWith words first = (rest : List ℕ) × (words ≡ first ++ rest)
 
 -- a match has two players, and one of them is the side's own
 abbrev pub AreBoth : ℕ → ℕ → Type 0

@@ -2,9 +2,8 @@
 ghost use Rattle.std.specs.Prelude.{OnOk};
 ghost use Rattle.prog_match.specs.Sides.{OnlySaves};
 
-use crate::options::Guesses;
-use crate::words::CHOICES;
 use arrayvec::ArrayVec;
+use prog_sides::{CHOICES, Guesses};
 use roll_branch::{Done, extend};
 use roll_frame::{PATH_LIMIT, Refusal};
 use roll_game::Game;

@@ -5,14 +5,13 @@ ghost use Rattle.prog_match.specs.Known.{known_of};
 ghost use Rattle.prog_match.specs.Sides.{SideGoesOn};
 ghost use Rattle.prog_match.specs.Totals.{is_played, wrongs_in};
 
-use crate::options::MatchOptions;
 use crate::picture::watch;
-use crate::policy::word_at;
 use crate::side::{Claims, Side, check_claim};
 use crate::totals::is_played;
 use crate::turn::{Turn, Went};
 use crate::way::Way;
 use prog_observer::Observer;
+use prog_sides::{MatchOptions, word_at};
 use roll_frame::Refusal;
 use roll_game::Game;
 use roll_guess::Habits;

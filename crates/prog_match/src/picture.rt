@@ -1,12 +1,13 @@
 //! The picture of a match: what player 1's session knew frame by frame, and what it ran again.
 ghost use Rattle.std.specs.Prelude.{◌≡◌, IfOk, OnErr, OnOk, is_some};
-ghost use Rattle.prog_match.specs.Pictures.{IsDrawn, OnlyDraws};
+ghost use Rattle.std.specs.String.{string_bytes};
+ghost use Rattle.prog_match.specs.Pictures.{IsDrawn, IsPicture, OnlyDraws};
 
-use crate::options::{Guesses, MatchOptions};
 use crate::peer::Peer;
-use crate::table::{game_name, guesses_name};
+use crate::table::guesses_name;
 use prog_observer::Observer;
 use prog_picture::{Sight, Window, draw};
+use prog_sides::{Guesses, MatchOptions, game_name};
 use roll_frame::Refusal;
 use roll_game::Game;
 use roll_session::Session;
@@ -51,13 +52,34 @@ pub fn show<G: Game>(
     ensures drawn { OnOk result (IsDrawn sight.new) }
     ensures undrawn { OnErr result (sight.new ≡ sight.old) }
 {
-    let Some(observer) = first.observer.take() else {
-        return Ok(());
+    match first.observer.take() {
+        Some(observer) => {
+            sight.picture = Some(picture_of(alloc, options, observer, &first.side.session)?);
+            Ok(())
+        }
+        None => Ok(()),
+    }
+}
+
+/// The picture of what an observer saw of a session.
+fn picture_of<G: Game>(
+    alloc: Global,
+    options: &MatchOptions,
+    observer: Observer,
+    session: &Session<G>,
+) -> Result<String, AllocError>
+    ensures { IfOk result (λ picture. IsPicture (string_bytes picture)) }
+{
+    let scene = match title(alloc, options) {
+        Ok(title) => observer.into_scene(alloc, session, title)?,
+        Err(why) => {
+            drop(observer);
+            return Err(why);
+        }
     };
-    let title = title(alloc, options)?;
-    let scene = observer.into_scene(alloc, &first.side.session, title)?;
-    sight.picture = Some(draw(alloc, &scene)?);
-    Ok(())
+    let picture = draw(alloc, &scene);
+    drop(scene);
+    picture
 }
 
 /// What is shown, in words: a picture's title.

@@ -1,19 +1,18 @@
 //! A match, from its first simulated frame to its last.
-ghost use Rattle.std.specs.Prelude.{◌≡◌, ◌<◌, ◌≤◌, ◌+◌, ◌^◌, IfOk, IsTrue, OnOk, false, is_some, vec_len};
-ghost use Rattle.prog_match.specs.Agreement.{AreDelivered};
-ghost use Rattle.prog_match.specs.Options.{side_settings, IsPlayable};
+ghost use Rattle.std.specs.Prelude.{◌≡◌, ◌<◌, ◌≤◌, ◌+◌, ◌^◌, [], IfOk, IsTrue, OnOk, false, is_some, vec_len};
+ghost use Rattle.prog_match.specs.Options.{side_settings};
 ghost use Rattle.prog_match.specs.Sides.{ArePeers, IsSideAtStart};
 ghost use Rattle.prog_match.specs.Totals.{wrongs_in};
+ghost use Rattle.prog_sides.specs.Agreement.{AreDelivered};
+ghost use Rattle.prog_sides.specs.Options.{IsPlayable};
 
-use crate::draws::{Draws, Stream};
 use crate::line::Line;
-use crate::options::MatchOptions;
 use crate::peer::Peer;
 use crate::picture::observer;
 use crate::side::Side;
 use crate::way::Way;
-use crate::words::{choices, drawn};
 use prog_picture::Window;
+use prog_sides::{Draws, Engines, MatchOptions, Stream, choices, drawn};
 use roll_frame::{Refusal, Settings, SettingsFault};
 use roll_game::Game;
 use roll_guess::Habits;
@@ -25,14 +24,6 @@ use std::alloc::Global;
 pub struct Match<G: Game> {
     pub first: Peer<G>,
     pub second: Peer<G>,
-}
-
-/// What a side plays with: two engines of the game, one for its session and one for its guesses, and the opening.
-#[derive(Drop)]
-pub struct Engines<G: Game> {
-    pub game: G,
-    pub opening: G::Snapshot,
-    pub helper: G,
 }
 
 impl<G: Game + Drop> Match<G> {
@@ -54,10 +45,14 @@ impl<G: Game + Drop> Match<G> {
         ensures watched { IfOk result (λ both.
             (is_some both.first.observer ≡ is_some window) × (is_some both.second.observer ≡ false)) }
     {
-        Ok(Match {
-            first: peer(alloc, options, 1, window, first)?,
-            second: peer(alloc, options, 2, None, second)?,
-        })
+        let first = peer(alloc, options, 1, window, first)?;
+        match peer(alloc, options, 2, None, second) {
+            Ok(second) => Ok(Match { first, second }),
+            Err(why) => {
+                drop(first);
+                Err(why)
+            }
+        }
     }
 
     /// Plays on until both sides have played their last frame, and know all words up to it.
@@ -161,23 +156,35 @@ fn peer<G: Game + Drop>(
         IsSideAtStart options.now me (G.snapshot_value engines.opening) peer.side) }
     ensures watched { IfOk result (λ peer. is_some peer.observer ≡ is_some window) }
 {
-    let side = side(alloc, options, me, engines)?;
+    let observer = observer(alloc, window)?;
+    match side(alloc, options, me, engines) {
+        Ok(side) => Ok(Peer {
+            side,
+            way: way(alloc, options, me),
+            turns: Vec::new(alloc),
+            habits: Habits::new(choices(options.game).as_slice()),
+            observer,
+        }),
+        Err(why) => {
+            drop(observer);
+            Err(why)
+        }
+    }
+}
+
+/// A side's way to the other before the first frame.
+fn way(alloc: Global, options: &MatchOptions, me: u8) -> Way
+    ensures { result.line ≡ [] }
+{
     let way = if me == 1 {
         Stream::LineToSecond
     } else {
         Stream::LineToFirst
     };
-    let way = Way {
+    Way {
         line: Line::new(alloc),
         draws: Draws::new(options.seed, way),
-    };
-    Ok(Peer {
-        side,
-        way,
-        turns: Vec::new(alloc),
-        habits: Habits::new(choices(options.game).as_slice()),
-        observer: observer(alloc, window)?,
-    })
+    }
 }
 
 /// A side before the first frame.
@@ -194,15 +201,6 @@ fn side<G: Game + Drop>(
         IsSideAtStart options.now me (G.snapshot_value engines.opening) side) }
 {
     let settings = settings(options, me)?;
-    let Engines {
-        game,
-        opening,
-        helper,
-    } = engines;
-    let session = match Session::start(alloc, game, opening, settings) {
-        Ok(session) => session,
-        Err(fault) => return Err(fault.why),
-    };
     let own = if me == 1 {
         Stream::WordsOfFirst
     } else {
@@ -210,11 +208,19 @@ fn side<G: Game + Drop>(
     };
     let mut draws = Draws::new(options.seed, own);
     let words = drawn(alloc, &mut draws, options)?;
-    Ok(Side {
-        session,
+    let Engines {
+        game,
+        opening,
         helper,
-        me,
-        other: 3 - me,
-        words,
-    })
+    } = engines;
+    match Session::start(alloc, game, opening, settings) {
+        Ok(session) => Ok(Side {
+            session,
+            helper,
+            me,
+            other: 3 - me,
+            words,
+        }),
+        Err(fault) => Err(fault.why),
+    }
 }

@@ -1,16 +1,8 @@
 //! What GGPO runs again of the same words.
 ghost use Rattle.std.specs.Prelude.{◌≡◌, length};
-ghost use Rattle.prog_match.specs.Policy.{last_of, run_again, shown, word_at};
+ghost use Rattle.prog_match.specs.Policy.{last_of, run_again, shown};
 
-/// The word of a frame; 0 past the last.
-pub fn word_at(words: &[u32], frame: u32) -> u32
-    ensures { result ≡ word_at words.now frame }
-{
-    match words.get(frame as usize) {
-        Some(word) => *word,
-        None => 0,
-    }
-}
+use prog_sides::word_at;
 
 /// The last of the first words, or 0 where there is none.
 pub fn last_of(words: &[u32], heard: u32) -> u32

@@ -1,30 +1,26 @@
 //! A match from its options to what is written of it.
-ghost use Rattle.std.specs.Prelude.{◌≡◌, ◌⊎◌, ◌<◌, ◌≤◌, ◌^◌, ◌++◌, ◌↔◌, IfErr, IfOk, IfSome, IsTrue, MatchOption, None, OnErr, OnOk, false, vec_len};
+ghost use Rattle.std.specs.Prelude.{◌≡◌, ◌⊎◌, ◌<◌, ◌≤◌, ◌^◌, ◌↔◌, IfErr, IfOk, IfSome, IsTrue, MatchOption, None, OnErr, OnOk, false, is_some, vec_len};
 ghost use Rattle.std.specs.String.{string_bytes};
-ghost use Rattle.prog_match.specs.Agreement.{Agree, AgreeTo, AreDelivered};
-ghost use Rattle.prog_match.specs.Endings.{refused_line, TellsRefusal, WritesRefusal};
-ghost use Rattle.prog_match.specs.Options.{IsPlayable};
+ghost use Rattle.prog_match.specs.Endings.{TellsRefusal, WritesRefusal};
 ghost use Rattle.prog_match.specs.Pictures.{IsDrawn, OnlyDraws};
-ghost use Rattle.prog_match.specs.Totals.{totals_of};
-ghost use Rattle.roll_duel.specs.Duels.{field_in};
-ghost use Rattle.roll_duel.specs.Frame.{opening_of};
+ghost use Rattle.prog_match.specs.Sides.{ArePeers};
+ghost use Rattle.prog_match.specs.Totals.{totals_of, wrongs_in};
 ghost use Rattle.prog_parts.specs.declared.fault.PlayFault.TheVariants.{Write as CannotWrite};
+ghost use Rattle.prog_sides.specs.Agreement.{Agree, AgreeTo, AreDelivered};
+ghost use Rattle.prog_sides.specs.Options.{IsPlayable};
 
-use crate::agreement::{agreed, agrees};
-use crate::options::MatchOptions;
 use crate::picture::show;
-use crate::playing::{Engines, Match};
+use crate::playing::Match;
 use crate::side::Side;
 use crate::table::{Report, push_report};
 use crate::totals::sum_up;
 use prog_parts::{Ending, GameName, PlayFault};
 use prog_picture::Sight;
-use roll_duel::Duel;
+use prog_sides::{Engines, MatchOptions, agreed, agrees, duel, push_refused, tally};
 use roll_frame::Refusal;
-use roll_game::{Shown, Tally};
+use roll_game::Shown;
 use roll_text::write_all;
-use std::alloc::{AllocError, Global};
-use std::fmt::Write as _;
+use std::alloc::Global;
 use std::io::Write;
 
 /// Plays a match, and writes its table and its line. Settings that no session starts with are answered `refused 11` alone. So
@@ -108,14 +104,6 @@ fn tell(
     }
 }
 
-/// The line that tells a refusal.
-pub fn push_refused(out: &mut String, why: Refusal) -> Result<(), AllocError>
-    ensures { OnOk result (string_bytes out.new ≡ string_bytes out.old ++ refused_line why) }
-{
-    let code = why.code().unsigned_abs();
-    writeln!(out, "refused {code}")
-}
-
 /// Plays a match, and answers how it came out: both sides agree, and no claim is wrong. If a picture is asked for it is made.
 ///
 /// # Errors
@@ -135,30 +123,6 @@ pub fn play(alloc: Global, options: &MatchOptions, sight: &mut Sight) -> Result<
     }
 }
 
-/// Two engines of a tally, and its opening.
-pub fn tally() -> Engines<Tally>
-    ensures { result.opening ≡ 0 }
-{
-    Engines {
-        game: Tally::new(),
-        opening: Tally::opening(),
-        helper: Tally::new(),
-    }
-}
-
-/// Two engines of a duel of so many ships, and its opening.
-pub fn duel(alloc: Global, ships: u8) -> Result<Engines<Duel>, Refusal>
-    ensures { IfOk result (λ engines. field_in engines.opening ≡ opening_of ships) }
-{
-    let game = Duel::new(alloc, ships)?;
-    let opening = game.opening()?;
-    Ok(Engines {
-        game,
-        opening,
-        helper: Duel::new(alloc, ships)?,
-    })
-}
-
 /// Plays a match with these engines, and draws it if a picture is asked for.
 fn play_out<G: Shown + Drop>(
     alloc: Global,
@@ -176,8 +140,32 @@ fn play_out<G: Shown + Drop>(
     ensures undrawn { OnErr result (sight.new ≡ sight.old) }
 {
     let mut both = Match::new(alloc, options, sight.window, first, second)?;
+    let report = play_both(alloc, options, sight, &mut both);
+    drop(both);
+    report
+}
+
+/// Plays a match whose sides are before their first frame, and draws it if a picture is asked for.
+fn play_both<G: Shown + Drop>(
+    alloc: Global,
+    options: &MatchOptions,
+    sight: &mut Sight,
+    both: &mut Match<G>,
+) -> Result<Report, Refusal>
+    requires first { vec_len both.old.first.turns ≡ 0 }
+    requires second { vec_len both.old.second.turns ≡ 0 }
+    requires watched { is_some both.old.first.observer ≡ is_some sight.old.window }
+    ensures right { IfOk result (λ report.
+        (report.first.wrong ≡ wrongs_in both.old.first.turns.items)
+        × (report.second.wrong ≡ wrongs_in both.old.second.turns.items)) }
+    ensures agrees { ArePeers both.old.first.side both.old.second.side
+        → IfOk result (λ report. IsTrue report.agrees) }
+    ensures asked { OnlyDraws sight.old sight.new }
+    ensures drawn { OnOk result (IsDrawn sight.new) }
+    ensures undrawn { OnErr result (sight.new ≡ sight.old) }
+{
     both.play(alloc, options)?;
-    let report = report(alloc, &mut both)?;
+    let report = report(alloc, both)?;
     show(alloc, options, &mut both.first, sight)?;
     Ok(report)
 }

@@ -9,10 +9,9 @@ ghost use Rattle.roll_session.specs.Headline.{time_of, IsSaved};
 ghost use Rattle.roll_session.specs.Seen.{IsLeast};
 
 use crate::guessing::{Guessed, Outlook, guess_all};
-use crate::options::MatchOptions;
-use crate::policy::{last_of, word_at};
+use crate::policy::last_of;
 use crate::turn::Went;
-use crate::words::choices;
+use prog_sides::{MatchOptions, choices, word_at};
 use roll_cert::check;
 use roll_frame::Refusal;
 use roll_game::Game;

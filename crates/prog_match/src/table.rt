@@ -1,9 +1,8 @@
 //! What is printed of a match.
 ghost use Rattle.std.specs.Prelude.{◌≡◌, ◌↔◌, IsTrue};
 
-use crate::options::{Guesses, MatchOptions};
 use crate::totals::Totals;
-use prog_parts::GameName;
+use prog_sides::{Guesses, MatchOptions, game_name};
 use std::alloc::AllocError;
 use std::fmt::Write;
 
@@ -49,14 +48,6 @@ pub fn guesses_name(guesses: Guesses) -> &'static str {
         Guesses::Words => "words",
         Guesses::Turns => "turns",
         Guesses::Best => "best",
-    }
-}
-
-/// A game's name on the command line.
-pub fn game_name(game: GameName) -> &'static str {
-    match game {
-        GameName::Tally => "tally",
-        GameName::Duel => "duel",
     }
 }
 

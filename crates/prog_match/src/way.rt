@@ -1,10 +1,9 @@
 //! A side's way to the other.
 ghost use Rattle.std.specs.Prelude.{◌≡◌, ◌++◌, ◌∷◌, [], OnOk};
-ghost use Rattle.prog_match.specs.Drawing.{after_draw, lateness};
+ghost use Rattle.prog_sides.specs.Drawing.{after_draw, lateness};
 
-use crate::draws::Draws;
 use crate::line::{Line, Packet};
-use crate::options::MatchOptions;
+use prog_sides::{Draws, MatchOptions};
 use std::alloc::AllocFailed;
 
 /// A line, and what is drawn for it.

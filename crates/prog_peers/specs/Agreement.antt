@@ -1,7 +1,7 @@
 -- When the machines of a match agree.
 use Rattle.std.specs.Prelude.{◌≡◌, ◌<◌, ◌≤◌, ℕ, List, map, true}
 use Rattle.std.specs.List.{All, range_with_len}
-use Rattle.prog_match.specs.Agreement.{Agree}
+use Rattle.prog_sides.specs.Agreement.{Agree}
 use Rattle.roll_frame.specs.Core.{settled}
 use Rattle.roll_member.specs.Joined.{Joined}
 use Rattle.roll_mesh.specs.Machines.{left_at}

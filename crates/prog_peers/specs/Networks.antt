@@ -1,8 +1,8 @@
 -- Datagrams under way.
 use Rattle.std.specs.Prelude.{ℕ, ◌+◌, ◌-◌, ◌^◌, List, [], ◌∷◌, ◌++◌, ◌&&◌, nat_lt, filter, min, Option, Some, None, is_some, if◌then◌else◌}
 use Rattle.rand_pcg.specs.Lcg.{Lcg}
-use Rattle.prog_match.specs.Drawing.{after_draw, lateness, number_below}
-use Rattle.prog_match.specs.declared.options.MatchOptions.{MatchOptions}
+use Rattle.prog_sides.specs.Drawing.{after_draw, lateness, number_below}
+use Rattle.prog_sides.specs.declared.options.MatchOptions.{MatchOptions}
 use Rattle.prog_peers.specs.declared.network.Fate.{Fate}
 use Rattle.prog_peers.specs.declared.network.Route.{Route}
 use Rattle.prog_peers.specs.declared.network.TheConstants.{TWICE}

@@ -2,8 +2,8 @@
 use Rattle.std.specs.Prelude.{ℕ, Bool, true, false, not, ◌||◌, nat_le, nat_lt, Option, Some, None, is_none, if◌then◌else◌, slice_get}
 use Rattle.std.specs.List.{find, list_any, range_with_len}
 use Rattle.std.specs.Option.{option_map_or}
-use Rattle.prog_match.specs.declared.options.Guesses.{Guesses}
-use Rattle.prog_match.specs.declared.options.Guesses.TheVariants as guesses
+use Rattle.prog_sides.specs.declared.options.Guesses.{Guesses}
+use Rattle.prog_sides.specs.declared.options.Guesses.TheVariants as guesses
 use Rattle.prog_parts.specs.declared.ending.GameName.{GameName}
 use Rattle.prog_parts.specs.declared.ending.GameName.TheVariants.{Duel, Tally}
 use Rattle.roll_mesh.specs.declared.limits.TheConstants.{MACHINE_LIMIT}

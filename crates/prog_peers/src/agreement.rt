@@ -5,7 +5,7 @@ ghost use Rattle.prog_peers.specs.Agreement.{AreAlike, IfStays, IsLeftAlike};
 
 use crate::machine::Machine;
 use crate::options::PeersOptions;
-use prog_match::{agreed, agrees};
+use prog_sides::{agreed, agrees};
 use roll_game::Shown;
 use roll_mesh::PLAYER_LIMIT;
 

@@ -2,7 +2,7 @@
 
 use crate::network::Letter;
 use crate::options::PeersOptions;
-use prog_match::Draws;
+use prog_sides::Draws;
 use roll_mesh::MACHINE_LIMIT;
 use sha2::{Digest, Sha256};
 use std::alloc::{AllocError, Global};

@@ -1,14 +1,14 @@
 //! One machine of a match, and what it does in a tick.
 ghost use Rattle.std.specs.Prelude.{◌≡◌, ◌↔◌, IfOk, IsTrue, OnOk};
-ghost use Rattle.prog_match.specs.Options.{IsPlayable};
+ghost use Rattle.prog_sides.specs.Options.{IsPlayable};
 ghost use Rattle.prog_peers.specs.Agreement.{IsOver};
 
 use crate::digest::digest_of;
 use crate::enemy::{Enemy, Trick};
 use crate::network::{Letter, Network, Route};
 use crate::options::PeersOptions;
-use prog_match::{Draws, Engines, drawn, word_at};
 use prog_observer::{Observer, has_rolled};
+use prog_sides::{Draws, Engines, drawn, word_at};
 use roll_frame::{Refusal, Settings, SettingsFault};
 use roll_game::Shown;
 use roll_mesh::MACHINE_LIMIT;
@@ -76,32 +76,31 @@ impl<G: Shown + Drop> Machine<G> {
         ensures { IfOk result (λ machine. machine.me ≡ me) }
     {
         let settings = session_settings(options, me)?;
-        let Engines {
-            game,
-            opening,
-            helper,
-        } = engines;
-        let session = match Session::start(alloc, game, opening, settings) {
-            Ok(session) => session,
-            Err(fault) => return Err(fault.why),
-        };
         let mut draws = Draws::numbered(options.common.seed, FIRST_STREAM + u64::from(me));
         let words = drawn(alloc, &mut draws, &options.common)?;
         let enemy = match options.hostile {
             Some(seed) => Some(Enemy::new(alloc, seed, me, options.common.seed)),
             None => None,
         };
-        Ok(Machine {
-            peer: open(alloc, session, match_settings(options, me))?,
+        let Engines {
+            game,
+            opening,
             helper,
-            me,
-            words,
-            is_silent: false,
-            counts: Counts::default(),
-            noted: 0,
-            enemy,
-            observer,
-        })
+        } = engines;
+        match start(alloc, options, me, settings, game, opening) {
+            Ok(peer) => Ok(Machine {
+                peer,
+                helper,
+                me,
+                words,
+                is_silent: false,
+                counts: Counts::default(),
+                noted: 0,
+                enemy,
+                observer,
+            }),
+            Err(why) => Err(why),
+        }
     }
 
     /// Whether it has played its last frame, and all words up to it are known.
@@ -354,6 +353,21 @@ fn match_settings(options: &PeersOptions, me: u8) -> MatchSettings {
     }
 }
 
+/// A session, and over it a peer that joins the match.
+fn start<G: Shown + Drop>(
+    alloc: Global,
+    options: &PeersOptions,
+    me: u8,
+    settings: Settings,
+    game: G,
+    opening: G::Snapshot,
+) -> Result<Peer<G>, Refusal> {
+    match Session::start(alloc, game, opening, settings) {
+        Ok(session) => open(alloc, session, match_settings(options, me)),
+        Err(fault) => Err(fault.why),
+    }
+}
+
 /// A session joins the match.
 fn open<G: Shown + Drop>(
     alloc: Global,
@@ -362,9 +376,18 @@ fn open<G: Shown + Drop>(
 ) -> Result<Peer<G>, Refusal> {
     match Peer::open(alloc, session, settings) {
         Ok(peer) => Ok(peer),
-        Err(fault) => match fault.why {
-            OpenRefusal::Join(_) => Err(Refusal::InvalidRequest),
-            OpenRefusal::NoMemory => Err(Refusal::NoMemory),
-        },
+        Err(fault) => {
+            let why = fault.why;
+            drop(fault);
+            Err(refusal_of(why))
+        }
+    }
+}
+
+/// What refuses a match that can't be opened.
+fn refusal_of(why: OpenRefusal) -> Refusal {
+    match why {
+        OpenRefusal::Join(_) => Refusal::InvalidRequest,
+        OpenRefusal::NoMemory => Refusal::NoMemory,
     }
 }

@@ -2,7 +2,7 @@
 ghost use Rattle.std.specs.Prelude.{◌≡◌, ◌++◌, [], OnOk};
 ghost use Rattle.prog_peers.specs.Networks.{after_fate, after_send, after_tick, copy_of, fate_of};
 
-use prog_match::{Draws, MatchOptions};
+use prog_sides::{Draws, MatchOptions};
 use std::alloc::{AllocError, Global};
 use std::marker::Model;
 

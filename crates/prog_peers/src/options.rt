@@ -2,8 +2,8 @@
 ghost use Rattle.std.specs.Prelude.{◌≡◌};
 ghost use Rattle.prog_peers.specs.Options.{fault_of, first_staying, has_staying, is_odd_stop, lacks_ships, makes_guesses, odd_stop_of, stays, stop_fault_at, stop_of};
 
-use prog_match::{Guesses, MatchOptions};
 use prog_parts::GameName;
+use prog_sides::{Guesses, MatchOptions};
 use roll_mesh::MACHINE_LIMIT;
 use thiserror::Error;
 

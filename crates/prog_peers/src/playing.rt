@@ -7,7 +7,7 @@ ghost use Rattle.prog_peers.specs.declared.playing.End.TheVariants.{Over as IsEn
 use crate::machine::Machine;
 use crate::network::Network;
 use crate::options::PeersOptions;
-use prog_match::Draws;
+use prog_sides::Draws;
 use roll_frame::Refusal;
 use roll_game::Shown;
 use std::alloc::Global;

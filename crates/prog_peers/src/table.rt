@@ -3,7 +3,7 @@
 use crate::options::PeersOptions;
 use crate::playing::End;
 use crate::report::{Outcome, Report};
-use prog_match::game_name;
+use prog_sides::game_name;
 use std::alloc::AllocError;
 use std::fmt::Write;
 

@@ -9,7 +9,7 @@ use Rattle.clap.specs.declared.error.kind.ErrorKind.TheVariants.{DisplayHelp, Di
 use Rattle.prog_parts.specs.declared.ending.Ending.{Ending}
 use Rattle.prog_parts.specs.declared.ending.GameName.TheVariants.{Tally, Duel}
 use Rattle.prog_parts.specs.declared.task.Task.TheVariants.{Play, SyncTest, Certify}
-use Rattle.prog_match.specs.declared.options.Guesses.TheVariants.{Best, Off}
+use Rattle.prog_sides.specs.declared.options.Guesses.TheVariants.{Best, Off}
 use Rattle.rollduel.specs.Commands.{Choices, app_with, rollduel_app}
 use Rattle.rollduel.specs.Endings.{EndsRefused}
 use Rattle.rollduel.specs.Requests.{asked_by, live, «match», on_text, peers, picture_by, refused}

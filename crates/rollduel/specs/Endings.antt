@@ -7,8 +7,8 @@ use Rattle.prog_parts.specs.declared.fault.PlayFault.{PlayFault}
 use Rattle.prog_parts.specs.declared.fault.PlayFault.TheVariants.{NoMemory, Read, Write}
 use Rattle.prog_parts.specs.declared.ending.Ending.{Ending}
 use Rattle.clap.specs.Walk.{Row, Text}
-use Rattle.prog_match.specs.Options.{IsPlayable}
-use Rattle.prog_match.specs.declared.options.MatchOptions.{MatchOptions}
+use Rattle.prog_sides.specs.Options.{IsPlayable}
+use Rattle.prog_sides.specs.declared.options.MatchOptions.{MatchOptions}
 use Rattle.prog_peers.specs.Agreement.{HasAgreed}
 use Rattle.prog_peers.specs.declared.options.PeersOptions.{PeersOptions}
 use Rattle.std.specs.declared.alloc.Global.{Global}

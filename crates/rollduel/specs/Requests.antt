@@ -11,9 +11,9 @@ use Rattle.prog_parts.specs.declared.ending.GameName.TheVariants.{Tally, Duel}
 use Rattle.prog_parts.specs.declared.task.Task.{Task}
 use Rattle.prog_parts.specs.declared.task.Task.TheVariants.{Play, SyncTest, Certify}
 use Rattle.roll_live.specs.declared.program.Live.{Live}
-use Rattle.prog_match.specs.declared.options.Guesses.{Guesses}
-use Rattle.prog_match.specs.declared.options.Guesses.TheVariants.{Best, Off, Words, Turns}
-use Rattle.prog_match.specs.declared.options.MatchOptions.{MatchOptions}
+use Rattle.prog_sides.specs.declared.options.Guesses.{Guesses}
+use Rattle.prog_sides.specs.declared.options.Guesses.TheVariants.{Best, Off, Words, Turns}
+use Rattle.prog_sides.specs.declared.options.MatchOptions.{MatchOptions}
 use Rattle.prog_peers.specs.Options.{fault_of}
 use Rattle.prog_peers.specs.Stops.{no_stops, NamesStops}
 use Rattle.prog_peers.specs.declared.options.PeersOptions.{PeersOptions}

@@ -1,6 +1,6 @@
 use Rattle.std.proofs.Common.{◌∙◌, Ok, arith}
 use Rattle.roll_session.proofs.Changes.{advance_answered, local_answered}
-use Rattle.prog_match.specs.Policy.{word_at}
+use Rattle.prog_sides.specs.Words.{word_at}
 use Rattle.prog_match.proofs.Going.{local_frame, next_frame}
 use Rattle.prog_match.proofs.Knowing.{played_on}
 use Rattle.prog_match.proofs.side.Side.play.Goals as goal

@@ -1,6 +1,6 @@
 //! Seeded draws, the same for the same seed on every machine.
 ghost use Rattle.std.specs.Prelude.{◌≡◌, ◌<◌};
-ghost use Rattle.prog_match.specs.Drawing.{after_draw, lateness, number_below};
+ghost use Rattle.prog_sides.specs.Drawing.{after_draw, lateness, number_below};
 
 use rand_pcg::Pcg32;
 use rand_pcg::rand_core::utils::NextWord;
@@ -32,7 +32,7 @@ impl Model for Draws {
 
 impl Draws {
     /// The generator of a stream: PCG32 from this seed.
-    pub(crate) fn new(seed: u64, stream: Stream) -> Draws {
+    pub fn new(seed: u64, stream: Stream) -> Draws {
         Draws::numbered(seed, stream as u64)
     }
 

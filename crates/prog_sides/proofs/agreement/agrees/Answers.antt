@@ -1,9 +1,9 @@
 use Rattle.std.proofs.Common.{◌≡◌, arith}
 use Rattle.std.proofs.lemmas.Bool.Decides.{nat_tests}
 use Rattle.roll_frame.specs.Core.{settled}
-use Rattle.prog_match.proofs.Agreeing.{agree_by, delivered_by, differ_by}
-use Rattle.prog_match.proofs.agreement.agrees.Goals as goal
-use Rattle.prog_match.proofs.agreement.agrees.Goals.{then-settled-agreed, else-settled-agreed}
+use Rattle.prog_sides.proofs.Agreeing.{agree_by, delivered_by, differ_by}
+use Rattle.prog_sides.proofs.agreement.agrees.Goals as goal
+use Rattle.prog_sides.proofs.agreement.agrees.Goals.{then-settled-agreed, else-settled-agreed}
 
 pub returns-then-all-clause-agree : goal.returns-then-all-clause-agree
 returns-then-all-clause-agree g c =

@@ -40,3 +40,11 @@ pub struct MatchOptions {
     /// The game that they play; `Tally`.
     pub game: GameName,
 }
+
+/// A game's name on the command line.
+pub fn game_name(game: GameName) -> &'static str {
+    match game {
+        GameName::Tally => "tally",
+        GameName::Duel => "duel",
+    }
+}

@@ -1,6 +1,6 @@
 use Rattle.std.proofs.Common.{◌<◌, ℕ}
-use Rattle.prog_match.specs.Agreement.{IsSameRow}
-use Rattle.prog_match.proofs.agreement.agreed.Given as goal
+use Rattle.prog_sides.specs.Agreement.{IsSameRow}
+use Rattle.prog_sides.proofs.agreement.agreed.Given as goal
 
 abbrev pub invariant-loop-frame : goal.invariant-loop-frame
 invariant-loop-frame g l = record {

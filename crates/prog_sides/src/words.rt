@@ -1,6 +1,6 @@
 //! The words that the players give.
 ghost use Rattle.std.specs.Prelude.{◌≡◌, ◌<◌, ◌++◌, IfOk, OnOk, replicate};
-ghost use Rattle.prog_match.specs.Sides.{BeginWith};
+ghost use Rattle.prog_sides.specs.Words.{word_at, BeginWith};
 
 use crate::draws::Draws;
 use crate::options::MatchOptions;
@@ -15,6 +15,16 @@ pub fn choices(game: GameName) -> [u32; CHOICES] {
     match game {
         GameName::Tally => [0, 1, 2, 3],
         GameName::Duel => [0, 1, 2, 9],
+    }
+}
+
+/// The word of a frame; 0 past the last.
+pub fn word_at(words: &[u32], frame: u32) -> u32
+    ensures { result ≡ word_at words.now frame }
+{
+    match words.get(frame as usize) {
+        Some(word) => *word,
+        None => 0,
     }
 }
 

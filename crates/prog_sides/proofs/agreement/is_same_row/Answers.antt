@@ -6,7 +6,7 @@ use Rattle.roll_frame.specs.Core.{settled}
 use Rattle.roll_frame.specs.Impls.Equal.{row_eq-Decides}
 use Rattle.roll_frame.specs.Timeline.{row_at}
 use Rattle.roll_frame.specs.declared.row.Cell.{Cell}
-use Rattle.prog_match.proofs.agreement.is_same_row.Goals as goal
+use Rattle.prog_sides.proofs.agreement.is_same_row.Goals as goal
 
 pub returns : goal.returns
 returns g c =

@@ -17,7 +17,7 @@ use Rattle.roll_laws.proofs.Glue.{log_played}
 use Rattle.roll_laws.proofs.Peers.{peers_agree}
 use Rattle.roll_laws.specs.Laws.{word_at}
 use Rattle.roll_laws.specs.Sessions.{IsLog}
-use Rattle.prog_match.specs.Agreement.{Agree, AgreeTo, AreDelivered, settled_value}
+use Rattle.prog_sides.specs.Agreement.{Agree, AgreeTo, AreDelivered, settled_value}
 use Rattle.roll_session.specs.Seen.{FollowsLog, Seen, Step, game_of}
 use Rattle.roll_session.proofs.Following.{law_of}
 use Rattle.roll_session.specs.Standing.{settled_rows}

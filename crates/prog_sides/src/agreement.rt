@@ -1,7 +1,7 @@
 //! How far two sides agree.
 ghost use Rattle.std.specs.Prelude.{◌≡◌, ◌↔◌, ◌<◌, IsTrue};
 ghost use Rattle.roll_frame.specs.Core.{settled};
-ghost use Rattle.prog_match.specs.Agreement.{Agree, AgreeTo, AreDelivered, IsSameRow, settled_value};
+ghost use Rattle.prog_sides.specs.Agreement.{Agree, AgreeTo, AreDelivered, IsSameRow, settled_value};
 
 use roll_game::Game;
 use roll_session::Session;
