@@ -44,18 +44,85 @@ pub fn sum_up(words: &[u32], turns: &[Turn]) -> Totals
     ensures wrong { result.wrong ≡ sum_by (λ turn. turn.wrong) turns.now }
 {
     Totals {
-        frames: turns.iter().filter(|turn| is_played(turn.went)).count() as u64,
-        rollbacks: turns.iter().filter(|turn| 0 < turn.rerun).count() as u64,
-        rerun: turns.iter().map(|turn| u64::from(turn.rerun)).sum(),
-        ggpo: turns.iter().map(|turn| by_policy(words, turn)).sum(),
+        frames: frames(turns),
+        rollbacks: rollbacks(turns),
+        rerun: rerun(turns),
+        ggpo: ggpo(words, turns),
         deepest: deepest(turns),
-        waited: turns.iter().filter(|turn| is_waited(turn.went)).count() as u64,
-        guesses: turns.iter().map(|turn| u64::from(turn.guesses)).sum(),
-        added: turns.iter().map(|turn| u64::from(turn.added)).sum(),
-        dropped: turns.iter().map(|turn| u64::from(turn.dropped)).sum(),
-        claims: turns.iter().map(|turn| u64::from(turn.claims)).sum(),
-        wrong: turns.iter().map(|turn| u64::from(turn.wrong)).sum(),
+        waited: waited(turns),
+        guesses: guesses(turns),
+        added: added(turns),
+        dropped: dropped(turns),
+        claims: claims(turns),
+        wrong: wrong(turns),
     }
+}
+
+fn frames(turns: &[Turn]) -> u64
+    ensures { result ≡ count_by (λ turn. is_played turn.went) turns.now }
+{
+    turns.iter().filter(|turn| is_played(turn.went)).count() as u64
+}
+
+fn rollbacks(turns: &[Turn]) -> u64
+    ensures { result ≡ count_by (λ turn. nat_lt 0 turn.rerun) turns.now }
+{
+    turns.iter().filter(|turn| 0 < turn.rerun).count() as u64
+}
+
+fn rerun(turns: &[Turn]) -> u64
+    requires { length turns.now < 2 ^ 32 }
+    ensures { result ≡ sum_by (λ turn. turn.rerun) turns.now }
+{
+    turns.iter().map(|turn| u64::from(turn.rerun)).sum()
+}
+
+fn ggpo(words: &[u32], turns: &[Turn]) -> u64
+    requires { length turns.now < 2 ^ 32 }
+    ensures { result ≡ sum_by (λ turn. by_policy words.now turn) turns.now }
+{
+    turns.iter().map(|turn| by_policy(words, turn)).sum()
+}
+
+fn waited(turns: &[Turn]) -> u64
+    ensures { result ≡ count_by (λ turn. is_waited turn.went) turns.now }
+{
+    turns.iter().filter(|turn| is_waited(turn.went)).count() as u64
+}
+
+fn guesses(turns: &[Turn]) -> u64
+    requires { length turns.now < 2 ^ 32 }
+    ensures { result ≡ sum_by (λ turn. turn.guesses) turns.now }
+{
+    turns.iter().map(|turn| u64::from(turn.guesses)).sum()
+}
+
+fn added(turns: &[Turn]) -> u64
+    requires { length turns.now < 2 ^ 32 }
+    ensures { result ≡ sum_by (λ turn. turn.added) turns.now }
+{
+    turns.iter().map(|turn| u64::from(turn.added)).sum()
+}
+
+fn dropped(turns: &[Turn]) -> u64
+    requires { length turns.now < 2 ^ 32 }
+    ensures { result ≡ sum_by (λ turn. turn.dropped) turns.now }
+{
+    turns.iter().map(|turn| u64::from(turn.dropped)).sum()
+}
+
+fn claims(turns: &[Turn]) -> u64
+    requires { length turns.now < 2 ^ 32 }
+    ensures { result ≡ sum_by (λ turn. turn.claims) turns.now }
+{
+    turns.iter().map(|turn| u64::from(turn.claims)).sum()
+}
+
+fn wrong(turns: &[Turn]) -> u64
+    requires { length turns.now < 2 ^ 32 }
+    ensures { result ≡ sum_by (λ turn. turn.wrong) turns.now }
+{
+    turns.iter().map(|turn| u64::from(turn.wrong)).sum()
 }
 
 /// Whether a side went on to its next frame.

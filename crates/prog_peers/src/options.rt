@@ -1,5 +1,6 @@
 //! What a match of several machines is played with, and why one isn't played.
-ghost use Rattle.std.specs.Prelude.{◌≡◌};
+ghost use Rattle.std.specs.Prelude.{◌≡◌, count_by};
+ghost use Rattle.std.specs.List.{range_with_len};
 ghost use Rattle.prog_peers.specs.Options.{fault_of, first_staying, has_staying, is_odd_stop, lacks_ships, makes_guesses, odd_stop_of, stays, stop_fault_at, stop_of};
 
 use prog_parts::GameName;
@@ -90,6 +91,15 @@ impl PeersOptions {
         ensures { result ≡ first_staying self.now }
     {
         (0..self.machines).find(|machine| self.stays(*machine))
+    }
+
+    /// How many machines never go silent.
+    pub fn count_staying(&self) -> usize
+        ensures { result ≡ count_by (stays self.now) (range_with_len 0 self.now.machines) }
+    {
+        (0..self.machines)
+            .filter(|machine| self.stays(*machine))
+            .count()
     }
 
     /// Whether some machine never goes silent.

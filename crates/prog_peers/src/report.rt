@@ -93,7 +93,7 @@ pub fn sum_up<G: Shown + Drop>(
     let agree = all_agree(options, &table.machines, first);
     let outcomes = each_outcome(&table.machines, first);
     let settled = first.peer.session().settled();
-    let staying = count_staying(options, &table.machines);
+    let staying = options.count_staying();
     let state = table.machines[place].settled_text(alloc)?;
     Ok(Report {
         outcomes,
@@ -105,24 +105,16 @@ pub fn sum_up<G: Shown + Drop>(
     })
 }
 
-/// How many machines stay.
-fn count_staying<G: Shown>(options: &PeersOptions, machines: &[Machine<G>]) -> usize {
-    machines
-        .iter()
-        .filter(|machine| options.stays(machine.me))
-        .count()
-}
-
 /// The place of the first machine that stays.
 pub fn first_that_stays<G: Shown>(options: &PeersOptions, machines: &[Machine<G>]) -> Option<usize>
     ensures { IfSome result (λ place. place < length machines.now) }
 {
-    for place in 0..machines.len() {
-        if options.stays(machines[place].me) {
-            return Some(place);
-        }
+    let place = usize::from(options.first_staying()?);
+    if place < machines.len() {
+        Some(place)
+    } else {
+        None
     }
-    None
 }
 
 /// What came of each machine, where it is one of them that tells at which frame each player left.
