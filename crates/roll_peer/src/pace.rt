@@ -1,5 +1,5 @@
 //! Whether this machine runs ahead of the others.
-ghost use Rattle.std.specs.Prelude.{◌≡◌, ◌<◌, IfOk, IfErr, slice_index_or};
+ghost use Rattle.std.specs.Prelude.{◌≡◌, ◌<◌, IfOk, IfErr, Some, slice_index_or};
 ghost use Rattle.roll_mesh.specs.declared.limits.TheConstants.{MACHINE_LIMIT as MACHINES};
 ghost use Rattle.roll_peer.specs.Contacts.{stranger};
 ghost use Rattle.roll_peer.specs.Paces.{lead_of, no_pace, paced, slower, slowest, wait_of};
@@ -35,7 +35,17 @@ impl Pace {
         ensures paced { self.new ≡ paced (slowest mesh.now.machine.gone contacts.now MACHINES) self.old }
         ensures wait { result ≡ wait_of (slowest mesh.now.machine.gone contacts.now MACHINES) self.old }
     {
-        let (own, other) = slowest(contacts, mesh)?;
+        match slowest(contacts, mesh) {
+            Some((own, other)) => self.note(own, other),
+            None => None,
+        }
+    }
+
+    /// Notes a turn in which the machine that this one is furthest ahead of is this far behind.
+    fn note(&mut self, own: i32, other: i32) -> Option<u32>
+        ensures paced { self.new ≡ paced (Some (own, other)) self.old }
+        ensures wait { result ≡ wait_of (Some (own, other)) self.old }
+    {
         self.advice.note(own, other);
         self.turns = self.turns.saturating_add(1);
         if self.turns < ASK_EVERY {
