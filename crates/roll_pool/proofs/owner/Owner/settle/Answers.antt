@@ -30,16 +30,16 @@ loop-end-preserved g c =
 pub take_back-requires-clause-owner : goal.take_back-requires-clause-owner
 take_back-requires-clause-owner g c =
     let was = c.loop-end.invariant in
-    let empty : length (into_iter_items c.loop-end.end-iterator) ≡ 0 = let steps = c.in-None.ensures.steps in search rules in
+    let empty : length (into_iter_items c.loop-end.end-iterator) ≡ 0 = omega (arith, c.in-None.ensures.steps.0, c.loop-end.end-iterator.rest.ok.0) in
     let none = no_rings (worker_deque c.loop-end.deque) (signals_at (arc_value c.self.inside.signals)) _ _ was.2 empty in
     (ap (λ v. v.owns) was.4, ap (λ v. v.others) was.4 ∙ none, was.3)
 
 pub take_back-requires-clause-room : goal.take_back-requires-clause-room
 take_back-requires-clause-room g c =
     let was = c.loop-end.invariant in
-    let empty : length (into_iter_items c.loop-end.end-iterator) ≡ 0 = let steps = c.in-None.ensures.steps in search rules in
+    let empty : length (into_iter_items c.loop-end.end-iterator) ≡ 0 = omega (arith, c.in-None.ensures.steps.0, c.loop-end.end-iterator.rest.ok.0) in
     let none = no_rings (worker_deque c.loop-end.deque) (signals_at (arc_value c.self.inside.signals)) _ _ was.2 empty in
-    let first : into_iter_items c.into_iter-in_order.result ≡ c.self.inside.rings.items = search rules in
+    let first : into_iter_items c.into_iter-in_order.result ≡ c.self.inside.rings.items = c.into_iter-in_order.ensures.rest in
     let many = taken_length _ _ _ _ (at_end _ _ _ _ _ none was.6) in
     let came = ap (λ l. length (collected (came_by l))) first in
     let sound = c.self.invariant.0 in
@@ -50,9 +50,9 @@ settled : (g : _) (c : goal.After-drop-deque g) → Settles c.args.self.issued c
     × ((worker_view c.loop-end.deque).issued ≡ c.args.self.issued)
 settled g c =
     let was = c.loop-end.invariant in
-    let empty : length (into_iter_items c.loop-end.end-iterator) ≡ 0 = let steps = c.in-None.ensures.steps in search rules in
+    let empty : length (into_iter_items c.loop-end.end-iterator) ≡ 0 = omega (arith, c.in-None.ensures.steps.0, c.loop-end.end-iterator.rest.ok.0) in
     let none = no_rings (worker_deque c.loop-end.deque) (signals_at (arc_value c.self.inside.signals)) _ _ was.2 empty in
-    let first : into_iter_items c.into_iter-in_order.result ≡ c.self.inside.rings.items = search rules in
+    let first : into_iter_items c.into_iter-in_order.result ≡ c.self.inside.rings.items = c.into_iter-in_order.ensures.rest in
     let issued : (worker_view c.loop-end.deque).issued ≡ c.args.self.issued = was.5 ∙ ap (λ p. p.issued) c.self.view_is in
     let came : collected (came_by (into_iter_items c.into_iter-in_order.result)) ≡ collected c.args.self.came = ap (λ l. collected (came_by l)) first ∙ ap (λ p. collected p.came) c.self.view_is in
     let withdrawn : (worker_view c.self.inside.deque).jobs ≡ c.args.self.withdrawn = ap (λ p. p.withdrawn) c.self.view_is in
@@ -85,7 +85,7 @@ returns-clause-sum g c =
 pub returns-clause-late : goal.returns-clause-late
 returns-clause-late g c =
     let was = c.loop-end.invariant in
-    let empty : length (into_iter_items c.loop-end.end-iterator) ≡ 0 = let steps = c.in-None.ensures.steps in search rules in
+    let empty : length (into_iter_items c.loop-end.end-iterator) ≡ 0 = omega (arith, c.in-None.ensures.steps.0, c.loop-end.end-iterator.rest.ok.0) in
     let none = no_rings (worker_deque c.loop-end.deque) (signals_at (arc_value c.self.inside.signals)) _ _ was.2 empty in
-    let first : into_iter_items c.into_iter-in_order.result ≡ c.self.inside.rings.items = search rules in
+    let first : into_iter_items c.into_iter-in_order.result ≡ c.self.inside.rings.items = c.into_iter-in_order.ensures.rest in
     all_late _ _ _ _ was.9 none ∙ ap (λ l. late_of (came_by l) c.args.ends.items) first ∙ ap (λ p. late_of p.came c.args.ends.items) c.self.view_is
