@@ -192,18 +192,3 @@ it starts from, and it has 8 rows at most.
   job 1 rows 2 path 0
   job 2 rows 8 path 1
   loads 2 saves 1 copies 4 turns 1 refusals 0
-
-A guess is refused for a player that isn't there, without words and with more than 24, and up to a frame that isn't 1 to 24
-past the settled one; and for a player who has left, whatever else is wrong with it.
-
-  $ many=$(seq -s , 25 | sed 's/[0-9]*\(,\|$\)/3\1/g')
-  $ { echo 'guess 0 1 3'; echo 'guess 3 0 -'; echo 'guess 2 1 -'; echo "guess 2 1 $many"; echo 'guess 2 0 3'; \
-  > echo 'guess 2 25 3'; echo 'D 2'; echo 'guess 2 0 -'; } | two
-  refused 2
-  refused 2
-  refused 11
-  refused 11
-  refused 11
-  refused 11
-  gone 2
-  refused 9
