@@ -1,4 +1,5 @@
 pub mod Agreed
 pub mod Alls
+pub mod Drawn
 pub mod Named
 pub mod Numbers

@@ -1,5 +1,5 @@
 //! One machine of a match, and what it does in a tick.
-ghost use Rattle.std.specs.Prelude.{◌≡◌, ◌↔◌, IfOk, IsTrue, OnOk};
+ghost use Rattle.std.specs.Prelude.{◌≡◌, ◌↔◌, IfOk, IsTrue, OnOk, is_some};
 ghost use Rattle.prog_sides.specs.Options.{IsPlayable};
 ghost use Rattle.prog_peers.specs.Agreement.{IsOver};
 
@@ -75,12 +75,13 @@ impl<G: Shown + Drop> Machine<G> {
     ) -> Result<Machine<G>, Refusal>
         ensures { IfOk result (λ machine. machine.me ≡ me) }
     {
-        let settings = session_settings(options, me)?;
-        let mut draws = Draws::numbered(options.common.seed, FIRST_STREAM + u64::from(me));
-        let words = drawn(alloc, &mut draws, &options.common)?;
-        let enemy = match options.hostile {
-            Some(seed) => Some(Enemy::new(alloc, seed, me, options.common.seed)),
-            None => None,
+        let (settings, words) = match prepare(alloc, options, me) {
+            Ok(prepared) => prepared,
+            Err(why) => {
+                drop(engines);
+                drop(observer);
+                return Err(why);
+            }
         };
         let Engines {
             game,
@@ -96,10 +97,14 @@ impl<G: Shown + Drop> Machine<G> {
                 is_silent: false,
                 counts: Counts::default(),
                 noted: 0,
-                enemy,
+                enemy: enemy_of(alloc, options, me),
                 observer,
             }),
-            Err(why) => Err(why),
+            Err(why) => {
+                drop(helper);
+                drop(observer);
+                Err(why)
+            }
         }
     }
 
@@ -313,6 +318,26 @@ fn who_is_gone<G: Shown>(peer: &Peer<G>) -> [bool; MACHINE_LIMIT] {
         gone[machine] = peer.member().mesh().is_gone(machine as u8);
     }
     gone
+}
+
+/// What a machine's session is opened with, and its words of all frames.
+fn prepare(alloc: Global, options: &PeersOptions, me: u8) -> Result<(Settings, Vec<u32>), Refusal>
+    ensures { OnOk result (IsPlayable options.now.common) }
+{
+    let settings = session_settings(options, me)?;
+    let mut draws = Draws::numbered(options.common.seed, FIRST_STREAM + u64::from(me));
+    let words = drawn(alloc, &mut draws, &options.common)?;
+    Ok((settings, words))
+}
+
+/// Who deceives a machine, if it is to be deceived.
+fn enemy_of(alloc: Global, options: &PeersOptions, me: u8) -> Option<Enemy>
+    ensures { is_some result ≡ is_some options.now.hostile }
+{
+    match options.hostile {
+        Some(seed) => Some(Enemy::new(alloc, seed, me, options.common.seed)),
+        None => None,
+    }
 }
 
 /// What a machine's session is opened with.

@@ -62,9 +62,28 @@ fn view_of<G: Shown + Drop>(
     let Some(observer) = machine.observer.take() else {
         return Err(Refusal::InvalidRequest);
     };
-    let title = title_of(alloc, options, machine.me)?;
-    let scene = observer.into_scene(alloc, machine.peer.session(), title)?;
-    Ok(draw(alloc, &scene)?)
+    Ok(draw_seen(alloc, options, machine, observer)?)
+}
+
+/// The picture of what an observer of a machine saw.
+fn draw_seen<G: Shown>(
+    alloc: Global,
+    options: &PeersOptions,
+    machine: &Machine<G>,
+    observer: Observer,
+) -> Result<String, AllocError>
+    ensures { IfOk result (λ picture. (scene : Scene) × HasRolls scene (string_bytes picture)) }
+{
+    let scene = match title_of(alloc, options, machine.me) {
+        Ok(title) => observer.into_scene(alloc, machine.peer.session(), title)?,
+        Err(why) => {
+            drop(observer);
+            return Err(why);
+        }
+    };
+    let picture = draw(alloc, &scene);
+    drop(scene);
+    picture
 }
 
 /// What was played, in words, and which machine saw it.
