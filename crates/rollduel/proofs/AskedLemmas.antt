@@ -1,54 +1,23 @@
--- What the matches of a parse ask for.
-use Rattle.std.proofs.Common.{◌≡◌, ◌∙◌, ap, codes, refl, subst, sym, List, [], Option, Some, None}
-use Rattle.std.specs.Box.{box_value}
-use Rattle.std.specs.Prelude.{option_map, unwrap_or}
-use Rattle.std.specs.Option.{option_map_or}
-use Rattle.clap.proofs.WalkLemmas.{first_value-rows, raw_values-rows}
-use Rattle.clap.specs.Matches.{first_value, found_of, matched_of, raw_values, subcommand_name_of}
-use Rattle.clap.specs.Simple.{subcommand_rows_of}
-use Rattle.clap.specs.Walk.{Row, Text, rows_of}
-use Rattle.clap.specs.declared.parser.matches.ArgMatches.{ArgMatches}
-use Rattle.clap.specs.declared.parser.matches.ArgMatches.TheViews.{out-ArgMatches, out-SubCommand}
-use Rattle.clap.specs.declared.parser.matches.Found.{Found}
-use Rattle.rollduel.specs.Requests.{HasOptions, asked_in, asked_named, picture_in, picture_named, stop_texts}
-use Rattle.rollduel.specs.declared.command_line.Request.{Request}
+-- What the command line asks for, as the parts of the program take it.
+use Rattle.std.proofs.Common.{◌≡◌, ◌∙◌, ℕ, List, Option, Some, None, ap, subst}
+use Rattle.std.specs.Prelude.{option_map}
+use Rattle.clap.specs.Walk.{Row, Text}
+use Rattle.prog_command_line.specs.Requests.{AreAsked, number_in, number_named}
+use Rattle.prog_command_line.specs.declared.request.PeersRequest.{PeersRequest}
+use Rattle.prog_peers.specs.Stops.{no_stops, NamesStops}
+use Rattle.prog_peers.specs.declared.options.PeersOptions.{PeersOptions}
+use Rattle.rollduel.specs.Requests.{AreNamed, IsOf, options_as}
 
-both_parts : {A X Y : Type 0} (f : A → X) (g : A → Y) (o : Option A) (x : X) (y : Y) → Some x ≡ option_map f o
-    → Some y ≡ option_map (λ p. p.1) (option_map (λ a. let p : X × Y = (f a, g a) in p) o) → Some (x, y) ≡ option_map (λ a. let p : X × Y = (f a, g a) in p) o
-both_parts f g None x y e e2 = cc
-both_parts f g (Some a) x y e e2 = cc
+number_of_some : (bits n : ℕ) (value : Option Text) → Some n ≡ option_map (number_in bits) value → n ≡ number_named bits value
+number_of_some bits n None e = absurd (cc e)
+number_of_some bits n (Some text) e = cc e
 
--- the subcommand of the matches, by its name and its rows
-pub met : (m : ArgMatches) (name : Text) (rows : List Row) → Some name ≡ subcommand_name_of m → Some rows ≡ option_map (λ p. p.1) (subcommand_rows_of m)
-    → Some (name, rows) ≡ subcommand_rows_of m
-met m name rows is_name is_rows = both_parts (λ b. (out-SubCommand (box_value b)).name.now)
-    (λ b. rows_of (found_of (out-SubCommand (box_value b)).matches)) (out-ArgMatches m).subcommand name rows is_name is_rows
-
-none_met : {A X : Type 0} (f : A → X) (o : Option A) → None ≡ option_map f o → o ≡ None
-none_met f None e = refl
-none_met f (Some a) e = cc
-
-pub not_met : (m : ArgMatches) → None ≡ option_map (λ p. p.1) (subcommand_rows_of m) → None ≡ subcommand_rows_of m
-not_met m e = sym (none_met (λ p. p.1) (subcommand_rows_of m) e)
-
--- what a command's name and its matches ask for
-pub asked_of_found : (name : Text) (f : Found) → asked_named name (first_value f) ≡ asked_in (Some (name, rows_of f))
-asked_of_found name f = ap (asked_named name) (λ i id. first_value-rows f id i)
-
--- and which picture its matches ask for
-pub picture_of_found : (name : Text) (f : Found) → picture_named (first_value f) ≡ picture_in (Some (name, rows_of f))
-picture_of_found name f = ap picture_named (λ i id. first_value-rows f id i)
-
--- the values of --stop, where it is given, and where it isn't
-pub some_stop_texts : (f : Found) (texts : List Text) → Some texts ≡ option_map raw_values (matched_of f (codes "stop"))
-    → stop_texts (rows_of f) ≡ texts
-some_stop_texts f texts e = ap (λ (o : Option (List Text)). unwrap_or o []) (sym (e ∙ raw_values-rows f (codes "stop")))
-
-pub no_stop_texts : (f : Found) → None ≡ option_map raw_values (matched_of f (codes "stop")) → stop_texts (rows_of f) ≡ []
-no_stop_texts f e = ap (λ (o : Option (List Text)). unwrap_or o []) (sym (e ∙ raw_values-rows f (codes "stop")))
-
--- the options of a request, where the command that was met has these rows
-pub options_met : (request : Request) (name : Text) (rows : List Row) (found : Option (Text × List Row)) → Some (name, rows) ≡ found
-    → HasOptions rows request → HasOptions (option_map_or (λ met. met.1) found []) request
-options_met request name rows found is has =
-    subst (λ (o : Option (Text × List Row)). HasOptions (option_map_or (λ met. met.1) o []) request) is has
+-- the options of a match of several machines are those that the arguments name
+pub named_by : (rows : List Row) (asked : PeersRequest) (options : PeersOptions) → AreAsked rows asked → IsOf asked options → AreNamed rows options
+named_by rows asked options are is = record {
+  machines = number_of_some 8 options.machines _ (is.machines ∙ are.machines);
+  common = is.common ∙ ap options_as are.common;
+  stops = subst (λ (texts : List Text). NamesStops no_stops texts options.stops) are.stops is.stops;
+  hostile = is.hostile ∙ are.hostile;
+  fine = is.fine;
+}

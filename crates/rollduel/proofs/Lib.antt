@@ -1,8 +1,3 @@
 pub mod AskedLemmas
 pub mod EndingLemmas
-pub mod FaultPlaces
-pub mod Places
-pub mod TakenPlaces
 pub mod WordExamples
-pub mod LocalFlags
-pub mod NumberLemmas

@@ -18,7 +18,7 @@ use Rattle.prog_parts.specs.declared.task.Task.{Task}
 use Rattle.prog_picture.specs.declared.scene.Window.{Window}
 use Rattle.rollduel.specs.Requests.{AreNamed}
 use Rattle.rollduel.specs.declared.picture.Done.{Done}
-use Rattle.rollduel.specs.declared.picture.PictureFault.{PictureFault}
+use Rattle.prog_command_line.specs.declared.picture.PictureFault.{PictureFault}
 
 -- the program ends with a fault
 abbrev pub faulted : PlayFault → Ending

@@ -1,28 +1,32 @@
-//! What the words of the command line ask for.
-ghost use Rattle.std.specs.Prelude.{◌≡◌, ◌≤◌, codes, IfErr, IfOk, is_some, map, option_map, string_bytes, true};
-ghost use Rattle.prog_peers.specs.Stops.{no_stops, NamesStops};
+//! What the words of the command line ask for, as the parts of the program take it.
+ghost use Rattle.std.specs.Prelude.{◌≡◌, IfErr, IfOk, List, map, string_bytes, true};
 ghost use Rattle.clap.specs.Faults.{fault_of};
 ghost use Rattle.clap.specs.Kinds.{FailsBy};
-ghost use Rattle.clap.specs.Words.{first_value, found_of, kind_of, rows_of, takes};
+ghost use Rattle.clap.specs.Words.{Row, kind_of, takes};
 ghost use Rattle.clap.specs.declared.error.kind.ErrorKind.TheVariants.{OutOfMemory};
-ghost use Rattle.rollduel.specs.Commands.{rollduel_app};
-ghost use Rattle.rollduel.specs.Requests.{AreNamed, HasOptions, HasWorkers, asked_by, asked_named, asked_of, frames_named, game_named, guesses_named, is_named, live_named, match_named, number_in, number_named, options_named, path_named, path_of, picture_by, picture_of, rows_by, stop_texts, task_named, work_named, workers_named};
+ghost use Rattle.prog_command_line.specs.Commands.{rollduel_app};
+ghost use Rattle.prog_command_line.specs.Requests.{HasOptions as WasAskedFor, HasWorkers as NamesWorkers, asked_of as line_of, picture_of as picture_in_line, rows_by};
+ghost use Rattle.rollduel.specs.Requests.{HasOptions, HasWorkers, IsOf, asked_as, asked_by, asked_of, game_as, guesses_as, live_as, options_as, picture_as, picture_by, picture_of, task_as, text_as, window_as};
 
-use crate::commands::{
-    DELAY, EXPLAIN, FILE, FRAMES, GAME, GUESSES, HOLD, HOSTILE, JOBS, LATE, LOST, PEERS, SEED,
-    STOP, THRESHOLD, WORKERS, games, guesses, program_command,
+use crate::picture::PictureRequest;
+use clap::Error;
+use prog_command_line::{
+    Game, GuessOption, Input, LiveOptions, MatchRequest, PeersRequest, PictureFault,
+    PictureRequest as AskedPicture, PictureWindow, Request as Asked, TextRequest as AskedText,
+    TextTask,
 };
-use crate::picture::{PictureFault, PictureRequest, picture_fault, picture_of};
-use clap::{ArgMatches, Error};
 use prog_match::{Guesses, MatchOptions};
 use prog_parts::{GameName, Task};
 use prog_peers::{PeersFault, PeersOptions, read_stops};
+use prog_picture::Window;
 use roll_live::Live;
-use roll_mesh::MACHINE_LIMIT;
 use std::alloc::Global;
 
+// Where the end of a picture isn't named, the command line asks for as many frames as it can show.
+const _: () = prove!(prog_command_line::FRAME_LIMIT == prog_picture::FRAME_LIMIT);
+
 /// What the words ask for.
-#[derive(Clone, Copy, Debug, PartialEq, Eq)]
+#[derive(Clone, Copy)]
 pub struct CommandLine<'a> {
     pub request: Request<'a>,
     /// The picture that is to be made of it, if one is.
@@ -30,7 +34,7 @@ pub struct CommandLine<'a> {
 }
 
 /// What is to be done.
-#[derive(Clone, Copy, Debug, PartialEq, Eq)]
+#[derive(Clone, Copy)]
 pub enum Request<'a> {
     /// Something with a text.
     Text(TextRequest<'a>),
@@ -45,20 +49,12 @@ pub enum Request<'a> {
 }
 
 /// What is to be done with a text.
-#[derive(Clone, Copy, Debug, PartialEq, Eq)]
+#[derive(Clone, Copy)]
 pub struct TextRequest<'a> {
     pub input: Input<'a>,
     pub task: Task,
     /// Whether what is wrong or refused is to be explained.
     pub explain: bool,
-}
-
-/// Where a text is.
-#[derive(Clone, Copy, Debug, PartialEq, Eq)]
-pub enum Input<'a> {
-    Standard,
-    /// The file of this path.
-    File(&'a str),
 }
 
 /// Reads the words, of which the first is the program's name. The error is a fault of usage, or help that was asked
@@ -75,109 +71,104 @@ pub fn read<'a>(
     ensures taken { IfErr result (λ error. takes rollduel_app (map string_bytes words.now) ≡ true → kind_of error ≡ OutOfMemory) }
     ensures kinds { FailsBy (fault_of rollduel_app (map string_bytes words.now)) result }
 {
-    let command = program_command(alloc, script, games(), guesses())?;
-    let matches = command.try_get_matches_from(words)?;
-    match matches.subcommand() {
-        Some((name, found)) => Ok(CommandLine {
-            request: request_of(name, found),
-            picture: picture_of(found),
-        }),
-        None => Ok(CommandLine {
-            request: Request::Text(TextRequest {
-                input: Input::Standard,
-                task: Task::Play(GameName::Tally),
-                explain: false,
-            }),
-            picture: None,
-        }),
-    }
+    let line = prog_command_line::read(alloc, words, script)?;
+    Ok(CommandLine {
+        request: request_of(&line.request),
+        picture: picture_of(line.picture),
+    })
 }
 
-/// The request of the command of this name.
-fn request_of<'a>(name: &str, found: &ArgMatches<'a>) -> Request<'a>
-    ensures asked { asked_of result ≡ asked_named name.now (first_value (found_of found.now)) }
-    ensures options { HasOptions (rows_of (found_of found.now)) result }
-    ensures workers { HasWorkers result }
+fn request_of<'a>(asked: &Asked<'a>) -> Request<'a>
+    ensures asked { asked_of result ≡ asked_as (line_of asked.now) }
+    ensures options { (rows : List Row) → WasAskedFor rows asked.now → HasOptions rows result }
+    ensures workers { NamesWorkers asked.now → HasWorkers result }
 {
-    match picture_fault(found) {
-        Some(fault) => Request::Refused(fault),
-        None => work_of(name, found),
-    }
-}
-
-/// What the command of this name asks for, but for a picture.
-fn work_of<'a>(name: &str, found: &ArgMatches<'a>) -> Request<'a>
-    ensures asked { asked_of result ≡ work_named name.now (first_value (found_of found.now)) }
-    ensures options { HasOptions (rows_of (found_of found.now)) result }
-    ensures workers { HasWorkers result }
-{
-    match name {
-        "live" => Request::Live {
-            input: input_of(found),
-            live: live_of(found),
+    match asked {
+        Asked::Text(asked) => Request::Text(text_of(asked)),
+        Asked::Live { input, live } => Request::Live {
+            input: *input,
+            live: live_of(live),
         },
-        "match" => match_of(found),
-        _ => Request::Text(TextRequest {
-            input: input_of(found),
-            task: task_of(name, found),
-            explain: is_explained(found),
-        }),
+        Asked::Match(asked) => Request::Match(options_of(asked)),
+        Asked::Peers(asked) => Request::Peers(peers_of(asked)),
+        Asked::Refused(fault) => Request::Refused(*fault),
     }
 }
 
-fn task_of(name: &str, found: &ArgMatches<'_>) -> Task
-    ensures { result ≡ task_named name.now (first_value (found_of found.now) (codes "game")) (first_value (found_of found.now) (codes "frames")) }
+fn picture_of<'a>(asked: Option<AskedPicture<'a>>) -> Option<PictureRequest<'a>>
+    ensures { picture_of result ≡ picture_as (picture_in_line asked.entry) }
 {
-    match name {
-        "certify" => Task::Certify,
-        "synctest" => Task::SyncTest {
-            game: game_of(found),
-            frames: frames_of(found),
-        },
-        _ => Task::Play(game_of(found)),
+    match asked {
+        Some(asked) => Some(PictureRequest {
+            path: asked.path,
+            window: window_of(asked.window),
+        }),
+        None => None,
     }
 }
 
-fn live_of(found: &ArgMatches<'_>) -> Live
-    ensures named { result ≡ live_named (first_value (found_of found.now)) }
-    ensures workers { (1 ≤ result.workers) × (result.workers ≤ 4) }
+fn text_of<'a>(asked: &AskedText<'a>) -> TextRequest<'a>
+    ensures { result ≡ text_as asked.now }
+{
+    TextRequest {
+        input: asked.input,
+        task: task_of(asked.task),
+        explain: asked.explain,
+    }
+}
+
+fn task_of(task: TextTask) -> Task
+    ensures { result ≡ task_as task }
+{
+    match task {
+        TextTask::Play(game) => Task::Play(game_of(game)),
+        TextTask::SyncTest { game, frames } => Task::SyncTest {
+            game: game_of(game),
+            frames,
+        },
+        TextTask::Certify => Task::Certify,
+    }
+}
+
+fn live_of(live: &LiveOptions) -> Live
+    ensures { result ≡ live_as live.now }
 {
     Live {
-        game: game_of(found),
-        workers: workers_of(found),
+        game: game_of(live.game),
+        workers: live.workers,
     }
 }
 
-/// The request of the command `match`.
-fn match_of<'a>(found: &ArgMatches<'a>) -> Request<'a>
-    ensures asked { asked_of result ≡ match_named (first_value (found_of found.now)) }
-    ensures options { HasOptions (rows_of (found_of found.now)) result }
+fn options_of(asked: &MatchRequest) -> MatchOptions
+    ensures { result ≡ options_as asked.now }
 {
-    if is_given(found, PEERS) || is_given(found, STOP) || is_given(found, HOSTILE) {
-        Request::Peers(peers_of(found))
-    } else {
-        Request::Match(options_of(found))
+    MatchOptions {
+        frames: asked.frames,
+        seed: asked.seed,
+        late: asked.late,
+        lost: asked.lost,
+        hold: asked.hold,
+        delay: asked.delay,
+        threshold: asked.threshold,
+        guesses: guesses_of(asked.guesses),
+        jobs: asked.jobs,
+        game: game_of(asked.game),
     }
-}
-
-pub fn is_given(found: &ArgMatches<'_>, name: &str) -> bool
-    ensures { result ≡ is_some (first_value (found_of found.now) name.now) }
-{
-    found.get_str(name).is_some()
 }
 
 /// The options of a match of several machines, or why none is played so.
-fn peers_of(found: &ArgMatches<'_>) -> Result<PeersOptions, PeersFault>
-    ensures { IfOk result (AreNamed (rows_of (found_of found.now))) }
+fn peers_of(asked: &PeersRequest<'_>) -> Result<PeersOptions, PeersFault>
+    ensures { IfOk result (IsOf asked.now) }
 {
-    if !is_given(found, PEERS) {
+    let Some(machines) = asked.machines else {
         return Err(PeersFault::NoPeers);
-    }
+    };
+    let stops = read_stops(&asked.stops)?;
     let options = PeersOptions {
-        machines: byte_of(found, PEERS),
-        common: options_of(found),
-        stops: stops_of(found)?,
-        hostile: hostile_of(found),
+        machines,
+        common: options_of(&asked.common),
+        stops,
+        hostile: asked.hostile,
     };
     match options.fault() {
         None => Ok(options),
@@ -185,123 +176,32 @@ fn peers_of(found: &ArgMatches<'_>) -> Result<PeersOptions, PeersFault>
     }
 }
 
-fn stops_of(found: &ArgMatches<'_>) -> Result<[Option<u32>; MACHINE_LIMIT], PeersFault>
-    ensures { IfOk result (NamesStops no_stops (stop_texts (rows_of (found_of found.now)))) }
+fn window_of(window: PictureWindow) -> Window
+    ensures { result ≡ window_as window }
 {
-    match found.get_strs(STOP) {
-        Some(texts) => read_stops(texts),
-        None => Ok([None; MACHINE_LIMIT]),
+    Window {
+        from: window.from,
+        to: window.to,
+        tree: window.tree,
     }
 }
 
-fn hostile_of(found: &ArgMatches<'_>) -> Option<u64>
-    ensures { result ≡ option_map (number_in 64) (first_value (found_of found.now) (codes "hostile")) }
+fn game_of(game: Game) -> GameName
+    ensures { result ≡ game_as game }
 {
-    match found.get_str(HOSTILE) {
-        Some(value) => Some(value.parse::<u64>().unwrap_or(0)),
-        None => None,
+    match game {
+        Game::Tally => GameName::Tally,
+        Game::Duel => GameName::Duel,
     }
 }
 
-fn options_of(found: &ArgMatches<'_>) -> MatchOptions
-    ensures { result ≡ options_named (first_value (found_of found.now)) }
+fn guesses_of(guesses: GuessOption) -> Guesses
+    ensures { result ≡ guesses_as guesses }
 {
-    MatchOptions {
-        frames: number_of(found, FRAMES),
-        seed: seed_of(found),
-        late: number_of(found, LATE),
-        lost: number_of(found, LOST),
-        hold: number_of(found, HOLD),
-        delay: number_of(found, DELAY),
-        threshold: number_of(found, THRESHOLD),
-        guesses: guesses_of(found),
-        jobs: number_of(found, JOBS),
-        game: game_of(found),
-    }
-}
-
-fn input_of<'a>(found: &ArgMatches<'a>) -> Input<'a>
-    ensures { path_of result ≡ path_named (first_value (found_of found.now) (codes "FILE")) }
-{
-    match found.get_str(FILE) {
-        None | Some("-") => Input::Standard,
-        Some(path) => Input::File(path),
-    }
-}
-
-fn game_of(found: &ArgMatches<'_>) -> GameName
-    ensures { result ≡ game_named (first_value (found_of found.now) (codes "game")) }
-{
-    match found.get_str(GAME) {
-        Some("duel") => GameName::Duel,
-        _ => GameName::Tally,
-    }
-}
-
-fn guesses_of(found: &ArgMatches<'_>) -> Guesses
-    ensures { result ≡ guesses_named (first_value (found_of found.now) (codes "guesses")) }
-{
-    match found.get_str(GUESSES) {
-        Some("words") => Guesses::Words,
-        Some("turns") => Guesses::Turns,
-        Some("best") => Guesses::Best,
-        _ => Guesses::Off,
-    }
-}
-
-fn frames_of(found: &ArgMatches<'_>) -> u32
-    ensures { result ≡ frames_named (first_value (found_of found.now) (codes "frames")) }
-{
-    match found.get_str(FRAMES) {
-        Some(value) => u32::from(value.parse::<u8>().unwrap_or(0)),
-        None => 1,
-    }
-}
-
-fn workers_of(found: &ArgMatches<'_>) -> u8
-    ensures named { result ≡ workers_named (first_value (found_of found.now) (codes "workers")) }
-    ensures range { (1 ≤ result) × (result ≤ 4) }
-{
-    let workers = byte_of(found, WORKERS);
-    if 1 <= workers && workers <= 4 {
-        workers
-    } else {
-        1
-    }
-}
-
-fn byte_of(found: &ArgMatches<'_>, name: &str) -> u8
-    ensures { result ≡ number_named 8 (first_value (found_of found.now) name.now) }
-{
-    match found.get_str(name) {
-        Some(value) => value.parse::<u8>().unwrap_or(0),
-        None => 0,
-    }
-}
-
-fn seed_of(found: &ArgMatches<'_>) -> u64
-    ensures { result ≡ number_named 64 (first_value (found_of found.now) (codes "seed")) }
-{
-    match found.get_str(SEED) {
-        Some(value) => value.parse::<u64>().unwrap_or(0),
-        None => 0,
-    }
-}
-
-pub fn number_of(found: &ArgMatches<'_>, name: &str) -> u32
-    ensures { result ≡ number_named 32 (first_value (found_of found.now) name.now) }
-{
-    match found.get_str(name) {
-        Some(value) => value.parse::<u32>().unwrap_or(0),
-        None => 0,
-    }
-}
-
-fn is_explained(found: &ArgMatches<'_>) -> bool
-    ensures { result ≡ is_named (first_value (found_of found.now) (codes "explain")) }
-{
-    match found.get_str(EXPLAIN) {
-        Some(value) => value == "true",
-        None => false,
+    match guesses {
+        GuessOption::Off => Guesses::Off,
+        GuessOption::Words => Guesses::Words,
+        GuessOption::Turns => Guesses::Turns,
+        GuessOption::Best => Guesses::Best,
     }
 }

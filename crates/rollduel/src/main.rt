@@ -1,7 +1,7 @@
 //! The program `rollduel`: plays scripts and prints what the session shows, plays matches, tests games, and checks claims.
 //!
-//! The work is done in `roll_cli`, `prog_explain`, `roll_live`, `prog_match` and `prog_peers`. Here are the command line, the
-//! streams, the file of a picture and the exit status.
+//! The work is done in `roll_cli`, `prog_explain`, `roll_live`, `prog_match` and `prog_peers`, and `prog_command_line` reads the
+//! command line. Here are the streams, the file of a picture and the exit status.
 #![tactic(auto)]
 
 ghost use Rattle.std.specs.Fn.{FnOnceReturnsAt};
@@ -11,14 +11,14 @@ ghost use Rattle.clap.specs.Faults.{fault_of};
 ghost use Rattle.clap.specs.Kinds.{FailsBy};
 ghost use Rattle.clap.specs.Words.{kind_of};
 ghost use Rattle.prog_parts.specs.declared.fault.PlayFault.TheVariants.{NoMemory, Read as CannotRead, Write as CannotWrite};
-ghost use Rattle.rollduel.specs.Commands.{rollduel_app};
+ghost use Rattle.prog_command_line.specs.Commands.{rollduel_app};
+ghost use Rattle.prog_command_line.specs.Requests.{rows_by};
 ghost use Rattle.rollduel.specs.Endings.{HasStatus, ShowsOn, ShowsOnFile, EndsMatch, EndsPeers, EndsOn, EndsOnFile, EndsRefused, EndsUnpictured, IsPrinted, misused};
-ghost use Rattle.rollduel.specs.Requests.{IfLive, IfMatch, IfPeers, IfRefused, IfText, asked_by, picture_by, rows_by, window_by};
+ghost use Rattle.rollduel.specs.Requests.{IfLive, IfMatch, IfPeers, IfRefused, IfText, asked_by, picture_by, window_by};
 ghost use Rattle.roll_cli.specs.Programs.{Ends};
 ghost use Rattle.roll_live.specs.Lives.{Ends as EndsLive};
 
 mod command_line;
-mod commands;
 mod help;
 mod picture;
 mod work;

@@ -4,9 +4,10 @@ ghost use Rattle.std.specs.Prelude.{◌≡◌, ◌≤◌, IfSome, None};
 ghost use Rattle.roll_cli.specs.Programs.{Ends};
 ghost use Rattle.roll_live.specs.Lives.{Ends as EndsLive};
 ghost use Rattle.rollduel.specs.Endings.{HasStatus, EndsOn, EndsOnFile, ShowsOn, ShowsOnFile, misused};
-ghost use Rattle.rollduel.specs.Requests.{path_of};
+ghost use Rattle.prog_command_line.specs.Requests.{path_of};
 
-use crate::command_line::{Input, TextRequest};
+use crate::command_line::TextRequest;
+use prog_command_line::Input;
 use prog_explain::{Notes, show};
 use prog_parts::{Ending, PlayFault};
 use prog_picture::Sight;

@@ -1,17 +1,12 @@
-use Rattle.std.proofs.Common.{ap, codes, sym, ◌∙◌}
-use Rattle.std.specs.Prelude.{option_map}
-use Rattle.clap.proofs.WalkLemmas.{first_value-rows}
-use Rattle.clap.specs.Matches.{found_of}
-use Rattle.rollduel.specs.Requests.{number_in, number_named, options_named}
+use Rattle.std.proofs.Common.{◌∙◌, map, refl, subst, sym}
+use Rattle.prog_peers.specs.Stops.{no_stops, NamesStops}
 use Rattle.rollduel.proofs.command_line.peers_of.Goals as goal
 
 pub returns-in-None : goal.returns-in-None
-returns-in-None c =
-    let found = found_of c.args.found.now in
-    record {
-      machines = c.byte_of.ensures ∙ ap (number_named 8) (first_value-rows found (codes "peers"));
-      common = c.options_of.ensures ∙ ap options_named (λ i id. first_value-rows found id i);
-      stops = c.in_ok-stops_of.ensures;
-      hostile = c.hostile_of.ensures ∙ ap (option_map (number_in 64)) (first_value-rows found (codes "hostile"));
-      fine = sym c.fault.ensures ∙ c.in-None.is;
-    }
+returns-in-None c = record {
+  machines = sym c.in-Some.is;
+  common = c.options_of.ensures;
+  stops = subst (λ texts. NamesStops no_stops (map (λ text. text.now) texts) c.in_ok-stops.stops) c.deref.ensures.value c.in_ok-stops.ensures;
+  hostile = refl;
+  fine = sym c.fault.ensures ∙ c.in-None.is;
+}

@@ -1,0 +1,406 @@
+//! The commands of the program and their arguments.
+ghost use Rattle.std.specs.Prelude.{◌≡◌, false, IfOk, IsOkAnd, map};
+ghost use Rattle.clap.specs.declared.builder.command.Command.TheViews.{out-Command as fields_of};
+ghost use Rattle.clap.specs.Words.{app_of, new_app, rule_of, with_subcommand};
+ghost use Rattle.prog_command_line.specs.Commands.{AreGames, AreGuesses, app_with, certify_app, line_app, live_app, match_app, play_app, synctest_app, two_peers_app, with_rules};
+ghost use Rattle.prog_command_line.specs.Commands.{explain_rule, file_rule, frame_rule, free_number_rule, game_rule, guesses_rule, number_rule, picture_rule, picture_rules, rule_for, stop_rule};
+
+use crate::help;
+use clap::builder::ValueParser;
+use clap::{Arg, ArgAction, Command};
+use std::alloc::{AllocError, Global};
+
+// The names of arguments.
+
+pub const FILE: &str = "FILE";
+
+pub const GAME: &str = "game";
+
+pub const FRAMES: &str = "frames";
+
+pub const EXPLAIN: &str = "explain";
+
+pub const WORKERS: &str = "workers";
+
+pub const SEED: &str = "seed";
+
+pub const LATE: &str = "late";
+
+pub const LOST: &str = "lost";
+
+pub const HOLD: &str = "hold";
+
+pub const JOBS: &str = "jobs";
+
+pub const DELAY: &str = "delay";
+
+pub const THRESHOLD: &str = "threshold";
+
+pub const GUESSES: &str = "guesses";
+
+pub const PEERS: &str = "peers";
+
+pub const STOP: &str = "stop";
+
+pub const HOSTILE: &str = "hostile";
+
+pub const PICTURE: &str = "picture";
+
+pub const FROM: &str = "from";
+
+pub const TO: &str = "to";
+
+pub const TREE: &str = "tree";
+
+/// What `--game` takes.
+pub fn games() -> &'static [&'static str]
+    ensures { AreGames result }
+{
+    ["tally", "duel"].as_slice()
+}
+
+/// What `--guesses` takes.
+pub fn guesses() -> &'static [&'static str]
+    ensures { AreGuesses result }
+{
+    ["none", "words", "turns", "best"].as_slice()
+}
+
+/// An argument that a command takes.
+#[derive(Clone, Copy)]
+pub enum Argument<'a> {
+    /// FILE, with this help.
+    File(&'a str),
+    /// `--game GAME`, which is one of these.
+    Game(&'a [&'a str]),
+    /// `--guesses GUESSES`, which is one of these.
+    Guesses(&'a [&'a str]),
+    /// `--name N`: the name, what stands for the number in help, its default, the least and the most that it may be, and
+    /// its help.
+    Number(&'a str, &'a str, &'a str, u64, u64, &'a str),
+    /// The same without a default: it needn't be given.
+    FreeNumber(&'a str, &'a str, u64, u64, &'a str),
+    /// `--stop M:FRAME`.
+    Stop,
+    /// `--picture FILE`.
+    Picture,
+    /// `--name FRAME`, which needn't be given: the name and its help.
+    Frame(&'a str, &'a str),
+    /// `--explain`.
+    Explain,
+}
+
+/// The program with its commands, whose help tells of scripts what `script` says.
+pub fn program_command<'a>(
+    alloc: Global,
+    script: &'a str,
+    games: &'a [&'a str],
+    guesses: &'a [&'a str],
+) -> Result<Command<'a>, AllocError>
+    ensures { IfOk result (λ command. app_of command ≡ app_with games.entry guesses.entry) }
+{
+    let program = Command::new(alloc, "rollduel")
+        .version(help::VERSION)
+        .about(help::PROGRAM)
+        .after_help(script);
+    let program = with_command(program, play_command(alloc, script, games))?;
+    let program = with_command(program, live_command(alloc, games))?;
+    let program = with_command(program, match_command(alloc, games, guesses))?;
+    let program = with_command(program, synctest_command(alloc, games))?;
+    with_command(program, certify_command(alloc))
+}
+
+/// A program with a command besides, if there was memory to make it.
+fn with_command<'a>(
+    program: Command<'a>,
+    made: Result<Command<'a>, AllocError>,
+) -> Result<Command<'a>, AllocError>
+    ensures { IfOk result (λ more. IsOkAnd made.entry (λ command. (fields_of command).has_globals ≡ false
+        → app_of more ≡ with_subcommand (app_of program.entry) (app_of command).top)) }
+{
+    let command = made?;
+    program.subcommand(command)
+}
+
+fn play_command<'a>(
+    alloc: Global,
+    script: &'a str,
+    games: &'a [&'a str],
+) -> Result<Command<'a>, AllocError>
+    ensures app { IfOk result (λ command. app_of command ≡ play_app games.entry) }
+    ensures local { IfOk result (λ command. (fields_of command).has_globals ≡ false) }
+{
+    let arguments = [
+        Argument::File("The script; - is standard input"),
+        Argument::Game(games),
+        Argument::Explain,
+    ];
+    let command = new_command(alloc, "play", help::PLAY, script);
+    let command = with_arguments(alloc, command, &arguments)?;
+    with_picture(alloc, command)
+}
+
+fn live_command<'a>(alloc: Global, games: &'a [&'a str]) -> Result<Command<'a>, AllocError>
+    ensures app { IfOk result (λ command. app_of command ≡ live_app games.entry) }
+    ensures local { IfOk result (λ command. (fields_of command).has_globals ≡ false) }
+{
+    let arguments = [
+        Argument::File("The script; - is standard input"),
+        Argument::Game(games),
+        Argument::Number(WORKERS, "N", "1", 1, 4, help::WORKERS),
+    ];
+    let command = new_command(alloc, "live", help::LIVE, help::LIVE_SCRIPT);
+    with_arguments(alloc, command, &arguments)
+}
+
+fn match_command<'a>(
+    alloc: Global,
+    games: &'a [&'a str],
+    guesses: &'a [&'a str],
+) -> Result<Command<'a>, AllocError>
+    ensures app { IfOk result (λ command. app_of command ≡ match_app games.entry guesses.entry) }
+    ensures local { IfOk result (λ command. (fields_of command).has_globals ≡ false) }
+{
+    let arguments = [
+        Argument::FreeNumber(PEERS, "N", 2, 8, help::PEERS),
+        Argument::Stop,
+        Argument::FreeNumber(HOSTILE, "SEED", 0, u64::MAX, help::HOSTILE),
+    ];
+    let command = two_peers_command(alloc, games, guesses)?;
+    let command = with_arguments(alloc, command, &arguments)?;
+    with_picture(alloc, command)
+}
+
+/// The command of a match, as far as a match of two peers goes.
+fn two_peers_command<'a>(
+    alloc: Global,
+    games: &'a [&'a str],
+    guesses: &'a [&'a str],
+) -> Result<Command<'a>, AllocError>
+    ensures app { IfOk result (λ command. app_of command ≡ two_peers_app games.entry guesses.entry) }
+    ensures local { IfOk result (λ command. (fields_of command).has_globals ≡ false) }
+{
+    let arguments = [
+        Argument::Number(DELAY, "D", "0", 0, 255, help::DELAY),
+        Argument::Number(THRESHOLD, "K", "8", 0, 255, help::THRESHOLD),
+        Argument::Guesses(guesses),
+        Argument::Number(JOBS, "J", "4", 1, 32, help::JOBS),
+        Argument::Game(games),
+    ];
+    let command = line_command(alloc)?;
+    with_arguments(alloc, command, &arguments)
+}
+
+/// The command of a match, as far as the players' words and their line go.
+fn line_command<'a>(alloc: Global) -> Result<Command<'a>, AllocError>
+    ensures app { IfOk result (λ command. app_of command ≡ line_app) }
+    ensures local { IfOk result (λ command. (fields_of command).has_globals ≡ false) }
+{
+    let arguments = [
+        Argument::Number(FRAMES, "N", "1000", 1, 1_048_576, help::LENGTH),
+        Argument::Number(SEED, "S", "1", 0, u64::MAX, help::SEED),
+        Argument::Number(LATE, "L", "8", 0, 60, help::LATE),
+        Argument::Number(LOST, "P", "0", 0, 99, help::LOST),
+        Argument::Number(HOLD, "H", "10", 1, 1_000_000, help::HOLD),
+    ];
+    let command = new_command(alloc, "match", help::MATCH, help::MATCH_TABLE);
+    with_arguments(alloc, command, &arguments)
+}
+
+fn synctest_command<'a>(alloc: Global, games: &'a [&'a str]) -> Result<Command<'a>, AllocError>
+    ensures app { IfOk result (λ command. app_of command ≡ synctest_app games.entry) }
+    ensures local { IfOk result (λ command. (fields_of command).has_globals ≡ false) }
+{
+    let arguments = [
+        Argument::File("The rows of inputs; - is standard input"),
+        Argument::Game(games),
+        Argument::Number(FRAMES, "N", "1", 1, 8, help::AGAIN),
+        Argument::Explain,
+    ];
+    let command = new_command(alloc, "synctest", help::SYNCTEST, help::ROWS);
+    with_arguments(alloc, command, &arguments)
+}
+
+fn certify_command<'a>(alloc: Global) -> Result<Command<'a>, AllocError>
+    ensures app { IfOk result (λ command. app_of command ≡ certify_app) }
+    ensures local { IfOk result (λ command. (fields_of command).has_globals ≡ false) }
+{
+    let arguments = [
+        Argument::File("The claim; - is standard input"),
+        Argument::Explain,
+    ];
+    let command = new_command(alloc, "certify", help::CERTIFY, help::CLAIM);
+    with_arguments(alloc, command, &arguments)
+}
+
+/// A command with the options of a picture besides.
+fn with_picture<'a>(alloc: Global, command: Command<'a>) -> Result<Command<'a>, AllocError>
+    ensures app { IfOk result (λ more. app_of more ≡ with_rules (app_of command.entry) picture_rules) }
+    ensures local { IfOk result (λ more. (fields_of more).has_globals ≡ (fields_of command.entry).has_globals) }
+{
+    let arguments = [
+        Argument::Picture,
+        Argument::Frame(FROM, help::FROM),
+        Argument::Frame(TO, help::TO),
+        Argument::Frame(TREE, help::TREE),
+    ];
+    with_arguments(alloc, command, &arguments)
+}
+
+/// A command with these arguments besides.
+fn with_arguments<'a>(
+    alloc: Global,
+    command: Command<'a>,
+    arguments: &[Argument<'a>],
+) -> Result<Command<'a>, AllocError>
+    ensures app { IfOk result (λ more. app_of more ≡ with_rules (app_of command.entry) (map rule_for arguments.now)) }
+    ensures local { IfOk result (λ more. (fields_of more).has_globals ≡ (fields_of command.entry).has_globals) }
+{
+    let mut command = command;
+    for argument in arguments {
+        command = command.arg(arg_of(alloc, argument))?;
+    }
+    Ok(command)
+}
+
+/// An argument as its parser has it.
+fn arg_of<'a>(alloc: Global, argument: &Argument<'a>) -> Arg<'a>
+    ensures rule { rule_of result ≡ rule_for argument.now }
+    ensures local { result.global ≡ false }
+{
+    match *argument {
+        Argument::File(help) => file_arg(alloc, help),
+        Argument::Game(games) => game_arg(alloc, games),
+        Argument::Guesses(guesses) => guesses_arg(alloc, guesses),
+        Argument::Number(name, value, default, least, most, help) => {
+            number_arg(alloc, name, value, default, least, most, help)
+        }
+        Argument::FreeNumber(name, value, least, most, help) => {
+            free_number_arg(alloc, name, value, least, most, help)
+        }
+        Argument::Stop => stop_arg(alloc),
+        Argument::Picture => picture_arg(alloc),
+        Argument::Frame(name, help) => frame_arg(alloc, name, help),
+        Argument::Explain => explain_arg(alloc),
+    }
+}
+
+/// A command without arguments: a line of help, and what its `--help` tells after its arguments.
+fn new_command<'a>(alloc: Global, name: &'a str, about: &'a str, after: &'a str) -> Command<'a>
+    ensures app { app_of result ≡ new_app name.entry.now }
+    ensures local { (fields_of result).has_globals ≡ false }
+{
+    Command::new(alloc, name).about(about).after_help(after)
+}
+
+fn file_arg<'a>(alloc: Global, help: &'a str) -> Arg<'a>
+    ensures rule { rule_of result ≡ file_rule }
+    ensures local { result.global ≡ false }
+{
+    Arg::new(alloc, FILE).required(true).help(help)
+}
+
+fn game_arg<'a>(alloc: Global, games: &'a [&'a str]) -> Arg<'a>
+    ensures rule { rule_of result ≡ game_rule games.entry }
+    ensures local { result.global ≡ false }
+{
+    Arg::new(alloc, GAME)
+        .long(GAME)
+        .value_name("GAME")
+        .value_parser(games)
+        .default_value("tally")
+        .help("tally adds words up; duel has a ship for each of 2 to 4 players")
+}
+
+fn guesses_arg<'a>(alloc: Global, guesses: &'a [&'a str]) -> Arg<'a>
+    ensures rule { rule_of result ≡ guesses_rule guesses.entry }
+    ensures local { result.global ≡ false }
+{
+    Arg::new(alloc, GUESSES)
+        .long(GUESSES)
+        .value_name("GUESSES")
+        .value_parser(guesses)
+        .default_value("none")
+        .help("Which words are guessed: none, words held from now on, turns too, or the best")
+}
+
+/// `--name N`, a number from `least` to `most`.
+fn number_arg<'a>(
+    alloc: Global,
+    name: &'a str,
+    value: &'a str,
+    default: &'a str,
+    least: u64,
+    most: u64,
+    help: &'a str,
+) -> Arg<'a>
+    ensures rule { rule_of result ≡ number_rule name.entry.now default.entry.now least most }
+    ensures local { result.global ≡ false }
+{
+    Arg::new(alloc, name)
+        .long(name)
+        .value_name(value)
+        .value_parser(ValueParser::unsigned(least, most))
+        .default_value(default)
+        .help(help)
+}
+
+/// `--name N`, a number from `least` to `most`, which needn't be given.
+fn free_number_arg<'a>(
+    alloc: Global,
+    name: &'a str,
+    value: &'a str,
+    least: u64,
+    most: u64,
+    help: &'a str,
+) -> Arg<'a>
+    ensures rule { rule_of result ≡ free_number_rule name.entry.now least most }
+    ensures local { result.global ≡ false }
+{
+    Arg::new(alloc, name)
+        .long(name)
+        .value_name(value)
+        .value_parser(ValueParser::unsigned(least, most))
+        .help(help)
+}
+
+/// `--stop M:FRAME`, which may be given several times.
+fn stop_arg<'a>(alloc: Global) -> Arg<'a>
+    ensures rule { rule_of result ≡ stop_rule }
+    ensures local { result.global ≡ false }
+{
+    Arg::new(alloc, STOP)
+        .long(STOP)
+        .value_name("M:FRAME")
+        .action(ArgAction::Append)
+        .help(help::STOP)
+}
+
+/// `--picture FILE`.
+fn picture_arg<'a>(alloc: Global) -> Arg<'a>
+    ensures rule { rule_of result ≡ picture_rule }
+    ensures local { result.global ≡ false }
+{
+    Arg::new(alloc, PICTURE)
+        .long(PICTURE)
+        .value_name("FILE")
+        .help(help::PICTURE)
+}
+
+/// `--name FRAME`, which needn't be given.
+fn frame_arg<'a>(alloc: Global, name: &'a str, help: &'a str) -> Arg<'a>
+    ensures rule { rule_of result ≡ frame_rule name.entry.now }
+    ensures local { result.global ≡ false }
+{
+    free_number_arg(alloc, name, "FRAME", 0, u64::from(u32::MAX), help)
+}
+
+fn explain_arg<'a>(alloc: Global) -> Arg<'a>
+    ensures rule { rule_of result ≡ explain_rule }
+    ensures local { result.global ≡ false }
+{
+    Arg::new(alloc, EXPLAIN)
+        .long(EXPLAIN)
+        .action(ArgAction::SetTrue)
+        .help("Says more on standard error: what is wrong with a line, and what refusals mean")
+}

@@ -1,0 +1,106 @@
+//! What words ask for, by the options that they name.
+
+use crate::picture::{PictureFault, PictureRequest};
+
+/// What the words ask for.
+#[derive(Drop)]
+pub struct CommandLine<'a> {
+    pub request: Request<'a>,
+    /// The picture that is to be made of it, if one is.
+    pub picture: Option<PictureRequest<'a>>,
+}
+
+/// What is to be done.
+#[derive(Drop)]
+pub enum Request<'a> {
+    /// Something with a text.
+    Text(TextRequest<'a>),
+    /// A script is to be played live.
+    Live { input: Input<'a>, live: LiveOptions },
+    /// A match of two peers is to be played, of which nothing is read.
+    Match(MatchRequest),
+    /// A match of several machines is to be played.
+    Peers(PeersRequest<'a>),
+    /// Nothing, for what is said of a picture can't be followed.
+    Refused(PictureFault),
+}
+
+/// What is to be done with a text.
+#[derive(Clone, Copy)]
+pub struct TextRequest<'a> {
+    pub input: Input<'a>,
+    pub task: TextTask,
+    /// Whether what is wrong or refused is to be explained.
+    pub explain: bool,
+}
+
+/// Where a text is.
+#[derive(Clone, Copy)]
+pub enum Input<'a> {
+    Standard,
+    /// The file of this path.
+    File(&'a str),
+}
+
+/// What a text is, and so what is done with it.
+#[derive(Clone, Copy)]
+pub enum TextTask {
+    /// A script, to be played with this game.
+    Play(Game),
+    /// A file of rows, with which this game is tested, so many frames at once.
+    SyncTest { game: Game, frames: u32 },
+    /// A claim, to be checked.
+    Certify,
+}
+
+/// What `--game` names.
+#[derive(Clone, Copy)]
+pub enum Game {
+    Tally,
+    Duel,
+}
+
+/// How a script is to be played live.
+#[derive(Clone, Copy)]
+pub struct LiveOptions {
+    pub game: Game,
+    /// How many workers there are, 1 to 4.
+    pub workers: u8,
+}
+
+/// What `--guesses` names.
+#[derive(Clone, Copy)]
+pub enum GuessOption {
+    Off,
+    Words,
+    Turns,
+    Best,
+}
+
+/// The options of a match of two peers, each by its name.
+#[derive(Clone, Copy)]
+pub struct MatchRequest {
+    pub frames: u32,
+    pub seed: u64,
+    pub late: u32,
+    pub lost: u32,
+    pub hold: u32,
+    pub delay: u32,
+    pub threshold: u32,
+    pub guesses: GuessOption,
+    pub jobs: u32,
+    pub game: Game,
+}
+
+/// The options of a match of several machines: `--peers`, `--stop` or `--hostile` is given.
+#[derive(Drop)]
+pub struct PeersRequest<'a> {
+    /// How many machines there are, if `--peers` says it.
+    pub machines: Option<u8>,
+    /// The options that a match of two peers has too.
+    pub common: MatchRequest,
+    /// Each text of `--stop`, in their order.
+    pub stops: Vec<&'a str>,
+    /// The seed of the hostile datagrams, if there are any.
+    pub hostile: Option<u64>,
+}

@@ -1,7 +1,0 @@
-use Rattle.std.proofs.Common.{ap, ◌∙◌}
-use Rattle.rollduel.proofs.NumberLemmas.{number_read}
-use Rattle.rollduel.specs.Requests.{number_named}
-use Rattle.rollduel.proofs.command_line.number_of.Goals as goal
-
-pub returns-in-Some : goal.returns-in-Some
-returns-in-Some c = c.unwrap_or.ensures ∙ (number_read 32 c.in-Some.value.now c.parse.result c.parse.ensures.value.0 ∙ ap (number_named 32) c.in-Some.ensures)

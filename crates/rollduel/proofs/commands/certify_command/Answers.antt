@@ -1,9 +1,0 @@
-use Rattle.std.proofs.Common.{ap₂, ◌∙◌}
-use Rattle.std.proofs.lemmas.Result.{IfOk-weaker}
-use Rattle.clap.specs.Simple.{with_rule}
-use Rattle.rollduel.proofs.commands.certify_command.Goals as goal
-
-pub returns-clause-app : goal.returns-clause-app
-returns-clause-app c =
-    let with_file = c.in_ok-arg.ensures.shape c.file_arg.ensures.local ∙ ap₂ with_rule c.new_command.ensures.app c.file_arg.ensures.rule in
-    IfOk-weaker c.arg-2.result _ _ (λ command added. added.shape c.explain_arg.ensures.local ∙ ap₂ with_rule with_file c.explain_arg.ensures.rule) c.arg-2.ensures
