@@ -71,18 +71,26 @@ where
     R: Threads + Wait + Copy + Send + 'static,
 {
     let settings = Settings::new(2, &[1])?.with_delay(1, 2)?;
+    let games = fights(alloc)?;
+    let (owner, ends) = Owner::open(alloc, usize::from(WORKERS))?;
+    let host = hosted(alloc, settings, owner)?;
+    match start_all(*rt, alloc, ends, games) {
+        Ok(crew) => play_hosted(rt, alloc, host, crew),
+        Err(why) => Err(why),
+    }
+}
+
+/// A session of the match, and over it a host with a pool.
+fn hosted(alloc: Global, settings: Settings, owner: Owner<Fight>) -> Result<Host<Fight>, Refusal>
+    ensures { IfOk result (λ host. places_of host.pool ≡ owner.places) }
+{
     let session = match Session::start(alloc, Fight::new(), Fight::opening(), settings) {
         Ok(session) => session,
         Err(fault) => return Err(fault.why),
     };
-    let (owner, ends) = Owner::open(alloc, usize::from(WORKERS))?;
-    let crew = start_all(*rt, alloc, ends, fights(alloc)?)?;
     match Host::with_workers(alloc, session, owner) {
-        Ok(host) => play_hosted(rt, alloc, host, crew),
-        Err(_) => {
-            let (_ends, _games) = crew.join(rt);
-            Err(Refusal::NoMemory)
-        }
+        Ok(host) => Ok(host),
+        Err(_) => Err(Refusal::NoMemory),
     }
 }
 
@@ -114,15 +122,30 @@ where
     played
 }
 
-/// Starts the network, plays the match, and joins the network.
+/// Plays this side of the match.
 fn play_match<R>(rt: &R, alloc: Global, host: &mut Host<Fight>) -> Result<(State, State), Refusal>
 where
     R: Threads + Wait + Copy + Send + 'static,
     ensures { places_of host.new.pool ≡ places_of host.old.pool }
 {
     let mut side = Side::new(alloc)?;
+    play_linked(rt, alloc, host, &mut side)
+}
+
+/// Starts the network, plays the match, and joins the network.
+fn play_linked<R>(
+    rt: &R,
+    alloc: Global,
+    host: &mut Host<Fight>,
+    side: &mut Side,
+) -> Result<(State, State), Refusal>
+where
+    R: Threads + Wait + Copy + Send + 'static,
+    ensures { places_of host.new.pool ≡ places_of host.old.pool }
+{
     let over = Arc::new(alloc, AtomicBool::new(false))?;
-    let network = Network::new(host.add_link()?, Arc::try_clone(&over)?);
+    let for_network = Arc::try_clone(&over)?;
+    let network = Network::new(host.add_link()?, for_network);
     let handle = start(*rt, network)?;
     let played = side.play(rt, host);
     // The network doesn't wait for a pump that will not come any more.

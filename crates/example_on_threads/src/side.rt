@@ -42,21 +42,22 @@ pub struct Side {
 
 impl Side {
     pub fn new(alloc: Global) -> Result<Side, Refusal> {
+        let advice = Advice::new(alloc)?;
         let mut feed = Feed::new(alloc)?;
-        let viewer = match Spectator::new(Fight::new(), &Fight::opening(), feed.add()?) {
-            Ok(viewer) => viewer,
-            Err(fault) => return Err(fault.why),
-        };
-        Ok(Side {
-            feed,
-            viewer,
-            seen: 0,
-            habits: Habits::new(&[]),
-            noted: 0,
-            advice: Advice::new(alloc)?,
-            ask_from: ADVISED_EVERY,
-            wait: 0,
-        })
+        let receiver = feed.add()?;
+        match Spectator::new(Fight::new(), &Fight::opening(), receiver) {
+            Ok(viewer) => Ok(Side {
+                feed,
+                viewer,
+                seen: 0,
+                habits: Habits::new(&[]),
+                noted: 0,
+                advice,
+                ask_from: ADVISED_EVERY,
+                wait: 0,
+            }),
+            Err(fault) => Err(fault.why),
+        }
     }
 
     /// Plays until the viewer has seen all frames: the state after them, and what the viewer saw.
