@@ -1,5 +1,5 @@
 //! Hosts, and what is done with them in each frame.
-ghost use Rattle.std.specs.Prelude.{◌≡◌};
+ghost use Rattle.std.specs.Prelude.{◌≡◌, [], IfOk};
 ghost use Rattle.roll_host.specs.Hosted.{places_of};
 
 use crate::serial::{Serial, word};
@@ -34,11 +34,25 @@ pub fn open(alloc: Global, settings: Settings, rounds: u32) -> Result<Session<Sl
     }
 }
 
-/// A host without workers.
-pub fn hosted(alloc: Global, settings: Settings, rounds: u32) -> Result<Host<Slow>, Refusal> {
+/// A host without links and workers.
+pub fn hosted(alloc: Global, settings: Settings, rounds: u32) -> Result<Host<Slow>, Refusal>
+    ensures { IfOk result (λ host. host.links ≡ []) }
+{
     match Host::new(alloc, open(alloc, settings, rounds)?) {
         Ok(host) => Ok(host),
         Err(_) => Err(Refusal::NoMemory),
+    }
+}
+
+/// What comes of an act on a host without links and workers.
+pub fn with_host<T, F>(alloc: Global, settings: Settings, rounds: u32, act: F) -> Result<T, Refusal>
+where
+    F: FnOnce(&mut Host<Slow>) -> Result<T, Refusal>,
+    requires { F.IsAlwaysCallable act }
+{
+    match hosted(alloc, settings, rounds) {
+        Ok(mut host) => act(&mut host),
+        Err(why) => Err(why),
     }
 }
 

@@ -2,7 +2,7 @@
 ghost use Rattle.std.specs.Prelude.{◌≡◌, IfOk, IfSome, Some, slice_get};
 ghost use Rattle.roll_host.specs.Hosted.{rings_of};
 
-use crate::hosts::{TURNS, TWO, hear, hosted, open, play};
+use crate::hosts::{TURNS, TWO, hear, hosted, play, with_host};
 use crate::serial::{Serial, word};
 use crate::slow::Slow;
 use rand_core::utils::NextWord;
@@ -79,11 +79,11 @@ fn send_and_finish(sender: LinkSender, sending: Sending) -> Option<Finished>
 fn linked(alloc: Global) -> Result<(Host<Slow>, LinkSender), Refusal>
     ensures { IfOk result (λ made. slice_get (rings_of made.0.links) 0 ≡ Some made.1.ring) }
 {
-    let Ok(mut host) = Host::new(alloc, open(alloc, TWO, 0)?) else {
-        return Err(Refusal::NoMemory);
-    };
-    let sender = host.add_link()?;
-    Ok((host, sender))
+    let mut host = hosted(alloc, TWO, 0)?;
+    match host.add_link() {
+        Ok(sender) => Ok((host, sender)),
+        Err(why) => Err(why),
+    }
 }
 
 /// Pumps until some item was applied. Whether one was.
@@ -130,21 +130,32 @@ pub fn hear_another_thread(rt: &impl Threads, alloc: Global) -> Result<bool, Ref
             (host, was_heard)
         },
     );
-    let Some(finished) = finished else {
-        return Ok(false);
-    };
+    Ok(match finished {
+        Some(finished) => was_heard && ends_well(&mut host, finished),
+        None => false,
+    })
+}
+
+/// Whether a host has heard all three words when its first link ends.
+fn ends_well(host: &mut Host<Slow>, finished: Finished) -> bool
+    requires { slice_get (rings_of host.old.links) 0 ≡ Some finished.ring }
+{
     host.pump();
-    let left = host.end_link(0, finished);
-    Ok(was_heard && left == 0 && has_heard(&host, 3))
+    host.end_link(0, finished) == 0 && has_heard(host, 3)
 }
 
 /// Pumps twice after a thread has sent two words and dropped its sender: both are applied at the first.
 pub fn hear_a_dropped_sender(rt: &impl Threads, alloc: Global) -> Result<bool, Refusal> {
-    let (mut host, sender) = linked(alloc)?;
+    with_host(alloc, TWO, 0, |host| hear_two(rt, host))
+}
+
+/// Hears two words from a thread that then drops its sender.
+fn hear_two(rt: &impl Threads, host: &mut Host<Slow>) -> Result<bool, Refusal> {
+    let sender = host.add_link()?;
     let two = Sending { count: 2, ..THREE };
     let (sent, ()) = thread::join(rt, move || send_and_drop(sender, two), || ());
     let pumped = [host.pump(), host.pump()];
-    Ok(sent == 2 && pumped == [applied(2), applied(0)] && has_heard(&host, 2))
+    Ok(sent == 2 && pumped == [applied(2), applied(0)] && has_heard(host, 2))
 }
 
 /// A pump that refuses and holds nothing.
@@ -219,13 +230,20 @@ pub fn hear_four_threads<R>(rt: &R, alloc: Global) -> Result<bool, Refusal>
 where
     R: Clock + Threads + Sync,
 {
-    let mut host = hosted(alloc, FIVE, 0)?;
-    let jobs = four_links(alloc, &mut host)?;
+    with_host(alloc, FIVE, 0, |host| hear_all(rt, alloc, host))
+}
+
+/// Hears all that four threads send.
+fn hear_all<R>(rt: &R, alloc: Global, host: &mut Host<Slow>) -> Result<bool, Refusal>
+where
+    R: Clock + Threads + Sync,
+{
+    let jobs = four_links(alloc, host)?;
     let mut serial = Serial::new(5, &[]);
     let (sent, ()) = thread::join(
         rt,
         move || send_apart(rt, jobs),
-        || play_all(rt, &mut host, &mut serial),
+        || play_all(rt, host, &mut serial),
     );
     let session = host.session();
     let is_settled = session.settled() == EACH && *session.settled_state() == serial.shown(EACH);

@@ -1,20 +1,20 @@
 //! A match of two players whose words come late, and of which workers run each likely one ahead.
-ghost use Rattle.std.specs.Prelude.{◌≡◌, ◌<◌, IfOk};
+ghost use Rattle.std.specs.Prelude.{◌≡◌, ◌<◌, IfOk, map};
 ghost use Rattle.roll_host.specs.Hosted.{places_of};
 ghost use Rattle.roll_pool.specs.Crews.{places_in};
 
-use crate::hosts::{Heard, TURNS, TWO, hear, hosted, nanoseconds, open, play};
+use crate::hosts::{Heard, TURNS, TWO, hear, nanoseconds, open, play, with_host};
 use crate::numbers::print_line;
 use crate::serial::{Drawn, Serial, WORDS};
 use crate::slow::Slow;
-use crate::workers::staffed;
+use crate::workers::hired;
 use rand_core::utils::NextWord;
 use rand_pcg::Pcg32;
 use roll_frame::Refusal;
 use roll_guess::Habits;
 use roll_host::Host;
 use roll_link::{LinkSender, Remote};
-use roll_pool::{Crew, JOBS_OUT, Outcome};
+use roll_pool::{Crew, JOBS_OUT, Outcome, Owner, WorkerEnd};
 use std::alloc::{AllocError, Global};
 use std::rt::Runtime;
 use std::sync::Wait;
@@ -110,7 +110,6 @@ struct Rollback {
 struct Match<'a> {
     rules: Rules,
     words: &'a [Drawn],
-    sender: LinkSender,
     /// How many words were sent.
     sent: u32,
     serial: Serial<'a>,
@@ -132,16 +131,11 @@ struct Match<'a> {
 }
 
 impl<'a> Match<'a> {
-    fn new(
-        alloc: Global,
-        rules: Rules,
-        words: &'a [Drawn],
-        sender: LinkSender,
-    ) -> Result<Match<'a>, AllocError> {
+    fn new(alloc: Global, rules: Rules, words: &'a [Drawn]) -> Result<Match<'a>, AllocError> {
+        let rollbacks = Vec::with_capacity(alloc, words.len())?;
         Ok(Match {
             rules,
             words,
-            sender,
             sent: 0,
             serial: Serial::new(2, words),
             habits: Habits::new(&LIKELY),
@@ -152,7 +146,7 @@ impl<'a> Match<'a> {
             added: 0,
             dropped: 0,
             foreseen: 0,
-            rollbacks: Vec::with_capacity(alloc, words.len())?,
+            rollbacks,
             nanoseconds: 0,
         })
     }
@@ -171,7 +165,7 @@ impl<'a> Match<'a> {
     }
 
     /// Sends the words that are heard in a frame. Answers how many they are.
-    fn send_due(&mut self, frame: u32) -> u32 {
+    fn send_due(&mut self, sender: &mut LinkSender, frame: u32) -> u32 {
         let before = self.sent;
         for drawn in self.words.iter().skip(before as usize) {
             if drawn.heard > frame {
@@ -182,7 +176,7 @@ impl<'a> Match<'a> {
                 frame: self.sent,
                 word: drawn.word,
             };
-            self.serial.is_well &= self.sender.send(item).is_ok();
+            self.serial.is_well &= sender.send(item).is_ok();
             self.habits.note(drawn.word);
             self.sent = self.sent.saturating_add(1);
         }
@@ -202,6 +196,16 @@ impl<'a> Match<'a> {
             self.serial.is_well &= rerun == 0;
             self.foreseen = self.foreseen.saturating_add(1);
         }
+    }
+
+    /// Notes what became of the jobs: all that were issued were taken in, withdrawn, or come back.
+    fn note_outcome(&mut self, outcome: &Outcome<Slow>) {
+        let back = outcome.late.len().saturating_add(outcome.left.len());
+        self.withdrawn = outcome.withdrawn;
+        self.serial.is_well &= outcome.issued == self.issued
+            && outcome.collected == self.taken
+            && self.issued.saturating_sub(self.taken)
+                == outcome.withdrawn.saturating_add(back as u64);
     }
 }
 
@@ -306,12 +310,12 @@ fn look_ahead(host: &mut Host<Slow>, game: &mut Match)
 }
 
 /// Hears the words that come in this frame, plays it, and makes guesses.
-fn play_frame(clock: &impl Clock, host: &mut Host<Slow>, game: &mut Match)
+fn play_frame(clock: &impl Clock, host: &mut Host<Slow>, sender: &mut LinkSender, game: &mut Match)
     ensures { places_of host.new.pool ≡ places_of host.old.pool }
 {
     take_in(host, game);
     let frame = host.session().frame();
-    let sent = game.send_due(frame);
+    let sent = game.send_due(sender, frame);
     let heard = hear(clock, host, &mut game.serial);
     game.serial.is_well &= heard.words == sent;
     if sent > 0 {
@@ -337,7 +341,7 @@ fn rest(clock: &impl Clock, host: &mut Host<Slow>, game: &mut Match, due: u64)
 }
 
 /// Plays all frames.
-fn play_all(clock: &impl Clock, host: &mut Host<Slow>, game: &mut Match)
+fn play_all(clock: &impl Clock, host: &mut Host<Slow>, sender: &mut LinkSender, game: &mut Match)
     ensures { places_of host.new.pool ≡ places_of host.old.pool }
 {
     let start = nanoseconds(clock);
@@ -346,74 +350,85 @@ fn play_all(clock: &impl Clock, host: &mut Host<Slow>, game: &mut Match)
             let due = FRAME.saturating_mul(u64::from(frame)).saturating_add(start);
             rest(clock, host, game, due);
         }
-        play_frame(clock, host, game);
+        play_frame(clock, host, sender, game);
     }
     game.nanoseconds = nanoseconds(clock).saturating_sub(start);
 }
 
 /// Adds a link, and plays.
-fn play_linked<'a>(
-    clock: &impl Clock,
-    alloc: Global,
-    host: &mut Host<Slow>,
-    rules: Rules,
-    words: &'a [Drawn],
-) -> Result<Match<'a>, Refusal>
+fn play_linked(clock: &impl Clock, host: &mut Host<Slow>, game: &mut Match) -> Result<(), Refusal>
     ensures { places_of host.new.pool ≡ places_of host.old.pool }
 {
-    let mut game = Match::new(alloc, rules, words, host.add_link()?)?;
-    play_all(clock, host, &mut game);
-    if rules.waits {
-        take_all(host, &mut game);
+    let mut sender = host.add_link()?;
+    play_all(clock, host, &mut sender, game);
+    if game.rules.waits {
+        take_all(host, game);
     }
-    game.serial.is_well &= host.session().frame() == rules.frames;
-    Ok(game)
+    game.serial.is_well &= host.session().frame() == game.rules.frames;
+    Ok(())
 }
 
-/// A host, and its workers, who run.
-fn with_crew<R>(rt: R, alloc: Global, rules: Rules) -> Result<(Host<Slow>, Crew<Slow>), Refusal>
-where
-    R: Threads + Wait + Copy + Send + 'static,
-    ensures { IfOk result (λ both. places_in both.1 ≡ places_of both.0.pool) }
+/// A session of the match, and over it a host with the workers of a pool.
+fn over_pool(alloc: Global, rounds: u32, owner: Owner<Slow>) -> Result<Host<Slow>, Refusal>
+    ensures { IfOk result (λ host. places_of host.pool ≡ owner.places) }
 {
-    let session = open(alloc, TWO, rules.rounds)?;
-    let (owner, crew) = staffed(rt, alloc, rules.workers as usize, rules.rounds)?;
-    match Host::with_workers(alloc, session, owner) {
-        Ok(host) => Ok((host, crew)),
-        Err(_) => {
-            let _back = crew.join(&rt);
-            Err(Refusal::NoMemory)
-        }
+    match open(alloc, TWO, rounds) {
+        Ok(session) => match Host::with_workers(alloc, session, owner) {
+            Ok(host) => Ok(host),
+            Err(_) => Err(Refusal::NoMemory),
+        },
+        Err(why) => Err(why),
     }
 }
 
-/// Plays a match with workers, and waits for these. All jobs come back.
-fn play_staffed<'a, R>(
-    rt: &R,
-    alloc: Global,
-    rules: Rules,
-    words: &'a [Drawn],
-) -> Result<Match<'a>, Refusal>
+/// Plays a match with workers, and waits for these.
+fn play_staffed<R>(rt: &R, alloc: Global, game: &mut Match) -> Result<(), Refusal>
 where
     R: Clock + Threads + Wait + Copy + Send + 'static,
 {
-    let (mut host, crew) = with_crew(*rt, alloc, rules)?;
-    let played = play_linked(rt, alloc, &mut host, rules, words);
+    let (owner, ends) = Owner::open(alloc, game.rules.workers as usize)?;
+    match over_pool(alloc, game.rules.rounds, owner) {
+        Ok(host) => play_hosted(rt, alloc, host, ends, game),
+        Err(why) => Err(why),
+    }
+}
+
+/// Plays a match with workers at these ends, and waits for them.
+fn play_hosted<R>(
+    rt: &R,
+    alloc: Global,
+    host: Host<Slow>,
+    ends: Vec<WorkerEnd<Slow>>,
+    game: &mut Match,
+) -> Result<(), Refusal>
+where
+    R: Clock + Threads + Wait + Copy + Send + 'static,
+    requires { map (λ end. end.place) ends.items ≡ places_of host.pool }
+{
+    match hired(*rt, alloc, ends, game.rules.rounds) {
+        Ok(crew) => play_crewed(rt, host, crew, game),
+        Err(why) => Err(why),
+    }
+}
+
+/// Plays a match with workers who run, and waits for these. All jobs come back.
+fn play_crewed<R>(
+    rt: &R,
+    host: Host<Slow>,
+    crew: Crew<Slow>,
+    game: &mut Match,
+) -> Result<(), Refusal>
+where
+    R: Clock + Threads,
+    requires { places_in crew ≡ places_of host.pool }
+{
+    let mut host = host;
+    let played = play_linked(rt, &mut host, game);
     host.close();
     let (ends, _games) = crew.join(rt);
     let (_session, outcome) = host.settle(ends);
-    let mut game = played?;
-    game.withdrawn = outcome.withdrawn;
-    game.serial.is_well &= are_counted(&game, &outcome);
-    Ok(game)
-}
-
-/// Whether all jobs that were issued were taken in, withdrawn, or come back.
-fn are_counted(game: &Match, outcome: &Outcome<Slow>) -> bool {
-    let back = outcome.late.len().saturating_add(outcome.left.len());
-    outcome.issued == game.issued
-        && outcome.collected == game.taken
-        && game.issued.saturating_sub(game.taken) == outcome.withdrawn.saturating_add(back as u64)
+    game.note_outcome(&outcome);
+    played
 }
 
 /// What is shown is the serial run, whatever was guessed, and words whose guesses had all been run cost no frame.
@@ -422,21 +437,25 @@ where
     R: Clock + Threads + Wait + Copy + Send + 'static,
 {
     let words = drawn(alloc, Rules::EXAMPLE)?;
-    let game = play_staffed(rt, alloc, Rules::EXAMPLE, &words)?;
+    let mut game = Match::new(alloc, Rules::EXAMPLE, &words)?;
+    guess_in(rt, alloc, &mut game)
+}
+
+/// Plays a match with workers, and answers whether it is well.
+fn guess_in<R>(rt: &R, alloc: Global, game: &mut Match) -> Result<bool, Refusal>
+where
+    R: Clock + Threads + Wait + Copy + Send + 'static,
+{
+    play_staffed(rt, alloc, game)?;
     let guessed = game.foreseen > 0 && game.taken > 0;
     let returned = game.taken.saturating_add(game.withdrawn) == game.issued;
     Ok(game.serial.is_well && guessed && returned)
 }
 
 /// Plays a match without workers.
-fn play_alone<'a>(
-    clock: &impl Clock,
-    alloc: Global,
-    rules: Rules,
-    words: &'a [Drawn],
-) -> Result<Match<'a>, Refusal> {
-    let mut host = hosted(alloc, TWO, rules.rounds)?;
-    play_linked(clock, alloc, &mut host, rules, words)
+fn play_alone(clock: &impl Clock, alloc: Global, game: &mut Match) -> Result<(), Refusal> {
+    let rounds = game.rules.rounds;
+    with_host(alloc, TWO, rounds, |host| play_linked(clock, host, game))
 }
 
 /// Plays a match, and prints each word of player 2, each rollback and what was counted.
@@ -445,12 +464,21 @@ where
     R: Runtime + Threads + Wait + Copy + Send + 'static,
 {
     let words = drawn(alloc, rules)?;
-    let game = if rules.workers == 0 {
-        play_alone(rt, alloc, rules, &words)?
+    let mut game = Match::new(alloc, rules, &words)?;
+    play_and_print(rt, alloc, &mut game)
+}
+
+/// Plays a match, and prints it.
+fn play_and_print<R>(rt: &R, alloc: Global, game: &mut Match) -> Result<bool, Refusal>
+where
+    R: Runtime + Threads + Wait + Copy + Send + 'static,
+{
+    if game.rules.workers == 0 {
+        play_alone(rt, alloc, game)?;
     } else {
-        play_staffed(rt, alloc, rules, &words)?
-    };
-    Ok(print(rt, &game) && game.serial.is_well)
+        play_staffed(rt, alloc, game)?;
+    }
+    Ok(print(rt, game) && game.serial.is_well)
 }
 
 /// Prints a match. Whether it could be printed.

@@ -1,5 +1,5 @@
 //! How long words take on their way through a link, into a list and into a host's session.
-use crate::hosts::{TURNS, TWO, hosted, nanoseconds};
+use crate::hosts::{TURNS, TWO, nanoseconds, with_host};
 use crate::links::{Sending, send_and_drop};
 use crate::numbers::print_line;
 use crate::slow::Slow;
@@ -46,8 +46,8 @@ where
 
 /// Sends words on a thread, and takes them into a list.
 fn to_list<R: Clock + Threads>(rt: &R, alloc: Global, sending: Sending) -> Result<Spent, Refusal> {
-    let (sender, mut link) = Link::open(alloc)?;
     let mut list = Vec::with_capacity(alloc, sending.count as usize)?;
+    let (sender, mut link) = Link::open(alloc)?;
     let start = nanoseconds(rt);
     let (sent, whole) = thread::join(
         rt,
@@ -87,14 +87,22 @@ fn to_host<R: Clock + Threads>(rt: &R, alloc: Global, sending: Sending) -> Resul
         players: sending.players.saturating_add(1),
         ..TWO
     };
-    let mut host = hosted(alloc, settings, 0)?;
+    with_host(alloc, settings, 0, |host| to_linked(rt, host, sending))
+}
+
+/// Sends words on a thread, and takes them into a host's session by a new link.
+fn to_linked<R: Clock + Threads>(
+    rt: &R,
+    host: &mut Host<Slow>,
+    sending: Sending,
+) -> Result<Spent, Refusal> {
     let sender = host.add_link()?;
     let start = nanoseconds(rt);
     let (sent, (pumps, whole)) = thread::join(
         rt,
         move || send_and_drop(sender, sending),
         || {
-            let pumps = pump_all(rt, &mut host, sending);
+            let pumps = pump_all(rt, host, sending);
             (pumps, nanoseconds(rt).saturating_sub(start))
         },
     );

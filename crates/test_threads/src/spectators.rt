@@ -1,5 +1,5 @@
 //! Spectators on threads of their own: each is sent every settled row once and in order.
-use crate::hosts::{TURNS, TWO, hosted, play};
+use crate::hosts::{TURNS, TWO, play, with_host};
 use crate::serial::Serial;
 use crate::slow::Slow;
 use roll_frame::{Refusal, Settings};
@@ -17,9 +17,14 @@ type Seen = (u32, Option<u32>);
 
 /// Makes a spectator, who follows the frames, and answers the frame and the state that it reached.
 fn watch(receiver: RowReceiver) -> Seen {
-    let Ok(mut spectator) = Spectator::new(Slow::new(0), &Tally::opening(), receiver) else {
-        return (0, None);
-    };
+    match Spectator::new(Slow::new(0), &Tally::opening(), receiver) {
+        Ok(mut spectator) => follow(&mut spectator),
+        Err(_) => (0, None),
+    }
+}
+
+/// Follows the frames. Answers the frame and the state that were reached.
+fn follow(spectator: &mut Spectator<Slow>) -> Seen {
     let mut reached = 0;
     for _ in 0..TURNS {
         if reached == FRAMES {
@@ -64,12 +69,21 @@ const ALONE: Settings = Settings { players: 1, ..TWO };
 
 /// Two spectators follow a thousand frames: each reaches the end, with the state that is settled there.
 pub fn follow_on_threads(rt: &impl Threads, alloc: Global) -> Result<bool, Refusal> {
+    with_host(alloc, ALONE, 0, |host| show_to_two(rt, alloc, host))
+}
+
+/// Plays, and shows it to two spectators.
+fn show_to_two(rt: &impl Threads, alloc: Global, host: &mut Host<Slow>) -> Result<bool, Refusal> {
     let mut feed = Feed::new(alloc)?;
-    let first = watch_apart(rt, &mut feed)?;
-    let second = watch_apart(rt, &mut feed)?;
-    let mut host = hosted(alloc, ALONE, 0)?;
+    play_shown(rt, &mut feed, host)
+}
+
+/// Plays while two spectators watch.
+fn play_shown(rt: &impl Threads, feed: &mut Feed, host: &mut Host<Slow>) -> Result<bool, Refusal> {
+    let first = watch_apart(rt, feed)?;
+    let second = watch_apart(rt, feed)?;
     let mut serial = Serial::new(1, &[]);
-    let sent = send_all(&mut feed, &mut host, &mut serial, 2 * FRAMES);
+    let sent = send_all(feed, host, &mut serial, 2 * FRAMES);
     let seen = [first.join(rt), second.join(rt)];
     let state = serial.shown(FRAMES);
     let followed = seen == [(FRAMES, Some(state)); 2];

@@ -230,8 +230,23 @@ fn games(alloc: Global, count: usize, rounds: u32) -> Result<Vec<Slow>, AllocErr
     Ok(games)
 }
 
+/// The workers of these ends, who are at work on threads of their own.
+pub fn hired<R>(
+    rt: R,
+    alloc: Global,
+    ends: Vec<WorkerEnd<Slow>>,
+    rounds: u32,
+) -> Result<Crew<Slow>, Refusal>
+where
+    R: Threads + Wait + Copy + Send + 'static,
+    ensures { IfOk result (λ crew. places_in crew ≡ map (λ end. end.place) ends.items) }
+{
+    let games = games(alloc, ends.len(), rounds)?;
+    start_all(rt, alloc, ends, games)
+}
+
 /// A pool of so many workers, who are at work on threads of their own.
-pub fn staffed<R>(
+fn staffed<R>(
     rt: R,
     alloc: Global,
     workers: usize,
@@ -242,9 +257,10 @@ where
     ensures { IfOk result (λ both. places_in both.1 ≡ both.0.places) }
 {
     let (owner, ends) = Owner::open(alloc, workers)?;
-    let games = games(alloc, ends.len(), rounds)?;
-    let crew = start_all(rt, alloc, ends, games)?;
-    Ok((owner, crew))
+    match hired(rt, alloc, ends, rounds) {
+        Ok(crew) => Ok((owner, crew)),
+        Err(why) => Err(why),
+    }
 }
 
 /// What the owner of a pool does at once: it rests for some milliseconds, issues so many jobs, and collects results until so
