@@ -1,6 +1,5 @@
 use Rattle.std.proofs.Common.{◌≡◌, ◌∙◌, ap, map, refl, Option, None, Some}
 use Rattle.std.specs.Prelude.{option_map, string_bytes}
-use Rattle.prog_picture.specs.declared.scene.Window.{Window}
 use Rattle.rollduel.specs.Requests.{Picture, picture_of, window_by}
 use Rattle.rollduel.specs.declared.picture.PictureRequest.{PictureRequest}
 use Rattle.rollduel.proofs.perform.Goals as goal
