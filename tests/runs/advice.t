@@ -52,3 +52,4 @@ A line that can't be read ends the answers.
   > END
   ahead 0 no event
   unreadable: line 3
+  [2]

@@ -111,6 +111,7 @@ Lines that can't be read: the number of each is told.
 
   $ printf 'games tally\n' | test_stage
   unreadable: line 1
+  [2]
   $ printf 'game tally\nroll 1\n' | test_stage
   unreadable: line 2
   [2]

@@ -123,6 +123,7 @@ Rows that can't be the timeline's: another player's cells change, or an earlier 
   no
   no
   unreadable: line 10
+  [2]
 
 States are cut off by a confirmed word and when a player leaves, and a settled state is the new root.
 
