@@ -61,7 +61,7 @@ __attribute__((constructor)) static void begin(void) {
     allocations.made = 0;
 }
 
-static void end(void) {
+__attribute__((destructor)) static void end(void) {
     const char *file = getenv("REFUSE_COUNTS");
     int to = file ? open(file, O_WRONLY | O_CREAT | O_TRUNC, 0666) : -1;
     if (to >= 0) {
@@ -73,7 +73,7 @@ static void end(void) {
     }
 }
 
-// A program of this kind ends so, without destructors.
+// A program with threads ends so, without destructors.
 _Noreturn void _exit(int status) {
     end();
     syscall(SYS_exit_group, status);

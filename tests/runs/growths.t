@@ -139,29 +139,23 @@ saved leaves the one before.
   > kept
   > longest 1,3
   > END
-  0 whole 
   3 front test_stage: out of memory, or a stream failed
-  node 1 4
   $ asked "$refused" <<END
   > advice
   > note 1 -3 2
   > tell
   > END
-  0 whole 
   3 front test_stage: out of memory, or a stream failed
-  ahead 3 event 1005 frames 3
   $ asked 's/^refused 107/ok/; /^loads/d' <<END
   > turns duel 2
   > row 8,8
   > counts
   > END
-  0 whole 
   0 whole refused
   3 front test_stage: out of memory, or a stream failed
   loads 0 saves 0 copies 1 turns 0 refusals 1
   loads 1 saves 0 copies 1 turns 0 refusals 1
   loads 1 saves 0 copies 1 turns 1 refusals 1
-  loads 1 saves 1 copies 1 turns 1 refusals 0
   loads 1 saves 1 copies 1 turns 1 refusals 1
 
 A sync test hands back its game, which was asked for nothing, and its opening.
@@ -171,7 +165,6 @@ A sync test hands back its game, which was asked for nothing, and its opening.
   > step 1,3 2
   > counts
   > END
-  0 whole 
   0 whole refused
   3 front test_stage: out of memory, or a stream failed
   loads 2 saves 4 copies 0 turns 4 refusals 0
