@@ -1,8 +1,8 @@
 use Rattle.std.proofs.Common.{◌≡◌, ℕ, length, ap, ◌∙◌, rules}
 use Rattle.std.specs.Int.{w64, from_be_bytes}
 use Rattle.std.specs.Prelude.{nat_eq}
-use Rattle.roll_peer.proofs.Seals.{compares, IsBytes}
-use Rattle.roll_peer.proofs.seal.are_same.Goals as goal
+use Rattle.roll_contact.proofs.Seals.{compares, IsBytes}
+use Rattle.roll_contact.proofs.seal.are_same.Goals as goal
 
 pub returns : goal.returns
 returns c =

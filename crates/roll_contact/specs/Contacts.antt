@@ -1,0 +1,265 @@
+-- What an end knows of another, and how that changes.
+use Rattle.std.specs.Prelude.{ℕ, List, slice_index_or, ◌-◌, ◌+◌, ◌%◌, ◌/◌, ◌^◌, max, min, ℤ, pos, neg_ℤ, ◌+ℤ◌, ◌-ℤ◌, unsigned_abs, Bool, true, false, not, ◌&&◌, ◌||◌, ◌==◌, nat_le, nat_lt, Option, Some, None, if◌then◌else◌}
+use Rattle.std.specs.Int.{int_max, int_min}
+use Rattle.std.specs.Option.{option_map_or, option_or}
+use Rattle.roll_wire.specs.declared.datagram.Clocks.{Clocks}
+use Rattle.roll_wire.specs.declared.datagram.Hello.{Hello}
+use Rattle.roll_contact.specs.declared.contact.Contact.{Contact}
+use Rattle.roll_contact.specs.declared.contact.Opening.{Opening}
+use Rattle.roll_contact.specs.declared.contact.Stage.{Stage}
+use Rattle.roll_contact.specs.declared.contact.Stage.TheVariants.{Silent, Greeted, Playing, Mismatched}
+use Rattle.roll_contact.specs.declared.contact.TheirClocks.{TheirClocks}
+use Rattle.roll_contact.specs.declared.contact.TheConstants.{BEHIND_LIMIT, CLOCKS_EVERY, CLOCKS_IN_PATIENCE, HALF, HELLO_AT, HELLO_EVERY, ROUND_TRIP_LIMIT, UNANSWERED}
+use Rattle.roll_contact.specs.declared.terms.Field.{Field}
+use Rattle.roll_contact.specs.Clocks.{difference, one_more, since}
+
+-- nothing was heard, and nothing was sent
+abbrev pub opened_contact : Contact
+opened_contact = record {
+  stage = Silent;
+  draw = 0;
+  echo = 0;
+  owes_hello = false;
+  confirmed = false;
+  restarted = 0;
+  differs = None;
+  patience = 0;
+  heard_at = 0;
+  interrupted = false;
+  answered = 0;
+  answered_at = 0;
+  unanswered = 0;
+  clocks_at = 0;
+  plays_since = CLOCKS_EVERY;
+  their_clocks = None;
+  behind = pos 0;
+  their_behind = pos 0;
+  round_trip = None;
+  sent = 0;
+  received = 0;
+  expected = 0;
+  refused = 0;
+  is_refusing = false;
+}
+
+-- what is known of a machine
+abbrev pub known_of : List Contact → ℕ → Contact
+known_of contacts m = slice_index_or contacts m opened_contact
+
+abbrev pub is_playing : Stage → Bool
+is_playing Silent = false
+is_playing Greeted = false
+is_playing Playing = true
+is_playing (Mismatched field) = false
+
+-- ---- packets
+
+-- one more was sent
+abbrev pub counted : Contact → Contact
+counted contact = record contact { sent = one_more contact.sent }
+
+-- one more was heard
+abbrev pub heard : ℕ → Contact → Contact
+heard now contact = record contact {
+  heard_at = now;
+  interrupted = false;
+  received = one_more contact.received;
+  expected = one_more contact.expected;
+}
+
+-- one that it sealed was refused
+abbrev pub refused : Contact → Contact
+refused contact = record contact { refused = one_more contact.refused; is_refusing = true }
+
+-- ---- hellos
+
+-- the lesser of two times of silence, where 0 is for ever
+abbrev pub least_patience : ℕ → ℕ → ℕ
+least_patience own theirs =
+    if own == 0 then theirs else (if theirs == 0 then own else min own theirs)
+
+-- a hello's draw is believed
+abbrev pub believing : Opening → Hello → ℕ → Contact → Contact
+believing own hello now contact = record contact {
+  stage = Playing;
+  draw = hello.draw;
+  patience = least_patience own.silent_after hello.patience;
+  answered = difference now 1;
+  answered_at = now;
+  unanswered = 0;
+}
+
+-- who said this opening's draw means the same match, or another
+abbrev pub greeted : Opening → Option Field → Hello → ℕ → Contact → Contact
+greeted own None hello now contact = believing own hello now (record contact { differs = None })
+greeted own (Some field) hello now contact =
+    record contact { differs = Some field; stage = Mismatched field }
+
+-- who was never heard is heard
+abbrev pub met : Stage → Stage
+met Silent = Greeted
+met Greeted = Greeted
+met Playing = Playing
+met (Mismatched field) = Mismatched field
+
+-- a hello of who isn't played with: only if it says this opening's draw, more than that it came is believed
+abbrev pub meeting : Opening → Option Field → Hello → ℕ → Contact → Contact
+meeting own mismatch hello now contact =
+    let came = record (heard now contact) { echo = hello.draw } in
+    if hello.echo == own.draw then greeted own mismatch hello now came
+    else record came { stage = met contact.stage }
+
+-- a hello of the opening that is believed
+abbrev pub same_opening : Opening → Option Field → Hello → ℕ → Contact → Contact
+same_opening own mismatch hello now contact =
+    if hello.echo == own.draw then record (heard now contact) { differs = mismatch }
+    else heard now contact
+
+-- a hello of another opening: it was begun in the place of the one that is believed, if it says this opening's draw; else it may
+-- be an old one, and is answered, unless it was found before to be another
+abbrev pub other_opening : Opening → Hello → Contact → Contact
+other_opening own hello contact =
+    if hello.echo == own.draw then record contact { restarted = hello.draw }
+    else (if hello.draw == contact.restarted then contact
+    else record contact { echo = hello.draw; owes_hello = true })
+
+-- after a hello
+abbrev pub after_hello : Opening → Option Field → Hello → ℕ → Contact → Contact
+after_hello own mismatch hello now contact =
+    if is_playing contact.stage
+    then (if hello.draw == contact.draw then same_opening own mismatch hello now contact
+    else other_opening own hello contact)
+    else meeting own mismatch hello now contact
+
+-- ---- clocks
+
+-- whether a moment lies before another, by less than half of all
+abbrev pub is_before : ℕ → ℕ → Bool
+is_before earlier later = not (earlier == later) && nat_lt (difference later earlier) HALF
+
+-- whether a clock that came back is newer than the newest before, and not from the future
+abbrev pub is_fresh : ℕ → ℕ → ℕ → Bool
+is_fresh clock newest now =
+    not (clock == 0) && (is_before newest clock && not (is_before now clock))
+
+-- a clock came back
+abbrev pub told : ℕ → ℕ → Contact → Contact
+told clock now contact =
+    if is_fresh clock contact.answered now
+    then record contact { answered = clock; answered_at = now; unanswered = 0 } else contact
+
+-- how many frames one who is at a frame is behind another, held to the limit on both sides
+abbrev pub behind_of : ℕ → ℕ → ℤ
+behind_of theirs frame =
+    int_max (neg_ℤ BEHIND_LIMIT) (int_min (pos theirs -ℤ pos frame) BEHIND_LIMIT)
+
+-- the frame that is so many after another, held to what a frame can be
+abbrev pub frame_after : ℕ → ℤ → ℕ
+frame_after frame more =
+    unsigned_abs (int_max (pos 0) (int_min (pos frame +ℤ more) (pos (2 ^ 32 - 1))))
+
+-- how long ago the clock was sent that was heard, less for how long that was held
+abbrev pub trip_of : Clocks → ℕ → ℕ
+trip_of clocks now = difference (difference now clocks.heard_clock) clocks.held
+
+-- the round trip that clocks show: none if no clock was heard, or if it would be too long
+abbrev pub measured : Clocks → ℕ → Option ℕ
+measured clocks now =
+    if not (clocks.heard_clock == 0) && nat_le (trip_of clocks now) ROUND_TRIP_LIMIT
+    then Some (trip_of clocks now) else None
+
+-- whether clocks are later than the last that were heard
+abbrev pub are_newer : Option TheirClocks → Clocks → Bool
+are_newer None clocks = true
+are_newer (Some theirs) clocks = nat_lt theirs.number clocks.number
+
+-- after its clocks were heard, by an end at a frame
+abbrev pub after_clocks : Clocks → ℕ → ℕ → Contact → Contact
+after_clocks clocks frame now contact = record (told clocks.heard_clock now contact) {
+  their_clocks = Some (record {
+    number = clocks.number;
+    frame = clocks.frame;
+    clock = clocks.clock;
+    heard_at = now;
+  });
+  behind = behind_of clocks.frame frame;
+  their_behind = behind_of clocks.heard_frame clocks.frame;
+  round_trip = option_or (measured clocks now) contact.round_trip;
+  expected = one_more clocks.number;
+}
+
+-- with these clocks, if there are any, and they are new
+abbrev pub with_clocks : Option Clocks → ℕ → ℕ → Contact → Contact
+with_clocks None frame now contact = contact
+with_clocks (Some clocks) frame now contact =
+    if are_newer contact.their_clocks clocks then after_clocks clocks frame now contact else contact
+
+-- after a play
+abbrev pub after_play : Option Clocks → ℕ → ℕ → Contact → Contact
+after_play clocks frame now contact =
+    with_clocks clocks frame now
+    (record (heard now contact) { confirmed = true; is_refusing = false })
+
+-- what an end at a frame tells it. A clock is 0 only if none was heard
+abbrev pub clocks_for : Contact → ℕ → ℕ → Clocks
+clocks_for contact frame now = record {
+  number = contact.sent;
+  frame = frame;
+  heard_frame = frame_after frame contact.behind;
+  clock = max now 1;
+  heard_clock = option_map_or (λ theirs. theirs.clock) contact.their_clocks 0;
+  held = option_map_or (λ theirs. since now theirs.heard_at) contact.their_clocks 0;
+}
+
+-- ---- what is sent
+
+-- whether the next play has clocks: so many went without, or it is time for the silence that either end waits for
+abbrev pub wants_clocks : Contact → ℕ → Bool
+wants_clocks contact now =
+    nat_le (CLOCKS_EVERY - 1) contact.plays_since
+    || (nat_lt 0 contact.patience
+    && nat_le (contact.patience / CLOCKS_IN_PATIENCE) (since now contact.clocks_at))
+
+-- whether a hello goes next: the two don't play yet; or it isn't known whether the other does, every other time; or one is owed
+abbrev pub says_hello : Contact → Bool
+says_hello contact =
+    not (is_playing contact.stage)
+    || ((not contact.confirmed && (contact.sent % 2 == 0))
+    || (contact.owes_hello && (contact.sent % HELLO_EVERY == HELLO_AT)))
+
+abbrev pub hello_sent : Contact → Contact
+hello_sent contact = counted (record contact { owes_hello = false })
+
+abbrev pub play_sent : ℕ → Contact → Contact
+play_sent now contact = counted (
+    if wants_clocks contact now then record contact {
+      unanswered = one_more contact.unanswered;
+      clocks_at = now;
+      plays_since = 0;
+    } else record contact { plays_since = one_more contact.plays_since })
+
+-- ---- silence
+
+-- for how long it wasn't heard at all
+abbrev pub silence : Contact → ℕ → ℕ
+silence contact now = if is_playing contact.stage then since now contact.heard_at else 0
+
+-- for how long no new clock came back
+abbrev pub unanswered_for : Contact → ℕ → ℕ
+unanswered_for contact now = if is_playing contact.stage then since now contact.answered_at else 0
+
+-- whether it is gone: no new clock came back for so long, and enough clocks were sent since
+abbrev pub is_silent : Contact → ℕ → ℕ → Bool
+is_silent contact now silent_after =
+    nat_lt 0 silent_after
+    && (nat_lt silent_after (unanswered_for contact now) && nat_le UNANSWERED contact.unanswered)
+
+-- whether its silence is to be told, and wasn't told yet
+abbrev pub is_hushed : Contact → ℕ → ℕ → Bool
+is_hushed contact now notify_after =
+    nat_lt 0 notify_after
+    && (not contact.interrupted && nat_lt notify_after (silence contact now))
+
+abbrev pub hushed : Contact → ℕ → ℕ → Contact
+hushed contact now notify_after =
+    if is_hushed contact now notify_after then record contact { interrupted = true } else contact

@@ -1,0 +1,6 @@
+pub mod Clocks
+pub mod Terms
+pub mod Keys
+pub mod Contacts
+pub mod Seals
+pub mod Laws

@@ -1,0 +1,439 @@
+//! What this end knows of another.
+ghost use Rattle.std.specs.Prelude.{◌≡◌};
+ghost use Rattle.roll_contact.specs.Clocks.{difference};
+ghost use Rattle.roll_contact.specs.Contacts.{after_clocks, after_hello, after_play, are_newer, behind_of, believing, clocks_for, counted, frame_after, greeted, heard, hello_sent, hushed, is_before, is_fresh, is_hushed, is_playing, is_silent, least_patience, measured, meeting, opened_contact, play_sent, refused, says_hello, silence, told, unanswered_for, wants_clocks};
+
+use crate::clock::since;
+use crate::terms::Field;
+use roll_wire::{Clocks, Hello};
+
+/// The most frames that one machine is said to be behind another.
+const BEHIND_LIMIT: i64 = 1_048_576;
+/// The most milliseconds of a round trip: what is longer isn't one.
+const ROUND_TRIP_LIMIT: u32 = 60_000;
+/// In how many plays one at least has clocks.
+const CLOCKS_EVERY: u32 = 16;
+/// How often clocks go in the time after which a silent end is gone.
+const CLOCKS_IN_PATIENCE: u32 = 16;
+/// So many clocks that weren't answered make a silence.
+const UNANSWERED: u32 = 10;
+/// In how many datagrams one is a hello, if one is owed while the match is played.
+const HELLO_EVERY: u32 = 16;
+/// Which of them.
+const HELLO_AT: u32 = 8;
+/// Moments that lie so far ahead lie behind.
+const HALF: u32 = 1 << 31;
+
+/// What an end says of itself in its hellos.
+#[derive(Clone, Copy, Debug, PartialEq, Eq)]
+pub struct Opening {
+    /// 64 bits drawn for this opening alone, which aren't 0.
+    pub draw: u64,
+    /// After how many milliseconds of silence the other end is regarded as gone; 0: never.
+    pub silent_after: u32,
+}
+
+/// How far this end and another have come to play with each other.
+#[derive(Clone, Copy, Debug, PartialEq, Eq)]
+pub enum Stage {
+    /// Nothing was heard of it.
+    Silent,
+    /// It was heard. Whether it is there now, and hears this end, isn't known.
+    Greeted,
+    /// It has said this opening's draw, so its own draw is believed.
+    Playing,
+    /// It has said this opening's draw, and means another match: the first field that it has otherwise.
+    Mismatched(Field),
+}
+
+/// The last clocks that were heard of an end.
+#[derive(Clone, Copy, Debug)]
+pub struct TheirClocks {
+    /// How many packets it had sent before.
+    pub number: u32,
+    /// Its frame.
+    pub frame: u32,
+    /// Its clock.
+    pub clock: u32,
+    /// When they were heard.
+    pub heard_at: u32,
+}
+
+/// What this end knows of another. Moments are those of this end's `Clock`.
+#[derive(Clone, Copy, Debug)]
+pub struct Contact {
+    /// How far the two have come.
+    pub stage: Stage,
+    /// The draw of the opening that is believed, 0 if none is.
+    pub draw: u64,
+    /// The draw that was heard last, 0 if none was: this end's hellos say it back.
+    pub echo: u64,
+    /// Whether a hello is owed to a draw that isn't believed, though the two play.
+    pub owes_hello: bool,
+    /// Whether a play of the opening that is believed was heard.
+    pub confirmed: bool,
+    /// The draw of the opening that was begun in the place of the one that is believed, 0 if none was.
+    pub restarted: u64,
+    /// The field by which it was last found to mean another match.
+    pub differs: Option<Field>,
+    /// The time of silence that either end waits for, the lesser one; 0: neither waits.
+    pub patience: u32,
+    /// When it was heard last.
+    pub heard_at: u32,
+    /// Whether its silence was told, and it wasn't heard since.
+    pub interrupted: bool,
+    /// The newest clock of this end's own that came back.
+    pub answered: u32,
+    /// When it did; before the first, when the draw was believed.
+    pub answered_at: u32,
+    /// How many clocks were sent to it since.
+    pub unanswered: u32,
+    /// When the last clocks were sent to it.
+    pub clocks_at: u32,
+    /// How many plays were sent to it since then, or at all.
+    pub plays_since: u32,
+    /// The last clocks that were heard of it.
+    pub their_clocks: Option<TheirClocks>,
+    /// How many frames this end was behind it as its clocks were heard.
+    pub behind: i32,
+    /// How many frames it says that it is behind this end.
+    pub their_behind: i32,
+    /// The milliseconds that a packet and its answer took, as last measured.
+    pub round_trip: Option<u32>,
+    /// How many packets were sent to it.
+    pub sent: u32,
+    /// How many packets of it were heard.
+    pub received: u32,
+    /// How many it had sent by its last clocks, and as many as were heard since.
+    pub expected: u32,
+    /// How many packets that it sealed were refused.
+    pub refused: u32,
+    /// Whether the last that it sealed was.
+    pub is_refusing: bool,
+}
+
+impl Contact {
+    /// Nothing was heard of it, and nothing was sent to it.
+    pub fn new() -> Contact
+        ensures { result ≡ opened_contact }
+    {
+        Contact {
+            stage: Stage::Silent,
+            draw: 0,
+            echo: 0,
+            owes_hello: false,
+            confirmed: false,
+            restarted: 0,
+            differs: None,
+            patience: 0,
+            heard_at: 0,
+            interrupted: false,
+            answered: 0,
+            answered_at: 0,
+            unanswered: 0,
+            clocks_at: 0,
+            plays_since: CLOCKS_EVERY,
+            their_clocks: None,
+            behind: 0,
+            their_behind: 0,
+            round_trip: None,
+            sent: 0,
+            received: 0,
+            expected: 0,
+            refused: 0,
+            is_refusing: false,
+        }
+    }
+
+    /// A hello was heard, which differs in a field or means the same match.
+    pub fn hello(&mut self, own: &Opening, mismatch: Option<Field>, hello: &Hello, now: u32)
+        ensures { self.new ≡ after_hello own.now mismatch hello.now now self.old }
+    {
+        let echoed = hello.echo == own.draw;
+        if !self.is_playing() {
+            self.meet(own, mismatch, hello, now);
+        } else if hello.draw == self.draw {
+            self.heard(now);
+            if echoed {
+                self.differs = mismatch;
+            }
+        } else if echoed {
+            self.restarted = hello.draw;
+        } else if hello.draw != self.restarted {
+            self.echo = hello.draw;
+            self.owes_hello = true;
+        }
+    }
+
+    /// A hello was heard of an end with which the match isn't played yet. Only one that says this opening's draw is believed.
+    fn meet(&mut self, own: &Opening, mismatch: Option<Field>, hello: &Hello, now: u32)
+        ensures { self.new ≡ meeting own.now mismatch hello.now now self.old }
+    {
+        self.heard(now);
+        self.echo = hello.draw;
+        if hello.echo == own.draw {
+            self.judge(own, mismatch, hello, now);
+        } else if matches!(self.stage, Stage::Silent) {
+            self.stage = Stage::Greeted;
+        }
+    }
+
+    /// An end that said this opening's draw means the same match, or doesn't.
+    fn judge(&mut self, own: &Opening, mismatch: Option<Field>, hello: &Hello, now: u32)
+        ensures { self.new ≡ greeted own.now mismatch hello.now now self.old }
+    {
+        self.differs = mismatch;
+        match mismatch {
+            Some(field) => self.stage = Stage::Mismatched(field),
+            None => self.believe(own, hello, now),
+        }
+    }
+
+    /// The draw of a hello is believed from now on.
+    fn believe(&mut self, own: &Opening, hello: &Hello, now: u32)
+        ensures { self.new ≡ believing own.now hello.now now self.old }
+    {
+        self.stage = Stage::Playing;
+        self.draw = hello.draw;
+        self.patience = least_patience(own.silent_after, hello.patience);
+        self.answered = now.wrapping_sub(1);
+        self.answered_at = now;
+        self.unanswered = 0;
+    }
+
+    /// A play was heard, with clocks or without, while this end is at a frame.
+    pub fn play(&mut self, clocks: Option<&Clocks>, frame: u32, now: u32)
+        ensures { self.new ≡ after_play clocks.now frame now self.old }
+    {
+        self.heard(now);
+        self.confirmed = true;
+        self.is_refusing = false;
+        match clocks {
+            Some(clocks) if self.are_newer(clocks) => self.clocks(clocks, frame, now),
+            _ => {}
+        }
+    }
+
+    /// Whether the match is played with it.
+    pub fn is_playing(&self) -> bool
+        ensures { result ≡ is_playing self.now.stage }
+    {
+        matches!(self.stage, Stage::Playing)
+    }
+
+    /// Whether clocks are later than the last that were heard.
+    fn are_newer(&self, clocks: &Clocks) -> bool
+        ensures { result ≡ are_newer self.now.their_clocks clocks.now }
+    {
+        match self.their_clocks {
+            None => true,
+            Some(theirs) => theirs.number < clocks.number,
+        }
+    }
+
+    /// Its clocks were heard, which are newer than all before.
+    fn clocks(&mut self, clocks: &Clocks, frame: u32, now: u32)
+        ensures { self.new ≡ after_clocks clocks.now frame now self.old }
+    {
+        self.answer(clocks.heard_clock, now);
+        self.their_clocks = Some(TheirClocks {
+            number: clocks.number,
+            frame: clocks.frame,
+            clock: clocks.clock,
+            heard_at: now,
+        });
+        self.behind = behind(clocks.frame, frame);
+        self.their_behind = behind(clocks.heard_frame, clocks.frame);
+        self.round_trip = measured(clocks, now).or(self.round_trip);
+        self.expected = clocks.number.saturating_add(1);
+    }
+
+    /// A clock of this end's own came back. It ends a silence if it is newer than all that came back before.
+    fn answer(&mut self, clock: u32, now: u32)
+        ensures { self.new ≡ told clock now self.old }
+    {
+        if is_fresh(clock, self.answered, now) {
+            self.answered = clock;
+            self.answered_at = now;
+            self.unanswered = 0;
+        }
+    }
+
+    /// The clocks to send to it, while this end is at a frame.
+    pub fn mine(&self, frame: u32, now: u32) -> Clocks
+        ensures { result ≡ clocks_for self.now frame now }
+    {
+        let (heard_clock, held) = match self.their_clocks {
+            Some(theirs) => (theirs.clock, since(now, theirs.heard_at)),
+            None => (0, 0),
+        };
+        Clocks {
+            number: self.sent,
+            frame,
+            heard_frame: frame_after(frame, self.behind),
+            clock: now.max(1),
+            heard_clock,
+            held,
+        }
+    }
+
+    /// Whether the next play to it has clocks.
+    pub fn wants_clocks(&self, now: u32) -> bool
+        ensures { result ≡ wants_clocks self.now now }
+    {
+        self.plays_since >= CLOCKS_EVERY - 1
+            || self.patience > 0 && since(now, self.clocks_at) >= self.patience / CLOCKS_IN_PATIENCE
+    }
+
+    /// Whether a hello goes to it next, and no play.
+    pub fn says_hello(&self) -> bool
+        ensures { result ≡ says_hello self.now }
+    {
+        !self.is_playing()
+            || !self.confirmed && self.sent % 2 == 0
+            || self.owes_hello && self.sent % HELLO_EVERY == HELLO_AT
+    }
+
+    /// One more packet was sent to it.
+    fn count(&mut self)
+        ensures { self.new ≡ counted self.old }
+    {
+        self.sent = self.sent.saturating_add(1);
+    }
+
+    /// A hello was sent to it.
+    pub fn hello_sent(&mut self)
+        ensures { self.new ≡ hello_sent self.old }
+    {
+        self.owes_hello = false;
+        self.count();
+    }
+
+    /// A play was sent to it, with clocks if it wanted them.
+    pub fn play_sent(&mut self, now: u32)
+        ensures { self.new ≡ play_sent now self.old }
+    {
+        if self.wants_clocks(now) {
+            self.unanswered = self.unanswered.saturating_add(1);
+            self.clocks_at = now;
+            self.plays_since = 0;
+        } else {
+            self.plays_since = self.plays_since.saturating_add(1);
+        }
+        self.count();
+    }
+
+    /// For how many milliseconds it wasn't heard at all, if the match is played with it.
+    pub fn silence(&self, now: u32) -> u32
+        ensures { result ≡ silence self.now now }
+    {
+        if self.is_playing() {
+            since(now, self.heard_at)
+        } else {
+            0
+        }
+    }
+
+    /// How many milliseconds ago the newest clock of this end's own came back, if the match is played with it: what is only copied
+    /// doesn't change that.
+    pub fn unanswered_for(&self, now: u32) -> u32
+        ensures { result ≡ unanswered_for self.now now }
+    {
+        if self.is_playing() {
+            since(now, self.answered_at)
+        } else {
+            0
+        }
+    }
+
+    /// Whether it has been silent for so long that it is gone; 0 is never.
+    pub fn is_silent(&self, now: u32, silent_after: u32) -> bool
+        ensures { result ≡ is_silent self.now now silent_after }
+    {
+        silent_after > 0
+            && self.unanswered_for(now) > silent_after
+            && self.unanswered >= UNANSWERED
+    }
+
+    /// Whether its silence is to be told now, for it has been silent for too long, and that wasn't told yet; 0 is never.
+    pub fn hush(&mut self, now: u32, notify_after: u32) -> bool
+        ensures told { result ≡ is_hushed self.old now notify_after }
+        ensures contact { self.new ≡ hushed self.old now notify_after }
+    {
+        let hushed = notify_after > 0 && !self.interrupted && self.silence(now) > notify_after;
+        if hushed {
+            self.interrupted = true;
+        }
+        hushed
+    }
+
+    /// A packet of it was heard.
+    pub fn heard(&mut self, now: u32)
+        ensures { self.new ≡ heard now self.old }
+    {
+        self.heard_at = now;
+        self.interrupted = false;
+        self.received = self.received.saturating_add(1);
+        self.expected = self.expected.saturating_add(1);
+    }
+
+    /// A packet that it sealed was refused, or words in it.
+    pub fn refuse(&mut self)
+        ensures { self.new ≡ refused self.old }
+    {
+        self.refused = self.refused.saturating_add(1);
+        self.is_refusing = true;
+    }
+}
+
+/// The lesser of two times of silence, where 0 is for ever.
+fn least_patience(own: u32, theirs: u32) -> u32
+    ensures { result ≡ least_patience own theirs }
+{
+    match (own, theirs) {
+        (0, other) | (other, 0) => other,
+        (own, theirs) => own.min(theirs),
+    }
+}
+
+/// Whether a moment lies before another, by less than 2^31.
+fn is_before(earlier: u32, later: u32) -> bool
+    ensures { result ≡ is_before earlier later }
+{
+    earlier != later && later.wrapping_sub(earlier) < HALF
+}
+
+/// Whether a clock of one's own that came back is newer than the newest before, and not from the future.
+fn is_fresh(clock: u32, newest: u32, now: u32) -> bool
+    ensures { result ≡ is_fresh clock newest now }
+{
+    clock != 0 && is_before(newest, clock) && !is_before(now, clock)
+}
+
+/// How many frames one who is at a frame is behind another.
+fn behind(theirs: u32, frame: u32) -> i32
+    ensures { result ≡ behind_of theirs frame }
+{
+    (i64::from(theirs) - i64::from(frame)).clamp(-BEHIND_LIMIT, BEHIND_LIMIT) as i32
+}
+
+/// The frame that is so many after another, or the nearest one.
+fn frame_after(frame: u32, more: i32) -> u32
+    ensures { result ≡ frame_after frame more }
+{
+    (i64::from(frame) + i64::from(more)).clamp(0, i64::from(u32::MAX)) as u32
+}
+
+/// The round trip that clocks show, if they show one.
+fn measured(clocks: &Clocks, now: u32) -> Option<u32>
+    ensures { result ≡ measured clocks.now now }
+{
+    let round_trip = now
+        .wrapping_sub(clocks.heard_clock)
+        .wrapping_sub(clocks.held);
+    if clocks.heard_clock != 0 && round_trip <= ROUND_TRIP_LIMIT {
+        Some(round_trip)
+    } else {
+        None
+    }
+}

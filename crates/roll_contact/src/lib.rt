@@ -1,0 +1,16 @@
+//! What one end of a line between two machines knows of the other: which of its openings is believed, how long it has been silent,
+//! how far the two are from one another; and the seal of what they send. Takes no memory.
+#![tactic(auto)]
+
+mod clock;
+mod contact;
+mod key;
+mod laws;
+pub mod seal;
+mod terms;
+
+pub use clock::Clock;
+pub use contact::{Contact, Opening, Stage, TheirClocks};
+pub use key::Key;
+pub use laws::{copies_end_no_silence, keys_differ, only_an_echo_is_believed, refusals_end_no_silence};
+pub use terms::{Field, Terms};

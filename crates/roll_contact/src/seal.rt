@@ -1,0 +1,111 @@
+//! Datagrams as they are on the network: where the number was, a tag stands that only who knows the key can make: HMAC with
+//! SHA-256. Takes no memory.
+ghost use Rattle.std.specs.Prelude.{◌≡◌, ◌≤◌, ◌++◌, ℕ, length, option_map, Some, IfSome};
+ghost use Rattle.std.specs.Str.{bytes_eq};
+ghost use Rattle.sha2.specs.Sha256.{sha256};
+ghost use Rattle.roll_contact.specs.Seals.{HasNumber, IsSealed, field, hmac, named, sealed, tag, unsealed, with_field};
+
+use crate::key::Key;
+use arrayvec::ArrayVec;
+use roll_wire::DATAGRAM_LIMIT;
+use sha2::{Digest, Sha256};
+
+type Bytes = ArrayVec<u8, DATAGRAM_LIMIT>;
+
+/// What a key's first or second pad is made by.
+const INNER: u8 = 0x36;
+const OUTER: u8 = 0x5C;
+
+/// The digest of two pieces as one message.
+fn digest_of(first: &[u8], second: &[u8]) -> [u8; 32]
+    ensures { result ≡ sha256 (first.now ++ second.now) }
+{
+    let mut hasher = Sha256::new();
+    hasher.update(first);
+    hasher.update(second);
+    hasher.finalize()
+}
+
+/// A datagram's digest by a key.
+fn hmac_of(key: &Key, datagram: &[u8]) -> [u8; 32]
+    ensures { result ≡ hmac key.now datagram.now }
+{
+    let inner = digest_of(&key.padded(INNER), datagram);
+    digest_of(&key.padded(OUTER), &inner)
+}
+
+/// Its first 8 bytes.
+fn tag_of(key: &Key, datagram: &[u8]) -> [u8; 8]
+    ensures { result ≡ tag key.now datagram.now }
+{
+    let [a, b, c, d, e, f, g, h, ..] = hmac_of(key, datagram);
+    [a, b, c, d, e, f, g, h]
+}
+
+/// The 8 bytes in the place of the number.
+fn field_of(datagram: &[u8]) -> [u8; 8]
+    requires { 12 ≤ length datagram.now }
+    ensures { result ≡ field datagram.now }
+{
+    [
+        datagram[4],
+        datagram[5],
+        datagram[6],
+        datagram[7],
+        datagram[8],
+        datagram[9],
+        datagram[10],
+        datagram[11],
+    ]
+}
+
+/// Puts 8 bytes there.
+fn put_field(datagram: &mut Bytes, field: [u8; 8])
+    requires { 12 ≤ length datagram.old.items }
+    ensures { datagram.new.items ≡ with_field field datagram.old.items }
+{
+    datagram[4..12].copy_from_slice(&field);
+}
+
+/// Whether two tags are the same. As two numbers are compared, it takes the same time whichever
+/// bytes differ.
+fn are_same(one: [u8; 8], other: [u8; 8]) -> bool
+    ensures { result ≡ bytes_eq one other }
+{
+    u64::from_be_bytes(one) == u64::from_be_bytes(other)
+}
+
+/// Puts the tag where the number is.
+pub fn seal(datagram: &mut ArrayVec<u8, DATAGRAM_LIMIT>, key: &Key)
+    requires { 12 ≤ length datagram.old.items }
+    ensures sealed { datagram.new.items ≡ sealed key.now datagram.old.items }
+    ensures len { length datagram.new.items ≡ length datagram.old.items }
+    // Who knows the key gets the datagram back.
+    ensures again { HasNumber key.now.number datagram.old.items
+        → unsealed key.now datagram.new.items ≡ Some datagram.old.items }
+{
+    let tag = tag_of(key, datagram);
+    put_field(datagram, tag);
+}
+
+/// The datagram that was sealed by this key as these bytes. None if there is no such datagram: they are too few or too many, or
+/// the tag is another.
+pub fn unseal(bytes: &[u8], key: &Key) -> Option<ArrayVec<u8, DATAGRAM_LIMIT>>
+    ensures found { IfSome result (λ datagram. IsSealed key.now bytes.now
+        × (datagram.items ≡ named key.now.number bytes.now)) }
+    ensures exact { option_map (λ datagram. datagram.items) result
+        ≡ unsealed key.now bytes.now }
+{
+    if bytes.len() < 12 {
+        return None;
+    }
+    let Ok(mut datagram) = Bytes::try_from(bytes) else {
+        return None;
+    };
+    put_field(&mut datagram, key.number.to_be_bytes());
+    if are_same(tag_of(key, &datagram), field_of(bytes)) {
+        Some(datagram)
+    } else {
+        None
+    }
+}
