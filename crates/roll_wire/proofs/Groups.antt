@@ -1,7 +1,7 @@
 -- The groups of fields that a datagram has.
 use Rattle.std.proofs.Common.{◌≡◌, ℕ, ◌+◌, ◌-◌, ◌^◌, ◌≤◌, Bool, true, false, not, cond, eqb, ltb, List, ◌++◌, length, Option, Result, Ok, Err, refl, sym, ap, subst, ◌∙◌, arith}
 use Rattle.std.specs.Prelude.{IfSome}
-use Rattle.std.specs.Int.{w64}
+use Rattle.std.specs.Int.{w32, w64}
 use Rattle.std.specs.List.{flat_map, AllByRecursion}
 use Rattle.std.proofs.lemmas.Bool.{eqb-true, lt-ltb, ltb-true}
 use Rattle.roll_mesh.specs.declared.limits.TheConstants.{MACHINE_LIMIT, PLAYER_LIMIT}
@@ -14,9 +14,9 @@ use Rattle.roll_wire.specs.declared.datagram.Hello.{Hello}
 use Rattle.roll_wire.specs.declared.datagram.Settled.{Settled}
 use Rattle.roll_wire.specs.declared.fault.WireFault.{WireFault}
 use Rattle.roll_wire.specs.declared.fault.WireFault.TheVariants.{Zero, TooFar}
-use Rattle.roll_wire.specs.Spelling.{long, short, byte, flag, mask, optional, masked, envelope, hello, clocks, view, settled, offer, head, is_counted, is_offered, IsByte, IsNumber, IsLong, IsOffer, IsEnvelope, IsHead, IsHello, IsClocks, IsSettled}
-use Rattle.roll_wire.specs.Reading.{◌>>=◌, number_at, byte_at, flag_at, short_at, mask_at, optional_at, masked_at, repeated, envelope_at, hello_at, clocks_at, settled_at, counted_at, offered, offer_at, no_offer, view_at, head_at}
-use Rattle.roll_wire.proofs.Fields.{IsBytes, IsField, IsMasked, Takes, bind_ok, guard_ok, both_at, both_field, seen_at, seen_field, repeated_field, optional_field, masked_field, long_field, short_field, byte_field, flag_field, mask_field}
+use Rattle.roll_wire.specs.Spelling.{number, long, short, byte, mask, optional, masked, envelope, hello, clocks, view, settled, offer, head, is_counted, is_offered, IsByte, IsNumber, IsLong, IsOffer, IsEnvelope, IsHead, IsHello, IsClocks, IsSettled}
+use Rattle.roll_wire.specs.Reading.{◌>>=◌, number_at, byte_at, short_at, mask_at, optional_at, masked_at, repeated, envelope_at, hello_at, clocks_at, settled_at, counted_at, offered, offer_at, no_offer, view_at, head_at}
+use Rattle.roll_wire.proofs.Fields.{IsBytes, IsField, IsMasked, Takes, bind_ok, guard_ok, both_at, both_field, seen_at, seen_field, repeated_field, optional_field, masked_field, number_field, long_field, short_field, byte_field, mask_field}
 
 bind_assoc : {A B C : Type 0} (r : Result A WireFault) (f : A → Result B WireFault)
     (g : B → Result C WireFault) → ((r >>= f) >>= g) ≡ (r >>= λ x. f x >>= g)
@@ -55,40 +55,73 @@ envelope_field =
 abbrev AreBytes : List ℕ → Type 0
 AreBytes ns = (length ns ≡ PLAYER_LIMIT) × AllByRecursion IsByte ns
 
-abbrev hello_parts : List ℕ → Result ((Bool × (ℕ × (List ℕ × ℕ))) × List ℕ) WireFault
-hello_parts = both_at flag_at
-    (both_at byte_at (both_at (repeated byte_at PLAYER_LIMIT) (number_at w64)))
+abbrev Last : ℕ × ℕ → Type 0
+Last x = IsNumber x.0 × IsByte x.1
 
-abbrev hello_of : Bool × (ℕ × (List ℕ × ℕ)) → Hello
-hello_of x = record { heard = x.0; machines = x.1.0; owners = x.1.1.0; settings = x.1.1.1 }
+abbrev last : ℕ × ℕ → List ℕ
+last x = number x.0 ++ byte x.1
+
+abbrev last_at : List ℕ → Result ((ℕ × ℕ) × List ℕ) WireFault
+last_at = both_at (number_at w32) byte_at
+
+last_field : IsField Last last last_at
+last_field = both_field IsNumber number (number_at w32) IsByte byte byte_at number_field byte_field
+
+abbrev Opening : ℕ × (ℕ × (ℕ × ℕ)) → Type 0
+Opening x = IsLong x.0 × (IsLong x.1.0 × Last x.1.1)
+
+abbrev opening : ℕ × (ℕ × (ℕ × ℕ)) → List ℕ
+opening x = long x.0 ++ (long x.1.0 ++ last x.1.1)
+
+abbrev opening_at : List ℕ → Result ((ℕ × (ℕ × (ℕ × ℕ))) × List ℕ) WireFault
+opening_at = both_at (number_at w64) (both_at (number_at w64) last_at)
+
+opening_field : IsField Opening opening opening_at
+opening_field =
+    both_field IsLong long (number_at w64) (λ x. IsLong x.0 × Last x.1) (λ x. long x.0 ++ last x.1)
+    (both_at (number_at w64) last_at) long_field
+    (both_field IsLong long (number_at w64) Last last last_at long_field last_field)
+
+abbrev HelloParts : Type 0
+HelloParts = ℕ × (List ℕ × (ℕ × (ℕ × (ℕ × (ℕ × ℕ)))))
+
+abbrev hello_parts : List ℕ → Result (HelloParts × List ℕ) WireFault
+hello_parts = both_at byte_at
+    (both_at (repeated byte_at PLAYER_LIMIT) (both_at (number_at w64) opening_at))
+
+abbrev hello_of : HelloParts → Hello
+hello_of x = record {
+  machines = x.0;
+  owners = x.1.0;
+  settings = x.1.1.0;
+  draw = x.1.1.1.0;
+  echo = x.1.1.1.1.0;
+  patience = x.1.1.1.1.1.0;
+  abilities = x.1.1.1.1.1.1;
+}
+
+abbrev parts_of_hello : Hello → HelloParts
+parts_of_hello h =
+    (h.machines, (h.owners, (h.settings, (h.draw, (h.echo, (h.patience, h.abilities))))))
 
 hello_same : (bytes : List ℕ) → hello_at bytes ≡ seen_at hello_of hello_parts bytes
 unfolding hello_at
 hello_same bytes = sym (simp bind_assoc)
 
-hello_parts_field : IsField (λ (h : Hello). Unit {0} × IsHello h) hello hello_at
-hello_parts_field =
-    same_field (λ (h : Hello). Unit {0} × IsHello h) hello hello_at (seen_at hello_of hello_parts)
-    hello_same
-    (seen_field hello_of (λ h. (h.heard, (h.machines, (h.owners, h.settings))))
-    (λ x. Unit {0} × (IsByte x.1.0 × (AreBytes x.1.1.0 × IsLong x.1.1.1)))
-    (λ x. flag x.0 ++ (byte x.1.0 ++ (flat_map byte x.1.1.0 ++ long x.1.1.1))) hello_parts
-    (λ x. refl) (λ h. refl)
-    (both_field (λ b. Unit {0}) flag flag_at (λ x. IsByte x.0 × (AreBytes x.1.0 × IsLong x.1.1))
-    (λ x. byte x.0 ++ (flat_map byte x.1.0 ++ long x.1.1))
-    (both_at byte_at (both_at (repeated byte_at PLAYER_LIMIT) (number_at w64))) flag_field
-    (both_field IsByte byte byte_at (λ x. AreBytes x.0 × IsLong x.1)
-    (λ x. flat_map byte x.0 ++ long x.1)
-    (both_at (repeated byte_at PLAYER_LIMIT) (number_at w64)) byte_field
-    (both_field AreBytes (λ ns. flat_map byte ns) (repeated byte_at PLAYER_LIMIT) IsLong long
-    (number_at w64) (repeated_field IsByte byte byte_at PLAYER_LIMIT byte_field) long_field))))
-
 pub hello_field : IsField IsHello hello hello_at
-hello_field = record {
-  takes = λ bytes h rest b e.
-      let t = hello_parts_field.takes bytes h rest b e in (t.0, t.1.1);
-  again = λ h rest f. hello_parts_field.again h rest (tt, f);
-}
+hello_field =
+    same_field IsHello hello hello_at (seen_at hello_of hello_parts) hello_same
+    (seen_field hello_of parts_of_hello
+    (λ x. IsByte x.0 × (AreBytes x.1.0 × (IsLong x.1.1.0 × Opening x.1.1.1)))
+    (λ x. byte x.0 ++ (flat_map byte x.1.0 ++ (long x.1.1.0 ++ opening x.1.1.1))) hello_parts
+    (λ x. refl) (λ h. refl)
+    (both_field IsByte byte byte_at (λ x. AreBytes x.0 × (IsLong x.1.0 × Opening x.1.1))
+    (λ x. flat_map byte x.0 ++ (long x.1.0 ++ opening x.1.1))
+    (both_at (repeated byte_at PLAYER_LIMIT) (both_at (number_at w64) opening_at)) byte_field
+    (both_field AreBytes (λ ns. flat_map byte ns) (repeated byte_at PLAYER_LIMIT)
+    (λ x. IsLong x.0 × Opening x.1) (λ x. long x.0 ++ opening x.1)
+    (both_at (number_at w64) opening_at) (repeated_field IsByte byte byte_at PLAYER_LIMIT byte_field)
+    (both_field IsLong long (number_at w64) Opening opening opening_at long_field opening_field))))
 
 -- ---- clocks
 

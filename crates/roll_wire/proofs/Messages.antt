@@ -11,8 +11,8 @@ use Rattle.roll_wire.specs.declared.datagram.Head.{Head}
 use Rattle.roll_wire.specs.declared.fault.WireFault.{WireFault}
 use Rattle.roll_wire.specs.declared.fault.WireFault.TheVariants.{Magic, TooMany, Trailing}
 use Rattle.roll_wire.specs.declared.limits.TheConstants.{MAGIC, WORD_LIMIT}
-use Rattle.roll_wire.specs.Spelling.{Content, Greets, Plays, Leaves, Message, Turn, body, envelope, hello, message, number, head, runs, spelling, count_of, Fits, IsContent, IsTurn}
-use Rattle.roll_wire.specs.Reading.{◌>>=◌, Gives, number_at, magic_at, envelope_at, hello_at, head_at, words_at, turn_at, content_at, all_of}
+use Rattle.roll_wire.specs.Spelling.{Content, Greets, Plays, Leaves, Message, Turn, body, byte, envelope, hello, message, number, head, runs, spelling, count_of, Fits, IsContent, IsTurn}
+use Rattle.roll_wire.specs.Reading.{◌>>=◌, Gives, number_at, magic_at, envelope_at, hello_at, head_at, mark_at, words_at, turn_at, content_at, all_of}
 use Rattle.roll_wire.proofs.Fields.{IsBytes, IsBytes-rest, Takes, Takes-then, bind_ok, passed_ok, ok_is, number_field}
 use Rattle.roll_wire.proofs.Groups.{envelope_field, head_field, hello_field}
 use Rattle.roll_wire.proofs.Words.{words_take, words_again}
@@ -36,8 +36,21 @@ magic_again rest = rw (number_field.again MAGIC rest (omega arith)) refl
 
 -- ---- a turn
 
+mark_takes : (bytes rest : List ℕ) → IsBytes bytes → mark_at bytes ≡ Ok rest
+    → Takes bytes (byte 0) rest
+unfolding mark_at
+mark_takes [] rest b e = absurd cc
+mark_takes (zero ∷ bytes) rest b e =
+    subst (λ (x : List ℕ). Takes (0 ∷ bytes) (byte 0) x) (ok_is bytes rest e)
+    (record { parts = refl; rest_fits = IsBytes-rest 0 bytes b })
+mark_takes (suc mark ∷ bytes) rest b e = absurd cc
+
+mark_again : (rest : List ℕ) → mark_at (byte 0 ++ rest) ≡ Ok rest
+unfolding mark_at
+mark_again rest = refl
+
 abbrev turn_text : Turn → List ℕ
-turn_text t = head t.head ++ runs t.words
+turn_text t = head t.head ++ (byte 0 ++ runs t.words)
 
 abbrev with_words : Head → List ℕ × List ℕ → Result (Turn × List ℕ) WireFault
 with_words h words = Ok (record { head = h; words = words.0 }, words.1)
@@ -50,18 +63,23 @@ turn_takes : (bytes : List ℕ) (t : Turn) (rest : List ℕ) → IsBytes bytes
 unfolding turn_at
 turn_takes bytes t rest b e =
     let q = bind_ok (head_at bytes) (λ h. counted h.0.offers >>=
-    λ count. words_at count 0 None h.1 >>= with_words h.0) (t, rest) e in
-    let r = bind_ok (counted q.0.0.offers) (λ count. words_at count 0 None q.0.1 >>=
-    with_words q.0.0) (t, rest) q.2 in
-    let s = bind_ok (words_at r.0 0 None q.0.1) (with_words q.0.0) (t, rest) r.2 in
+    λ count. mark_at h.1 >>= λ behind. words_at count 0 None behind >>= with_words h.0) (t, rest) e
+    in
+    let r = bind_ok (counted q.0.0.offers) (λ count. mark_at q.0.1 >>=
+    λ behind. words_at count 0 None behind >>= with_words q.0.0) (t, rest) q.2 in
+    let m = bind_ok (mark_at q.0.1) (λ behind. words_at r.0 0 None behind >>= with_words q.0.0)
+    (t, rest) r.2 in
+    let s = bind_ok (words_at r.0 0 None m.0) (with_words q.0.0) (t, rest) m.2 in
     let c = passed_ok (leb (count_of q.0.0.offers) WORD_LIMIT) TooMany (count_of q.0.0.offers) r.0
     r.1 in
     let u = head_field.takes bytes q.0.0 q.0.1 b q.1 in
-    let v = words_take r.0 q.0.1 s.0.0 s.0.1 u.0.rest_fits s.1 in
+    let k = mark_takes q.0.1 m.0 u.0.rest_fits m.1 in
+    let v = words_take r.0 m.0 s.0.0 s.0.1 k.rest_fits s.1 in
+    let marked = Takes-then q.0.1 (byte 0) m.0 (runs s.0.0) s.0.1 k v.takes in
     let made : Turn × List ℕ = (record { head = q.0.0; words = s.0.0 }, s.0.1) in
     subst (λ (x : Turn × List ℕ). Takes bytes (turn_text x.0) x.1 × IsTurn x.0)
     (ok_is made (t, rest) s.2) (
-      Takes-then bytes (head q.0.0) q.0.1 (runs s.0.0) s.0.1 u.0 v.takes,
+      Takes-then bytes (head q.0.0) q.0.1 (byte 0 ++ runs s.0.0) s.0.1 u.0 marked,
       record {
         head = u.1;
         words = v.all ∙ sym c.1;
@@ -79,8 +97,13 @@ turn_again t rest f =
     =
     subst (λ (n : ℕ). words_at n 0 None (runs t.words ++ rest) ≡ Ok (t.words, rest)) f.words
     (words_again t.words rest f.are_words) in
-    ap turn_at (append_assoc (head t.head) (runs t.words) rest)
-    ∙ rw (head_field.again t.head (runs t.words ++ rest) f.head, few, words) refl
+    ap turn_at (append_assoc (head t.head) (byte 0 ++ runs t.words) rest)
+    ∙ rw (
+      head_field.again t.head (byte 0 ++ (runs t.words ++ rest)) f.head,
+      few,
+      mark_again (runs t.words ++ rest),
+      words,
+    ) refl
 
 -- ---- a kind, and what follows it
 

@@ -10,7 +10,7 @@ use Rattle.roll_wire.specs.declared.datagram.Head.{Head}
 use Rattle.roll_wire.specs.declared.datagram.Hello.{Hello}
 use Rattle.roll_wire.specs.declared.datagram.Settled.{Settled}
 use Rattle.roll_wire.specs.declared.fault.WireFault.{WireFault}
-use Rattle.roll_wire.specs.declared.fault.WireFault.TheVariants.{Short, Magic, Kind, Flag, Long, Zero, TooFar, TooMany, Run, Trailing}
+use Rattle.roll_wire.specs.declared.fault.WireFault.TheVariants.{Short, Magic, Kind, Flag, Long, Zero, TooFar, TooMany, Mark, Run, Trailing}
 use Rattle.roll_wire.specs.declared.limits.TheConstants.{MAGIC, WORD_LIMIT}
 use Rattle.roll_wire.specs.Spelling.{Content, Greets, Plays, Leaves, Fits, Message, Turn, count_of, spelling}
 
@@ -163,18 +163,24 @@ repeated read (suc n) bytes = do
 
 unfoldable pub hello_at : List ℕ → Result (Hello × List ℕ) WireFault
 hello_at bytes = do
-  heard ← flag_at bytes
-  machines ← byte_at heard.1
+  machines ← byte_at bytes
   owners ← repeated byte_at PLAYER_LIMIT machines.1
   settings ← number_at w64 owners.1
+  draw ← number_at w64 settings.1
+  echo ← number_at w64 draw.1
+  patience ← number_at w32 echo.1
+  abilities ← byte_at patience.1
   Ok (
     record {
-      heard = heard.0;
       machines = machines.0;
       owners = owners.0;
       settings = settings.0;
+      draw = draw.0;
+      echo = echo.0;
+      patience = patience.0;
+      abilities = abilities.0;
     },
-    settings.1,
+    abilities.1,
   )
 
 unfoldable pub view_at : List ℕ → Result (View × List ℕ) WireFault
@@ -234,11 +240,18 @@ magic_at bytes = do
 abbrev pub fitting : ℕ → Result ℕ WireFault
 fitting count = if nat_le count WORD_LIMIT then Ok count else Err TooMany
 
+-- the byte of marks, of which there are none
+unfoldable pub mark_at : List ℕ → Result (List ℕ) WireFault
+mark_at [] = Err Short
+mark_at (zero ∷ rest) = Ok rest
+mark_at (suc mark ∷ rest) = Err Mark
+
 unfoldable pub turn_at : List ℕ → Result (Turn × List ℕ) WireFault
 turn_at bytes = do
   head ← head_at bytes
   count ← fitting (count_of head.0.offers)
-  words ← words_at count 0 None head.1
+  behind ← mark_at head.1
+  words ← words_at count 0 None behind
   Ok (record { head = head.0; words = words.0 }, words.1)
 
 -- the kind, and what follows it

@@ -91,7 +91,10 @@ abbrev pub envelope : Envelope → List ℕ
 envelope e = long e.match_number ++ byte e.sender
 
 abbrev pub hello : Hello → List ℕ
-hello h = flag h.heard ++ (byte h.machines ++ (flat_map byte h.owners ++ long h.settings))
+hello h =
+    byte h.machines
+    ++ (flat_map byte h.owners ++ (long h.settings
+    ++ (long h.draw ++ (long h.echo ++ (number h.patience ++ byte h.abilities)))))
 
 abbrev pub clocks : Clocks → List ℕ
 clocks c =
@@ -147,10 +150,10 @@ pending inside before ws = if inside then rest_of before ws else lead before ws 
 abbrev pub runs : List ℕ → List ℕ
 runs ws = lead 0 ws ++ rest_of 0 ws
 
--- the kind, and what follows it
+-- the kind, and what follows it: the byte before a turn's words is for marks, of which there are none
 abbrev pub body : Content → List ℕ
 body (Greets h) = byte 0 ++ hello h
-body (Plays t) = byte 1 ++ (head t.head ++ runs t.words)
+body (Plays t) = byte 1 ++ (head t.head ++ (byte 0 ++ runs t.words))
 body Leaves = byte 2
 
 -- the bytes of a datagram
@@ -194,7 +197,9 @@ IsEnvelope e = IsLong e.match_number × IsByte e.sender
 abbrev pub IsHello : Hello → Type 0
 IsHello h =
     IsByte h.machines
-    × (((length h.owners ≡ PLAYER_LIMIT) × AllByRecursion IsByte h.owners) × IsLong h.settings)
+    × (((length h.owners ≡ PLAYER_LIMIT) × AllByRecursion IsByte h.owners)
+    × (IsLong h.settings × (IsLong h.draw × (IsLong h.echo
+    × (IsNumber h.patience × IsByte h.abilities)))))
 
 abbrev pub IsClocks : Clocks → Type 0
 IsClocks c =

@@ -17,14 +17,20 @@ pub struct Envelope {
 /// What two machines compare before they play.
 #[derive(Clone, Copy, Debug)]
 pub struct Hello {
-    /// Whether the sender has heard a hello of the receiver.
-    pub heard: bool,
     /// How many machines the match has, 2 to 8.
     pub machines: u8,
     /// The machine that owns each player, player 0 first; 255 if there is no such player.
     pub owners: [u8; PLAYER_LIMIT],
     /// A digest of all else that both sides have to have alike: the game, its opening, the session's limits.
     pub settings: u64,
+    /// The draw of the sender's opening, which isn't 0.
+    pub draw: u64,
+    /// The draw that it heard last of the receiver, 0 if none.
+    pub echo: u64,
+    /// After how many milliseconds of silence the sender regards the receiver as gone; 0: never.
+    pub patience: u32,
+    /// What the sender can beyond this version: a bit each.
+    pub abilities: u8,
 }
 
 /// How far the sender is, and when it sent.

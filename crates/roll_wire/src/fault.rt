@@ -28,6 +28,9 @@ pub enum WireFault {
     /// More than 160 words are offered.
     #[error("too many words")]
     TooMany,
+    /// A mark isn't 0: nobody reads marks yet.
+    #[error("a mark, which nobody reads yet")]
+    Mark,
     /// A run is longer than the words that are left, or a word that is said to change doesn't.
     #[error("a wrong run of words")]
     Run,

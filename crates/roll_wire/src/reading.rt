@@ -4,7 +4,7 @@ ghost use Rattle.std.specs.Int.{w32, w64};
 ghost use Rattle.roll_mesh.specs.declared.limits.TheConstants.{PLAYER_LIMIT};
 ghost use Rattle.roll_mesh.specs.declared.packet.Offer.{Offer};
 ghost use Rattle.roll_wire.specs.Spelling.{Fits, Message, content, count_of, digits_limit, message, spelling, turn};
-ghost use Rattle.roll_wire.specs.Reading.{Gives, all_of, bits, byte_at, clocks_at, content_at, counted_at, digits_at, envelope_at, flag_at, head_at, hello_at, is_over, magic_at, mask_at, masked_at, no_offer, number_at, offer_at, optional_at, place_at, repeated, run_at, settled_at, short_at, turn_at, view_at, word_at, words_at};
+ghost use Rattle.roll_wire.specs.Reading.{Gives, all_of, bits, byte_at, clocks_at, content_at, counted_at, digits_at, envelope_at, flag_at, head_at, hello_at, is_over, magic_at, mark_at, mask_at, masked_at, no_offer, number_at, offer_at, optional_at, place_at, repeated, run_at, settled_at, short_at, turn_at, view_at, word_at, words_at};
 ghost use Rattle.roll_wire.specs.declared.limits.TheConstants.{WORD_LIMIT};
 
 use crate::datagram::{Body, Clocks, Datagram, Envelope, Head, Hello, Play, Settled};
@@ -314,15 +314,21 @@ fn owners_of(bytes: &[u8]) -> Result<([u8; PLAYER_LIMIT], &[u8]), WireFault>
 fn hello_of(bytes: &[u8]) -> Result<(Hello, &[u8]), WireFault>
     ensures { Gives (λ x. (x.0, x.1.now)) result (hello_at bytes.now) }
 {
-    let (heard, rest) = flag_of(bytes)?;
-    let (machines, rest) = byte_of(rest)?;
+    let (machines, rest) = byte_of(bytes)?;
     let (owners, rest) = owners_of(rest)?;
     let (settings, rest) = u64_at(rest)?;
+    let (draw, rest) = u64_at(rest)?;
+    let (echo, rest) = u64_at(rest)?;
+    let (patience, rest) = u32_at(rest)?;
+    let (abilities, rest) = byte_of(rest)?;
     let hello = Hello {
-        heard,
         machines,
         owners,
         settings,
+        draw,
+        echo,
+        patience,
+        abilities,
     };
     Ok((hello, rest))
 }
@@ -386,6 +392,17 @@ fn words_of(count: usize, bytes: &[u8]) -> Result<(ArrayVec<u32, WORD_LIMIT>, &[
     Ok((words, rest))
 }
 
+#[tactic(auto, unfolding(crate::specs::Reading::mark_at))]
+fn mark_of(bytes: &[u8]) -> Result<&[u8], WireFault>
+    ensures { Gives (λ x. x.now) result (mark_at bytes.now) }
+{
+    match bytes {
+        [] => Err(WireFault::Short),
+        [0, rest @ ..] => Ok(rest),
+        [_, ..] => Err(WireFault::Mark),
+    }
+}
+
 #[tactic(auto, unfolding(crate::specs::Reading::turn_at))]
 fn play_of(bytes: &[u8]) -> Result<(Play, &[u8]), WireFault>
     ensures { Gives (λ x. (turn x.0, x.1.now)) result (turn_at bytes.now) }
@@ -395,6 +412,7 @@ fn play_of(bytes: &[u8]) -> Result<(Play, &[u8]), WireFault>
     if count > WORD_LIMIT {
         return Err(WireFault::TooMany);
     }
+    let rest = mark_of(rest)?;
     let (words, rest) = words_of(count, rest)?;
     Ok((Play { head, words }, rest))
 }

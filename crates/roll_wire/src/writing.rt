@@ -303,14 +303,17 @@ fn put_owners(out: &mut Bytes, owners: &[u8; PLAYER_LIMIT])
 }
 
 fn put_hello(out: &mut Bytes, h: &Hello)
-    requires { length out.old.items + 18 ≤ DATAGRAM_LIMIT }
+    requires { length out.old.items + 38 ≤ DATAGRAM_LIMIT }
     ensures items { out.new.items ≡ out.old.items ++ hello h.now }
     ensures fits { IsHello h.now }
 {
-    put_flag(out, h.heard);
     put_byte(out, h.machines);
     put_owners(out, &h.owners);
     put_u64(out, h.settings);
+    put_u64(out, h.draw);
+    put_u64(out, h.echo);
+    put_u32(out, h.patience);
+    put_byte(out, h.abilities);
 }
 
 /// The length of the run that the words begin with, unless it stands already.
@@ -363,18 +366,19 @@ fn put_words(out: &mut Bytes, words: &[u32])
 
 fn put_play(out: &mut Bytes, play: &Play)
     requires whole { is_turn (turn play.now) ≡ true }
-    requires room { length out.old.items + (136 + 6 * WORD_LIMIT) ≤ DATAGRAM_LIMIT }
+    requires room { length out.old.items + (137 + 6 * WORD_LIMIT) ≤ DATAGRAM_LIMIT }
     ensures items { out.new.items
-        ≡ out.old.items ++ (head play.now.head ++ runs play.now.words.items) }
+        ≡ out.old.items ++ (head play.now.head ++ (byte 0 ++ runs play.now.words.items)) }
     ensures fits { IsTurn (turn play.now) }
 {
     put_head(out, &play.head);
+    put_byte(out, 0);
     put_words(out, play.words.as_slice());
 }
 
 fn put_body(out: &mut Bytes, b: &Body)
     requires whole { is_whole (content b.now) ≡ true }
-    requires room { length out.old.items + (137 + 6 * WORD_LIMIT) ≤ DATAGRAM_LIMIT }
+    requires room { length out.old.items + (138 + 6 * WORD_LIMIT) ≤ DATAGRAM_LIMIT }
     ensures items { out.new.items ≡ out.old.items ++ body (content b.now) }
     ensures fits { IsContent (content b.now) }
 {
@@ -425,7 +429,7 @@ fn are_offers(offers: &[Offer; PLAYER_LIMIT]) -> bool
     true
 }
 
-/// The one spelling of a datagram, 1,200 bytes at most: the greatest has 1,110. None if it has none: if it is a turn
+/// The one spelling of a datagram, 1,200 bytes at most: the greatest has 1,111. None if it has none: if it is a turn
 /// that has another number of words than it offers, or that offers words that end before they begin.
 pub fn encode(datagram: &Datagram) -> Option<ArrayVec<u8, DATAGRAM_LIMIT>>
     ensures spelled { IfSome result (λ bytes. Fits (message datagram.now)
