@@ -202,14 +202,14 @@ impl Contact {
     }
 
     /// A play was heard, with clocks or without, while this end is at a frame.
-    pub fn play(&mut self, clocks: Option<&Clocks>, frame: u32, now: u32)
-        ensures { self.new ≡ after_play clocks.now frame now self.old }
+    pub fn play(&mut self, clocks: Option<Clocks>, frame: u32, now: u32)
+        ensures { self.new ≡ after_play clocks frame now self.old }
     {
         self.heard(now);
         self.confirmed = true;
         self.is_refusing = false;
         match clocks {
-            Some(clocks) if self.are_newer(clocks) => self.clocks(clocks, frame, now),
+            Some(clocks) if self.are_newer(&clocks) => self.clocks(&clocks, frame, now),
             _ => {}
         }
     }
@@ -350,9 +350,7 @@ impl Contact {
     pub fn is_silent(&self, now: u32, silent_after: u32) -> bool
         ensures { result ≡ is_silent self.now now silent_after }
     {
-        silent_after > 0
-            && self.unanswered_for(now) > silent_after
-            && self.unanswered >= UNANSWERED
+        silent_after > 0 && self.unanswered_for(now) > silent_after && self.unanswered >= UNANSWERED
     }
 
     /// Whether its silence is to be told now, for it has been silent for too long, and that wasn't told yet; 0 is never.

@@ -12,5 +12,7 @@ mod terms;
 pub use clock::Clock;
 pub use contact::{Contact, Opening, Stage, TheirClocks};
 pub use key::Key;
-pub use laws::{copies_end_no_silence, keys_differ, only_an_echo_is_believed, refusals_end_no_silence};
+pub use laws::{
+    copies_end_no_silence, keys_differ, only_an_echo_is_believed, refusals_end_no_silence,
+};
 pub use terms::{Field, Terms};

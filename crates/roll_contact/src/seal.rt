@@ -14,6 +14,7 @@ type Bytes = ArrayVec<u8, DATAGRAM_LIMIT>;
 
 /// What a key's first or second pad is made by.
 const INNER: u8 = 0x36;
+
 const OUTER: u8 = 0x5C;
 
 /// The digest of two pieces as one message.

@@ -17,3 +17,5 @@ pub mod Holders
 pub mod Handed
 pub mod WordSteps
 pub mod Beginnings
+pub mod HoldingUp
+pub mod Shortened

@@ -4,7 +4,8 @@ use Rattle.std.specs.List.{AllByRecursion}
 use Rattle.roll_mesh.specs.declared.limits.TheConstants.{MACHINE_LIMIT, PLAYER_LIMIT}
 use Rattle.roll_mesh.specs.declared.machine.Machine.{Machine}
 use Rattle.roll_mesh.specs.declared.packet.Packet.{Packet}
-use Rattle.roll_mesh.specs.Machines.{is_in, left_at, owner_of}
+use Rattle.roll_mesh.specs.declared.seat.Seat.{Seat}
+use Rattle.roll_mesh.specs.Machines.{hear, is_in, left_at, owner_of, shortened}
 use Rattle.roll_mesh.specs.Worlds.{Match, World, Step, Give, Leave, Tell, Hear, Left, seat_of, after, after_all, played}
 
 -- no machine: it has nothing, and regards nobody as gone
@@ -106,3 +107,8 @@ TheyGetOn =
     × ((i p : ℕ) → i < match.machines → stay i ≡ true → p < PLAYER_LIMIT
     → owner_in match p < match.machines → stay (owner_in match p) ≡ false
     → IsSome (left_of (after_all match (played match steps) more) i p))
+
+-- a packet without its offers of no words is heard as the whole one
+abbrev pub HearsTheSame : Type 0
+HearsTheSame = (seat : Seat) (packet : Packet) (machine : Machine)
+    → hear seat (shortened packet) machine ≡ hear seat packet machine

@@ -105,6 +105,14 @@ trimmed most packet = record packet {
   offers = at_places (λ p. trimmed_offer (slice_index most p) (offer_at packet p)) packet.offers;
 }
 
+-- an offer, and nothing if it has no words
+abbrev pub kept_offer : Offer → Offer
+kept_offer offer = if offer.first == offer.end then none_offered else offer
+
+-- the packet without its offers of no words
+abbrev pub shortened : Packet → Packet
+shortened packet = record packet { offers = map kept_offer packet.offers }
+
 -- how many words of player p there are after a packet: the next ones alone are taken, and none of
 -- who has left
 unfoldable pub has_after : Seat → List Bool → Machine → Packet → ℕ → ℕ

@@ -1,6 +1,7 @@
 //! Laws of a match, over any steps of any number of machines, and any network that delivers only what was sent, as
 //! often and as late as it likes. Each is the contract of a function that makes no call.
-ghost use Rattle.roll_mesh.specs.Laws.{GoneStaysGone, NobodyIsBelievedBeyond, OwnersHaveMost, TheyAgree, TheyGetOn, WhoStaysHasAsMany};
+ghost use Rattle.roll_mesh.specs.HoldingUp.{WaitersHoldUpNobody};
+ghost use Rattle.roll_mesh.specs.Laws.{GoneStaysGone, HearsTheSame, NobodyIsBelievedBeyond, OwnersHaveMost, TheyAgree, TheyGetOn, WhoStaysHasAsMany};
 ghost use Rattle.roll_mesh.specs.Words.{BeginsTheOwners, CountsAreLengths, CountsArePlayed, OwnersHaveWhatTheyGave, TheyHaveWhatWasGiven};
 
 /// If a player has left one machine, each machine that this one doesn't regard as gone has just as many words of that
@@ -52,4 +53,15 @@ pub fn owners_have_what_they_gave()
 pub fn counts_are_of_words()
     ensures played { CountsArePlayed }
     ensures lengths { CountsAreLengths }
+{}
+
+/// A packet without its offers of no words is heard as the whole one.
+pub fn shortened_is_heard_alike()
+    ensures { HearsTheSame }
+{}
+
+/// Of a chain of machines that wait for each other only the end holds up the match: a machine that by its own counts waits for
+/// a word doesn't.
+pub fn waiters_hold_up_nobody()
+    ensures { WaitersHoldUpNobody }
 {}

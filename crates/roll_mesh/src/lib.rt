@@ -5,6 +5,7 @@
 #![tactic(auto)]
 
 mod heard;
+mod holding_up;
 mod laws;
 mod limits;
 mod machine;
@@ -16,8 +17,8 @@ mod seat;
 pub use heard::Heard;
 pub use laws::{
     counts_are_of_words, gone_stays_gone, nobody_is_believed_beyond, owners_have_most,
-    owners_have_what_they_gave, they_agree, they_get_on, they_have_what_was_given,
-    who_stays_has_as_many,
+    owners_have_what_they_gave, shortened_is_heard_alike, they_agree, they_get_on,
+    they_have_what_was_given, waiters_hold_up_nobody, who_stays_has_as_many,
 };
 pub use limits::{MACHINE_LIMIT, PLAYER_LIMIT};
 pub use machine::Machine;

@@ -202,6 +202,13 @@ impl Mesh {
         self.machine.left_at(player)
     }
 
+    /// What the machine knows.
+    pub(crate) fn machine(&self) -> &Machine
+        ensures { result.now ≡ self.now.machine }
+    {
+        &self.machine
+    }
+
     /// Where this machine sits in the match.
     pub fn seat(&self) -> &Seat
         ensures { result.now ≡ self.now.seat }

@@ -1,7 +1,7 @@
 //! What machines tell each other.
 ghost use Rattle.std.specs.Prelude.{◌≡◌};
 ghost use Rattle.roll_mesh.specs.Meshes.{is_had};
-ghost use Rattle.roll_mesh.specs.Machines.{covers, keeps, reaches, trimmed, trimmed_offer};
+ghost use Rattle.roll_mesh.specs.Machines.{covers, keeps, kept_offer, reaches, shortened, trimmed, trimmed_offer};
 
 use crate::limits::{MACHINE_LIMIT, PLAYER_LIMIT};
 
@@ -66,6 +66,17 @@ impl Offer {
             end: self.end.min(most),
         }
     }
+
+    /// The words, and nothing if there are none.
+    fn kept(self) -> Offer
+        ensures { result ≡ kept_offer self }
+    {
+        if self.first == self.end {
+            Offer { first: 0, end: 0 }
+        } else {
+            self
+        }
+    }
 }
 
 /// A packet as a mesh hears it: with the counts of its words alone. Machines and players are counted from 0.
@@ -100,6 +111,21 @@ impl Packet {
         let mut offers = self.offers;
         for player in 0..PLAYER_LIMIT {
             offers[player] = self.offers[player].trimmed(most[player]);
+        }
+        Packet {
+            sender: self.sender,
+            view: self.view,
+            offers,
+        }
+    }
+
+    /// The packet without its offers of no words. Whoever hears it hears the same.
+    pub fn shortened(&self) -> Packet
+        ensures { result ≡ shortened self.now }
+    {
+        let mut offers = [Offer { first: 0, end: 0 }; PLAYER_LIMIT];
+        for player in 0..PLAYER_LIMIT {
+            offers[player] = self.offers[player].kept();
         }
         Packet {
             sender: self.sender,

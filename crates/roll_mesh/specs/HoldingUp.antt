@@ -1,0 +1,81 @@
+-- Who holds up a match: by the counts of words alone.
+use Rattle.std.specs.Prelude.{◌≡◌, ◌≤◌, ◌<◌, ℕ, zero, suc, ◌+◌, max, min, List, Bool, true, not, ◌&&◌, ◌||◌, ◌==◌, nat_le, nat_lt, Option, Some, None, is_none, is_some, if◌then◌else◌, slice_index}
+use Rattle.std.specs.List.{list_all, range_with_len}
+use Rattle.roll_mesh.specs.declared.holding_up.TheConstants.{DELAY_ROOM}
+use Rattle.roll_mesh.specs.declared.limits.TheConstants.{PLAYER_LIMIT}
+use Rattle.roll_mesh.specs.declared.machine.Machine.{Machine}
+use Rattle.roll_mesh.specs.declared.packet.View.{View}
+use Rattle.roll_mesh.specs.declared.seat.Seat.{Seat}
+use Rattle.roll_mesh.specs.Machines.{is_fenced, left_at, owner_of, told_by}
+
+-- the most words that there are of a machine's players, of the first so many
+unfoldable pub most_of : Seat → List ℕ → ℕ → ℕ → ℕ
+most_of seat has m zero = 0
+most_of seat has m (suc p) =
+    if owner_of seat p == m then max (slice_index has p) (most_of seat has m p)
+    else most_of seat has m p
+
+abbrev pub least_some : ℕ → Option ℕ → ℕ
+least_some n None = n
+least_some n (Some other) = min n other
+
+-- the fewest that a machine has of another's players who haven't left, of the first so many
+unfoldable pub fewest_of : Seat → Machine → ℕ → ℕ → Option ℕ
+fewest_of seat here m zero = None
+fewest_of seat here m (suc p) =
+    if (owner_of seat p == m) && is_none (left_at here p)
+    then Some (least_some (slice_index here.has p) (fewest_of seat here m p))
+    else fewest_of seat here m p
+
+-- the number of words of a machine's player that this one waits for: it has given all that it may without more
+abbrev pub awaited_of : ℕ → ℕ → Option ℕ → Option ℕ
+awaited_of own threshold None = None
+awaited_of own threshold (Some fewest) =
+    if nat_lt (fewest + threshold) own then Some fewest else None
+
+abbrev pub awaited : Seat → Machine → ℕ → ℕ → Option ℕ
+awaited seat here threshold m =
+    awaited_of (most_of seat here.has seat.me PLAYER_LIMIT) threshold
+    (fewest_of seat here m PLAYER_LIMIT)
+
+-- whether who has so many words of its own isn't kept from its next one by player p: that player's words don't end so far before, or
+-- the player has left, and it has gone on since
+abbrev pub is_open_at : Machine → ℕ → ℕ → List ℕ → ℕ → Bool
+is_open_at here threshold own has p =
+    nat_le own (slice_index has p + threshold)
+    || (is_some (left_at here p) && nat_lt (slice_index has p + threshold + DELAY_ROOM) own)
+
+abbrev pub keeps_open : Seat → Machine → ℕ → ℕ → List ℕ → ℕ → Bool
+keeps_open seat here threshold own has p =
+    not (nat_lt (owner_of seat p) seat.machines) || is_open_at here threshold own has p
+
+-- whether a machine that told this could give its next word: no player of the match keeps it from that
+unfoldable pub could_give : Seat → Machine → ℕ → ℕ → View → Bool
+could_give seat here threshold m view =
+    list_all (keeps_open seat here threshold (most_of seat view.has m PLAYER_LIMIT) view.has)
+    (range_with_len 0 PLAYER_LIMIT)
+
+abbrev pub held_up_by : Seat → Machine → ℕ → ℕ → Option View → Option ℕ
+held_up_by seat here threshold m None = None
+held_up_by seat here threshold m (Some view) =
+    if could_give seat here threshold m view then awaited seat here threshold m else None
+
+-- the number of words of a player that this machine waits for, if that player's machine holds up the match
+unfoldable pub holds_up : Seat → Machine → ℕ → ℕ → Option ℕ
+holds_up seat here threshold m =
+    if is_fenced seat here m then None else held_up_by seat here threshold m (told_by here m)
+
+-- a machine waits for a player of the match: it has given all that it may, with an input delay of at most 8
+pub record Waits (seat : Seat) (threshold m : ℕ) (view : View) : Type 0 where
+  pub player : ℕ
+  pub delay : ℕ
+  pub is_player : player < PLAYER_LIMIT
+  pub plays : nat_lt (owner_of seat player) seat.machines ≡ true
+  pub few : delay < DELAY_ROOM
+  pub all_given : most_of seat view.has m PLAYER_LIMIT
+      ≡ slice_index view.has player + threshold + (delay + 1)
+
+-- who itself waits, by what it told last, holds up nobody
+abbrev pub WaitersHoldUpNobody : Type 0
+WaitersHoldUpNobody = (seat : Seat) (here : Machine) (threshold m : ℕ) (view : View)
+    → told_by here m ≡ Some view → Waits seat threshold m view → holds_up seat here threshold m ≡ None
