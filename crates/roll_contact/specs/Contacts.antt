@@ -30,7 +30,7 @@ opened_contact = record {
   answered_at = 0;
   unanswered = 0;
   clocks_at = 0;
-  plays_since = CLOCKS_EVERY;
+  plays_left = 0;
   their_clocks = None;
   behind = pos 0;
   their_behind = pos 0;
@@ -216,7 +216,7 @@ clocks_for contact frame now = record {
 -- whether the next play has clocks: so many went without, or it is time for the silence that either end waits for
 abbrev pub wants_clocks : Contact → ℕ → Bool
 wants_clocks contact now =
-    nat_le (CLOCKS_EVERY - 1) contact.plays_since
+    (contact.plays_left == 0)
     || (nat_lt 0 contact.patience
     && nat_le (contact.patience / CLOCKS_IN_PATIENCE) (since now contact.clocks_at))
 
@@ -235,8 +235,8 @@ play_sent now contact = counted (
     if wants_clocks contact now then record contact {
       unanswered = one_more contact.unanswered;
       clocks_at = now;
-      plays_since = 0;
-    } else record contact { plays_since = one_more contact.plays_since })
+      plays_left = CLOCKS_EVERY - 1;
+    } else record contact { plays_left = contact.plays_left - 1 })
 
 -- ---- silence
 

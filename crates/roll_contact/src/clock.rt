@@ -6,7 +6,7 @@ ghost use Rattle.roll_contact.specs.Clocks.{first_clock, since, ticked};
 const AHEAD: u32 = 1 << 31;
 
 /// How many milliseconds ago a moment was. None, if it is still to come: a difference of 2^31 or more is 0.
-pub(crate) fn since(now: u32, moment: u32) -> u32
+pub fn since(now: u32, moment: u32) -> u32
     ensures { result ≡ since now moment }
 {
     let passed = now.wrapping_sub(moment);
@@ -18,9 +18,9 @@ pub(crate) fn since(now: u32, moment: u32) -> u32
 #[derive(Clone, Copy, Debug)]
 pub struct Clock {
     /// The moment that it shows.
-    pub(crate) moment: u32,
+    pub moment: u32,
     /// What the program's own clock showed last.
-    pub(crate) last: Option<u32>,
+    pub last: Option<u32>,
 }
 
 impl Clock {

@@ -90,8 +90,8 @@ pub struct Contact {
     pub unanswered: u32,
     /// When the last clocks were sent to it.
     pub clocks_at: u32,
-    /// How many plays were sent to it since then, or at all.
-    pub plays_since: u32,
+    /// How many plays may go to it until the next clocks.
+    pub plays_left: u32,
     /// The last clocks that were heard of it.
     pub their_clocks: Option<TheirClocks>,
     /// How many frames this end was behind it as its clocks were heard.
@@ -132,7 +132,7 @@ impl Contact {
             answered_at: 0,
             unanswered: 0,
             clocks_at: 0,
-            plays_since: CLOCKS_EVERY,
+            plays_left: 0,
             their_clocks: None,
             behind: 0,
             their_behind: 0,
@@ -281,7 +281,7 @@ impl Contact {
     pub fn wants_clocks(&self, now: u32) -> bool
         ensures { result ≡ wants_clocks self.now now }
     {
-        self.plays_since >= CLOCKS_EVERY - 1
+        self.plays_left == 0
             || self.patience > 0 && since(now, self.clocks_at) >= self.patience / CLOCKS_IN_PATIENCE
     }
 
@@ -316,9 +316,9 @@ impl Contact {
         if self.wants_clocks(now) {
             self.unanswered = self.unanswered.saturating_add(1);
             self.clocks_at = now;
-            self.plays_since = 0;
+            self.plays_left = CLOCKS_EVERY - 1;
         } else {
-            self.plays_since = self.plays_since.saturating_add(1);
+            self.plays_left -= 1;
         }
         self.count();
     }

@@ -9,7 +9,7 @@ mod laws;
 pub mod seal;
 mod terms;
 
-pub use clock::Clock;
+pub use clock::{Clock, since};
 pub use contact::{Contact, Opening, Stage, TheirClocks};
 pub use key::Key;
 pub use laws::{

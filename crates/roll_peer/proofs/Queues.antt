@@ -4,7 +4,7 @@ use Rattle.std.proofs.Math.Seq.{set-append_seam}
 use Rattle.std.proofs.lemmas.List.{length-append, length-take-le, take_all, take-append-le}
 use Rattle.std.specs.Prelude.{slice_set}
 use Rattle.roll_peer.specs.declared.event.PeerEvent.{PeerEvent}
-use Rattle.roll_peer.specs.Clocks.{one_more}
+use Rattle.roll_contact.specs.Clocks.{one_more}
 use Rattle.roll_peer.specs.Events.{pushed}
 
 -- of n items all but the first are left

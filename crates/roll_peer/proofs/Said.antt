@@ -2,33 +2,27 @@
 use Rattle.std.proofs.Common.{◌≡◌, ℕ, List, Option, Some, Ok, Err, Result, refl}
 use Rattle.std.specs.Prelude.{true, false, ◌-◌, ◌&&◌, ◌||◌, not, is_some, if◌then◌else◌, slice_set}
 use Rattle.std.specs.Option.{option_map}
-use Rattle.roll_wire.specs.Spelling.{Message}
 use Rattle.roll_member.specs.Telling.{queued}
-use Rattle.roll_peer.specs.Contacts.{counted}
 use Rattle.roll_peer.specs.Events.{pushed}
 use Rattle.roll_peer.specs.Notices.{told}
 use Rattle.roll_peer.specs.Paces.{paced, wait_of}
 use Rattle.roll_peer.specs.Peered.{contact_at, Peered}
-use Rattle.roll_peer.specs.Receiving.{deaf_to, ignored, opened, read_sealed, unheard}
-use Rattle.roll_peer.specs.Seals.{unsealed}
-use Rattle.roll_peer.specs.Sending.{after_send, is_lost, stats_of}
+use Rattle.roll_peer.specs.Receiving.{byte_at, deaf_to, ignored, key_of, moment_of, open_by, opened, sender_of, unheard_in}
+use Rattle.roll_peer.specs.Sending.{after_send, is_lost, stats_of, with_sent}
+use Rattle.roll_peer.specs.declared.receiving.TheConstants.{KIND_AT}
 use Rattle.roll_peer.specs.Turning.{are_ready, begun, lead_in, over}
 use Rattle.roll_peer.specs.declared.event.PeerEvent.TheVariants.{Running, TimeSync}
-use Rattle.roll_peer.specs.declared.received.Ignored.{Ignored}
 
-pub opened_is : (number : ℕ) (bytes : List ℕ) → opened number bytes ≡ read_sealed (unsealed number bytes)
+pub opened_is : (peer : Peered) (bytes : List ℕ)
+    → opened peer bytes ≡ open_by (key_of peer (sender_of bytes) (byte_at bytes KIND_AT)) bytes
 unfolding opened
-opened_is number bytes = refl
+opened_is peer bytes = refl
 
-pub ignored_unread : (peer : Peered) (why : Ignored) → ignored peer (Err why) ≡ Some why
+pub ignored_is : (peer : Peered) (bytes : List ℕ) → ignored peer bytes
+    ≡ (if is_some (deaf_to peer (sender_of bytes)) then deaf_to peer (sender_of bytes)
+    else unheard_in peer (sender_of bytes) (opened peer bytes))
 unfolding ignored
-ignored_unread peer why = refl
-
-pub ignored_read : (peer : Peered) (what : Message) → ignored peer (Ok what)
-    ≡ (if is_some (deaf_to peer what.envelope.sender) then deaf_to peer what.envelope.sender
-    else unheard peer what.envelope.sender what.content)
-unfolding ignored
-ignored_read peer what = refl
+ignored_is peer bytes = refl
 
 pub over_is : (peer : Peered) → over peer ≡ record peer {
   pace = paced (lead_in peer) peer.pace;
@@ -45,9 +39,13 @@ begun_is peer = refl
 
 pub after_send_is : (peer : Peered) (m : ℕ) → after_send peer m
     ≡ (if is_lost peer m then peer
-    else record peer { contacts = slice_set peer.contacts m (counted (contact_at peer m)) })
+    else record peer { contacts = slice_set peer.contacts m (with_sent (moment_of peer) (contact_at peer m)) })
 unfolding after_send
 after_send_is peer m = refl
+
+pub after_send_to : (peer : Peered) (m : ℕ) → is_lost peer m ≡ false → after_send peer m
+    ≡ record peer { contacts = slice_set peer.contacts m (with_sent (moment_of peer) (contact_at peer m)) }
+after_send_to peer m e = rw (after_send_is peer m, e) refl
 
 pub stats_are : (peer : Peered) (m : ℕ) → stats_of peer m ≡ record {
   round_trip = (contact_at peer m).round_trip;
@@ -57,6 +55,7 @@ pub stats_are : (peer : Peered) (m : ℕ) → stats_of peer m ≡ record {
   words_queued = if is_lost peer m then 0 else queued peer.member.mesh m;
   frames_behind = (contact_at peer m).behind;
   their_frames_behind = (contact_at peer m).their_behind;
+  refused = (contact_at peer m).refused;
 }
 unfolding stats_of
 stats_are peer m = refl

@@ -1,19 +1,89 @@
--- What is told is of the machine that tells it.
-use Rattle.std.proofs.Common.{◌≡◌, ◌∙◌, ℕ, List, ap, subst}
-use Rattle.roll_member.specs.Joined.{Joined}
-use Rattle.roll_member.specs.Telling.{IsTold}
-use Rattle.roll_mesh.specs.Machines.{tell}
-use Rattle.roll_mesh.specs.declared.packet.Packet.{Packet}
+-- What is told, as it is sent.
+use Rattle.std.proofs.Common.{◌≡◌, ◌∙◌, ◌≤◌, ◌-◌, ℕ, List, [], ◌∷◌, Bool, true, false, map, refl, sym, ap, subst, arith}
+use Rattle.std.specs.List.{list_all, sum_by}
+use Rattle.std.specs.Prelude.{◌==◌, ◌&&◌, length, nat_le, if◌then◌else◌}
+use Rattle.std.proofs.lemmas.Bool.{and_from, and_parts, eqb-true}
+use Rattle.std.proofs.lemmas.List.Sums.{sum_by-cons}
+use Rattle.roll_contact.specs.Seals.{sealed}
+use Rattle.roll_contact.specs.declared.key.Key.{Key}
+use Rattle.roll_mesh.specs.Machines.{kept_offer, none_offered}
+use Rattle.roll_mesh.specs.declared.packet.Offer.{Offer}
+use Rattle.roll_wire.specs.Spelling.{are_offers, count_of, is_offer, spelling, Content, Greets, Leaves, Plays}
+use Rattle.roll_wire.specs.declared.limits.TheConstants.{WORD_LIMIT}
+use Rattle.roll_peer.specs.Peered.{Peered}
+use Rattle.roll_peer.specs.Sending.{key_for, text_for}
+use Rattle.roll_peer.specs.Settings.{number_for}
 
-told_by : (m : Joined) (machine : ℕ) (packet : Packet) (words : List ℕ)
-    → IsTold m machine packet words → packet.sender ≡ m.mesh.seat.me
-unfolding tell
-told_by m machine packet words t = ap (λ (p : Packet). p.sender) t.packet_is
+-- ---- offers of no words are left out
 
--- so it may be named for what that machine is
-pub told_as : (m : Joined) (machine me : ℕ) (packet : Packet) (words : List ℕ)
-    → m.mesh.seat.me ≡ me → IsTold m machine packet words
-    → IsTold m machine (record { sender = me; view = packet.view; offers = packet.offers }) words
-told_as m machine me packet words is t =
-    subst (λ (n : ℕ). IsTold m machine (record { sender = n; view = packet.view; offers = packet.offers }) words)
-    (told_by m machine packet words t ∙ is) t
+abbrev size : Offer → ℕ
+size o = o.end - o.first
+
+same_size : (o : Offer) → size (kept_offer o) ≡ size o
+same_size o = go (o.first == o.end) refl
+  where
+    go : (b : Bool) → (o.first == o.end) ≡ b → size (if b then none_offered else o) ≡ size o
+    go true e = let same = eqb-true o.first o.end e in omega (arith, same)
+    go false e = refl
+
+same_count : (os : List Offer) → count_of (map kept_offer os) ≡ count_of os
+same_count [] = refl
+same_count (o ∷ os) =
+    omega (
+      arith,
+      sum_by-cons size (kept_offer o) (map kept_offer os),
+      sum_by-cons size o os,
+      same_size o,
+      same_count os,
+    )
+
+still_offer : (o : Offer) → is_offer o ≡ true → is_offer (kept_offer o) ≡ true
+still_offer o h = go (o.first == o.end)
+  where
+    go : (b : Bool) → is_offer (if b then none_offered else o) ≡ true
+    go true = refl
+    go false = h
+
+still_offers : (os : List Offer) → are_offers os ≡ true → are_offers (map kept_offer os) ≡ true
+still_offers [] h = refl
+still_offers (o ∷ os) h =
+    let both = and_parts (is_offer o) (are_offers os) h in
+    and_from (is_offer (kept_offer o)) (are_offers (map kept_offer os)) (still_offer o both.0)
+    (still_offers os both.1)
+
+-- and the words are as many as are offered
+pub still_whole : (os : List Offer) (words : List ℕ)
+    → (are_offers os && (count_of os == length words) && nat_le (length words) WORD_LIMIT) ≡ true
+    → (are_offers (map kept_offer os) && (count_of (map kept_offer os) == length words)
+    && nat_le (length words) WORD_LIMIT) ≡ true
+still_whole os words h =
+    let outer = and_parts (are_offers os && (count_of os == length words)) (nat_le (length words) WORD_LIMIT) h in
+    let inner = and_parts (are_offers os) (count_of os == length words) outer.0 in
+    rw (same_count os) (and_from (are_offers (map kept_offer os) && (count_of os == length words))
+    (nat_le (length words) WORD_LIMIT)
+    (and_from (are_offers (map kept_offer os)) (count_of os == length words) (still_offers os inner.0) inner.1)
+    outer.1)
+
+-- ---- what is sealed
+
+pub number_is : (peer : Peered) (m : ℕ) (what : Content)
+    → (key_for peer m what).number ≡ number_for peer.settings m
+number_is peer m (Greets hello) = refl
+number_is peer m (Plays t) = refl
+number_is peer m Leaves = refl
+
+-- a datagram that is sealed by its key is what is sent
+pub sealed_as : (peer : Peered) (m : ℕ) (what : Content) (key : Key) (text : List ℕ)
+    → key ≡ key_for peer m what
+    → text ≡ spelling (record {
+      envelope = record { match_number = key.number; sender = peer.settings.me };
+      content = what;
+    }) → sealed key text ≡ text_for peer m what
+unfolding text_for
+sealed_as peer m what key text k =
+    let named : ℕ → List ℕ = λ n. spelling (record {
+      envelope = record { match_number = n; sender = peer.settings.me };
+      content = what;
+    }) in
+    subst (λ (by : Key). text ≡ named by.number → sealed by text ≡ text_for peer m what) (sym k)
+    (λ t. ap (sealed (key_for peer m what)) (t ∙ ap named (number_is peer m what)))

@@ -3,9 +3,9 @@ use Rattle.std.proofs.Common.{◌≡◌, ℕ, suc, ◌+◌, List, Bool, Option, 
 use Rattle.roll_peer.specs.Notices.{told, told_of}
 use Rattle.roll_peer.specs.Paces.{lead_of, slower, slowest}
 use Rattle.roll_peer.specs.Peered.{Peered}
-use Rattle.roll_peer.specs.Turning.{farewell_at, farewell_until, hushed_at, hushed_until}
+use Rattle.roll_peer.specs.Turning.{farewell_at, farewell_until, hushed_at, hushed_until, missed_at, missed_until, silenced_at, silenced_until, watched_at, watched_until}
 use Rattle.roll_peer.specs.Waiting.{Waiting}
-use Rattle.roll_peer.specs.declared.contact.Contact.{Contact}
+use Rattle.roll_contact.specs.declared.contact.Contact.{Contact}
 use Rattle.roll_peer.specs.declared.event.PeerEvent.{PeerEvent}
 
 after : (n : ℕ) → n + 1 ≡ suc n
@@ -46,3 +46,30 @@ pub slowest_next : (gone : List Bool) (contacts : List Contact) (m : ℕ)
     → slowest gone contacts (m + 1) ≡ slower (slowest gone contacts m) (lead_of gone contacts m)
 unfolding slowest
 slowest_next gone contacts m = rw (after m) refl
+
+pub watched_none : (now : ℕ) (peer : Peered) → watched_until now 0 peer ≡ peer
+unfolding watched_until
+watched_none now peer = refl
+
+pub watched_next : (now m : ℕ) (peer : Peered)
+    → watched_until now (m + 1) peer ≡ watched_at now m (watched_until now m peer)
+unfolding watched_until
+watched_next now m peer = rw (after m) refl
+
+pub missed_none : (now : ℕ) (peer : Peered) → missed_until now 0 peer ≡ peer
+unfolding missed_until
+missed_none now peer = refl
+
+pub missed_next : (now m : ℕ) (peer : Peered)
+    → missed_until now (m + 1) peer ≡ missed_at now m (missed_until now m peer)
+unfolding missed_until
+missed_next now m peer = rw (after m) refl
+
+pub silenced_none : (now : ℕ) (peer : Peered) → silenced_until now 0 peer ≡ peer
+unfolding silenced_until
+silenced_none now peer = refl
+
+pub silenced_next : (now m : ℕ) (peer : Peered)
+    → silenced_until now (m + 1) peer ≡ silenced_at now m (silenced_until now m peer)
+unfolding silenced_until
+silenced_next now m peer = rw (after m) refl

@@ -1,7 +1,7 @@
 -- The numbers of a peer's events.
 use Rattle.std.specs.Prelude.{ℕ}
 use Rattle.roll_peer.specs.declared.event.PeerEvent.{PeerEvent}
-use Rattle.roll_peer.specs.declared.event.PeerEvent.TheVariants.{Synchronizing, Synchronized, Running, DisconnectedFromPeer, TimeSync, Interrupted, Resumed, Desync, Mismatch, Dropped, Left}
+use Rattle.roll_peer.specs.declared.event.PeerEvent.TheVariants.{Synchronizing, Synchronized, Running, DisconnectedFromPeer, TimeSync, Interrupted, Resumed, Desync, Mismatch, Dropped, Left, Restarted, Stalled, Refused, Missing}
 
 -- those of ggponet.h, and the peer's own above 1100
 abbrev pub code_of : PeerEvent → ℕ
@@ -16,3 +16,7 @@ code_of (Left machine) = 1101
 code_of (Desync machine frame) = 1102
 code_of (Mismatch machine field) = 1103
 code_of Dropped = 1104
+code_of (Restarted machine) = 1105
+code_of (Stalled machine disconnect_in) = 1106
+code_of (Refused machine) = 1107
+code_of (Missing machine) = 1108

@@ -2,7 +2,7 @@
 use Rattle.std.specs.Prelude.{[], ◌∷◌, ◌++◌, length, drop, ◌==◌, if◌then◌else◌}
 use Rattle.roll_peer.specs.declared.event.PeerEvent.{PeerEvent}
 use Rattle.roll_peer.specs.declared.event.TheConstants.{EVENT_LIMIT}
-use Rattle.roll_peer.specs.Clocks.{one_more}
+use Rattle.roll_contact.specs.Clocks.{one_more}
 use Rattle.roll_peer.specs.Waiting.{Waiting}
 
 -- the oldest is gone, if there is one

@@ -1,14 +1,13 @@
-pub mod Clocks
 pub mod Codes
-pub mod Contacts
 pub mod Digests
 pub mod Events
 pub mod Notices
 pub mod Paces
 pub mod Settings
 pub mod Waiting
-pub mod Seals
 pub mod Peered
+pub mod Judging
+pub mod Stalls
 pub mod Receiving
 pub mod Turning
 pub mod Sending

@@ -4,16 +4,18 @@ use Rattle.roll_mesh.specs.Machines.{is_in}
 use Rattle.roll_mesh.specs.declared.heard.Heard.{Heard}
 use Rattle.roll_mesh.specs.declared.heard.Heard.TheVariants.{Dropped as WasDropped, Taken as WasTaken}
 use Rattle.roll_wire.specs.declared.datagram.Settled.{Settled}
-use Rattle.roll_peer.specs.Contacts.{is_hushed, silence}
+use Rattle.roll_contact.specs.Contacts.{is_hushed, is_playing, unanswered_for}
 use Rattle.roll_peer.specs.Digests.{digest_at}
 use Rattle.roll_peer.specs.Events.{pushed}
 use Rattle.roll_peer.specs.Waiting.{Waiting}
-use Rattle.roll_peer.specs.declared.contact.Contact.{Contact}
-use Rattle.roll_peer.specs.declared.contact.Stage.{Stage}
-use Rattle.roll_peer.specs.declared.contact.Stage.TheVariants.{Silent, Greeted, Playing, Mismatched}
+use Rattle.roll_contact.specs.declared.contact.Contact.{Contact}
+use Rattle.roll_contact.specs.declared.contact.Stage.{Stage}
+use Rattle.roll_contact.specs.declared.contact.Stage.TheVariants.{Silent, Greeted, Playing, Mismatched}
+use Rattle.roll_contact.specs.declared.terms.Field.{Field}
+use Rattle.roll_contact.specs.declared.terms.Field.TheVariants.{Machines, Owners, Settings}
 use Rattle.roll_peer.specs.declared.digests.Digests.{Digests}
 use Rattle.roll_peer.specs.declared.event.PeerEvent.{PeerEvent}
-use Rattle.roll_peer.specs.declared.event.PeerEvent.TheVariants.{Synchronizing, Synchronized, DisconnectedFromPeer, Interrupted, Resumed, Desync, Mismatch, Dropped}
+use Rattle.roll_peer.specs.declared.event.PeerEvent.TheVariants.{Synchronizing, Synchronized, DisconnectedFromPeer, Interrupted, Resumed, Desync, Mismatch, Dropped, Restarted, Refused}
 use Rattle.roll_peer.specs.declared.settings.MatchSettings.{MatchSettings}
 
 -- an event is told, if there is one
@@ -32,27 +34,62 @@ told_of event (suc n) waiting = told (told_of event n waiting) (event n)
 
 -- ---- who is heard
 
--- a machine's new stage
-abbrev pub new_stage : ℕ → Stage → Option PeerEvent
-new_stage m Silent = None
-new_stage m Greeted = Some (Synchronizing m 1 2)
-new_stage m Playing = Some (Synchronized m)
-new_stage m (Mismatched field) = Some (Mismatch m field)
+-- a machine that was silent is heard again
+abbrev pub resumed : ℕ → Contact → Contact → Option PeerEvent
+resumed m before after = only_if (before.interrupted && not after.interrupted) (Resumed m)
 
 -- a machine came from one stage to another, or stays
 abbrev pub came : ℕ → Stage → Stage → Option PeerEvent
-came m Silent after = new_stage m after
+came m Playing after = None
+came m Silent Playing = Some (Synchronized m)
+came m Silent Greeted = Some (Synchronizing m 1 2)
+came m Silent Silent = None
+came m Silent (Mismatched field) = None
+came m Greeted Playing = Some (Synchronized m)
 came m Greeted Greeted = None
-came m Greeted after = new_stage m after
-came m Playing Greeted = None
-came m Playing Playing = None
-came m Playing after = new_stage m after
-came m (Mismatched field) after = None
+came m Greeted Silent = None
+came m Greeted (Mismatched field) = None
+came m (Mismatched was) Playing = Some (Synchronized m)
+came m (Mismatched was) Greeted = None
+came m (Mismatched was) Silent = None
+came m (Mismatched was) (Mismatched field) = None
+
+-- the place of a field among all
+abbrev pub place_of : Field → ℕ
+place_of Machines = 0
+place_of Owners = 1
+place_of Settings = 2
+
+-- a field by which a machine is found to mean another match, unless it was so before
+abbrev pub newly : Option Field → Option Field → Option Field
+newly None after = after
+newly (Some old) None = None
+newly (Some old) (Some new) = if place_of old == place_of new then None else Some new
+
+abbrev pub mismatched : ℕ → Option Field → Option PeerEvent
+mismatched m None = None
+mismatched m (Some field) = Some (Mismatch m field)
+
+abbrev pub found_out : ℕ → Option Field → Option Field → Option PeerEvent
+found_out m before after = mismatched m (newly before after)
+
+-- it was opened anew
+abbrev pub restarting : ℕ → Contact → Contact → Option PeerEvent
+restarting m before after =
+    if before.restarted == after.restarted then None else Some (Restarted m)
+
+-- the first of its packets in a row is refused
+abbrev pub refusing : ℕ → Contact → Contact → Option PeerEvent
+refusing m before after = only_if (after.is_refusing && not before.is_refusing) (Refused m)
 
 -- a machine was heard, which led from a contact to another
 abbrev pub after_heard : ℕ → Contact → Contact → Waiting → Waiting
 after_heard m before after waiting =
-    told (told waiting (only_if before.interrupted (Resumed m))) (came m before.stage after.stage)
+    told (told (told (told (told waiting (resumed m before after))
+    (came m before.stage after.stage))
+    (found_out m before.differs after.differs))
+    (restarting m before after))
+    (refusing m before after)
 
 -- a machine's settled state isn't the one that this machine had at that frame
 abbrev pub differs : ℕ → Option ℕ → Bool
@@ -75,7 +112,7 @@ dropped WasTaken = None
 abbrev pub interrupted : MatchSettings → List Bool → Contact → ℕ → ℕ → Option PeerEvent
 interrupted settings gone contact now m =
     only_if (is_hushed contact now settings.notify_after && not (is_in gone m))
-    (Interrupted m (settings.silent_after - silence contact now))
+    (Interrupted m (settings.silent_after - unanswered_for contact now))
 
 -- the player at a place left the session
 abbrev pub player_left : List Bool → ℕ → Option PeerEvent

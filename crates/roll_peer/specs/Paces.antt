@@ -2,9 +2,9 @@
 use Rattle.std.specs.Prelude.{ℕ, zero, suc, ℤ, int_lt, List, [], Bool, not, ◌||◌, ◌==◌, nat_lt, Option, Some, None, is_none, if◌then◌else◌}
 use Rattle.roll_frame.specs.Advice.{advice_of, noted}
 use Rattle.roll_mesh.specs.Machines.{is_in}
-use Rattle.roll_peer.specs.Clocks.{one_more}
-use Rattle.roll_peer.specs.Contacts.{is_playing, known_of}
-use Rattle.roll_peer.specs.declared.contact.Contact.{Contact}
+use Rattle.roll_contact.specs.Clocks.{one_more}
+use Rattle.roll_contact.specs.Contacts.{is_playing, known_of}
+use Rattle.roll_contact.specs.declared.contact.Contact.{Contact}
 use Rattle.roll_peer.specs.declared.pace.Pace.{Pace}
 use Rattle.roll_peer.specs.declared.pace.TheConstants.{ASK_EVERY}
 

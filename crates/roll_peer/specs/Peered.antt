@@ -1,31 +1,37 @@
--- A peer as its callers see it: session and mesh, what it knows of each machine, whether the match has begun, whether words came
--- since the last rollback, the events that wait, the machines that were told to be gone, the digests of settled states, and how far
+-- A peer as its callers see it: session and mesh, its clock, what it knows of each machine and for how long each has held up the match,
+-- whether the match has begun, whether words came since the last rollback, the events that wait, the machines that were told to be gone, the digests of settled states, and how far
 -- the machines are from one another.
-use Rattle.std.specs.Prelude.{◌≡◌, ℕ, ◌-◌, List, [], Bool, true, false, Some, replicate, ⊤}
+use Rattle.std.specs.Prelude.{◌≡◌, ℕ, ◌-◌, List, [], Bool, true, false, Some, replicate, slice_index_or, ⊤}
 use Rattle.roll_member.specs.Joined.{join_refusal, IsJoinedAs, Joined}
 use Rattle.roll_mesh.specs.Machines.{give}
 use Rattle.roll_mesh.specs.Meshes.{stepped}
 use Rattle.roll_mesh.specs.declared.limits.TheConstants.{MACHINE_LIMIT}
 use Rattle.roll_session.specs.Changes.{after_local, local_refusal, IsRefused}
 use Rattle.roll_session.specs.Seen.{Seen}
-use Rattle.roll_peer.specs.Contacts.{known_of, stranger}
+use Rattle.roll_contact.specs.Clocks.{first_clock}
+use Rattle.roll_contact.specs.Contacts.{known_of, opened_contact}
+use Rattle.roll_contact.specs.declared.clock.Clock.{Clock}
+use Rattle.roll_contact.specs.declared.contact.Contact.{Contact}
 use Rattle.roll_peer.specs.Digests.{no_digests}
 use Rattle.roll_peer.specs.Paces.{no_pace}
-use Rattle.roll_peer.specs.Settings.{seat_of}
+use Rattle.roll_peer.specs.Settings.{first_moment, seat_of}
+use Rattle.roll_peer.specs.Stalls.{first_stall}
 use Rattle.roll_peer.specs.Waiting.{Waiting}
-use Rattle.roll_peer.specs.declared.contact.Contact.{Contact}
 use Rattle.roll_peer.specs.declared.digests.Digests.{Digests}
 use Rattle.roll_peer.specs.declared.pace.Pace.{Pace}
 use Rattle.roll_peer.specs.declared.refusal.OpenRefusal.{OpenRefusal}
-use Rattle.roll_peer.specs.declared.refusal.OpenRefusal.TheVariants.{Join, NoMemory}
+use Rattle.roll_peer.specs.declared.refusal.OpenRefusal.TheVariants.{Join, NoDraw, NoMemory}
 use Rattle.roll_peer.specs.declared.refusal.PeerRefusal.{PeerRefusal}
 use Rattle.roll_peer.specs.declared.refusal.PeerRefusal.TheVariants.{NotSynchronized, Session}
 use Rattle.roll_peer.specs.declared.settings.MatchSettings.{MatchSettings}
+use Rattle.roll_peer.specs.declared.stall.Stall.{Stall}
 
 pub record Peered : Type 0 where
   pub member : Joined
   pub settings : MatchSettings
+  pub clock : Clock
   pub contacts : List Contact
+  pub stalls : List Stall
   pub running : Bool
   pub news : Bool
   pub waiting : Waiting
@@ -37,11 +43,17 @@ pub record Peered : Type 0 where
 abbrev pub contact_at : Peered → ℕ → Contact
 contact_at peer m = known_of peer.contacts m
 
+-- for how long a machine has held up the match
+abbrev pub stall_at : Peered → ℕ → Stall
+stall_at peer m = slice_index_or peer.stalls m first_stall
+
 -- a peer that has just been opened: nothing was heard
 pub record IsOpenedAs (s : Seen) (settings : MatchSettings) (peer : Peered) : Type 0 where
   pub member : IsJoinedAs s (seat_of settings) peer.member
   pub settings_are : peer.settings ≡ settings
-  pub contacts : peer.contacts ≡ replicate MACHINE_LIMIT stranger
+  pub clock : peer.clock ≡ first_clock (first_moment settings)
+  pub contacts : peer.contacts ≡ replicate MACHINE_LIMIT opened_contact
+  pub stalls : peer.stalls ≡ replicate MACHINE_LIMIT first_stall
   pub running : peer.running ≡ false
   pub news : peer.news ≡ false
   pub waiting : peer.waiting ≡ record { events = []; lost = 0 }
@@ -52,6 +64,7 @@ pub record IsOpenedAs (s : Seen) (settings : MatchSettings) (peer : Peered) : Ty
 -- why a session can't be opened as a peer
 abbrev pub IsWhyNot : Seen → MatchSettings → OpenRefusal → Type 0
 IsWhyNot s settings (Join why) = join_refusal s (seat_of settings) ≡ Some why
+IsWhyNot s settings NoDraw = settings.draw ≡ 0
 IsWhyNot s settings NoMemory = ⊤
 
 -- a local player's word is given to session and mesh

@@ -1,19 +1,22 @@
 -- What a peer sends.
 use Rattle.std.specs.Prelude.{◌≡◌, ℕ, List, ◌-◌, ◌%◌, Bool, true, false, ◌||◌, ◌==◌, nat_le, Option, Some, None, if◌then◌else◌, slice_set}
+use Rattle.roll_contact.specs.Contacts.{clocks_for, hello_sent, play_sent, says_hello, wants_clocks}
+use Rattle.roll_contact.specs.Keys.{greeting_key}
+use Rattle.roll_contact.specs.Seals.{sealed}
+use Rattle.roll_contact.specs.Terms.{hello_of}
+use Rattle.roll_contact.specs.declared.contact.Contact.{Contact}
+use Rattle.roll_contact.specs.declared.key.Key.{Key}
 use Rattle.roll_member.specs.Telling.{queued, IsTold}
-use Rattle.roll_mesh.specs.Machines.{is_in}
-use Rattle.roll_wire.specs.Spelling.{spelling, Content, Greets, Leaves, Plays}
+use Rattle.roll_mesh.specs.Machines.{is_in, shortened}
+use Rattle.roll_mesh.specs.declared.packet.Packet.{Packet}
+use Rattle.roll_wire.specs.Spelling.{spelling, Content, Greets, Leaves, Plays, Turn}
 use Rattle.roll_wire.specs.declared.datagram.Clocks.{Clocks}
 use Rattle.roll_wire.specs.declared.datagram.Settled.{Settled}
-use Rattle.roll_peer.specs.Contacts.{clocks_for, counted, is_playing}
-use Rattle.roll_peer.specs.declared.contact.Stats.{Stats}
-use Rattle.roll_peer.specs.declared.contact.Stage.{Stage}
-use Rattle.roll_peer.specs.declared.contact.Stage.TheVariants.{Greeted}
 use Rattle.roll_peer.specs.Peered.{contact_at, Peered}
-use Rattle.roll_peer.specs.Receiving.{packet_of}
-use Rattle.roll_peer.specs.Seals.{sealed}
-use Rattle.roll_peer.specs.Settings.{hello_of}
-use Rattle.roll_peer.specs.declared.sending.TheConstants.{CLOCKS_EVERY, SETTLED_EVERY}
+use Rattle.roll_peer.specs.Receiving.{moment_of}
+use Rattle.roll_peer.specs.Settings.{number_for, opening_of, terms_of}
+use Rattle.roll_peer.specs.declared.sending.TheConstants.{SETTLED_EVERY}
+use Rattle.roll_peer.specs.declared.stats.Stats.{Stats}
 
 -- whether nothing is sent to a machine: there is none, it is this one, or it is gone
 abbrev pub is_lost : Peered → ℕ → Bool
@@ -21,41 +24,59 @@ is_lost peer m =
     nat_le peer.member.mesh.seat.machines m
     || ((m == peer.member.mesh.seat.me) || is_in peer.member.mesh.machine.gone m)
 
-abbrev pub is_greeted : Stage → Bool
-is_greeted Greeted = true
-is_greeted stage = false
-
 -- in some packets a machine tells how far it is, and when it sent
-abbrev pub clocks_in : Peered → ℕ → ℕ → Option Clocks
-clocks_in peer m now =
-    if (contact_at peer m).sent % CLOCKS_EVERY == 0
-    then Some (clocks_for (contact_at peer m) peer.member.session.core.frame now) else None
+abbrev pub clocks_in : Peered → Contact → Option Clocks
+clocks_in peer contact =
+    if wants_clocks contact (moment_of peer)
+    then Some (clocks_for contact peer.member.session.core.frame (moment_of peer)) else None
 
 -- in others the digest of a settled state
-abbrev pub settled_in : Peered → ℕ → Option Settled
-settled_in peer m =
-    if (contact_at peer m).sent % SETTLED_EVERY == 1 then peer.digests.last else None
+abbrev pub settled_in : Peered → Contact → Option Settled
+settled_in peer contact = if contact.sent % SETTLED_EVERY == 1 then peer.digests.last else None
+
+-- a turn tells a machine what it hasn't said that it has, without offers of no words
+pub record IsPlayFor (peer : Peered) (m : ℕ) (t : Turn) : Type 0 where
+  pub packet : Packet
+  pub told : IsTold peer.member m packet t.words
+  pub view : t.head.view ≡ packet.view
+  pub offers : t.head.offers ≡ (shortened packet).offers
+  pub clocks : t.head.clocks ≡ clocks_in peer (contact_at peer m)
+  pub settled : t.head.settled ≡ settled_in peer (contact_at peer m)
 
 -- a machine that plays with this one is told what it hasn't said that it has; any other is greeted
-abbrev pub IsContentFor : Peered → ℕ → ℕ → Content → Type 0
-IsContentFor peer m now (Plays t) =
-    (is_playing (contact_at peer m).stage ≡ true)
-    × IsTold peer.member m (packet_of peer.settings.me t) t.words
-    × (t.head.clocks ≡ clocks_in peer m now)
-    × (t.head.settled ≡ settled_in peer m)
-IsContentFor peer m now (Greets hello) =
-    (is_playing (contact_at peer m).stage ≡ false)
-    × (hello ≡ hello_of peer.settings (is_greeted (contact_at peer m).stage))
-IsContentFor peer m now Leaves = ⊥
+abbrev pub IsContentFor : Peered → ℕ → Content → Type 0
+IsContentFor peer m (Plays t) =
+    (says_hello (contact_at peer m) ≡ false) × IsPlayFor peer m t
+IsContentFor peer m (Greets hello) =
+    (says_hello (contact_at peer m) ≡ true)
+    × (hello ≡ hello_of (terms_of peer.settings) (opening_of peer.settings) (contact_at peer m).echo)
+IsContentFor peer m Leaves = ⊥
 
--- the bytes are a datagram for a machine at a moment, sealed for the match
-pub record IsSent (peer : Peered) (m now : ℕ) (bytes : List ℕ) : Type 0 where
+-- by what a datagram for a machine is sealed
+abbrev pub with_draws : Peered → ℕ → Key
+with_draws peer m = record {
+  number = number_for peer.settings m;
+  from = peer.settings.draw;
+  to = (contact_at peer m).draw;
+}
+
+abbrev pub key_for : Peered → ℕ → Content → Key
+key_for peer m (Greets hello) = greeting_key (number_for peer.settings m)
+key_for peer m (Plays t) = with_draws peer m
+key_for peer m Leaves = with_draws peer m
+
+-- the bytes by which it says something to a machine
+unfoldable pub text_for : Peered → ℕ → Content → List ℕ
+text_for peer m what = sealed (key_for peer m what) (spelling (record {
+  envelope = record { match_number = number_for peer.settings m; sender = peer.settings.me };
+  content = what;
+}))
+
+-- the bytes are a datagram for a machine, sealed for its opening and this one
+pub record IsSent (peer : Peered) (m : ℕ) (bytes : List ℕ) : Type 0 where
   pub content : Content
-  pub fits : IsContentFor peer m now content
-  pub text : bytes ≡ sealed (spelling (record {
-    envelope = record { match_number = peer.settings.match_number; sender = peer.settings.me };
-    content = content;
-  }))
+  pub fits : IsContentFor peer m content
+  pub text : bytes ≡ text_for peer m content
 
 -- what was counted and measured of a machine
 unfoldable pub stats_of : Peered → ℕ → Stats
@@ -67,10 +88,17 @@ stats_of peer m = record {
   words_queued = if is_lost peer m then 0 else queued peer.member.mesh m;
   frames_behind = (contact_at peer m).behind;
   their_frames_behind = (contact_at peer m).their_behind;
+  refused = (contact_at peer m).refused;
 }
+
+-- what is known of a machine to which a datagram was sent
+abbrev pub with_sent : ℕ → Contact → Contact
+with_sent now contact = if says_hello contact then hello_sent contact else play_sent now contact
 
 -- a datagram more was sent to a machine
 unfoldable pub after_send : Peered → ℕ → Peered
 after_send peer m =
     if is_lost peer m then peer
-    else record peer { contacts = slice_set peer.contacts m (counted (contact_at peer m)) }
+    else record peer {
+      contacts = slice_set peer.contacts m (with_sent (moment_of peer) (contact_at peer m));
+    }

@@ -1,27 +1,25 @@
--- What a machine says of its match, and what another machine has otherwise.
-use Rattle.std.specs.Prelude.{Bool, not, ◌==◌, nat_eq, Option, Some, None, if◌then◌else◌}
-use Rattle.std.specs.Cmp.Lexicographic.{pointwise}
+-- What a machine is told of its match, by parts.
+use Rattle.std.specs.Prelude.{ℕ, ◌%◌, ◌^◌, slice_index}
+use Rattle.roll_contact.specs.declared.contact.Opening.{Opening}
+use Rattle.roll_contact.specs.declared.terms.Terms.{Terms}
 use Rattle.roll_mesh.specs.declared.seat.Seat.{Seat}
-use Rattle.roll_wire.specs.declared.datagram.Hello.{Hello}
-use Rattle.roll_peer.specs.declared.settings.Field.{Field}
-use Rattle.roll_peer.specs.declared.settings.Field.TheVariants.{Machines, Owners, Settings}
 use Rattle.roll_peer.specs.declared.settings.MatchSettings.{MatchSettings}
 
 abbrev pub seat_of : MatchSettings → Seat
 seat_of settings =
     record { owners = settings.owners; machines = settings.machines; me = settings.me }
 
-abbrev pub hello_of : MatchSettings → Bool → Hello
-hello_of settings heard = record {
-  heard = heard;
-  machines = settings.machines;
-  owners = settings.owners;
-  settings = settings.digest;
-}
+abbrev pub terms_of : MatchSettings → Terms
+terms_of settings =
+    record { machines = settings.machines; owners = settings.owners; digest = settings.digest }
 
--- the first field that isn't alike
-abbrev pub mismatch_of : MatchSettings → Hello → Option Field
-mismatch_of settings hello =
-    if not (hello.machines == settings.machines) then Some Machines
-    else (if not (pointwise nat_eq hello.owners settings.owners) then Some Owners
-    else (if not (hello.settings == settings.digest) then Some Settings else None))
+abbrev pub opening_of : MatchSettings → Opening
+opening_of settings = record { draw = settings.draw; silent_after = settings.silent_after }
+
+-- the number that it shares with a machine
+abbrev pub number_for : MatchSettings → ℕ → ℕ
+number_for settings m = slice_index settings.numbers m
+
+-- the moment that its clock shows first
+abbrev pub first_moment : MatchSettings → ℕ
+first_moment settings = settings.draw % 2 ^ 32

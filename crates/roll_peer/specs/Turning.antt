@@ -1,5 +1,5 @@
 -- A turn of a peer: silent machines are gone, players leave, and the session rolls.
-use Rattle.std.specs.Prelude.{◌≡◌, ◌⊎◌, ℕ, zero, suc, ℤ, ◌+◌, length, Bool, true, false, not, ◌&&◌, ◌||◌, ◌==◌, nat_lt, Option, Some, None, is_none, Result, Ok, Err, if◌then◌else◌, slice_set}
+use Rattle.std.specs.Prelude.{◌≡◌, ◌⊎◌, ℕ, zero, suc, ℤ, ◌+◌, ◌-◌, length, Bool, true, false, not, ◌&&◌, ◌||◌, ◌==◌, nat_lt, Option, Some, None, is_none, Result, Ok, Err, if◌then◌else◌, slice_set}
 use Rattle.std.specs.Option.{option_map}
 use Rattle.std.specs.List.{list_all, range_with_len}
 use Rattle.roll_frame.specs.declared.refusal.Refusal.{Refusal}
@@ -12,30 +12,25 @@ use Rattle.roll_mesh.specs.Meshes.{leave_refusal, stepped, Seated}
 use Rattle.roll_session.specs.Changes.{advance_refusal, after_advance, after_sync, reached_by, sync_refusal, IsRollRefused}
 use Rattle.roll_session.specs.declared.event.Reached.{Reached}
 use Rattle.roll_session.specs.Seen.{Seen}
-use Rattle.roll_peer.specs.Contacts.{hushed, is_playing, silence}
+use Rattle.roll_contact.specs.Clocks.{since}
+use Rattle.roll_contact.specs.Contacts.{hushed, is_playing, is_silent, unanswered_for}
+use Rattle.roll_mesh.specs.HoldingUp.{holds_up}
 use Rattle.roll_peer.specs.Events.{pushed}
-use Rattle.roll_peer.specs.Notices.{interrupted, player_left, told, told_of}
+use Rattle.roll_peer.specs.Notices.{interrupted, only_if, player_left, told, told_of}
 use Rattle.roll_peer.specs.Paces.{paced, slowest, wait_of}
-use Rattle.roll_peer.specs.declared.event.PeerEvent.TheVariants.{Running, TimeSync, Left}
-use Rattle.roll_peer.specs.Peered.{contact_at, Peered}
+use Rattle.roll_peer.specs.declared.event.PeerEvent.TheVariants.{Running, TimeSync, Left, Missing, Stalled}
+use Rattle.roll_peer.specs.Peered.{contact_at, stall_at, Peered}
+use Rattle.roll_peer.specs.Receiving.{moment_of}
+use Rattle.roll_peer.specs.Settings.{first_moment}
+use Rattle.roll_peer.specs.Stalls.{held_for, is_overdue, is_to_tell, watched}
 use Rattle.roll_peer.specs.declared.refusal.PeerRefusal.{PeerRefusal}
 use Rattle.roll_peer.specs.declared.refusal.PeerRefusal.TheVariants.{NotSynchronized, Session}
-
--- whether a machine has been silent for too long
-abbrev pub is_silent : Peered → ℕ → ℕ → Bool
-is_silent peer now m = nat_lt peer.settings.silent_after (silence (contact_at peer m) now)
 
 -- a machine is gone, unless it is this one, or there is no such machine
 abbrev pub without : ℕ → Seated → Seated
 without m mesh =
     if is_none (leave_refusal mesh m)
     then stepped (λ seat machine. leave seat m machine) mesh else mesh
-
--- the mesh once the silent ones of the first so many machines are gone
-abbrev pub silenced : Peered → ℕ → ℕ → Seated
-silenced peer now zero = peer.member.mesh
-silenced peer now (suc m) =
-    if is_silent peer now m then without m (silenced peer now m) else silenced peer now m
 
 -- whether a machine is ready to play, or needn't be: it is gone, or this one
 abbrev pub is_ready_at : Peered → Seated → ℕ → Bool
@@ -45,12 +40,53 @@ is_ready_at peer mesh m =
 abbrev pub are_ready : Peered → Seated → Bool
 are_ready peer mesh = list_all (is_ready_at peer mesh) (range_with_len 0 mesh.seat.machines)
 
--- machines that were silent for too long are gone
-abbrev pub IsSilenced : Peered → ℕ → Peered → Type 0
-IsSilenced old now new =
-    new ≡ record old {
-      member = record old.member { mesh = silenced old now MACHINE_LIMIT };
+-- a machine that was silent for too long is gone
+abbrev pub silenced_at : ℕ → ℕ → Peered → Peered
+silenced_at now m peer =
+    if is_silent (contact_at peer m) now peer.settings.silent_after
+    then record peer { member = record peer.member { mesh = without m peer.member.mesh } }
+    else peer
+
+unfoldable pub silenced_until : ℕ → ℕ → Peered → Peered
+silenced_until now zero peer = peer
+silenced_until now (suc m) peer = silenced_at now m (silenced_until now m peer)
+
+-- at how many words a machine holds up the match, if it does
+abbrev pub held_up_by : Peered → ℕ → Option ℕ
+held_up_by peer m =
+    if peer.running
+    then holds_up peer.member.mesh.seat peer.member.mesh.machine peer.member.session.settings.threshold m
+    else None
+
+-- that is told, if it is due
+abbrev pub stall_told : ℕ → ℕ → Peered → Peered
+stall_told now m peer =
+    if is_to_tell (stall_at peer m) now peer.settings.notify_after
+    then record peer {
+      stalls = slice_set peer.stalls m (record (stall_at peer m) { told = true });
+      waiting = pushed peer.waiting
+          (Stalled m (peer.settings.stalled_after - held_for (stall_at peer m) now));
     }
+    else peer
+
+-- a machine that has done so for too long is gone
+abbrev pub stall_ended : ℕ → ℕ → Peered → Peered
+stall_ended now m peer =
+    if is_overdue (stall_at peer m) now peer.settings.stalled_after
+    then record peer { member = record peer.member { mesh = without m peer.member.mesh } }
+    else peer
+
+-- it is watched whether a machine holds up the match
+abbrev pub watched_at : ℕ → ℕ → Peered → Peered
+watched_at now m peer =
+    stall_ended now m (stall_told now m (record peer {
+      stalls = slice_set peer.stalls m (watched (held_up_by peer m) now (stall_at peer m));
+    }))
+
+-- of the first so many machines, in their order
+unfoldable pub watched_until : ℕ → ℕ → Peered → Peered
+watched_until now zero peer = peer
+watched_until now (suc m) peer = watched_at now m (watched_until now m peer)
 
 -- the silence of a machine is told, if that is due
 abbrev pub hushed_at : ℕ → ℕ → Peered → Peered
@@ -64,6 +100,31 @@ hushed_at now m peer = record peer {
 unfoldable pub hushed_until : ℕ → ℕ → Peered → Peered
 hushed_until now zero peer = peer
 hushed_until now (suc m) peer = hushed_at now m (hushed_until now m peer)
+
+-- whether this machine was opened so long ago that the others should have come
+abbrev pub has_waited : Peered → ℕ → Bool
+has_waited peer now =
+    nat_lt 0 peer.settings.silent_after
+    && nat_lt peer.settings.silent_after (since now (first_moment peer.settings))
+
+-- whether it is to be told that a machine hasn't come
+abbrev pub is_missed : Peered → ℕ → ℕ → Bool
+is_missed peer now m =
+    has_waited peer now
+    && (not (stall_at peer m).missed && not (is_ready_at peer peer.member.mesh m))
+
+abbrev pub missed_at : ℕ → ℕ → Peered → Peered
+missed_at now m peer =
+    if is_missed peer now m
+    then record peer {
+      stalls = slice_set peer.stalls m (record (stall_at peer m) { missed = true });
+      waiting = pushed peer.waiting (Missing m);
+    }
+    else peer
+
+unfoldable pub missed_until : ℕ → ℕ → Peered → Peered
+missed_until now zero peer = peer
+missed_until now (suc m) peer = missed_at now m (missed_until now m peer)
 
 -- a machine is told to be gone, once
 abbrev pub farewell_at : ℕ → Peered → Peered
@@ -133,12 +194,16 @@ abbrev pub PlaysIf : Bool → Peered → Peered → Result (Option Reached) Refu
 PlaysIf true old new result = Plays old new result
 PlaysIf false old new result = (new ≡ old) × (result ≡ Ok None)
 
--- a poll, step by step, and why a player who is to leave is still there
-pub record Polls (old new : Peered) (now : ℕ) (refusal : Option Refusal) : Type 0 where
-  pub silent : Peered
+-- machine by machine: who was silent for too long is gone, and so is who held up the match for too long; what is due is told
+abbrev pub looked_after : ℕ → ℕ → Peered → Peered
+looked_after now machines peer =
+    farewell_until machines (missed_until now machines (hushed_until now machines
+    (watched_until now machines (silenced_until now machines peer))))
+
+-- a poll, and why a player who is to leave is still there
+pub record Polls (old new : Peered) (refusal : Option Refusal) : Type 0 where
   pub parted : Peered
-  pub silences : IsSilenced old now silent
-  pub parts : IsParted (farewell_until MACHINE_LIMIT (hushed_until now MACHINE_LIMIT silent)) parted refusal
+  pub parts : IsParted (looked_after (moment_of old) old.settings.machines old) parted refusal
   pub begins : new ≡ begun parted
 
 -- what follows a poll
@@ -147,10 +212,10 @@ GoesOn None polled new result = PlaysIf polled.running polled new result
 GoesOn (Some why) polled new result = (new ≡ polled) × (result ≡ Err why)
 
 -- a turn: a poll, and then the game
-pub record Turns (old new : Peered) (now : ℕ) (result : Result (Option Reached) Refusal) : Type 0 where
+pub record Turns (old new : Peered) (result : Result (Option Reached) Refusal) : Type 0 where
   pub polled : Peered
   pub refusal : Option Refusal
-  pub polls : Polls old polled now refusal
+  pub polls : Polls old polled refusal
   pub plays : GoesOn refusal polled new result
 
 -- why a roll isn't made, and what it leaves: the session as far as the roll came, and nothing else

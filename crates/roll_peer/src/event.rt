@@ -4,7 +4,7 @@ ghost use Rattle.roll_peer.specs.Codes.{code_of};
 ghost use Rattle.roll_peer.specs.Events.{popped, pushed};
 ghost use Rattle.roll_peer.specs.declared.event.TheConstants.{EVENT_LIMIT};
 
-use crate::settings::Field;
+use roll_contact::Field;
 use std::marker::Model;
 
 /// A notification to the caller, as GGPO's events. Machines are counted from 0, players from 1.
@@ -64,8 +64,31 @@ pub enum PeerEvent {
     },
     /// Another machine regards this one as gone: the match is over here.
     Dropped,
-    /// A machine is regarded as gone from now on: it said bye, or was silent too long, or others regard it as gone.
+    /// A machine is regarded as gone from now on: it said bye, or was silent or gave no words for too long, or others regard it as
+    /// gone.
     Left {
+        /// The machine.
+        machine: u8,
+    },
+    /// A machine was opened anew in the middle of the match. It can't come back to it: its first opening is silent from now on.
+    Restarted {
+        /// The machine.
+        machine: u8,
+    },
+    /// A machine gives no words, though it could and this one waits for them.
+    Stalled {
+        /// The machine.
+        machine: u8,
+        /// After how many milliseconds more it is regarded as gone, 0 if it isn't at all.
+        disconnect_in: u32,
+    },
+    /// Something that a machine sealed was refused, or words of it. Told at the first, and again once something was taken between.
+    Refused {
+        /// The machine.
+        machine: u8,
+    },
+    /// A machine hasn't come so far. The match waits for it.
+    Missing {
         /// The machine.
         machine: u8,
     },
@@ -88,6 +111,10 @@ impl PeerEvent {
             PeerEvent::Desync { .. } => 1102,
             PeerEvent::Mismatch { .. } => 1103,
             PeerEvent::Dropped => 1104,
+            PeerEvent::Restarted { .. } => 1105,
+            PeerEvent::Stalled { .. } => 1106,
+            PeerEvent::Refused { .. } => 1107,
+            PeerEvent::Missing { .. } => 1108,
         }
     }
 }

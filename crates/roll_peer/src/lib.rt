@@ -1,23 +1,25 @@
 //! A peer of a match over a network.
 #![tactic(auto)]
 
-mod contact;
 mod digests;
 mod event;
+mod judging;
 mod notices;
 mod pace;
 mod peer;
 mod received;
 mod receiving;
 mod refusal;
-pub mod seal;
 mod sending;
 mod settings;
+mod stall;
+mod stats;
 mod turning;
 
-pub use contact::{Stage, Stats};
 pub use event::PeerEvent;
 pub use peer::Peer;
 pub use received::{Ignored, Received};
 pub use refusal::{OpenFault, OpenRefusal, PeerRefusal};
-pub use settings::{Field, MatchSettings};
+pub use roll_contact::{Field, Stage};
+pub use settings::MatchSettings;
+pub use stats::Stats;

@@ -1,11 +1,11 @@
 //! What a peer tells its program.
 ghost use Rattle.std.specs.Prelude.{◌≡◌};
 ghost use Rattle.roll_mesh.specs.declared.limits.TheConstants.{PLAYER_LIMIT as PLAYERS};
-ghost use Rattle.roll_peer.specs.Notices.{after_heard, came, desync, dropped, new_stage, player_left, told, told_of};
+ghost use Rattle.roll_peer.specs.Notices.{after_heard, came, desync, dropped, found_out, newly, place_of, player_left, refusing, restarting, resumed, told, told_of};
 
-use crate::contact::{Contact, Stage};
 use crate::digests::Digests;
 use crate::event::{Events, PeerEvent};
+use roll_contact::{Contact, Field, Stage};
 use roll_member::Left;
 use roll_mesh::{Heard, PLAYER_LIMIT};
 use roll_wire::Settled;
@@ -24,10 +24,11 @@ impl Events {
     pub(crate) fn heard(&mut self, machine: u8, before: &Contact, after: &Contact)
         ensures { self.new ≡ after_heard machine before.now after.now self.old }
     {
-        if before.interrupted {
-            self.push(PeerEvent::Resumed { machine });
-        }
+        self.tell(resumed(machine, before, after));
         self.tell(came(machine, before.stage, after.stage));
+        self.tell(found_out(machine, before.differs, after.differs));
+        self.tell(restarting(machine, before, after));
+        self.tell(refusing(machine, before, after));
     }
 
     /// A machine's settled state may be another than the one that this machine had at that frame.
@@ -66,36 +67,82 @@ impl Events {
     }
 }
 
+/// A machine that was silent is heard again.
+fn resumed(machine: u8, before: &Contact, after: &Contact) -> Option<PeerEvent>
+    ensures { result ≡ resumed machine before.now after.now }
+{
+    if before.interrupted && !after.interrupted {
+        Some(PeerEvent::Resumed { machine })
+    } else {
+        None
+    }
+}
+
 /// What is told of a machine that came from one stage to another, or stays.
 fn came(machine: u8, before: Stage, after: Stage) -> Option<PeerEvent>
     ensures { result ≡ came machine before after }
 {
-    match before {
-        Stage::Silent => new_stage(machine, after),
-        Stage::Greeted => match after {
-            Stage::Greeted => None,
-            _ => new_stage(machine, after),
-        },
-        Stage::Playing => match after {
-            Stage::Greeted | Stage::Playing => None,
-            _ => new_stage(machine, after),
-        },
-        Stage::Mismatched(_) => None,
-    }
-}
-
-/// What a machine's new stage is told by.
-fn new_stage(machine: u8, stage: Stage) -> Option<PeerEvent>
-    ensures { result ≡ new_stage machine stage }
-{
-    match stage {
-        Stage::Silent => None,
-        Stage::Greeted => Some(PeerEvent::Synchronizing {
+    match (before, after) {
+        (Stage::Playing, _) => None,
+        (_, Stage::Playing) => Some(PeerEvent::Synchronized { machine }),
+        (Stage::Silent, Stage::Greeted) => Some(PeerEvent::Synchronizing {
             machine,
             count: 1,
             total: 2,
         }),
-        Stage::Playing => Some(PeerEvent::Synchronized { machine }),
-        Stage::Mismatched(field) => Some(PeerEvent::Mismatch { machine, field }),
+        _ => None,
+    }
+}
+
+/// The place of a field among all.
+fn place_of(field: Field) -> u8
+    ensures { result ≡ place_of field }
+{
+    match field {
+        Field::Machines => 0,
+        Field::Owners => 1,
+        Field::Settings => 2,
+    }
+}
+
+/// A field by which a machine is found to mean another match, unless it was so before.
+fn newly(before: Option<Field>, after: Option<Field>) -> Option<Field>
+    ensures { result ≡ newly before after }
+{
+    match (before, after) {
+        (Some(old), Some(new)) if place_of(old) == place_of(new) => None,
+        (_, new) => new,
+    }
+}
+
+/// What is told of a machine that is found to mean another match.
+fn found_out(machine: u8, before: Option<Field>, after: Option<Field>) -> Option<PeerEvent>
+    ensures { result ≡ found_out machine before after }
+{
+    match newly(before, after) {
+        Some(field) => Some(PeerEvent::Mismatch { machine, field }),
+        None => None,
+    }
+}
+
+/// What is told of a machine that was opened anew.
+fn restarting(machine: u8, before: &Contact, after: &Contact) -> Option<PeerEvent>
+    ensures { result ≡ restarting machine before.now after.now }
+{
+    if before.restarted == after.restarted {
+        None
+    } else {
+        Some(PeerEvent::Restarted { machine })
+    }
+}
+
+/// What is told of a machine the first of whose packets in a row is refused.
+fn refusing(machine: u8, before: &Contact, after: &Contact) -> Option<PeerEvent>
+    ensures { result ≡ refusing machine before.now after.now }
+{
+    if after.is_refusing && !before.is_refusing {
+        Some(PeerEvent::Refused { machine })
+    } else {
+        None
     }
 }

@@ -1,10 +1,9 @@
 //! Whether this machine runs ahead of the others.
 ghost use Rattle.std.specs.Prelude.{◌≡◌, ◌<◌, IfOk, IfErr, Some, slice_index_or};
 ghost use Rattle.roll_mesh.specs.declared.limits.TheConstants.{MACHINE_LIMIT as MACHINES};
-ghost use Rattle.roll_peer.specs.Contacts.{stranger};
 ghost use Rattle.roll_peer.specs.Paces.{lead_of, no_pace, paced, slower, slowest, wait_of};
 
-use crate::contact::Contact;
+use roll_contact::Contact;
 use roll_frame::{Advice, Refusal};
 use roll_mesh::{MACHINE_LIMIT, Mesh};
 use std::alloc::Global;

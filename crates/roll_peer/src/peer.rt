@@ -1,5 +1,5 @@
 //! A peer: a session in its seat of a match, and the datagrams that it hears and sends.
-ghost use Rattle.std.specs.Prelude.{◌≡◌, max, true, Some, None, IfErr, IfOk, OnErr, OnOk, slice_get};
+ghost use Rattle.std.specs.Prelude.{◌≡◌, ◌≢◌, max, true, Some, None, IfErr, IfOk, OnErr, OnOk, slice_get};
 ghost use Rattle.roll_member.specs.Joined.{join_refusal};
 ghost use Rattle.roll_mesh.specs.Machines.{leave};
 ghost use Rattle.roll_mesh.specs.Meshes.{leave_refusal, stepped};
@@ -12,13 +12,14 @@ ghost use Rattle.roll_peer.specs.Settings.{seat_of};
 ghost use Rattle.roll_session.specs.Changes.{after_graft, graft_refusal, local_refusal, reserve_refusal, IsRefused, IsWhy};
 ghost use Rattle.roll_session.specs.Guessing.{guess_job_of, guess_refusal_of};
 
-use crate::contact::{Contact, Stage};
 use crate::digests::Digests;
 use crate::event::{Events, PeerEvent};
 use crate::pace::Pace;
 use crate::refusal::{OpenFault, OpenRefusal, PeerRefusal};
 use crate::settings::MatchSettings;
+use crate::stall::Stall;
 use roll_branch::{Branch, Job};
+use roll_contact::{Clock, Contact, Stage};
 use roll_frame::Refusal;
 use roll_game::Game;
 use roll_member::Member;
@@ -31,12 +32,15 @@ use std::marker::Model;
 ///
 /// A program calls `receive` for each datagram that came, gives its players' words by `add_local_input`, makes a `turn`, and sends
 /// what `send` makes for each other machine: all this some 60 times a second. All moments are its own clock's, in milliseconds;
-/// the clock begins anew after 2^32.
+/// the clock begins anew after 2^32. If it goes back, no time passes; if it jumps ahead, nobody is gone before clocks that are sent
+/// after that had the time to come back.
 #[derive(Drop)]
 pub struct Peer<G: Game> {
     pub(crate) member: Member<G>,
     pub(crate) settings: MatchSettings,
+    pub(crate) clock: Clock,
     pub(crate) contacts: [Contact; MACHINE_LIMIT],
+    pub(crate) stalls: [Stall; MACHINE_LIMIT],
     pub(crate) running: bool,
     pub(crate) news: bool,
     pub(crate) known_gone: [bool; MACHINE_LIMIT],
@@ -57,7 +61,9 @@ impl<G: Game> Model for Peer<G> {
     ghost view = { λ p. record {
       member = p.member;
       settings = p.settings;
+      clock = p.clock;
       contacts = p.contacts;
+      stalls = p.stalls;
       running = p.running;
       news = p.news;
       waiting = p.events;
@@ -75,7 +81,7 @@ impl<G: Game> Peer<G> {
     ///
     /// # Errors
     ///
-    /// If the session can't take its seat, or there is no memory. The session is handed back.
+    /// If the settings have no draw, the session can't take its seat, or there is no memory. The session is handed back.
     pub fn open(
         alloc: Global,
         session: Session<G>,
@@ -83,9 +89,16 @@ impl<G: Game> Peer<G> {
     ) -> Result<Peer<G>, OpenFault<G>>
         ensures opened { IfOk result (IsOpenedAs session settings) }
         ensures accepted { OnOk result (join_refusal session (seat_of settings) ≡ None) }
+        ensures drawn { OnOk result (settings.draw ≢ 0) }
         ensures back { IfErr result (λ fault. fault.session ≡ session) }
         ensures refused { IfErr result (λ fault. IsWhyNot session settings fault.why) }
     {
+        if settings.draw == 0 {
+            return Err(OpenFault {
+                why: OpenRefusal::NoDraw,
+                session,
+            });
+        }
         let pace = match Pace::new(alloc) {
             Ok(pace) => pace,
             Err(_) => {
@@ -99,7 +112,9 @@ impl<G: Game> Peer<G> {
             Ok(member) => Ok(Peer {
                 member,
                 settings,
+                clock: Clock::new(settings.first_moment()),
                 contacts: [Contact::new(); MACHINE_LIMIT],
+                stalls: [Stall::new(); MACHINE_LIMIT],
                 running: false,
                 news: false,
                 known_gone: [false; MACHINE_LIMIT],
@@ -180,6 +195,13 @@ impl<G: Game> Peer<G> {
             Some(contact) => contact.stage,
             None => Stage::Silent,
         }
+    }
+
+    /// Whether words of others or leaves came since the last rollback. A turn that stands needs no `synchronize_input` otherwise.
+    pub fn has_news(&self) -> bool
+        ensures { result ≡ self.now.news }
+    {
+        self.news
     }
 
     /// Whether the match has begun: all machines that aren't gone had heard each other.

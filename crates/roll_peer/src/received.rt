@@ -1,5 +1,4 @@
 //! What became of bytes that came.
-use crate::settings::Field;
 use roll_member::Taken;
 use roll_wire::WireFault;
 use thiserror::Error;
@@ -26,11 +25,11 @@ pub enum Received {
     },
 }
 
-/// Why bytes weren't heard. They changed nothing.
+/// Why bytes weren't heard. What its sender sealed is counted, and told; all else changes nothing.
 #[derive(Clone, Copy, Debug, PartialEq, Eq, Error)]
 pub enum Ignored {
-    /// They aren't of this match, or were changed on their way.
-    #[error("not of this match, or changed on its way")]
+    /// They aren't of this match, or of another opening of its sender or of this machine, or were changed on their way.
+    #[error("not of this match or opening, or changed on its way")]
     NotSealed,
     /// They are sealed for this match, and are no datagram.
     #[error("{0}")]
@@ -44,10 +43,11 @@ pub enum Ignored {
     /// The sender is gone.
     #[error("the sender is gone")]
     MachineGone,
-    /// The sender means another match: the field that it has otherwise.
-    #[error("the sender means another match")]
-    Mismatched(Field),
-    /// A play has words that its sender doesn't say that it has.
-    #[error("the packet has more words than its sender")]
+    /// A play speaks of machines or players that the match hasn't.
+    #[error("it speaks of machines or players that the match hasn't")]
+    Outside,
+    /// A play has words that its sender doesn't say that it has, or says that it has more words of this machine's players than this
+    /// machine gave.
+    #[error("the packet has more words than there are")]
     Overstated,
 }

@@ -1,57 +1,90 @@
 //! A peer hears bytes.
 ghost use Rattle.std.specs.Prelude.{◌≡◌, ◌<◌, is_some, None, Some, IfErr, IfOk, IfSome, IsNone, IsSome, OnErr, OnOk};
+ghost use Rattle.roll_contact.specs.Contacts.{refused};
 ghost use Rattle.roll_mesh.specs.declared.limits.TheConstants.{MACHINE_LIMIT};
 ghost use Rattle.roll_member.specs.Hearing.{HearsPacket};
 ghost use Rattle.roll_mesh.specs.Meshes.{is_had};
 ghost use Rattle.roll_peer.specs.Peered.{contact_at};
-ghost use Rattle.roll_peer.specs.Receiving.{after_play, deaf_to, knowing, mismatch_in, packet_of, with_news, ignored, opened, unheard, HearsBye, HearsHello, HearsTurn, IsOpened, Receives};
-ghost use Rattle.roll_wire.specs.Spelling.{turn, Plays};
+ghost use Rattle.roll_peer.specs.Receiving.{after_ignored, after_words, byte_at, deaf_to, ignored, is_refusal, key_of, knowing, moment_of, open_by, opened, packet_of, refused_of, sender_of, ticking, unheard, unplayed, with_news, Hears, HearsBye, HearsHello, HearsTurn, IsOpened, Receives};
+ghost use Rattle.roll_wire.specs.Spelling.{content, turn, Plays};
 
-use crate::contact::{Contact, Stage};
+use crate::judging::{are_no_more, is_inside};
 use crate::peer::Peer;
 use crate::received::{Ignored, Received};
-use crate::seal::unseal;
-use crate::settings::Field;
+use roll_contact::seal::unseal;
+use roll_contact::{Contact, Key};
 use roll_game::Game;
 use roll_member::Taken;
-use roll_wire::{Body, Clocks, Datagram, Hello, Play, decode};
+use roll_mesh::Packet;
+use roll_wire::{Body, Clocks, Hello, Play, decode};
+
+/// Where a datagram has its sender's number, and its kind.
+const SENDER_AT: usize = 12;
+const KIND_AT: usize = 13;
 
 impl<G: Game> Peer<G> {
     /// Hears bytes that came by the network, at a moment. Words that they hold become words of the session, and what its sender
-    /// knows is known here; nothing else changes. What isn't of this match changes nothing. It takes memory for the log alone, and
-    /// none for events that were reserved.
+    /// knows is known here; nothing else changes. What isn't of this match, or of another opening of its sender or of this machine,
+    /// changes nothing. It takes memory for the log alone, and none for events that were reserved.
     ///
     /// # Errors
     ///
-    /// Why they weren't heard. They changed nothing then.
-    #[tactic(auto, using(crate::proofs::Said::ignored_unread, crate::proofs::Said::ignored_read))]
+    /// Why they weren't heard. Then nothing changed but the clock; and of what its sender sealed it is counted and told that it was
+    /// refused.
     pub fn receive(&mut self, bytes: &[u8], now: u32) -> Result<Received, Ignored>
-        ensures received { IfOk result (Receives G.step self.old self.new bytes.now now) }
-        ensures accepted { OnOk result
-            (ignored self.old (opened self.old.settings.match_number bytes.now) ≡ None) }
-        ensures ignored { IfErr result
-            (λ why. ignored self.old (opened self.old.settings.match_number bytes.now) ≡ Some why) }
-        ensures unchanged { OnErr result (self.new ≡ self.old) }
+        ensures received { IfOk result (Receives G.step (ticking now self.old) self.new bytes.now) }
+        ensures accepted { OnOk result (ignored (ticking now self.old) bytes.now ≡ None) }
+        ensures ignored { IfErr result (λ why. ignored (ticking now self.old) bytes.now ≡ Some why) }
+        ensures refused { IfErr result
+            (λ why. self.new ≡ after_ignored (sender_of bytes.now) why (ticking now self.old)) }
     {
-        let datagram = open(self.settings.match_number, bytes)?;
-        let sender = datagram.envelope.sender;
+        self.clock.tick(now);
+        self.receive_now(bytes)
+    }
+
+    /// Hears bytes at the moment that the clock shows.
+    #[tactic(auto, using(crate::proofs::Said::ignored_is))]
+    fn receive_now(&mut self, bytes: &[u8]) -> Result<Received, Ignored>
+        ensures received { IfOk result (Receives G.step self.old self.new bytes.now) }
+        ensures accepted { OnOk result (ignored self.old bytes.now ≡ None) }
+        ensures ignored { IfErr result (λ why. ignored self.old bytes.now ≡ Some why) }
+        ensures refused { IfErr result
+            (λ why. self.new ≡ after_ignored (sender_of bytes.now) why self.old) }
+    {
+        let sender = byte_of(bytes, SENDER_AT);
         if let Some(why) = self.deaf_to(sender) {
             return Err(why);
         }
-        match datagram.body {
-            Body::Hello(hello) => {
-                self.hear_hello(sender, &hello, now);
-                Ok(Received::Hello { sender })
-            }
-            Body::Play(play) => {
-                let taken = self.hear_turn(sender, &play, now)?;
-                Ok(Received::Play { sender, taken })
-            }
-            Body::Bye => {
-                self.hear_bye(sender, now);
-                Ok(Received::Bye { sender })
+        match self.body_of(sender, bytes) {
+            Ok(body) => self.hear(sender, body),
+            Err(why) => {
+                self.note_ignored(sender, why);
+                Err(why)
             }
         }
+    }
+
+    /// What was ignored is counted and told, if its sender sealed it.
+    fn note_ignored(&mut self, sender: u8, why: Ignored)
+        requires { sender < MACHINE_LIMIT }
+        ensures { self.new ≡ after_ignored sender why self.old }
+    {
+        if is_refusal(why) {
+            self.note_refused(sender);
+        }
+    }
+
+    /// Something that a machine sealed was refused.
+    fn note_refused(&mut self, sender: u8)
+        requires { sender < MACHINE_LIMIT }
+        ensures { self.new ≡ refused_of sender self.old }
+    {
+        let place = usize::from(sender);
+        let before = self.contacts[place];
+        let mut contact = before;
+        contact.refuse();
+        self.contacts[place] = contact;
+        self.events.heard(sender, &before, &contact);
     }
 
     /// Why a machine isn't heard at all.
@@ -70,50 +103,133 @@ impl<G: Game> Peer<G> {
         }
     }
 
-    /// A hello is heard.
-    fn hear_hello(&mut self, sender: u8, hello: &Hello, now: u32)
+    /// By what a datagram of a kind is sealed that a machine sent. None, if it hasn't said this opening's draw.
+    fn key_of(&self, sender: u8, kind: u8) -> Option<Key>
         requires { sender < MACHINE_LIMIT }
-        ensures { HearsHello self.old self.new sender now hello.now }
+        ensures { result ≡ key_of self.now sender kind }
+    {
+        let number = self.settings.number_for(sender);
+        let contact = &self.contacts[usize::from(sender)];
+        if kind == 0 {
+            Some(Key::of_hellos(number))
+        } else if contact.is_playing() {
+            Some(Key {
+                number,
+                from: contact.draw,
+                to: self.settings.draw,
+            })
+        } else {
+            None
+        }
+    }
+
+    /// What bytes hold that a machine sent.
+    #[tactic(auto, using(crate::proofs::Said::opened_is))]
+    fn body_of(&self, sender: u8, bytes: &[u8]) -> Result<Body, Ignored>
+        requires place { sender < MACHINE_LIMIT }
+        requires sent { sender ≡ sender_of bytes.now }
+        ensures { IsOpened result (opened self.now bytes.now) }
+    {
+        match self.key_of(sender, byte_of(bytes, KIND_AT)) {
+            Some(key) => open_by(&key, bytes),
+            None => Err(Ignored::NotSealed),
+        }
+    }
+
+    /// What was opened is heard, at the moment that the clock shows.
+    fn hear(&mut self, sender: u8, body: Body) -> Result<Received, Ignored>
+        requires place { sender < MACHINE_LIMIT }
+        requires listened { deaf_to self.old sender ≡ None }
+        ensures heard { IfOk result (Hears G.step self.old self.new sender (content body)) }
+        ensures accepted { OnOk result (unheard self.old sender (content body) ≡ None) }
+        ensures refused { IfErr result (λ why. unheard self.old sender (content body) ≡ Some why) }
+        ensures counted { IfErr result (λ why. self.new ≡ after_ignored sender why self.old) }
+    {
+        match body {
+            Body::Hello(hello) => {
+                self.hear_hello(sender, &hello);
+                Ok(Received::Hello { sender })
+            }
+            Body::Play(play) => self.hear_play(sender, &play),
+            Body::Bye => {
+                self.hear_bye(sender);
+                Ok(Received::Bye { sender })
+            }
+        }
+    }
+
+    /// A hello is heard.
+    fn hear_hello(&mut self, sender: u8, hello: &Hello)
+        requires { sender < MACHINE_LIMIT }
+        ensures { HearsHello self.old self.new sender hello.now }
     {
         let place = usize::from(sender);
-        let mismatch = self.settings.mismatch(hello);
+        let mismatch = self.settings.terms().mismatch(hello);
         let before = self.contacts[place];
         let mut contact = before;
-        contact.heard(now);
-        contact.hello(mismatch, hello.heard, now);
+        contact.hello(&self.settings.opening(), mismatch, hello, self.clock.moment);
         self.contacts[place] = contact;
         self.events.heard(sender, &before, &contact);
     }
 
-    /// A turn is heard.
-    ///
-    /// # Errors
-    ///
-    /// `Mismatched` or `Overstated`: nothing changed then.
-    fn hear_turn(&mut self, sender: u8, play: &Play, now: u32) -> Result<Taken, Ignored>
+    /// A play is heard, unless it is refused.
+    fn hear_play(&mut self, sender: u8, play: &Play) -> Result<Received, Ignored>
         requires place { sender < MACHINE_LIMIT }
         requires listened { deaf_to self.old sender ≡ None }
-        ensures heard { IfOk result (HearsTurn G.step self.old self.new sender now (turn play.now)) }
+        ensures heard { IfOk result (Hears G.step self.old self.new sender (Plays (turn play.now))) }
         ensures accepted { OnOk result (unheard self.old sender (Plays (turn play.now)) ≡ None) }
         ensures refused { IfErr result
             (λ why. unheard self.old sender (Plays (turn play.now)) ≡ Some why) }
-        ensures unchanged { OnErr result (self.new ≡ self.old) }
+        ensures counted { IfErr result (λ why. self.new ≡ after_ignored sender why self.old) }
     {
-        if let Some(field) = mismatch_in(self.contacts[usize::from(sender)].stage) {
-            return Err(Ignored::Mismatched(field));
+        let packet = play.packet(sender).shortened();
+        if let Some(why) = self.unplayed(&packet) {
+            self.note_refused(sender);
+            return Err(why);
         }
+        match self.hear_turn(sender, play, &packet) {
+            Some(taken) => Ok(Received::Play { sender, taken }),
+            None => {
+                self.note_refused(sender);
+                Err(Ignored::Overstated)
+            }
+        }
+    }
+
+    /// Why a play isn't heard that says what it shouldn't.
+    fn unplayed(&self, packet: &Packet) -> Option<Ignored>
+        ensures { result ≡ unplayed self.now packet.now }
+    {
+        let mesh = self.member.mesh();
+        if !is_inside(mesh.seat(), packet) {
+            Some(Ignored::Outside)
+        } else if !are_no_more(mesh.seat(), mesh.has(), packet) {
+            Some(Ignored::Overstated)
+        } else {
+            None
+        }
+    }
+
+    /// A turn is heard. None if it has words that its sender doesn't say that it has: nothing changed then.
+    fn hear_turn(&mut self, sender: u8, play: &Play, packet: &Packet) -> Option<Taken>
+        requires place { sender < MACHINE_LIMIT }
+        requires listened { deaf_to self.old sender ≡ None }
+        requires same { packet.now ≡ packet_of sender (turn play.now) }
+        ensures heard { IfSome result (HearsTurn G.step self.old self.new sender (turn play.now)) }
+        ensures had { is_some result ≡ is_had (packet_of sender (turn play.now)) }
+        ensures unchanged { IsNone result → self.new ≡ self.old }
+    {
         let frame = self.member.session().frame();
-        let Some(taken) = self.take_turn(sender, play) else {
-            return Err(Ignored::Overstated);
-        };
-        self.know_turn(sender, play, frame, now);
+        let taken = self.take_turn(sender, play, packet)?;
+        self.know_turn(sender, play, frame, taken.refusal.is_some());
         self.events.dropped(taken.heard);
-        Ok(taken)
+        Some(taken)
     }
 
     /// Session and mesh hear a turn. None if it has words that its sender doesn't say that it has: nothing changed then.
-    fn take_turn(&mut self, sender: u8, play: &Play) -> Option<Taken>
-        requires { deaf_to self.old sender ≡ None }
+    fn take_turn(&mut self, sender: u8, play: &Play, packet: &Packet) -> Option<Taken>
+        requires listened { deaf_to self.old sender ≡ None }
+        requires same { packet.now ≡ packet_of sender (turn play.now) }
         ensures heard { IfSome result (HearsPacket G.step self.old.member self.new.member
             (packet_of sender (turn play.now)) play.now.words.items) }
         ensures rest { IsSome result → self.new ≡ with_news self.old self.new.member }
@@ -121,7 +237,7 @@ impl<G: Game> Peer<G> {
         ensures unchanged { IsNone result → self.new ≡ self.old }
     {
         let words = self.member.session().log().len();
-        match self.member.hear(&play.packet(sender), &play.words) {
+        match self.member.hear(packet, &play.words) {
             Ok(taken) => {
                 self.news |= self.member.session().log().len() > words;
                 Some(taken)
@@ -131,14 +247,14 @@ impl<G: Game> Peer<G> {
     }
 
     /// What a turn tells of its sender is known, and told.
-    fn know_turn(&mut self, sender: u8, play: &Play, frame: u32, now: u32)
+    fn know_turn(&mut self, sender: u8, play: &Play, frame: u32, refused: bool)
         requires { sender < MACHINE_LIMIT }
         ensures { self.new ≡ knowing (turn play.now) sender
-            (after_play play.now.head.clocks frame now (contact_at self.old sender)) self.old }
+            (after_words refused play.now.head.clocks frame (moment_of self.old) (contact_at self.old sender)) self.old }
     {
         let place = usize::from(sender);
         let before = self.contacts[place];
-        let contact = after_play(before, play.head.clocks, frame, now);
+        let contact = after_words(before, play.head.clocks, frame, self.clock.moment, refused);
         self.contacts[place] = contact;
         self.events.heard(sender, &before, &contact);
         self.events
@@ -146,53 +262,63 @@ impl<G: Game> Peer<G> {
     }
 
     /// A bye is heard.
-    fn hear_bye(&mut self, sender: u8, now: u32)
+    fn hear_bye(&mut self, sender: u8)
         requires place { sender < MACHINE_LIMIT }
         requires listened { deaf_to self.old sender ≡ None }
-        ensures { HearsBye self.old self.new sender now }
+        ensures { HearsBye self.old self.new sender }
     {
         let place = usize::from(sender);
         let mut contact = self.contacts[place];
-        contact.heard(now);
+        contact.heard(self.clock.moment);
         self.contacts[place] = contact;
         let _ = self.member.leave(sender);
     }
 }
 
-/// What bytes hold, if they are sealed for the match.
-#[tactic(auto, using(crate::proofs::Said::opened_is))]
-fn open(match_number: u64, bytes: &[u8]) -> Result<Datagram, Ignored>
-    ensures { IsOpened result (opened match_number bytes.now) }
+/// The byte at a place, 0 if there is none.
+fn byte_of(bytes: &[u8], place: usize) -> u8
+    ensures { result ≡ byte_at bytes.now place }
 {
-    let Some(text) = unseal(bytes, match_number) else {
+    if place < bytes.len() { bytes[place] } else { 0 }
+}
+
+/// What bytes hold, if they are sealed by a key.
+fn open_by(key: &Key, bytes: &[u8]) -> Result<Body, Ignored>
+    ensures { IsOpened result (open_by (Some key.now) bytes.now) }
+{
+    let Some(text) = unseal(bytes, key) else {
         return Err(Ignored::NotSealed);
     };
     match decode(&text) {
-        Ok(datagram) => Ok(datagram),
+        Ok(datagram) => Ok(datagram.body),
         Err(fault) => Err(Ignored::NoDatagram(fault)),
     }
 }
 
-/// The field by which a machine means another match, if it does.
-fn mismatch_in(stage: Stage) -> Option<Field>
-    ensures { result ≡ mismatch_in stage }
+/// Whether what was ignored for this was sealed by its sender.
+fn is_refusal(why: Ignored) -> bool
+    ensures { result ≡ is_refusal why }
 {
-    match stage {
-        Stage::Mismatched(field) => Some(field),
-        _ => None,
-    }
+    matches!(
+        why,
+        Ignored::NoDatagram(_) | Ignored::Outside | Ignored::Overstated
+    )
 }
 
-/// What is known of a machine once its turn was heard.
-fn after_play(before: Contact, clocks: Option<Clocks>, frame: u32, now: u32) -> Contact
-    ensures { result ≡ after_play clocks frame now before }
+/// What is known of a machine once its turn was heard, of which words may have been refused.
+fn after_words(
+    before: Contact,
+    clocks: Option<Clocks>,
+    frame: u32,
+    now: u32,
+    refused: bool,
+) -> Contact
+    ensures { result ≡ after_words refused clocks frame now before }
 {
     let mut contact = before;
-    contact.heard(now);
-    contact.play(now);
-    match clocks {
-        Some(clocks) if contact.are_newer(&clocks) => contact.clocks(&clocks, frame, now),
-        _ => {}
+    contact.play(clocks, frame, now);
+    if refused {
+        contact.refuse();
     }
     contact
 }

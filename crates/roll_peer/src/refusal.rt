@@ -11,6 +11,9 @@ pub enum OpenRefusal {
     /// The session can't take its seat.
     #[error("{0}")]
     Join(JoinRefusal),
+    /// The settings have no draw: it is 0.
+    #[error("the opening has no draw")]
+    NoDraw,
     /// The allocator has no room.
     #[error("no memory")]
     NoMemory,

@@ -1,69 +1,105 @@
 //! What a peer sends.
-ghost use Rattle.std.specs.Prelude.{◌≡◌, ◌<◌, ◌%◌, ◌==◌, true, is_none, nat_lt, Some, None, IfSome, if◌then◌else◌};
-ghost use Rattle.roll_member.specs.Telling.{IsTold};
+ghost use Rattle.std.specs.Prelude.{◌≡◌, ◌<◌, ◌%◌, ◌==◌, ◌||◌, not, true, false, is_none, nat_lt, Some, None, IfSome, if◌then◌else◌};
+ghost use Rattle.roll_contact.specs.Contacts.{clocks_for, is_playing};
+ghost use Rattle.roll_contact.specs.Seals.{sealed};
 ghost use Rattle.roll_mesh.specs.declared.limits.TheConstants.{MACHINE_LIMIT};
-ghost use Rattle.roll_peer.specs.Contacts.{clocks_for};
-ghost use Rattle.roll_peer.specs.Receiving.{packet_of};
-ghost use Rattle.roll_peer.specs.Seals.{sealed};
-ghost use Rattle.roll_peer.specs.Sending.{after_send, clocks_in, is_lost, settled_in, stats_of, IsContentFor, IsSent};
-ghost use Rattle.roll_wire.specs.Spelling.{content, is_whole, spelling, turn, Leaves};
+ghost use Rattle.roll_peer.specs.Peered.{contact_at};
+ghost use Rattle.roll_peer.specs.Receiving.{moment_of, ticking};
+ghost use Rattle.roll_peer.specs.Sending.{after_send, clocks_in, is_lost, key_for, settled_in, stats_of, text_for, IsContentFor, IsPlayFor, IsSent};
+ghost use Rattle.roll_wire.specs.Spelling.{content, is_turn, is_whole, spelling, turn, Leaves};
 
-use crate::contact::{Contact, Stage, Stats};
 use crate::peer::Peer;
-use crate::seal::seal;
+use crate::stats::Stats;
 use arrayvec::ArrayVec;
+use roll_contact::seal::seal;
+use roll_contact::{Contact, Key};
 use roll_game::Game;
 use roll_member::Told;
 use roll_mesh::Packet;
 use roll_wire::{Body, Clocks, DATAGRAM_LIMIT, Datagram, Envelope, Head, Play, Settled, encode};
 
-/// In how many datagrams to a machine one tells how far this machine is, and when it was sent.
-const CLOCKS_EVERY: u32 = 16;
 /// In how many datagrams to a machine one tells the digest of a settled state.
 const SETTLED_EVERY: u32 = 64;
 
 impl<G: Game> Peer<G> {
-    /// The bytes to send to a machine in this turn: until both have heard each other who this machine takes the match's machines
+    /// The bytes to send to a machine in this turn: until it has said this opening's draw who this machine takes the match's machines
     /// to be, and then what the machine hasn't said that it has. None if there is no such machine, it is this one, or it is gone.
     #[tactic(auto, using(crate::proofs::Said::after_send_is))]
     pub fn send(&mut self, machine: u8, now: u32) -> Option<ArrayVec<u8, DATAGRAM_LIMIT>>
-        ensures sent { IfSome result (λ bytes. IsSent self.old machine now bytes.items) }
+        ensures sent { IfSome result (λ bytes. IsSent (ticking now self.old) machine bytes.items) }
         ensures lost { is_none result ≡ is_lost self.old machine }
-        ensures counted { self.new ≡ after_send self.old machine }
+        ensures counted { self.new ≡ after_send (ticking now self.old) machine }
     {
+        self.clock.tick(now);
         if self.is_lost(machine) {
             return None;
         }
-        let bytes = self.bytes_for(machine, now);
-        self.contacts[usize::from(machine)].sent();
+        let bytes = self.bytes_for(machine);
+        self.count_sent(machine);
         Some(bytes)
     }
 
-    /// The bytes for a machine.
-    fn bytes_for(&self, machine: u8, now: u32) -> ArrayVec<u8, DATAGRAM_LIMIT>
-        requires { machine < MACHINE_LIMIT }
-        ensures { IsSent self.now machine now result.items }
+    /// A datagram was sent to a machine.
+    #[tactic(auto, using(crate::proofs::Said::after_send_to))]
+    fn count_sent(&mut self, machine: u8)
+        requires place { machine < MACHINE_LIMIT }
+        requires there { is_lost self.old machine ≡ false }
+        ensures { self.new ≡ after_send self.old machine }
     {
-        match encode(&self.datagram(self.body_for(machine, now))) {
-            Some(mut bytes) => {
-                seal(&mut bytes);
-                bytes
-            }
-            None => unreachable!(),
+        let contact = &mut self.contacts[usize::from(machine)];
+        if contact.says_hello() {
+            contact.hello_sent();
+        } else {
+            contact.play_sent(self.clock.moment);
         }
     }
 
-    /// What a machine is told: what it hasn't said that it has, if it plays with this one; else who this one is.
-    fn body_for(&self, machine: u8, now: u32) -> Body
+    /// The bytes for a machine.
+    fn bytes_for(&self, machine: u8) -> ArrayVec<u8, DATAGRAM_LIMIT>
         requires { machine < MACHINE_LIMIT }
-        ensures fits { IsContentFor self.now machine now (content result) }
-        ensures whole { is_whole (content result) ≡ true }
+        ensures { IsSent self.now machine result.items }
     {
-        let stage = self.contacts[usize::from(machine)].stage;
-        if stage == Stage::Playing {
-            Body::Play(self.play_for(machine, now))
+        if self.contacts[usize::from(machine)].says_hello() {
+            let hello = self.settings.terms().hello(&self.settings.opening(), self.contacts[usize::from(machine)].echo);
+            self.sealed_for(machine, Body::Hello(hello))
         } else {
-            Body::Hello(self.settings.hello(stage == Stage::Greeted))
+            self.sealed_for(machine, Body::Play(self.play_for(machine)))
+        }
+    }
+
+    /// By what a datagram for a machine is sealed.
+    fn key_for(&self, machine: u8, body: &Body) -> Key
+        requires { machine < MACHINE_LIMIT }
+        ensures { result ≡ key_for self.now machine (content body.now) }
+    {
+        let number = self.settings.number_for(machine);
+        match body {
+            Body::Hello(_) => Key::of_hellos(number),
+            _ => Key {
+                number,
+                from: self.settings.draw,
+                to: self.contacts[usize::from(machine)].draw,
+            },
+        }
+    }
+
+    /// A datagram of this machine for another.
+    fn sealed_for(&self, machine: u8, body: Body) -> ArrayVec<u8, DATAGRAM_LIMIT>
+        requires place { machine < MACHINE_LIMIT }
+        requires whole { is_whole (content body) ≡ true }
+        ensures { result.items ≡ text_for self.now machine (content body) }
+    {
+        let key = self.key_for(machine, &body);
+        let envelope = Envelope {
+            match_number: key.number,
+            sender: self.settings.me,
+        };
+        match encode(&Datagram { envelope, body }) {
+            Some(mut bytes) => {
+                seal(&mut bytes, &key);
+                bytes
+            }
+            None => unreachable!(),
         }
     }
 
@@ -75,32 +111,12 @@ impl<G: Game> Peer<G> {
         machine >= seat.machines || machine == seat.me || self.member.mesh().is_gone(machine)
     }
 
-    /// A datagram of this machine.
-    fn datagram(&self, body: Body) -> Datagram
-        ensures { result ≡ record {
-          envelope = record {
-            match_number = self.now.settings.match_number;
-            sender = self.now.settings.me;
-          };
-          body = body;
-        } }
+    /// How far this machine is, and when it sends, if that is due.
+    fn clocks_for(&self, contact: &Contact) -> Option<Clocks>
+        ensures { result ≡ clocks_in self.now contact.now }
     {
-        Datagram {
-            envelope: Envelope {
-                match_number: self.settings.match_number,
-                sender: self.settings.me,
-            },
-            body,
-        }
-    }
-
-    /// How far this machine is, and when it sends: in one packet of 16.
-    fn clocks_for(&self, contact: &Contact, now: u32) -> Option<Clocks>
-        ensures { result ≡ (if contact.now.sent % CLOCKS_EVERY == 0
-            then Some (clocks_for contact.now self.now.member.session.core.frame now) else None) }
-    {
-        if contact.sent % CLOCKS_EVERY == 0 {
-            Some(contact.mine(self.member.session().frame(), now))
+        if contact.wants_clocks(self.clock.moment) {
+            Some(contact.mine(self.member.session().frame(), self.clock.moment))
         } else {
             None
         }
@@ -108,8 +124,7 @@ impl<G: Game> Peer<G> {
 
     /// The digest of the last settled state that was noted: in one packet of 64.
     fn settled_for(&self, contact: &Contact) -> Option<Settled>
-        ensures { result ≡ (if contact.now.sent % SETTLED_EVERY == 1
-            then self.now.digests.last else None) }
+        ensures { result ≡ settled_in self.now contact.now }
     {
         if contact.sent % SETTLED_EVERY == 1 {
             self.digests.last()
@@ -119,17 +134,16 @@ impl<G: Game> Peer<G> {
     }
 
     /// A turn for a machine.
-    fn play_for(&self, machine: u8, now: u32) -> Play
+    fn play_for(&self, machine: u8) -> Play
         requires { machine < MACHINE_LIMIT }
-        ensures told { IsTold self.now.member machine (packet_of self.now.settings.me (turn result)) result.words.items }
-        ensures clocks { result.head.clocks ≡ clocks_in self.now machine now }
-        ensures settled { result.head.settled ≡ settled_in self.now machine }
+        ensures told { IsPlayFor self.now machine (turn result) }
+        ensures whole { is_turn (turn result) ≡ true }
     {
         let Told { packet, words } = self.member.tell(machine);
-        let Packet { view, offers, .. } = packet;
+        let Packet { view, offers, .. } = packet.shortened();
         let contact = self.contacts[usize::from(machine)];
         let head = Head {
-            clocks: self.clocks_for(&contact, now),
+            clocks: self.clocks_for(&contact),
             view,
             settled: self.settled_for(&contact),
             offers,
@@ -157,25 +171,20 @@ impl<G: Game> Peer<G> {
             words_queued,
             frames_behind: contact.behind,
             their_frames_behind: contact.their_behind,
+            refused: contact.refused,
         })
     }
 
-    /// The bytes that say that this machine leaves the match, for all others. Send them a few times, since they may be lost.
-    pub fn bye(&self) -> ArrayVec<u8, DATAGRAM_LIMIT>
-        ensures { result.items ≡ sealed (spelling (record {
-          envelope = record {
-            match_number = self.now.settings.match_number;
-            sender = self.now.settings.me;
-          };
-          content = Leaves;
-        })) }
+    /// The bytes that say to a machine that this one leaves the match. Send them a few times, since they may be lost. None if there is
+    /// no such machine, it is this one, it is gone, or it hasn't said this opening's draw.
+    pub fn bye(&self, machine: u8) -> Option<ArrayVec<u8, DATAGRAM_LIMIT>>
+        ensures said { IfSome result (λ bytes. bytes.items ≡ text_for self.now machine Leaves) }
+        ensures none { is_none result
+            ≡ (is_lost self.now machine || not (is_playing (contact_at self.now machine).stage)) }
     {
-        match encode(&self.datagram(Body::Bye)) {
-            Some(mut bytes) => {
-                seal(&mut bytes);
-                bytes
-            }
-            None => unreachable!(),
+        if self.is_lost(machine) || !self.contacts[usize::from(machine)].is_playing() {
+            return None;
         }
+        Some(self.sealed_for(machine, Body::Bye))
     }
 }

@@ -1,11 +1,14 @@
-//! What the machines of a match have to have alike.
-ghost use Rattle.std.specs.Prelude.{◌≡◌, IfNone};
-ghost use Rattle.roll_peer.specs.Settings.{hello_of, mismatch_of, seat_of};
+//! What the machines of a match are told.
+ghost use Rattle.std.specs.Prelude.{◌≡◌, ◌<◌};
+ghost use Rattle.roll_mesh.specs.declared.limits.TheConstants.{MACHINE_LIMIT};
+ghost use Rattle.roll_peer.specs.Settings.{first_moment, number_for, opening_of, seat_of, terms_of};
 
-use roll_mesh::{PLAYER_LIMIT, Seat};
-use roll_wire::Hello;
+use roll_contact::{Opening, Terms};
+use roll_mesh::{MACHINE_LIMIT, PLAYER_LIMIT, Seat};
 
-/// A match, as one of its machines plays it. All but `me` and the two times is the same at each machine.
+/// A match, as one of its machines plays it. How many machines there are, the owners and the digest are the same at each of them;
+/// `me`, the draw and the times are each machine's own. Take the same times at all: who waits for less than another asks for answers
+/// more often.
 #[derive(Clone, Copy, Debug)]
 pub struct MatchSettings {
     /// Who this machine is, from 0.
@@ -14,25 +17,19 @@ pub struct MatchSettings {
     pub machines: u8,
     /// The machine that owns each player, player 1 first; 255 if there is no such player.
     pub owners: [u8; PLAYER_LIMIT],
-    /// The match's number, drawn by whoever arranges the match.
-    pub match_number: u64,
+    /// The number that this machine shares with each other one, drawn by whoever arranges the match; its own place isn't read. If it
+    /// is the same for all, it is the match's. With one for each pair of machines, none can speak for another.
+    pub numbers: [u64; MACHINE_LIMIT],
+    /// 64 bits drawn for this opening alone, which aren't 0.
+    pub draw: u64,
     /// A digest of all else that must be alike: the game, its opening, the session's limits.
     pub digest: u64,
-    /// After how many milliseconds of silence a machine is regarded as gone.
+    /// After how many milliseconds of silence a machine is regarded as gone; 0: never.
     pub silent_after: u32,
-    /// After how many milliseconds of silence `Interrupted` is told.
+    /// After how many milliseconds of silence `Interrupted` is told, and `Stalled` of a machine that gives no words; 0: never.
     pub notify_after: u32,
-}
-
-/// What two machines of a match have otherwise.
-#[derive(Clone, Copy, Debug, PartialEq, Eq)]
-pub enum Field {
-    /// How many machines there are.
-    Machines,
-    /// Which machine owns which player.
-    Owners,
-    /// The digest of all else that must be alike.
-    Settings,
+    /// After how many milliseconds a machine that others wait for, and that could give its next word, is regarded as gone; 0: never.
+    pub stalled_after: u32,
 }
 
 impl MatchSettings {
@@ -47,31 +44,39 @@ impl MatchSettings {
         }
     }
 
-    /// What this machine says of the match, to one of whom it heard a hello or didn't.
-    pub fn hello(&self, heard: bool) -> Hello
-        ensures { result ≡ hello_of self.now heard }
+    /// What it compares with others.
+    pub(crate) fn terms(&self) -> Terms
+        ensures { result ≡ terms_of self.now }
     {
-        Hello {
-            heard,
+        Terms {
             machines: self.machines,
             owners: self.owners,
-            settings: self.digest,
+            digest: self.digest,
         }
     }
 
-    /// The first field that another machine has otherwise. If there is none, it says of the match what this one says.
-    pub fn mismatch(&self, hello: &Hello) -> Option<Field>
-        ensures first { result ≡ mismatch_of self.now hello.now }
-        ensures alike { IfNone result (hello.now ≡ hello_of self.now hello.now.heard) }
+    /// What it says of itself.
+    pub(crate) fn opening(&self) -> Opening
+        ensures { result ≡ opening_of self.now }
     {
-        if hello.machines != self.machines {
-            Some(Field::Machines)
-        } else if hello.owners != self.owners {
-            Some(Field::Owners)
-        } else if hello.settings != self.digest {
-            Some(Field::Settings)
-        } else {
-            None
+        Opening {
+            draw: self.draw,
+            silent_after: self.silent_after,
         }
+    }
+
+    /// The moment that its clock shows first: none that another opening's clock is likely to show.
+    pub(crate) fn first_moment(&self) -> u32
+        ensures { result ≡ first_moment self.now }
+    {
+        (self.draw % (1 << 32)) as u32
+    }
+
+    /// The number that it shares with a machine.
+    pub(crate) fn number_for(&self, machine: u8) -> u64
+        requires { machine < MACHINE_LIMIT }
+        ensures { result ≡ number_for self.now machine }
+    {
+        self.numbers[usize::from(machine)]
     }
 }

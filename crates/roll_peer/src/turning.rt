@@ -1,16 +1,17 @@
 //! A turn of a peer: silent machines are gone, players leave, and the session goes on.
 ghost use Rattle.std.specs.Prelude.{◌≡◌, ◌<◌, ◌+◌, true, false, None, Some, IfErr, IfOk, OnOk, if◌then◌else◌};
 ghost use Rattle.roll_mesh.specs.declared.limits.TheConstants.{MACHINE_LIMIT};
-ghost use Rattle.roll_peer.specs.Turning.{are_ready, begun, farewell_at, farewell_until, hushed_at, hushed_until, is_ready_at, is_silent, over, with_session, without, IsNotAdvanced, IsNotSynced, IsParted, IsSilenced, Plays, Polls, Turns};
+ghost use Rattle.roll_peer.specs.Receiving.{ticking};
+ghost use Rattle.roll_peer.specs.Turning.{are_ready, begun, farewell_at, farewell_until, has_waited, held_up_by, hushed_at, hushed_until, is_missed, is_ready_at, missed_at, missed_until, over, silenced_at, silenced_until, stall_told, watched_at, watched_until, with_session, IsNotAdvanced, IsNotSynced, IsParted, Plays, Polls, Turns};
 ghost use Rattle.roll_session.specs.Changes.{advance_refusal, after_advance, after_sync, reached_by, sync_refusal, IsRollRefused};
 ghost use Rattle.roll_frame.specs.Timeline.{row_at as row_of};
 
 use crate::event::PeerEvent;
 use crate::peer::Peer;
 use crate::refusal::PeerRefusal;
+use roll_contact::since;
 use roll_frame::{Refusal, Row};
 use roll_game::Game;
-use roll_mesh::MACHINE_LIMIT;
 use roll_session::Reached;
 
 impl<G: Game> Peer<G> {
@@ -21,7 +22,7 @@ impl<G: Game> Peer<G> {
     ///
     /// Those of the session. The turn was made as far as that, and the next one goes on from there.
     pub fn turn(&mut self, now: u32) -> Result<Option<Reached>, Refusal>
-        ensures { Turns self.old self.new now result }
+        ensures { Turns (ticking now self.old) self.new result }
     {
         self.poll(now)?;
         if !self.running {
@@ -31,19 +32,31 @@ impl<G: Game> Peer<G> {
     }
 
     /// What a turn does before it plays, for a main loop that calls `synchronize_input` and `advance_frame` itself. Machines that were
-    /// silent for too long are gone from now on, the players of who is gone leave if they may, and the match begins once all
-    /// machines have heard each other.
+    /// silent for too long, or held up the match, are gone from now on, the players of who is gone leave if they may, and the match
+    /// begins once all machines have heard each other.
     ///
     /// # Errors
     ///
     /// `LogFull` or `NoMemory` if a player who is to leave is still in the session. All else is done, and the next poll tries it
     /// again.
     pub fn poll(&mut self, now: u32) -> Result<(), Refusal>
-        ensures polled { OnOk result (Polls self.old self.new now None) }
-        ensures short { IfErr result (λ why. Polls self.old self.new now (Some why)) }
+        ensures polled { OnOk result (Polls (ticking now self.old) self.new None) }
+        ensures short { IfErr result (λ why. Polls (ticking now self.old) self.new (Some why)) }
     {
+        self.clock.tick(now);
+        self.poll_now()
+    }
+
+    /// A poll at the moment that the clock shows.
+    fn poll_now(&mut self) -> Result<(), Refusal>
+        ensures polled { OnOk result (Polls self.old self.new None) }
+        ensures short { IfErr result (λ why. Polls self.old self.new (Some why)) }
+    {
+        let now = self.clock.moment;
         self.silence(now);
+        self.watch(now);
         self.hush(now);
+        self.miss(now);
         self.tell_who_is_gone();
         let refusal = self.part();
         self.begin();
@@ -100,10 +113,11 @@ impl<G: Game> Peer<G> {
     }
 
     /// Machines that were silent for too long are gone.
+    #[tactic(auto, using(crate::proofs::Untils::silenced_none, crate::proofs::Untils::silenced_next))]
     fn silence(&mut self, now: u32)
-        ensures { IsSilenced self.old now self.new }
+        ensures { self.new ≡ silenced_until now self.old.settings.machines self.old }
     {
-        for machine in 0..MACHINE_LIMIT as u8 {
+        for machine in 0..self.settings.machines {
             self.silence_one(machine, now);
         }
     }
@@ -111,22 +125,69 @@ impl<G: Game> Peer<G> {
     /// A machine is gone if it was silent for too long.
     fn silence_one(&mut self, machine: u8, now: u32)
         requires { machine < MACHINE_LIMIT }
-        ensures { self.new ≡ (if is_silent self.old now machine
-            then record self.old {
-              member = record self.old.member { mesh = without machine self.old.member.mesh };
-            } else self.old) }
+        ensures { self.new ≡ silenced_at now machine self.old }
     {
-        if self.contacts[usize::from(machine)].silence(now) > self.settings.silent_after {
+        if self.contacts[usize::from(machine)].is_silent(now, self.settings.silent_after) {
             let _ = self.member.leave(machine);
         }
+    }
+
+    /// Machines that hold up the match are watched.
+    #[tactic(auto, using(crate::proofs::Untils::watched_none, crate::proofs::Untils::watched_next))]
+    fn watch(&mut self, now: u32)
+        ensures { self.new ≡ watched_until now self.old.settings.machines self.old }
+    {
+        for machine in 0..self.settings.machines {
+            self.watch_one(machine, now);
+        }
+    }
+
+    fn watch_one(&mut self, machine: u8, now: u32)
+        requires { machine < MACHINE_LIMIT }
+        ensures { self.new ≡ watched_at now machine self.old }
+    {
+        let held = self.held_up_by(machine);
+        let place = usize::from(machine);
+        self.stalls[place].watch(held, now);
+        self.tell_stall(machine, now);
+        if self.stalls[place].is_overdue(now, self.settings.stalled_after) {
+            let _ = self.member.leave(machine);
+        }
+    }
+
+    /// Tells for how long a machine has held up the match, if that is due.
+    fn tell_stall(&mut self, machine: u8, now: u32)
+        requires { machine < MACHINE_LIMIT }
+        ensures { self.new ≡ stall_told now machine self.old }
+    {
+        let place = usize::from(machine);
+        let stall = self.stalls[place];
+        if stall.is_to_tell(now, self.settings.notify_after) {
+            self.stalls[place].told = true;
+            self.events.push(PeerEvent::Stalled {
+                machine,
+                disconnect_in: self.settings.stalled_after.saturating_sub(stall.lasted(now)),
+            });
+        }
+    }
+
+    /// At how many words a machine holds up the match, if it does.
+    fn held_up_by(&self, machine: u8) -> Option<u32>
+        ensures { result ≡ held_up_by self.now machine }
+    {
+        if !self.running {
+            return None;
+        }
+        let threshold = self.member.session().settings().threshold;
+        self.member.mesh().holds_up(machine, threshold)
     }
 
     /// Tells of machines that have been silent for long.
     #[tactic(auto, using(crate::proofs::Untils::hushed_none, crate::proofs::Untils::hushed_next))]
     fn hush(&mut self, now: u32)
-        ensures { self.new ≡ hushed_until now MACHINE_LIMIT self.old }
+        ensures { self.new ≡ hushed_until now self.old.settings.machines self.old }
     {
-        for machine in 0..MACHINE_LIMIT as u8 {
+        for machine in 0..self.settings.machines {
             self.hush_one(machine, now);
         }
     }
@@ -136,7 +197,7 @@ impl<G: Game> Peer<G> {
         ensures { self.new ≡ hushed_at now machine self.old }
     {
         let place = usize::from(machine);
-        let silence = self.contacts[place].silence(now);
+        let silence = self.contacts[place].unanswered_for(now);
         let hushed = self.contacts[place].hush(now, self.settings.notify_after);
         if hushed && !self.member.mesh().is_gone(machine) {
             self.events.push(PeerEvent::Interrupted {
@@ -146,12 +207,50 @@ impl<G: Game> Peer<G> {
         }
     }
 
+    /// Tells of machines that haven't come.
+    #[tactic(auto, using(crate::proofs::Untils::missed_none, crate::proofs::Untils::missed_next))]
+    fn miss(&mut self, now: u32)
+        ensures { self.new ≡ missed_until now self.old.settings.machines self.old }
+    {
+        for machine in 0..self.settings.machines {
+            self.miss_one(machine, now);
+        }
+    }
+
+    fn miss_one(&mut self, machine: u8, now: u32)
+        requires { machine < MACHINE_LIMIT }
+        ensures { self.new ≡ missed_at now machine self.old }
+    {
+        if self.is_missed(machine, now) {
+            self.stalls[usize::from(machine)].missed = true;
+            self.events.push(PeerEvent::Missing { machine });
+        }
+    }
+
+    /// Whether it is to be told that a machine hasn't come.
+    fn is_missed(&self, machine: u8, now: u32) -> bool
+        requires { machine < MACHINE_LIMIT }
+        ensures { result ≡ is_missed self.now now machine }
+    {
+        self.has_waited(now)
+            && !self.stalls[usize::from(machine)].missed
+            && !self.is_ready(machine)
+    }
+
+    /// Whether this machine was opened so long ago that the others should have come.
+    fn has_waited(&self, now: u32) -> bool
+        ensures { result ≡ has_waited self.now now }
+    {
+        let waited = since(now, self.settings.first_moment());
+        self.settings.silent_after > 0 && waited > self.settings.silent_after
+    }
+
     /// Tells which machines are gone, each once.
     #[tactic(auto, using(crate::proofs::Untils::farewell_none, crate::proofs::Untils::farewell_next))]
     fn tell_who_is_gone(&mut self)
-        ensures { self.new ≡ farewell_until MACHINE_LIMIT self.old }
+        ensures { self.new ≡ farewell_until self.old.settings.machines self.old }
     {
-        for machine in 0..MACHINE_LIMIT as u8 {
+        for machine in 0..self.settings.machines {
             self.tell_if_gone(machine);
         }
     }

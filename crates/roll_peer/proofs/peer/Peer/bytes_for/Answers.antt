@@ -1,13 +1,23 @@
-use Rattle.std.proofs.Common.{◌∙◌, ap}
-use Rattle.roll_wire.specs.Spelling.{content, message, spelling}
-use Rattle.roll_wire.specs.declared.datagram.Datagram.{Datagram}
-use Rattle.roll_peer.specs.Seals.{sealed}
+use Rattle.std.proofs.Common.{◌∙◌, refl, sym}
+use Rattle.roll_wire.specs.Spelling.{turn, Greets, Plays}
 use Rattle.roll_peer.proofs.peer.Peer.bytes_for.Goals as goal
 
-pub returns : goal.returns
-returns g c = record {
-  content = content c.body_for.result;
-  fits = c.body_for.ensures.fits;
-  text = c.seal.ensures.sealed
-      ∙ ap sealed (c.in-Some.ensures.spelled.1 ∙ ap (λ (d : Datagram). spelling (message d)) c.datagram.ensures);
+pub returns-then-says_hello : goal.returns-then-says_hello
+returns-then-says_hello g c = record {
+  content = Greets c.hello-hello.result;
+  fits = (
+    rw (← c.self.view_is, ← c.from.ensures) (sym c.says_hello.ensures ∙ c.if-says_hello.true),
+    rw (← c.self.view_is, c.hello-hello.ensures, c.terms.ensures, c.opening.ensures, c.from-then-says_hello.ensures) refl,
+  );
+  text = c.sealed_for.ensures;
+}
+
+pub returns-else-says_hello : goal.returns-else-says_hello
+returns-else-says_hello g c = record {
+  content = Plays (turn c.play_for.result);
+  fits = (
+    rw (← c.self.view_is, ← c.from.ensures) (sym c.says_hello.ensures ∙ c.if-says_hello.false),
+    c.play_for.ensures.told,
+  );
+  text = c.sealed_for-else-says_hello.ensures;
 }

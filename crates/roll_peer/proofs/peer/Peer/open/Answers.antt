@@ -8,11 +8,13 @@ returns-in-Ok-join-clause-opened g c = record {
   member = subst (λ (seat : Seat). IsJoinedAs c.args.session seat c.in-Ok-join.member)
       c.seat.ensures c.in-Ok-join.ensures.joined;
   settings_are = refl;
-  contacts = rw c.new-in-Ok-join.ensures refl;
+  clock = rw (← c.first_moment.ensures) c.new-in-Ok-join.ensures;
+  contacts = rw c.new-in-Ok-join-2.ensures refl;
+  stalls = rw c.new-in-Ok-join-3.ensures refl;
   running = refl;
   news = refl;
-  waiting = c.new-in-Ok-join-2.ensures;
+  waiting = c.new-in-Ok-join-4.ensures;
   known_gone = refl;
-  digests = c.new-in-Ok-join-3.ensures;
+  digests = c.new-in-Ok-join-5.ensures;
   pace = c.in-Ok.ensures;
 }
