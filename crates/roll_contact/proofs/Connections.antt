@@ -45,6 +45,7 @@ module _ (own : Opening) (mismatch : Option Field) (hello : Hello) (now : ℕ) (
 
   is_met : is_playing contact.stage ≡ false
       → after_hello own mismatch hello now contact ≡ meeting own mismatch hello now contact
+  unfolding after_hello
   is_met off = rw off refl
 
   judged : (m : Option Field) → is_playing contact.stage ≡ false
@@ -57,6 +58,7 @@ module _ (own : Opening) (mismatch : Option Field) (hello : Hello) (now : ℕ) (
       go false e = no (sym (rw e at on) ∙ met_plays contact.stage ∙ off)
 
   kept : is_playing contact.stage ≡ true → (after_hello own mismatch hello now contact).draw ≡ contact.draw
+  unfolding after_hello
   kept on = go (hello.draw == contact.draw) refl (hello.echo == own.draw) refl (hello.draw == contact.restarted) refl
     where
       go : (same : Bool) → (hello.draw == contact.draw) ≡ same → (echoed : Bool) → (hello.echo == own.draw) ≡ echoed
@@ -74,6 +76,7 @@ module _ (own : Opening) (mismatch : Option Field) (hello : Hello) (now : ℕ) (
 
   unmet : is_playing contact.stage ≡ false
       → (after_hello own mismatch hello now contact).restarted ≡ contact.restarted
+  unfolding after_hello
   unmet off = go (hello.echo == own.draw) refl
     where
       go : (b : Bool) → (hello.echo == own.draw) ≡ b
@@ -83,6 +86,7 @@ module _ (own : Opening) (mismatch : Option Field) (hello : Hello) (now : ℕ) (
 
   stays : is_playing contact.stage ≡ true → (hello.echo == own.draw) ≡ false
       → (after_hello own mismatch hello now contact).restarted ≡ contact.restarted
+  unfolding after_hello
   stays on f = go (hello.draw == contact.draw) refl (hello.draw == contact.restarted) refl
     where
       go : (same : Bool) → (hello.draw == contact.draw) ≡ same → (known : Bool)
@@ -128,6 +132,7 @@ not_fresh clock newest now e = rw e (and_right (not (clock == 0)) false refl)
 
 old_clocks : (play : Coming) (contact : Contact) → IsOld contact.answered play
     → WaitsAs (after_play play.clocks play.frame play.now contact) contact
+unfolding after_play
 old_clocks play contact old = go play.clocks refl
   where
     new : (clocks : Clocks) → play.clocks ≡ Some clocks → (b : Bool) → are_newer contact.their_clocks clocks ≡ b

@@ -124,7 +124,7 @@ other_opening own hello contact =
     else record contact { echo = hello.draw; owes_hello = true })
 
 -- after a hello
-abbrev pub after_hello : Opening → Option Field → Hello → ℕ → Contact → Contact
+unfoldable pub after_hello : Opening → Option Field → Hello → ℕ → Contact → Contact
 after_hello own mismatch hello now contact =
     if is_playing contact.stage
     then (if hello.draw == contact.draw then same_opening own mismatch hello now contact
@@ -195,7 +195,7 @@ with_clocks (Some clocks) frame now contact =
     if are_newer contact.their_clocks clocks then after_clocks clocks frame now contact else contact
 
 -- after a play
-abbrev pub after_play : Option Clocks → ℕ → ℕ → Contact → Contact
+unfoldable pub after_play : Option Clocks → ℕ → ℕ → Contact → Contact
 after_play clocks frame now contact =
     with_clocks clocks frame now
     (record (heard now contact) { confirmed = true; is_refusing = false })
@@ -220,15 +220,24 @@ wants_clocks contact now =
     || (nat_lt 0 contact.patience
     && nat_le (contact.patience / CLOCKS_IN_PATIENCE) (since now contact.clocks_at))
 
+-- whether the hello that is owed goes next
+abbrev pub owes_now : Contact → Bool
+owes_now contact = contact.owes_hello && (contact.sent % HELLO_EVERY == HELLO_AT)
+
+-- the draw that the next hello says back: the one that is believed, or else the one that was heard last
+abbrev pub hello_echo : Contact → ℕ
+hello_echo contact =
+    if is_playing contact.stage && not (owes_now contact) then contact.draw else contact.echo
+
 -- whether a hello goes next: the two don't play yet; or it isn't known whether the other does, every other time; or one is owed
 abbrev pub says_hello : Contact → Bool
 says_hello contact =
     not (is_playing contact.stage)
-    || ((not contact.confirmed && (contact.sent % 2 == 0))
-    || (contact.owes_hello && (contact.sent % HELLO_EVERY == HELLO_AT)))
+    || ((not contact.confirmed && (contact.sent % 2 == 0)) || owes_now contact)
 
 abbrev pub hello_sent : Contact → Contact
-hello_sent contact = counted (record contact { owes_hello = false })
+hello_sent contact =
+    counted (if owes_now contact then record contact { owes_hello = false } else contact)
 
 abbrev pub play_sent : ℕ → Contact → Contact
 play_sent now contact = counted (

@@ -1,7 +1,7 @@
 //! What this end knows of another.
 ghost use Rattle.std.specs.Prelude.{◌≡◌};
 ghost use Rattle.roll_contact.specs.Clocks.{difference};
-ghost use Rattle.roll_contact.specs.Contacts.{after_clocks, after_hello, after_play, are_newer, behind_of, believing, clocks_for, counted, frame_after, greeted, heard, hello_sent, hushed, is_before, is_fresh, is_hushed, is_playing, is_silent, least_patience, measured, meeting, opened_contact, play_sent, refused, says_hello, silence, told, unanswered_for, wants_clocks};
+ghost use Rattle.roll_contact.specs.Contacts.{after_clocks, after_hello, after_play, are_newer, behind_of, believing, clocks_for, counted, frame_after, greeted, heard, hello_echo, hello_sent, hushed, is_before, is_fresh, is_hushed, is_playing, is_silent, least_patience, measured, meeting, opened_contact, owes_now, play_sent, refused, says_hello, silence, told, unanswered_for, wants_clocks};
 
 use crate::clock::since;
 use crate::terms::Field;
@@ -66,7 +66,7 @@ pub struct Contact {
     pub stage: Stage,
     /// The draw of the opening that is believed, 0 if none is.
     pub draw: u64,
-    /// The draw that was heard last, 0 if none was: this end's hellos say it back.
+    /// The draw that was heard last of one that isn't believed, or is believed since, 0 if none was.
     pub echo: u64,
     /// Whether a hello is owed to a draw that isn't believed, though the two play.
     pub owes_hello: bool,
@@ -146,6 +146,7 @@ impl Contact {
     }
 
     /// A hello was heard, which differs in a field or means the same match.
+    #[tactic(auto, unfolding(crate::specs::Contacts::after_hello))]
     pub fn hello(&mut self, own: &Opening, mismatch: Option<Field>, hello: &Hello, now: u32)
         ensures { self.new ≡ after_hello own.now mismatch hello.now now self.old }
     {
@@ -202,6 +203,7 @@ impl Contact {
     }
 
     /// A play was heard, with clocks or without, while this end is at a frame.
+    #[tactic(auto, unfolding(crate::specs::Contacts::after_play))]
     pub fn play(&mut self, clocks: Option<Clocks>, frame: u32, now: u32)
         ensures { self.new ≡ after_play clocks frame now self.old }
     {
@@ -285,13 +287,30 @@ impl Contact {
             || self.patience > 0 && since(now, self.clocks_at) >= self.patience / CLOCKS_IN_PATIENCE
     }
 
+    /// Whether the hello that is owed goes to it next.
+    fn owes_now(&self) -> bool
+        ensures { result ≡ owes_now self.now }
+    {
+        self.owes_hello && self.sent % HELLO_EVERY == HELLO_AT
+    }
+
+    /// The draw that the next hello to it says back: the one that is believed, but that the hello that is owed says the one that was
+    /// heard last.
+    pub fn hello_echo(&self) -> u64
+        ensures { result ≡ hello_echo self.now }
+    {
+        if self.is_playing() && !self.owes_now() {
+            self.draw
+        } else {
+            self.echo
+        }
+    }
+
     /// Whether a hello goes to it next, and no play.
     pub fn says_hello(&self) -> bool
         ensures { result ≡ says_hello self.now }
     {
-        !self.is_playing()
-            || !self.confirmed && self.sent % 2 == 0
-            || self.owes_hello && self.sent % HELLO_EVERY == HELLO_AT
+        !self.is_playing() || !self.confirmed && self.sent % 2 == 0 || self.owes_now()
     }
 
     /// One more packet was sent to it.
@@ -305,7 +324,9 @@ impl Contact {
     pub fn hello_sent(&mut self)
         ensures { self.new ≡ hello_sent self.old }
     {
-        self.owes_hello = false;
+        if self.owes_now() {
+            self.owes_hello = false;
+        }
         self.count();
     }
 

@@ -83,7 +83,7 @@ abbrev pub refusing : ℕ → Contact → Contact → Option PeerEvent
 refusing m before after = only_if (after.is_refusing && not before.is_refusing) (Refused m)
 
 -- a machine was heard, which led from a contact to another
-abbrev pub after_heard : ℕ → Contact → Contact → Waiting → Waiting
+unfoldable pub after_heard : ℕ → Contact → Contact → Waiting → Waiting
 after_heard m before after waiting =
     told (told (told (told (told waiting (resumed m before after))
     (came m before.stage after.stage))

@@ -1,6 +1,6 @@
 -- What a peer sends.
 use Rattle.std.specs.Prelude.{◌≡◌, ℕ, List, ◌-◌, ◌%◌, Bool, true, false, ◌||◌, ◌==◌, nat_le, Option, Some, None, if◌then◌else◌, slice_set}
-use Rattle.roll_contact.specs.Contacts.{clocks_for, hello_sent, play_sent, says_hello, wants_clocks}
+use Rattle.roll_contact.specs.Contacts.{clocks_for, hello_echo, hello_sent, play_sent, says_hello, wants_clocks}
 use Rattle.roll_contact.specs.Keys.{greeting_key}
 use Rattle.roll_contact.specs.Seals.{sealed}
 use Rattle.roll_contact.specs.Terms.{hello_of}
@@ -49,7 +49,7 @@ IsContentFor peer m (Plays t) =
     (says_hello (contact_at peer m) ≡ false) × IsPlayFor peer m t
 IsContentFor peer m (Greets hello) =
     (says_hello (contact_at peer m) ≡ true)
-    × (hello ≡ hello_of (terms_of peer.settings) (opening_of peer.settings) (contact_at peer m).echo)
+    × (hello ≡ hello_of (terms_of peer.settings) (opening_of peer.settings) (hello_echo (contact_at peer m)))
 IsContentFor peer m Leaves = ⊥
 
 -- by what a datagram for a machine is sealed

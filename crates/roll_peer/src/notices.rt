@@ -21,6 +21,7 @@ impl Events {
     }
 
     /// A machine was heard, which led from a contact to another.
+    #[tactic(auto, unfolding(crate::specs::Notices::after_heard))]
     pub(crate) fn heard(&mut self, machine: u8, before: &Contact, after: &Contact)
         ensures { self.new ≡ after_heard machine before.now after.now self.old }
     {

@@ -20,6 +20,7 @@ use roll_wire::{Body, Clocks, Hello, Play, decode};
 
 /// Where a datagram has its sender's number, and its kind.
 const SENDER_AT: usize = 12;
+
 const KIND_AT: usize = 13;
 
 impl<G: Game> Peer<G> {
@@ -89,7 +90,8 @@ impl<G: Game> Peer<G> {
 
     /// Why a machine isn't heard at all.
     fn deaf_to(&self, sender: u8) -> Option<Ignored>
-        ensures { result ≡ deaf_to self.now sender }
+        ensures why { result ≡ deaf_to self.now sender }
+        ensures place { IsNone result → sender < MACHINE_LIMIT }
     {
         let seat = self.member.mesh().seat();
         if sender >= seat.machines {

@@ -59,8 +59,12 @@ impl<G: Game> Peer<G> {
         requires { machine < MACHINE_LIMIT }
         ensures { IsSent self.now machine result.items }
     {
-        if self.contacts[usize::from(machine)].says_hello() {
-            let hello = self.settings.terms().hello(&self.settings.opening(), self.contacts[usize::from(machine)].echo);
+        let contact = self.contacts[usize::from(machine)];
+        if contact.says_hello() {
+            let hello = self
+                .settings
+                .terms()
+                .hello(&self.settings.opening(), contact.hello_echo());
             self.sealed_for(machine, Body::Hello(hello))
         } else {
             self.sealed_for(machine, Body::Play(self.play_for(machine)))

@@ -1,5 +1,5 @@
 //! A turn of a peer: silent machines are gone, players leave, and the session goes on.
-ghost use Rattle.std.specs.Prelude.{◌≡◌, ◌<◌, ◌+◌, true, false, None, Some, IfErr, IfOk, OnOk, if◌then◌else◌};
+ghost use Rattle.std.specs.Prelude.{◌≡◌, ◌<◌, ◌≤◌, ◌+◌, true, false, None, Some, IfErr, IfOk, OnOk, if◌then◌else◌};
 ghost use Rattle.roll_mesh.specs.declared.limits.TheConstants.{MACHINE_LIMIT};
 ghost use Rattle.roll_peer.specs.Receiving.{ticking};
 ghost use Rattle.roll_peer.specs.Turning.{are_ready, begun, farewell_at, farewell_until, has_waited, held_up_by, hushed_at, hushed_until, is_missed, is_ready_at, missed_at, missed_until, over, silenced_at, silenced_until, stall_told, watched_at, watched_until, with_session, IsNotAdvanced, IsNotSynced, IsParted, Plays, Polls, Turns};
@@ -53,11 +53,12 @@ impl<G: Game> Peer<G> {
         ensures short { IfErr result (λ why. Polls self.old self.new (Some why)) }
     {
         let now = self.clock.moment;
-        self.silence(now);
-        self.watch(now);
-        self.hush(now);
-        self.miss(now);
-        self.tell_who_is_gone();
+        let machines = self.settings.machines;
+        self.silence(machines, now);
+        self.watch(machines, now);
+        self.hush(machines, now);
+        self.miss(machines, now);
+        self.tell_who_is_gone(machines);
         let refusal = self.part();
         self.begin();
         match refusal {
@@ -114,10 +115,11 @@ impl<G: Game> Peer<G> {
 
     /// Machines that were silent for too long are gone.
     #[tactic(auto, using(crate::proofs::Untils::silenced_none, crate::proofs::Untils::silenced_next))]
-    fn silence(&mut self, now: u32)
-        ensures { self.new ≡ silenced_until now self.old.settings.machines self.old }
+    fn silence(&mut self, machines: u8, now: u32)
+        requires { machines ≤ MACHINE_LIMIT }
+        ensures { self.new ≡ silenced_until now machines self.old }
     {
-        for machine in 0..self.settings.machines {
+        for machine in 0..machines {
             self.silence_one(machine, now);
         }
     }
@@ -134,10 +136,11 @@ impl<G: Game> Peer<G> {
 
     /// Machines that hold up the match are watched.
     #[tactic(auto, using(crate::proofs::Untils::watched_none, crate::proofs::Untils::watched_next))]
-    fn watch(&mut self, now: u32)
-        ensures { self.new ≡ watched_until now self.old.settings.machines self.old }
+    fn watch(&mut self, machines: u8, now: u32)
+        requires { machines ≤ MACHINE_LIMIT }
+        ensures { self.new ≡ watched_until now machines self.old }
     {
-        for machine in 0..self.settings.machines {
+        for machine in 0..machines {
             self.watch_one(machine, now);
         }
     }
@@ -166,7 +169,10 @@ impl<G: Game> Peer<G> {
             self.stalls[place].told = true;
             self.events.push(PeerEvent::Stalled {
                 machine,
-                disconnect_in: self.settings.stalled_after.saturating_sub(stall.lasted(now)),
+                disconnect_in: self
+                    .settings
+                    .stalled_after
+                    .saturating_sub(stall.lasted(now)),
             });
         }
     }
@@ -184,10 +190,11 @@ impl<G: Game> Peer<G> {
 
     /// Tells of machines that have been silent for long.
     #[tactic(auto, using(crate::proofs::Untils::hushed_none, crate::proofs::Untils::hushed_next))]
-    fn hush(&mut self, now: u32)
-        ensures { self.new ≡ hushed_until now self.old.settings.machines self.old }
+    fn hush(&mut self, machines: u8, now: u32)
+        requires { machines ≤ MACHINE_LIMIT }
+        ensures { self.new ≡ hushed_until now machines self.old }
     {
-        for machine in 0..self.settings.machines {
+        for machine in 0..machines {
             self.hush_one(machine, now);
         }
     }
@@ -209,10 +216,11 @@ impl<G: Game> Peer<G> {
 
     /// Tells of machines that haven't come.
     #[tactic(auto, using(crate::proofs::Untils::missed_none, crate::proofs::Untils::missed_next))]
-    fn miss(&mut self, now: u32)
-        ensures { self.new ≡ missed_until now self.old.settings.machines self.old }
+    fn miss(&mut self, machines: u8, now: u32)
+        requires { machines ≤ MACHINE_LIMIT }
+        ensures { self.new ≡ missed_until now machines self.old }
     {
-        for machine in 0..self.settings.machines {
+        for machine in 0..machines {
             self.miss_one(machine, now);
         }
     }
@@ -232,9 +240,7 @@ impl<G: Game> Peer<G> {
         requires { machine < MACHINE_LIMIT }
         ensures { result ≡ is_missed self.now now machine }
     {
-        self.has_waited(now)
-            && !self.stalls[usize::from(machine)].missed
-            && !self.is_ready(machine)
+        self.has_waited(now) && !self.stalls[usize::from(machine)].missed && !self.is_ready(machine)
     }
 
     /// Whether this machine was opened so long ago that the others should have come.
@@ -247,10 +253,11 @@ impl<G: Game> Peer<G> {
 
     /// Tells which machines are gone, each once.
     #[tactic(auto, using(crate::proofs::Untils::farewell_none, crate::proofs::Untils::farewell_next))]
-    fn tell_who_is_gone(&mut self)
-        ensures { self.new ≡ farewell_until self.old.settings.machines self.old }
+    fn tell_who_is_gone(&mut self, machines: u8)
+        requires { machines ≤ MACHINE_LIMIT }
+        ensures { self.new ≡ farewell_until machines self.old }
     {
-        for machine in 0..self.settings.machines {
+        for machine in 0..machines {
             self.tell_if_gone(machine);
         }
     }

@@ -7,7 +7,7 @@ returns-then-says_hello g c = record {
   content = Greets c.hello-hello.result;
   fits = (
     rw (← c.self.view_is, ← c.from.ensures) (sym c.says_hello.ensures ∙ c.if-says_hello.true),
-    rw (← c.self.view_is, c.hello-hello.ensures, c.terms.ensures, c.opening.ensures, c.from-then-says_hello.ensures) refl,
+    rw (← c.self.view_is, c.hello-hello.ensures, c.terms.ensures, c.opening.ensures, c.hello_echo.ensures, c.from.ensures) refl,
   );
   text = c.sealed_for.ensures;
 }

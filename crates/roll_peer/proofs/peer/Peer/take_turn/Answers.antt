@@ -13,7 +13,7 @@ pub returns-in-Ok-clause-had : goal.returns-in-Ok-clause-had
 returns-in-Ok-clause-had g c =
     let packet : Packet = packet_of c.args.sender (turn c.args.play.now) in
     let fine : hear_refusal c.self.inside.member.mesh packet ≡ None =
-    ap (λ (p : Packet). hear_refusal c.self.inside.member.mesh p) c.requires.same
+    sym (ap (λ (p : Packet). hear_refusal c.self.inside.member.mesh p) c.requires.same)
     ∙ c.in-Ok.ensures.accepted in
     let why = subst (λ (peer : Peered). is_some (hear_refusal peer.member.mesh packet) ≡ not (is_had packet))
     (sym c.self.view_is) (heard_of c.args.self.now packet c.requires.listened) in
