@@ -7,24 +7,28 @@ use roll_wire::{
 };
 use std::test::Fail;
 
-const HELLO: [u8; 32] = [
-    0x46, 0x5a, 0x47, 0x31, 0x11, 0x22, 0x33, 0x44, 0x55, 0x66, 0x77, 0x88, 0x01, 0x00, 0x01, 0x02,
-    0x00, 0x01, 0xff, 0xff, 0xff, 0xff, 0xff, 0xff, 0x01, 0x23, 0x45, 0x67, 0x89, 0xab, 0xcd, 0xef,
+const HELLO: [u8; 52] = [
+    0x46, 0x5a, 0x47, 0x32, 0x11, 0x22, 0x33, 0x44, 0x55, 0x66, 0x77, 0x88, 0x01, 0x00, 0x02, 0x00,
+    0x01, 0xff, 0xff, 0xff, 0xff, 0xff, 0xff, 0x01, 0x23, 0x45, 0x67, 0x89, 0xab, 0xcd, 0xef, 0xb1,
+    0xb2, 0xb3, 0xb4, 0xb5, 0xb6, 0xb7, 0xb8, 0xa1, 0xa2, 0xa3, 0xa4, 0xa5, 0xa6, 0xa7, 0xa8, 0x00,
+    0x00, 0x13, 0x88, 0x00,
 ];
 
-const PLAY: [u8; 45] = [
-    0x46, 0x5a, 0x47, 0x31, 0x11, 0x22, 0x33, 0x44, 0x55, 0x66, 0x77, 0x88, 0x01, 0x01, 0x01, 0x82,
-    0x01, 0x78, 0x76, 0xe0, 0x0f, 0xc0, 0x0f, 0x10, 0x00, 0x03, 0x77, 0x7b, 0x01, 0x6e, 0xfe, 0xdc,
-    0xba, 0x98, 0x76, 0x54, 0x32, 0x10, 0x02, 0x75, 0x06, 0x02, 0x05, 0x02, 0x07,
+const PLAY: [u8; 52] = [
+    0x46, 0x5a, 0x47, 0x32, 0x11, 0x22, 0x33, 0x44, 0x55, 0x66, 0x77, 0x88, 0x01, 0x01, 0x01, 0x82,
+    0x01, 0x78, 0x76, 0x98, 0xff, 0xda, 0xad, 0x0b, 0xe8, 0xde, 0x9a, 0xad, 0x0a, 0x10, 0x00, 0x03,
+    0x77, 0x7b, 0x01, 0x6e, 0xfe, 0xdc, 0xba, 0x98, 0x76, 0x54, 0x32, 0x10, 0x02, 0x75, 0x06, 0x00,
+    0x02, 0x05, 0x02, 0x07,
 ];
 
-const HELD: [u8; 32] = [
-    0x46, 0x5a, 0x47, 0x31, 0x11, 0x22, 0x33, 0x44, 0x55, 0x66, 0x77, 0x88, 0x01, 0x01, 0x00, 0x00,
-    0x03, 0x9f, 0x9c, 0x01, 0xa3, 0x9c, 0x01, 0x00, 0x02, 0x9d, 0x9c, 0x01, 0x06, 0x00, 0x05, 0x05,
+const HELD: [u8; 33] = [
+    0x46, 0x5a, 0x47, 0x32, 0x11, 0x22, 0x33, 0x44, 0x55, 0x66, 0x77, 0x88, 0x01, 0x01, 0x00, 0x00,
+    0x03, 0x9f, 0x9c, 0x01, 0xa3, 0x9c, 0x01, 0x00, 0x02, 0x9d, 0x9c, 0x01, 0x06, 0x00, 0x00, 0x05,
+    0x05,
 ];
 
 const BYE: [u8; 14] = [
-    0x46, 0x5a, 0x47, 0x31, 0x11, 0x22, 0x33, 0x44, 0x55, 0x66, 0x77, 0x88, 0x01, 0x02,
+    0x46, 0x5a, 0x47, 0x32, 0x11, 0x22, 0x33, 0x44, 0x55, 0x66, 0x77, 0x88, 0x01, 0x02,
 ];
 
 const NO_OFFER: Offer = Offer { first: 0, end: 0 };
@@ -79,8 +83,8 @@ fn full() -> Body {
             number: 130,
             frame: 120,
             heard_frame: 118,
-            clock: 2016,
-            heard_clock: 1984,
+            clock: 0xb5b6_b7b8 + 2_016,
+            heard_clock: 0xa5a6_a7a8 + 1_984,
             held: 16,
         }),
         view: View {
@@ -153,10 +157,13 @@ fn is_text(datagram: &Datagram, text: &[u8]) -> bool {
 #[test]
 fn the_examples(rt: HostRuntime) -> Result<(), Fail> {
     let hello = Hello {
-        heard: true,
         machines: 2,
         owners: [0, 1, 255, 255, 255, 255, 255, 255],
         settings: 0x0123_4567_89ab_cdef,
+        draw: 0xb1b2_b3b4_b5b6_b7b8,
+        echo: 0xa1a2_a3a4_a5a6_a7a8,
+        patience: 5_000,
+        abilities: 0,
     };
     let held = plain([19_999, 20_003], 19_997, 20_003, words_of(&[5; 6]));
     assert!(rt; is_text(&datagram(Body::Hello(hello)), HELLO.as_slice()));
@@ -170,7 +177,7 @@ fn the_examples(rt: HostRuntime) -> Result<(), Fail> {
 fn the_greatest(rt: HostRuntime) -> Result<(), Fail> {
     let greatest = datagram(greatest());
     let text = encode(&greatest).ok_or("it has a text")?;
-    assert_eq!(rt; text.len(), 1_110);
+    assert_eq!(rt; text.len(), 1_111);
     assert!(rt; text.len() <= DATAGRAM_LIMIT);
     assert!(rt; is_text(&greatest, text.as_slice()));
     Ok(())
@@ -197,27 +204,53 @@ fn fault_of<const N: usize>(text: [u8; N], place: usize, byte: u8) -> Option<Wir
 #[test]
 fn refuses(rt: HostRuntime) -> Result<(), Fail> {
     assert_eq!(rt; decode(&BYE[..13]).err(), Some(WireFault::Short));
-    assert_eq!(rt; decode(&PLAY[..44]).err(), Some(WireFault::Short));
+    assert_eq!(rt; decode(&PLAY[..51]).err(), Some(WireFault::Short));
     assert_eq!(rt; decode(&PLAY[1..]).err(), Some(WireFault::Magic));
-    assert_eq!(rt; fault_of(BYE, 3, 0x32), Some(WireFault::Magic));
+    assert_eq!(rt; fault_of(BYE, 3, 0x31), Some(WireFault::Magic));
     assert_eq!(rt; fault_of(BYE, 13, 3), Some(WireFault::Kind));
-    assert_eq!(rt; fault_of(HELLO, 14, 2), Some(WireFault::Flag));
+    assert_eq!(rt; decode(&HELLO[..51]).err(), Some(WireFault::Short));
     assert_eq!(rt; fault_of(PLAY, 14, 2), Some(WireFault::Flag));
-    assert_eq!(rt; fault_of(PLAY, 28, 2), Some(WireFault::Flag));
+    assert_eq!(rt; fault_of(PLAY, 34, 2), Some(WireFault::Flag));
     assert_eq!(rt; fault_of(PLAY, 16, 0), Some(WireFault::Long));
-    assert_eq!(rt; fault_of(PLAY, 26, 0), Some(WireFault::Zero));
-    assert_eq!(rt; fault_of(PLAY, 40, 161), Some(WireFault::TooMany));
-    assert_eq!(rt; fault_of(PLAY, 41, 7), Some(WireFault::Run));
-    assert_eq!(rt; fault_of(PLAY, 44, 5), Some(WireFault::Run));
+    assert_eq!(rt; fault_of(PLAY, 32, 0), Some(WireFault::Zero));
+    assert_eq!(rt; fault_of(PLAY, 46, 161), Some(WireFault::TooMany));
+    assert_eq!(rt; fault_of(PLAY, 48, 7), Some(WireFault::Run));
+    assert_eq!(rt; fault_of(PLAY, 51, 5), Some(WireFault::Run));
     assert_eq!(rt; fault_of(HELLO, 13, 2), Some(WireFault::Trailing));
+    Ok(())
+}
+
+#[test]
+fn refuses_marks(rt: HostRuntime) -> Result<(), Fail> {
+    let mut many = PLAY;
+    many[46] = 161;
+    assert_eq!(rt; decode(&PLAY[..47]).err(), Some(WireFault::Short));
+    assert_eq!(rt; fault_of(PLAY, 47, 1), Some(WireFault::Mark));
+    assert_eq!(rt; fault_of(PLAY, 47, 128), Some(WireFault::Mark));
+    assert_eq!(rt; fault_of(many, 47, 1), Some(WireFault::TooMany));
+    Ok(())
+}
+
+/// Whatever a hello says, it is read, and written as it was.
+#[test]
+fn any_hello(rt: HostRuntime) -> Result<(), Fail> {
+    for byte in [0, 1, 2, 127, 128, 255] {
+        let mut text = HELLO;
+        for place in 14..52 {
+            text[place] = byte;
+        }
+        let read = decode(text.as_slice()).ok();
+        let back = read.and_then(|read| encode(&read));
+        assert!(rt; back.is_some_and(|back| back.as_slice() == text.as_slice()));
+    }
     Ok(())
 }
 
 #[test]
 fn refuses_offers(rt: HostRuntime) -> Result<(), Fail> {
     let mut nothing = PLAY;
-    nothing[39] = 0;
-    nothing[40] = 0;
+    nothing[45] = 0;
+    nothing[46] = 0;
     let mut last = HELD;
     for place in 25..29 {
         last[place] = 0xff;
