@@ -114,13 +114,13 @@ def steps(text, own, other):
     inner, outer = (bytes(byte ^ with_what for byte in whole.ljust(BLOCK, b"\0")) for with_what in (0x36, 0x5C))
     first = hashlib.sha256(inner + text).digest()
     second = hashlib.sha256(outer + first).digest()
-    return [whole, text, inner, first, outer, second, second[:8], text[:4] + second[:8] + text[12:]]
+    return [whole, text, inner[: len(whole)], first, outer[: len(whole)], second, second[:8], text[:4] + second[:8] + text[12:]]
 
 
 # ---- the examples
 
 NUMBER = 0x1122334455667788
-DRAWS = [0xA1A2A3A4A5A6A7A8, 0xB1B2B3B4B5B6B7B8]  # of machine 0, and of machine 1
+DRAWS = [0x0102030405060708, 0x1112131415161718]  # of machine 0, and of machine 1
 MATCH = {"machines": 2, "owners": [0, 1], "digest": 0x0123456789ABCDEF}
 LINE = 0x99AABBCCDDEEFF00
 HOST, GUEST = 0xC1C2C3C4C5C6C7C8, 0xD1D2D3D4D5D6D7D8  # the draws of a line's ends
@@ -245,8 +245,12 @@ def compare_fields(tally, rows, end):
 def compare_tables(tally, lines, made, seal):
     """Compares each table of bytes. The seal's has its steps in their order."""
     named = {sealed: name for name, (_, sealed) in made.items()}
-    ends = iter([14, 52])
-    for number, head, rows in tables(lines):
+    ends = iter([14, len(made["hello"][1])])
+    found = tables(lines)
+    heads = [", ".join(head) for _, head, _ in found]
+    for head in ["Place, Bytes, Field", "Short number, Bytes", "Words, Bytes, Say", "Step, Bytes", "Place, Bytes, Say"]:
+        tally.is_so(head in heads, f"there is no table of {head}")
+    for number, head, rows in found:
         before = [text for end, text in blocks(lines) if end <= number]
         if head == ["Place", "Bytes", "Say"]:
             text = before[-1] if before else b""
@@ -282,10 +286,14 @@ def compare_page(tally, text, made):
 
 
 def sayings(made):
-    """What the page has to say of sizes."""
+    """What the page has to say of sizes, and of the numbers behind the examples."""
     held = len(made["held"][1])
     return [
+        f"`{hexed(MAGIC)}`: the letters `FZG`, and the version, `2`",
+        *(f"0x{number:016x}" for number in [NUMBER, *DRAWS, MATCH["digest"], LINE, HOST, GUEST]),
         f"A hello has {len(made['hello'][1])} bytes",
+        f"It has {len(made['turn'][1])} bytes:",
+        f"It has {held} bytes:",
         f"The greatest play has {len(greatest()):,} bytes",
         f"has {held} bytes at frame 20,000",
         f"{60 * held:,} bytes a second",

@@ -9,16 +9,16 @@ use std::test::Fail;
 
 const HELLO: [u8; 52] = [
     0x46, 0x5a, 0x47, 0x32, 0x11, 0x22, 0x33, 0x44, 0x55, 0x66, 0x77, 0x88, 0x01, 0x00, 0x02, 0x00,
-    0x01, 0xff, 0xff, 0xff, 0xff, 0xff, 0xff, 0x01, 0x23, 0x45, 0x67, 0x89, 0xab, 0xcd, 0xef, 0xb1,
-    0xb2, 0xb3, 0xb4, 0xb5, 0xb6, 0xb7, 0xb8, 0xa1, 0xa2, 0xa3, 0xa4, 0xa5, 0xa6, 0xa7, 0xa8, 0x00,
+    0x01, 0xff, 0xff, 0xff, 0xff, 0xff, 0xff, 0x01, 0x23, 0x45, 0x67, 0x89, 0xab, 0xcd, 0xef, 0x11,
+    0x12, 0x13, 0x14, 0x15, 0x16, 0x17, 0x18, 0x01, 0x02, 0x03, 0x04, 0x05, 0x06, 0x07, 0x08, 0x00,
     0x00, 0x13, 0x88, 0x00,
 ];
 
-const PLAY: [u8; 52] = [
+const PLAY: [u8; 51] = [
     0x46, 0x5a, 0x47, 0x32, 0x11, 0x22, 0x33, 0x44, 0x55, 0x66, 0x77, 0x88, 0x01, 0x01, 0x01, 0x82,
-    0x01, 0x78, 0x76, 0x98, 0xff, 0xda, 0xad, 0x0b, 0xe8, 0xde, 0x9a, 0xad, 0x0a, 0x10, 0x00, 0x03,
-    0x77, 0x7b, 0x01, 0x6e, 0xfe, 0xdc, 0xba, 0x98, 0x76, 0x54, 0x32, 0x10, 0x02, 0x75, 0x06, 0x00,
-    0x02, 0x05, 0x02, 0x07,
+    0x01, 0x78, 0x76, 0xf8, 0xbd, 0xd8, 0xa8, 0x01, 0xc8, 0x9d, 0x98, 0x28, 0x10, 0x00, 0x03, 0x77,
+    0x7b, 0x01, 0x6e, 0xfe, 0xdc, 0xba, 0x98, 0x76, 0x54, 0x32, 0x10, 0x02, 0x75, 0x06, 0x00, 0x02,
+    0x05, 0x02, 0x07,
 ];
 
 const HELD: [u8; 33] = [
@@ -83,8 +83,8 @@ fn full() -> Body {
             number: 130,
             frame: 120,
             heard_frame: 118,
-            clock: 0xb5b6_b7b8 + 2_016,
-            heard_clock: 0xa5a6_a7a8 + 1_984,
+            clock: 0x1516_1718 + 2_016,
+            heard_clock: 0x0506_0708 + 1_984,
             held: 16,
         }),
         view: View {
@@ -160,8 +160,8 @@ fn the_examples(rt: HostRuntime) -> Result<(), Fail> {
         machines: 2,
         owners: [0, 1, 255, 255, 255, 255, 255, 255],
         settings: 0x0123_4567_89ab_cdef,
-        draw: 0xb1b2_b3b4_b5b6_b7b8,
-        echo: 0xa1a2_a3a4_a5a6_a7a8,
+        draw: 0x1112_1314_1516_1718,
+        echo: 0x0102_0304_0506_0708,
         patience: 5_000,
         abilities: 0,
     };
@@ -204,18 +204,18 @@ fn fault_of<const N: usize>(text: [u8; N], place: usize, byte: u8) -> Option<Wir
 #[test]
 fn refuses(rt: HostRuntime) -> Result<(), Fail> {
     assert_eq!(rt; decode(&BYE[..13]).err(), Some(WireFault::Short));
-    assert_eq!(rt; decode(&PLAY[..51]).err(), Some(WireFault::Short));
+    assert_eq!(rt; decode(&PLAY[..50]).err(), Some(WireFault::Short));
     assert_eq!(rt; decode(&PLAY[1..]).err(), Some(WireFault::Magic));
     assert_eq!(rt; fault_of(BYE, 3, 0x31), Some(WireFault::Magic));
     assert_eq!(rt; fault_of(BYE, 13, 3), Some(WireFault::Kind));
     assert_eq!(rt; decode(&HELLO[..51]).err(), Some(WireFault::Short));
     assert_eq!(rt; fault_of(PLAY, 14, 2), Some(WireFault::Flag));
-    assert_eq!(rt; fault_of(PLAY, 34, 2), Some(WireFault::Flag));
+    assert_eq!(rt; fault_of(PLAY, 33, 2), Some(WireFault::Flag));
     assert_eq!(rt; fault_of(PLAY, 16, 0), Some(WireFault::Long));
-    assert_eq!(rt; fault_of(PLAY, 32, 0), Some(WireFault::Zero));
-    assert_eq!(rt; fault_of(PLAY, 46, 161), Some(WireFault::TooMany));
-    assert_eq!(rt; fault_of(PLAY, 48, 7), Some(WireFault::Run));
-    assert_eq!(rt; fault_of(PLAY, 51, 5), Some(WireFault::Run));
+    assert_eq!(rt; fault_of(PLAY, 31, 0), Some(WireFault::Zero));
+    assert_eq!(rt; fault_of(PLAY, 45, 161), Some(WireFault::TooMany));
+    assert_eq!(rt; fault_of(PLAY, 47, 7), Some(WireFault::Run));
+    assert_eq!(rt; fault_of(PLAY, 50, 5), Some(WireFault::Run));
     assert_eq!(rt; fault_of(HELLO, 13, 2), Some(WireFault::Trailing));
     Ok(())
 }
@@ -223,11 +223,11 @@ fn refuses(rt: HostRuntime) -> Result<(), Fail> {
 #[test]
 fn refuses_marks(rt: HostRuntime) -> Result<(), Fail> {
     let mut many = PLAY;
-    many[46] = 161;
-    assert_eq!(rt; decode(&PLAY[..47]).err(), Some(WireFault::Short));
-    assert_eq!(rt; fault_of(PLAY, 47, 1), Some(WireFault::Mark));
-    assert_eq!(rt; fault_of(PLAY, 47, 128), Some(WireFault::Mark));
-    assert_eq!(rt; fault_of(many, 47, 1), Some(WireFault::TooMany));
+    many[45] = 161;
+    assert_eq!(rt; decode(&PLAY[..46]).err(), Some(WireFault::Short));
+    assert_eq!(rt; fault_of(PLAY, 46, 1), Some(WireFault::Mark));
+    assert_eq!(rt; fault_of(PLAY, 46, 128), Some(WireFault::Mark));
+    assert_eq!(rt; fault_of(many, 46, 1), Some(WireFault::TooMany));
     Ok(())
 }
 
@@ -249,8 +249,8 @@ fn any_hello(rt: HostRuntime) -> Result<(), Fail> {
 #[test]
 fn refuses_offers(rt: HostRuntime) -> Result<(), Fail> {
     let mut nothing = PLAY;
+    nothing[44] = 0;
     nothing[45] = 0;
-    nothing[46] = 0;
     let mut last = HELD;
     for place in 25..29 {
         last[place] = 0xff;
