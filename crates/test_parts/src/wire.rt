@@ -31,6 +31,25 @@ const BYE: [u8; 14] = [
     0x46, 0x5a, 0x47, 0x32, 0x11, 0x22, 0x33, 0x44, 0x55, 0x66, 0x77, 0x88, 0x01, 0x02,
 ];
 
+const LINE_HELLO: [u8; 52] = [
+    0x46, 0x5a, 0x47, 0x32, 0x99, 0xaa, 0xbb, 0xcc, 0xdd, 0xee, 0xff, 0x00, 0xff, 0x00, 0x02, 0x00,
+    0x01, 0xff, 0xff, 0xff, 0xff, 0xff, 0xff, 0x01, 0x23, 0x45, 0x67, 0x89, 0xab, 0xcd, 0xef, 0xd1,
+    0xd2, 0xd3, 0xd4, 0xd5, 0xd6, 0xd7, 0xd8, 0xc1, 0xc2, 0xc3, 0xc4, 0xc5, 0xc6, 0xc7, 0xc8, 0x00,
+    0x00, 0x0b, 0xb8, 0x00,
+];
+
+const ROWS: [u8; 51] = [
+    0x46, 0x5a, 0x47, 0x32, 0x99, 0xaa, 0xbb, 0xcc, 0xdd, 0xee, 0xff, 0x00, 0x00, 0x01, 0x01, 0x80,
+    0x05, 0xdb, 0x04, 0xdb, 0x04, 0xe8, 0xdd, 0x9b, 0xae, 0x0c, 0xd8, 0xfd, 0xdb, 0xae, 0x0d, 0x08,
+    0x00, 0x03, 0xdb, 0x04, 0xd9, 0x04, 0x00, 0x03, 0xd8, 0x04, 0x03, 0x00, 0x01, 0x00, 0x00, 0x05,
+    0x01, 0x09, 0x01,
+];
+
+const ANSWER: [u8; 24] = [
+    0x46, 0x5a, 0x47, 0x32, 0x99, 0xaa, 0xbb, 0xcc, 0xdd, 0xee, 0xff, 0x00, 0xff, 0x01, 0x00, 0x00,
+    0x03, 0xdb, 0x04, 0xdb, 0x04, 0x00, 0x00, 0x00,
+];
+
 const NO_OFFER: Offer = Offer { first: 0, end: 0 };
 
 type Words = ArrayVec<u32, WORD_LIMIT>;
@@ -99,6 +118,55 @@ fn full() -> Body {
     };
     let words = words_of(&[0, 0, 5, 5, 5, 7]);
     Body::Play(Play { head, words })
+}
+
+/// A datagram of the viewer's line of the examples.
+fn of_line(sender: u8, body: Body) -> Datagram {
+    Datagram {
+        envelope: Envelope {
+            match_number: 0x99aa_bbcc_ddee_ff00,
+            sender,
+        },
+        body,
+    }
+}
+
+/// A turn by a line: so many rows are had of each player, and these are told.
+fn line_turn(
+    clocks: Option<Clocks>,
+    has: [u32; 2],
+    offers: [Offer; PLAYER_LIMIT],
+    words: Words,
+) -> Body {
+    let head = Head {
+        clocks,
+        view: View {
+            gone: [false; 8],
+            has: [has[0], has[1], 0, 0, 0, 0, 0, 0],
+        },
+        settled: None,
+        offers,
+    };
+    Body::Play(Play { head, words })
+}
+
+/// The host's rows of the examples.
+fn rows() -> Body {
+    let mut offers = [NO_OFFER; PLAYER_LIMIT];
+    offers[0] = Offer {
+        first: 600,
+        end: 603,
+    };
+    offers[1] = Offer { first: 0, end: 1 };
+    let clocks = Clocks {
+        number: 640,
+        frame: 603,
+        heard_frame: 603,
+        clock: 0xc5c6_c7c8 + 10_016,
+        heard_clock: 0xd5d6_d7d8 + 9_984,
+        held: 8,
+    };
+    line_turn(Some(clocks), [603, 601], offers, words_of(&[5, 5, 9, 9]))
 }
 
 /// As many words, each of them of 32 bits, and another one than the one before.
@@ -170,6 +238,24 @@ fn the_examples(rt: HostRuntime) -> Result<(), Fail> {
     assert!(rt; is_text(&datagram(full()), PLAY.as_slice()));
     assert!(rt; is_text(&datagram(held), HELD.as_slice()));
     assert!(rt; is_text(&datagram(Body::Bye), BYE.as_slice()));
+    Ok(())
+}
+
+#[test]
+fn the_examples_of_a_line(rt: HostRuntime) -> Result<(), Fail> {
+    let hello = Hello {
+        machines: 2,
+        owners: [0, 1, 255, 255, 255, 255, 255, 255],
+        settings: 0x0123_4567_89ab_cdef,
+        draw: 0xd1d2_d3d4_d5d6_d7d8,
+        echo: 0xc1c2_c3c4_c5c6_c7c8,
+        patience: 3_000,
+        abilities: 0,
+    };
+    let answer = line_turn(None, [603, 603], [NO_OFFER; PLAYER_LIMIT], words_of(&[]));
+    assert!(rt; is_text(&of_line(255, Body::Hello(hello)), LINE_HELLO.as_slice()));
+    assert!(rt; is_text(&of_line(0, rows()), ROWS.as_slice()));
+    assert!(rt; is_text(&of_line(255, answer), ANSWER.as_slice()));
     Ok(())
 }
 
