@@ -3,3 +3,5 @@ pub mod Queues
 pub mod Said
 pub mod Sent
 pub mod Untils
+pub mod Believed
+pub mod Naming

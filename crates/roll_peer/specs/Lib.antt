@@ -11,3 +11,4 @@ pub mod Stalls
 pub mod Receiving
 pub mod Turning
 pub mod Sending
+pub mod Laws

@@ -76,12 +76,15 @@ stall_ended now m peer =
     then record peer { member = record peer.member { mesh = without m peer.member.mesh } }
     else peer
 
+-- it is known for how long a machine has held up the match
+abbrev pub timed : ℕ → ℕ → Peered → Peered
+timed now m peer = record peer {
+  stalls = slice_set peer.stalls m (watched (held_up_by peer m) now (stall_at peer m));
+}
+
 -- it is watched whether a machine holds up the match
 abbrev pub watched_at : ℕ → ℕ → Peered → Peered
-watched_at now m peer =
-    stall_ended now m (stall_told now m (record peer {
-      stalls = slice_set peer.stalls m (watched (held_up_by peer m) now (stall_at peer m));
-    }))
+watched_at now m peer = stall_ended now m (stall_told now m (timed now m peer))
 
 -- of the first so many machines, in their order
 unfoldable pub watched_until : ℕ → ℕ → Peered → Peered

@@ -4,6 +4,7 @@
 mod digests;
 mod event;
 mod judging;
+mod laws;
 mod notices;
 mod pace;
 mod peer;
@@ -17,6 +18,7 @@ mod stats;
 mod turning;
 
 pub use event::PeerEvent;
+pub use laws::{events_name_machines, nothing_else_is_heard};
 pub use peer::Peer;
 pub use received::{Ignored, Received};
 pub use refusal::{OpenFault, OpenRefusal, PeerRefusal};

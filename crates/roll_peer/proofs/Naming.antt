@@ -1,0 +1,272 @@
+-- Each event names a machine of the match.
+use Rattle.std.proofs.Common.{◌≡◌, ◌∙◌, ◌<◌, ◌≤◌, ◌+◌, ℕ, zero, suc, List, [], ◌∷◌, ◌++◌, length, drop, refl, sym, ap, subst, arith, Bool, true, false, Option, Some, None, Result, Ok, Err}
+use Rattle.std.specs.Prelude.{◌==◌, ◌&&◌, not, nat_le, nat_lt, is_some, if◌then◌else◌, slice_set, All, IfSome}
+use Rattle.std.specs.Option.{option_map}
+use Rattle.std.proofs.lemmas.Bool.{leb-false, lt-ltb}
+use Rattle.std.proofs.lemmas.List.Elements.{All-push, All-tail, All-nil}
+use Rattle.roll_contact.specs.Contacts.{refused}
+use Rattle.roll_contact.specs.declared.contact.Contact.{Contact}
+use Rattle.roll_contact.specs.declared.contact.Stage.{Stage}
+use Rattle.roll_contact.specs.declared.contact.Stage.TheVariants.{Silent, Greeted, Playing, Mismatched}
+use Rattle.roll_contact.specs.declared.terms.Field.{Field}
+use Rattle.roll_frame.specs.declared.refusal.Refusal.{Refusal}
+use Rattle.roll_mesh.proofs.Changes.{none_some}
+use Rattle.roll_mesh.specs.Machines.{is_in}
+use Rattle.roll_mesh.specs.declared.heard.Heard.{Heard}
+use Rattle.roll_mesh.specs.declared.heard.Heard.TheVariants.{Dropped as WasDropped, Taken as WasTaken}
+use Rattle.roll_mesh.specs.declared.limits.TheConstants.{PLAYER_LIMIT}
+use Rattle.roll_session.specs.Seen.{Step}
+use Rattle.roll_wire.specs.Spelling.{Content, Greets, Leaves, Plays}
+use Rattle.roll_wire.specs.declared.datagram.Settled.{Settled}
+use Rattle.roll_peer.specs.Events.{pushed}
+use Rattle.roll_peer.specs.Laws.{machine_in, AreNamed, EventsNameMachines, IsNamed, IsSeatedSo, NamesMachines}
+use Rattle.roll_peer.specs.Notices.{after_heard, came, desync, differs, dropped, found_out, interrupted, mismatched, newly, only_if, player_left, refusing, restarting, resumed, told, told_of}
+use Rattle.roll_peer.specs.Digests.{digest_at}
+use Rattle.roll_peer.specs.Paces.{paced, wait_of}
+use Rattle.roll_peer.specs.Peered.{contact_at, stall_at, Peered}
+use Rattle.roll_peer.specs.Receiving.{after_ignored, deaf_to, ignored, is_refusal, opened, refused_of, sender_of, unheard_in, Hears, Receives}
+use Rattle.roll_peer.specs.Stalls.{is_overdue, is_to_tell}
+use Rattle.roll_peer.specs.Turning.{are_ready, begun, farewell_at, farewell_until, hushed_until, is_missed, lead_in, looked_after, missed_at, missed_until, over, silenced_at, silenced_until, stall_ended, stall_told, timed, watched_at, watched_until, IsParted, Polls}
+use Rattle.roll_peer.specs.Waiting.{Waiting}
+use Rattle.roll_peer.specs.declared.digests.Digests.{Digests}
+use Rattle.roll_peer.specs.declared.event.PeerEvent.{PeerEvent}
+use Rattle.roll_peer.specs.declared.event.PeerEvent.TheVariants.{TimeSync}
+use Rattle.roll_peer.specs.declared.event.TheConstants.{EVENT_LIMIT}
+use Rattle.roll_peer.specs.declared.received.Ignored.{Ignored}
+use Rattle.roll_peer.specs.declared.received.Ignored.TheVariants.{InvalidMachine}
+use Rattle.roll_peer.specs.declared.received.Received.{Received}
+use Rattle.roll_peer.specs.declared.received.Received.TheVariants.{Hello as HelloHeard, Play as PlayHeard, Bye as ByeHeard}
+use Rattle.roll_peer.proofs.Said.{begun_is, ignored_is, over_is}
+
+-- ---- one more event
+
+module _ (n : ℕ) where
+  kept : (events : List PeerEvent) → All (IsNamed n) events → All (IsNamed n) (drop 1 events)
+  kept [] h = h
+  kept (event ∷ events) h = All-tail (IsNamed n) event events h
+
+  push_named : (waiting : Waiting) (event : PeerEvent) → AreNamed n waiting → IsNamed n event
+      → AreNamed n (pushed waiting event)
+  push_named waiting event h e = go (length waiting.events == EVENT_LIMIT) refl
+    where
+      go : (b : Bool) → (length waiting.events == EVENT_LIMIT) ≡ b → AreNamed n (pushed waiting event)
+      go true f = rw f (All-push (IsNamed n) (drop 1 waiting.events) event (kept waiting.events h) e)
+      go false f = rw f (All-push (IsNamed n) waiting.events event h e)
+
+  told_named : (waiting : Waiting) (event : Option PeerEvent) → AreNamed n waiting
+      → IfSome event (IsNamed n) → AreNamed n (told waiting event)
+  told_named waiting None h e = h
+  told_named waiting (Some event) h e = push_named waiting event h e
+
+  only_named : (b : Bool) (event : PeerEvent) → IsNamed n event → IfSome (only_if b event) (IsNamed n)
+  only_named true event e = e
+  only_named false event e = tt
+
+  module _ (m : ℕ) (l : nat_lt m n ≡ true) where
+    came_named : (before after : Stage) → IfSome (came m before after) (IsNamed n)
+    came_named Playing after = tt
+    came_named Silent Playing = l
+    came_named Silent Greeted = l
+    came_named Silent Silent = tt
+    came_named Silent (Mismatched field) = tt
+    came_named Greeted Playing = l
+    came_named Greeted Greeted = tt
+    came_named Greeted Silent = tt
+    came_named Greeted (Mismatched field) = tt
+    came_named (Mismatched was) Playing = l
+    came_named (Mismatched was) Greeted = tt
+    came_named (Mismatched was) Silent = tt
+    came_named (Mismatched was) (Mismatched field) = tt
+
+    mismatch_named : (field : Option Field) → IfSome (mismatched m field) (IsNamed n)
+    mismatch_named None = tt
+    mismatch_named (Some field) = l
+
+    restart_named : (before after : Contact) → IfSome (restarting m before after) (IsNamed n)
+    restart_named before after = go (before.restarted == after.restarted) refl
+      where
+        go : (b : Bool) → (before.restarted == after.restarted) ≡ b → IfSome (restarting m before after) (IsNamed n)
+        go true e = rw e tt
+        go false e = rw e l
+
+    heard_named : (before after : Contact) (waiting : Waiting) → AreNamed n waiting
+        → AreNamed n (after_heard m before after waiting)
+    unfolding after_heard
+    heard_named before after waiting h =
+        told_named _ (refusing m before after)
+        (told_named _ (restarting m before after)
+        (told_named _ (found_out m before.differs after.differs)
+        (told_named _ (came m before.stage after.stage)
+        (told_named waiting (resumed m before after) h
+        (only_named (before.interrupted && not after.interrupted) _ l))
+        (came_named before.stage after.stage))
+        (mismatch_named (newly before.differs after.differs)))
+        (restart_named before after))
+        (only_named (after.is_refusing && not before.is_refusing) _ l)
+
+    desync_named : (digests : Digests) (settled : Option Settled) → IfSome (desync digests m settled) (IsNamed n)
+    desync_named digests None = tt
+    desync_named digests (Some settled) = only_named (differs settled.digest (digest_at digests settled.frame)) _ l
+
+  dropped_named : (heard : Heard) → IfSome (dropped heard) (IsNamed n)
+  dropped_named WasDropped = tt
+  dropped_named WasTaken = tt
+
+  -- ---- what is heard
+
+  module _ (old : Peered) (bytes : List ℕ) (seated : old.member.mesh.seat.machines ≡ n) where
+    stranger : nat_le old.member.mesh.seat.machines (sender_of bytes) ≡ true → ignored old bytes ≡ Some InvalidMachine
+    stranger e = ignored_is old bytes ∙ rw e refl
+
+    within : nat_le old.member.mesh.seat.machines (sender_of bytes) ≡ false → nat_lt (sender_of bytes) n ≡ true
+    within e =
+        let less = leb-false old.member.mesh.seat.machines (sender_of bytes) e in
+        lt-ltb (sender_of bytes) n (omega (arith, less, seated))
+
+    known : ignored old bytes ≡ None → nat_lt (sender_of bytes) n ≡ true
+    known h = go (nat_le old.member.mesh.seat.machines (sender_of bytes)) refl
+      where
+        go : (b : Bool) → nat_le old.member.mesh.seat.machines (sender_of bytes) ≡ b → nat_lt (sender_of bytes) n ≡ true
+        go true e = absurd (none_some InvalidMachine (sym h ∙ stranger e))
+        go false e = within e
+
+    refusal_named : (why : Ignored) → AreNamed n old.waiting → ignored old bytes ≡ Some why
+        → AreNamed n (after_ignored (sender_of bytes) why old).waiting
+    refusal_named why h i = go (nat_le old.member.mesh.seat.machines (sender_of bytes)) refl
+      where
+        same : (a b : Ignored) → Some a ≡ Some b → a ≡ b
+        same a b e = cc
+
+        counted : (b : Bool) → nat_lt (sender_of bytes) n ≡ true
+            → AreNamed n (if b then refused_of (sender_of bytes) old else old).waiting
+        counted true l =
+            heard_named (sender_of bytes) l (contact_at old (sender_of bytes))
+            (refused (contact_at old (sender_of bytes))) old.waiting h
+        counted false l = h
+
+        go : (b : Bool) → nat_le old.member.mesh.seat.machines (sender_of bytes) ≡ b
+            → AreNamed n (after_ignored (sender_of bytes) why old).waiting
+        go true e =
+            subst (λ (w : Ignored). AreNamed n (after_ignored (sender_of bytes) w old).waiting)
+            (same InvalidMachine why (sym (stranger e) ∙ i)) h
+        go false e = counted (is_refusal why) (within e)
+
+    hearing_named : (step : Step) (new : Peered) (what : Content) (received : Received) → AreNamed n old.waiting
+        → nat_lt (sender_of bytes) n ≡ true → Hears step old new (sender_of bytes) what received
+        → AreNamed n new.waiting
+    hearing_named step new (Greets hello) (HelloHeard from) h l hears =
+        subst (λ (p : Peered). AreNamed n p.waiting) (sym hears.1) (heard_named (sender_of bytes) l _ _ old.waiting h)
+    hearing_named step new (Plays t) (PlayHeard from taken) h l hears =
+        subst (λ (p : Peered). AreNamed n p.waiting) (sym hears.1.rest)
+        (told_named _ (dropped taken.heard)
+        (told_named _ (desync old.digests (sender_of bytes) t.head.settled)
+        (heard_named (sender_of bytes) l _ _ old.waiting h)
+        (desync_named (sender_of bytes) l old.digests t.head.settled))
+        (dropped_named taken.heard))
+    hearing_named step new Leaves (ByeHeard from) h l hears =
+        subst (λ (p : Peered). AreNamed n p.waiting) (sym hears.1) h
+    hearing_named step new (Greets hello) (PlayHeard from taken) h l hears = absurd hears
+    hearing_named step new (Greets hello) (ByeHeard from) h l hears = absurd hears
+    hearing_named step new (Plays t) (HelloHeard from) h l hears = absurd hears
+    hearing_named step new (Plays t) (ByeHeard from) h l hears = absurd hears
+    hearing_named step new Leaves (HelloHeard from) h l hears = absurd hears
+    hearing_named step new Leaves (PlayHeard from taken) h l hears = absurd hears
+
+  -- ---- polls
+
+  below : (m : ℕ) → suc m ≤ n → nat_lt m n ≡ true
+  below m l = lt-ltb m n (omega (arith, l))
+
+  either : (b : Bool) (p q : Peered) → AreNamed n p.waiting → AreNamed n q.waiting
+      → AreNamed n (if b then p else q).waiting
+  either true p q h k = h
+  either false p q h k = k
+
+  silenced_named : (now k : ℕ) (peer : Peered) → AreNamed n peer.waiting
+      → AreNamed n (silenced_until now k peer).waiting
+  unfolding silenced_until
+  silenced_named now zero peer h = h
+  silenced_named now (suc m) peer h =
+      let before = silenced_named now m peer h in either _ _ _ before before
+
+  stall_named : (now m : ℕ) (peer : Peered) → nat_lt m n ≡ true → AreNamed n peer.waiting
+      → AreNamed n (stall_told now m peer).waiting
+  stall_named now m peer l h = either _ _ _ (push_named peer.waiting _ h l) h
+
+  ended_named : (now m : ℕ) (peer : Peered) → AreNamed n peer.waiting
+      → AreNamed n (stall_ended now m peer).waiting
+  ended_named now m peer h = either _ _ _ h h
+
+  watched_named : (now k : ℕ) (peer : Peered) → k ≤ n → AreNamed n peer.waiting
+      → AreNamed n (watched_until now k peer).waiting
+  unfolding watched_until
+  watched_named now zero peer l h = h
+  watched_named now (suc m) peer l h =
+      let before = watched_named now m peer (omega (arith, l)) h in
+      let was : Peered = timed now m (watched_until now m peer) in
+      ended_named now m (stall_told now m was) (stall_named now m was (below m l) before)
+
+  hushed_named : (now k : ℕ) (peer : Peered) → k ≤ n → AreNamed n peer.waiting
+      → AreNamed n (hushed_until now k peer).waiting
+  unfolding hushed_until
+  hushed_named now zero peer l h = h
+  hushed_named now (suc m) peer l h =
+      told_named _ _ (hushed_named now m peer (omega (arith, l)) h) (only_named _ _ (below m l))
+
+  missed_named : (now k : ℕ) (peer : Peered) → k ≤ n → AreNamed n peer.waiting
+      → AreNamed n (missed_until now k peer).waiting
+  unfolding missed_until
+  missed_named now zero peer l h = h
+  missed_named now (suc m) peer l h =
+      let before = missed_named now m peer (omega (arith, l)) h in
+      either _ _ _ (push_named _ _ before (below m l)) before
+
+  farewell_named : (k : ℕ) (peer : Peered) → k ≤ n → AreNamed n peer.waiting
+      → AreNamed n (farewell_until k peer).waiting
+  unfolding farewell_until
+  farewell_named zero peer l h = h
+  farewell_named (suc m) peer l h =
+      let before = farewell_named m peer (omega (arith, l)) h in
+      either _ _ _ (push_named _ _ before (below m l)) before
+
+  parted_named : (players : List Bool) (k : ℕ) (waiting : Waiting) → AreNamed n waiting
+      → AreNamed n (told_of (player_left players) k waiting)
+  unfolding told_of
+  parted_named players zero waiting h = h
+  parted_named players (suc k) waiting h =
+      told_named (told_of (player_left players) k waiting) (player_left players k)
+      (parted_named players k waiting h) (only_named _ _ tt)
+
+  looked_named : (peer : Peered) (now : ℕ) → AreNamed n peer.waiting
+      → AreNamed n (looked_after now n peer).waiting
+  looked_named peer now h =
+      let all : n ≤ n = omega arith in
+      farewell_named n _ all (missed_named now n _ all (hushed_named now n _ all (watched_named now n _ all
+      (silenced_named now n peer h))))
+
+  time_named : (frames : Option ℕ) → IfSome (option_map TimeSync frames) (IsNamed n)
+  time_named None = tt
+  time_named (Some frames) = tt
+
+  polled_named : (old new : Peered) (refusal : Option Refusal) → old.settings.machines ≡ n
+      → AreNamed n old.waiting → Polls old new refusal → AreNamed n new.waiting
+  polled_named old new refusal same h p =
+      let seen = subst (λ (k : ℕ). AreNamed n (looked_after old.clock.moment k old).waiting) (sym same)
+      (looked_named old old.clock.moment h) in
+      let parted = subst (λ (peer : Peered). AreNamed n peer.waiting) (sym p.parts.rest)
+      (parted_named p.parts.who.players PLAYER_LIMIT _ seen) in
+      subst (λ (peer : Peered). AreNamed n peer.waiting) (sym (p.begins ∙ begun_is p.parted))
+      (either _ _ _ (push_named _ _ parted tt) parted)
+
+pub events_name_machines : EventsNameMachines
+events_name_machines = record {
+  heard = λ step old new bytes received seated h i r.
+      hearing_named old.settings.machines old bytes seated step new r.what received h
+      (known old.settings.machines old bytes seated i) r.hears;
+  refused = λ old bytes why seated h i.
+      refusal_named old.settings.machines old bytes seated why h i;
+  polled = λ old new refusal h p. polled_named old.settings.machines old new refusal refl h p;
+  played = λ peer h.
+      subst (λ (p : Peered). AreNamed peer.settings.machines p.waiting) (sym (over_is peer))
+      (told_named peer.settings.machines _ _ h (time_named peer.settings.machines (wait_of (lead_in peer) peer.pace)));
+}
