@@ -1,4 +1,6 @@
+mod Answered
 mod Padding
+mod Once
 mod Decoded
 mod Settled
 mod Seen

@@ -1,12 +1,13 @@
 -- Viewers see settled rows.
-use Rattle.std.proofs.Common.{◌≡◌, ◌∙◌, ◌≤◌, ◌<◌, ◌⊎◌, ◌+◌, ◌-◌, ℕ, List, [], ◌∷◌, ◌++◌, length, get_or, drop, take, refl, sym, ap, subst, arith, Bool, true, false, inl, inr, length-append}
+use Rattle.std.proofs.Common.{◌≡◌, ◌∙◌, ◌≤◌, ◌<◌, ◌⊎◌, ◌+◌, ◌-◌, ℕ, zero, suc, List, [], ◌∷◌, ◌++◌, length, get_or, drop, take, refl, sym, ap, subst, arith, Bool, true, false, inl, inr, append-nil, length-append}
 use Rattle.std.specs.Prelude.{nat_le, All, if◌then◌else◌}
-use Rattle.std.proofs.lemmas.Bool.{cases_lt, leb-true}
+use Rattle.std.proofs.lemmas.Bool.{cases_lt, cond-false, leb-true, ne_eqb}
 use Rattle.std.proofs.lemmas.List.{get_or-append_right, get_or-drop, get_or-take, get_or_append_left, length-drop, length-take}
 use Rattle.std.proofs.lemmas.List.Elements.{All-head, All-tail}
 use Rattle.std.proofs.lemmas.List.FromFn.{fill_by_all}
 use Rattle.roll_frame.specs.Cells.{Rows}
 use Rattle.roll_frame.specs.Events.{replay}
+use Rattle.roll_frame.specs.declared.row.Cell.{Cell}
 use Rattle.roll_frame.specs.Games.{Game}
 use Rattle.roll_frame.specs.declared.entry.Entry.{Entry}
 use Rattle.roll_frame.specs.declared.settings.Settings.{Settings}
@@ -80,6 +81,15 @@ goes_on rows part all had room places first begins low =
         ∙ ap (λ (m : ℕ). get_or part m []) at
         ∙ part_at part all begins j (omega (arith, l1, l2, l3, l4, l5, l, past, low))
 
+none_more : (places n : ℕ) → take {A = List Cell} places (drop n []) ≡ []
+none_more places zero = none_taken places
+  where
+    none_taken : (places : ℕ) → take {A = List Cell} places [] ≡ []
+    none_taken zero = refl
+    none_taken (suc p) = refl
+none_more zero (suc n) = refl
+none_more (suc p) (suc n) = refl
+
 -- ---- one play after the other
 
 module _ (settings : Settings) (game : Game) (log : List Entry) (l : IsLog settings game log) where
@@ -100,19 +110,40 @@ module _ (settings : Settings) (game : Game) (log : List Entry) (l : IsLog setti
       is : TellsRows (replay settings d.log) d.had
       is = tells (replay settings d.log) d.had (known_log settings game d.log (told d of).0)
 
+      news : rows_in settings.players (told_to (replay settings d.log) d.had)
+          ≡ take (room_after (replay settings d.log) d.had) (drop d.had (settled_rows (replay settings d.log)))
+      news =
+          ap (λ n. rows_in n (told_to (replay settings d.log) d.had)) (sym (players_log settings game d.log (told d of).0)) ∙ is.rows
+
+      first_if : 0 < room_after (replay settings d.log) d.had
+          → first_row (told_to (replay settings d.log) d.had) ≡ d.had
+      first_if some =
+          is.first ∙ cond-false _ _ _ (ne_eqb (room_after (replay settings d.log) d.had) 0 (omega (arith, some)))
+
+      no_room : room_after (replay settings d.log) d.had ≤ 0
+          → take (room_after (replay settings d.log) d.had) (drop d.had (settled_rows (replay settings d.log))) ≡ []
+      no_room none =
+          let zero_is : room_after (replay settings d.log) d.had ≡ 0 = omega (arith, none) in
+          ap (λ n. take n (drop d.had (settled_rows (replay settings d.log)))) zero_is
+
       go : (b : Bool) → nat_le (first_row (told_to (replay settings d.log) d.had)) (length rows) ≡ b
           → IsFirstPart (if b then rows ++ take d.places (drop (length rows - first_row (told_to (replay settings d.log) d.had)) (rows_in settings.players (told_to (replay settings d.log) d.had))) else rows) (settled_rows (replay settings log))
       go false e = first
       go true e =
-          let low : d.had ≤ length rows = omega (arith, leb-true (first_row (told_to (replay settings d.log) d.had)) (length rows) e, is.first) in
-          let news : rows_in settings.players (told_to (replay settings d.log) d.had)
-          ≡ take (room_after (replay settings d.log) d.had) (drop d.had (settled_rows (replay settings d.log))) =
-          ap (λ n. rows_in n (told_to (replay settings d.log) d.had)) (sym (players_log settings game d.log (told d of).0)) ∙ is.rows in
-          subst (λ (n : ℕ). IsFirstPart (rows ++ take d.places (drop (length rows - n) (rows_in settings.players (told_to (replay settings d.log) d.had)))) (settled_rows (replay settings log)))
-          (sym is.first)
-          (subst (λ (more : Rows). IsFirstPart (rows ++ take d.places (drop (length rows - d.had) more)) (settled_rows (replay settings log)))
-          (sym news)
-          (goes_on rows (settled_rows (replay settings d.log)) (settled_rows (replay settings log)) d.had (room_after (replay settings d.log) d.had) d.places first (told d of).1 low))
+          elim (cases_lt 0 (room_after (replay settings d.log) d.had)) [
+            | inl some ↦ (let at = first_if some in
+                let low : d.had ≤ length rows = omega (arith, leb-true (first_row (told_to (replay settings d.log) d.had)) (length rows) e, at) in
+                subst (λ (n : ℕ). IsFirstPart (rows ++ take d.places (drop (length rows - n) (rows_in settings.players (told_to (replay settings d.log) d.had)))) (settled_rows (replay settings log)))
+                (sym at)
+                (subst (λ (more : Rows). IsFirstPart (rows ++ take d.places (drop (length rows - d.had) more)) (settled_rows (replay settings log)))
+                (sym news)
+                (goes_on rows (settled_rows (replay settings d.log)) (settled_rows (replay settings log)) d.had (room_after (replay settings d.log) d.had) d.places first (told d of).1 low)))
+            | inr none ↦ subst (λ (more : Rows). IsFirstPart (rows ++ take d.places (drop (length rows - first_row (told_to (replay settings d.log) d.had)) more)) (settled_rows (replay settings log)))
+                (sym (news ∙ no_room none))
+                (subst (λ (more : Rows). IsFirstPart (rows ++ more) (settled_rows (replay settings log)))
+                (sym (none_more d.places (length rows - first_row (told_to (replay settings d.log) d.had))))
+                (subst (λ (all : Rows). IsFirstPart all (settled_rows (replay settings log))) (sym (append-nil rows)) first))
+          ]
 
   all_heard : (rows : Rows) (ds : List Delivery) → All (IsOf log) ds → IsFirstPart rows (settled_rows (replay settings log))
       → IsFirstPart (viewed settings rows ds) (settled_rows (replay settings log))

@@ -1,7 +1,7 @@
 -- What is known of the settled rows of a session, and so of what a host tells of them.
-use Rattle.std.proofs.Common.{◌≡◌, ◌∙◌, ◌++◌, ◌≤◌, ◌*◌, ◌/◌, ◌-◌, ℕ, List, [], ◌∷◌, length, map, max, replicate, take, drop, refl, sym, ap, subst, arith, true}
+use Rattle.std.proofs.Common.{◌≡◌, ◌∙◌, ◌++◌, ◌≤◌, ◌*◌, ◌/◌, ◌-◌, ℕ, zero, suc, List, [], ◌∷◌, length, map, max, replicate, take, drop, refl, sym, ap, subst, arith, true, false}
 use Rattle.std.specs.List.{list_all, range_with_len}
-use Rattle.std.specs.Prelude.{◌&&◌, ◌==◌, nat_le, slice_index_or}
+use Rattle.std.specs.Prelude.{◌&&◌, ◌==◌, not, nat_le, if◌then◌else◌}
 use Rattle.std.proofs.Math.Nat.{mul-div-le, mul-le-mul_left}
 use Rattle.std.proofs.lemmas.Bool.{eq-eqb, le-leb}
 use Rattle.std.proofs.lemmas.List.{length-map}
@@ -23,10 +23,11 @@ use Rattle.roll_mesh.specs.declared.packet.Offer.{Offer}
 use Rattle.roll_wire.specs.Spelling.{are_offers, count_of, is_offer}
 use Rattle.roll_wire.specs.declared.limits.TheConstants.{WORD_LIMIT}
 use Rattle.roll_session.specs.Standing.{settled_rows}
-use Rattle.roll_viewer.specs.Rows.{are_rows, first_row, row_count, row_in, rows_in}
+use Rattle.roll_viewer.specs.Rows.{are_rows, first_of, first_row, has_words, is_said_once, row_count, row_in, rows_in}
 use Rattle.roll_viewer.specs.Seeing.{TellsRows}
-use Rattle.roll_viewer.specs.Telling.{has_by, has_of, offer_of, offers_to, padded, room_after, told_to, words_in}
-use Rattle.roll_viewer.proofs.Decoded.{count_told, forward, rows_told, same_first, words_told}
+use Rattle.roll_viewer.specs.Telling.{has_by, has_of, offers_to, room_after, said_once, span_of, spans_to, told_to, words_in}
+use Rattle.roll_viewer.proofs.Decoded.{count_told, first_span, forward, rows_told, words_told}
+use Rattle.roll_viewer.proofs.Once.{count_said, first_said, forward_said, rest_said, rows_said, said_is_once, sum_said, take_said}
 use Rattle.roll_viewer.proofs.Padding.{all_padded, front_padded, padded_is, rest_passes, sum_padded}
 
 -- 1 to 8 players, of whom some are there to stay, and have words in all settled rows
@@ -83,17 +84,17 @@ module _ (core : Core) (had : ℕ) (k : Known core) where
       let some : 1 ≤ length core.players = some_players core.players k.stays in
       omega (arith, mul-le-mul_left (room_after core had) some, fits)
 
-  many : length (map (offer_of (settled core) had (room_after core had)) core.players) ≤ PLAYER_LIMIT
-  many = omega (arith, length-map core.players (offer_of (settled core) had (room_after core had)), k.few)
+  many : length (map (span_of (settled core) had (room_after core had)) core.players) ≤ PLAYER_LIMIT
+  many = omega (arith, length-map core.players (span_of (settled core) had (room_after core had)), k.few)
 
   size : Offer → ℕ
   size o = o.end - o.first
 
   -- as many words as fit
-  pub told_fits : count_of (offers_to core had) ≤ WORD_LIMIT
+  pub told_fits : count_of (spans_to core had) ≤ WORD_LIMIT
   told_fits =
-      let each : List Offer = map (offer_of (settled core) had (room_after core had)) core.players in
-      let count : count_of (offers_to core had) ≡ count_of each =
+      let each : List Offer = map (span_of (settled core) had (room_after core had)) core.players in
+      let count : count_of (spans_to core had) ≡ count_of each =
       sum_padded (λ (o : Offer). o.end - o.first) none_offered each many refl in
       omega (
         arith,
@@ -102,56 +103,69 @@ module _ (core : Core) (had : ℕ) (k : Known core) where
         fits,
       )
 
-  offers_are : offers_to core had
-      ≡ map (offer_of (settled core) had (room_after core had)) core.players
-      ++ take (PLAYER_LIMIT - length (map (offer_of (settled core) had (room_after core had)) core.players)) (replicate PLAYER_LIMIT none_offered)
-  offers_are =
-      padded_is none_offered (map (offer_of (settled core) had (room_after core had)) core.players) many
+  spans_are : spans_to core had
+      ≡ map (span_of (settled core) had (room_after core had)) core.players
+      ++ take (PLAYER_LIMIT - length (map (span_of (settled core) had (room_after core had)) core.players)) (replicate PLAYER_LIMIT none_offered)
+  spans_are =
+      padded_is none_offered (map (span_of (settled core) had (room_after core had)) core.players) many
 
   -- and as many as are offered
-  told_count : count_of (offers_to core had) ≡ length (words_in core.players (offers_to core had))
+  told_count : count_of (offers_to core had) ≡ length (words_in core.players (spans_to core had))
   told_count =
-      let each : List Offer = map (offer_of (settled core) had (room_after core had)) core.players in
-      sum_padded (λ (o : Offer). o.end - o.first) none_offered each many refl
-      ∙ sym (ap (λ os. length (words_in core.players os)) offers_are
+      let each : List Offer = map (span_of (settled core) had (room_after core had)) core.players in
+      sum_said false (spans_to core had)
+      ∙ sum_padded (λ (o : Offer). o.end - o.first) none_offered each many refl
+      ∙ sym (ap (λ os. length (words_in core.players os)) spans_are
       ∙ words_told (settled core) had (room_after core had) room_is core.players
       (take (PLAYER_LIMIT - length each) (replicate PLAYER_LIMIT none_offered)))
 
   told_forward : are_offers (offers_to core had) ≡ true
   told_forward =
-      all_padded is_offer none_offered (map (offer_of (settled core) had (room_after core had)) core.players) many refl
-      (forward (settled core) had (room_after core had) room_is core.players (omega (arith, small)))
+      forward_said false (spans_to core had)
+      (all_padded is_offer none_offered (map (span_of (settled core) had (room_after core had)) core.players) many refl
+      (forward (settled core) had (room_after core had) room_is core.players (omega (arith, small))))
 
   pub told_whole : (are_offers (offers_to core had)
-      && (count_of (offers_to core had) == length (words_in core.players (offers_to core had)))
-      && nat_le (length (words_in core.players (offers_to core had))) WORD_LIMIT) ≡ true
+      && (count_of (offers_to core had) == length (words_in core.players (spans_to core had)))
+      && nat_le (length (words_in core.players (spans_to core had))) WORD_LIMIT) ≡ true
   told_whole =
       rw (
         told_forward,
-        eq-eqb (count_of (offers_to core had)) (length (words_in core.players (offers_to core had))) told_count,
-        le-leb (length (words_in core.players (offers_to core had))) WORD_LIMIT (omega (arith, told_count, told_fits)),
+        eq-eqb (count_of (offers_to core had)) (length (words_in core.players (spans_to core had))) told_count,
+        le-leb (length (words_in core.players (spans_to core had))) WORD_LIMIT (omega (arith, told_count, told_fits, sum_said false (spans_to core had))),
       ) refl
 
+  front_spans : take (length core.players) (spans_to core had)
+      ≡ map (span_of (settled core) had (room_after core had)) core.players
+  front_spans =
+      ap (λ n. take n (spans_to core had)) (sym (length-map core.players (span_of (settled core) had (room_after core had))))
+      ∙ front_padded none_offered (map (span_of (settled core) had (room_after core had)) core.players) many
+
   front_offers : take (length core.players) (offers_to core had)
-      ≡ map (offer_of (settled core) had (room_after core had)) core.players
-  front_offers =
-      ap (λ n. take n (offers_to core had)) (sym (length-map core.players (offer_of (settled core) had (room_after core had))))
-      ∙ front_padded none_offered (map (offer_of (settled core) had (room_after core had)) core.players) many
+      ≡ said_once false (map (span_of (settled core) had (room_after core had)) core.players)
+  front_offers = take_said (length core.players) false (spans_to core had) ∙ ap (said_once false) front_spans
 
-  first_told : (ps : List Player) → 1 ≤ length ps
-      → (slice_index_or (padded none_offered (map (offer_of (settled core) had (room_after core had)) ps)) 0 none_offered).first ≡ had
-  first_told [] some = absurd (omega arith)
-  first_told (p ∷ ps) some = refl
+  none_first : (k n : ℕ) → first_of (take k (replicate n none_offered)) ≡ 0
+  none_first zero n = refl
+  none_first (suc k) zero = refl
+  none_first (suc k) (suc n) = none_first k n
 
-  pub first_is : first_row (told_to core had) ≡ had
+  first_is : first_row (told_to core had) ≡ (if room_after core had == 0 then 0 else had)
   unfolding told_to
-  first_is = first_told core.players (some_players core.players k.stays)
+  first_is =
+      let each : List Offer = map (span_of (settled core) had (room_after core had)) core.players in
+      first_said (spans_to core had)
+      ∙ ap first_of spans_are
+      ∙ first_span (settled core) had (room_after core had) room_is core.players
+      (take (PLAYER_LIMIT - length each) (replicate PLAYER_LIMIT none_offered)) k.reach k.stays
+      (none_first (PLAYER_LIMIT - length each) PLAYER_LIMIT)
 
-  rest_offers : list_all (λ (o : Offer). o.end == 0) (drop (length core.players) (offers_to core had)) ≡ true
+  rest_offers : list_all (λ (o : Offer). not (has_words o)) (drop (length core.players) (offers_to core had)) ≡ true
   rest_offers =
-      let each : List Offer = map (offer_of (settled core) had (room_after core had)) core.players in
-      ap (λ n. list_all (λ (o : Offer). o.end == 0) (drop n (offers_to core had))) (sym (length-map core.players (offer_of (settled core) had (room_after core had))))
-      ∙ rest_passes (λ (o : Offer). o.end == 0) none_offered each many refl
+      let each : List Offer = map (span_of (settled core) had (room_after core had)) core.players in
+      rest_said (length core.players) false (spans_to core had)
+      ∙ ap (λ n. list_all (λ (o : Offer). not (has_words o)) (drop n (spans_to core had))) (sym (length-map core.players (span_of (settled core) had (room_after core had))))
+      ∙ rest_passes (λ (o : Offer). not (has_words o)) none_offered each many refl
 
   rest_has : list_all (λ (n : ℕ). n == 0) (drop (length core.players) (has_by core)) ≡ true
   rest_has =
@@ -159,23 +173,25 @@ module _ (core : Core) (had : ℕ) (k : Known core) where
       ap (λ n. list_all (λ (n : ℕ). n == 0) (drop n (has_by core))) (sym n)
       ∙ rest_passes (λ (n : ℕ). n == 0) 0 (map (has_of (settled core)) core.players) (omega (arith, n, k.few)) refl
 
-  begin : list_all (λ (o : Offer). o.first == first_row (told_to core had)) (take (length core.players) (offers_to core had)) ≡ true
-  begin =
-      ap (λ n. list_all (λ (o : Offer). o.first == n) (take (length core.players) (offers_to core had))) first_is
-      ∙ ap (list_all (λ (o : Offer). o.first == had)) front_offers
-      ∙ same_first (settled core) had (room_after core had) room_is core.players
+  told_once : is_said_once (take (length core.players) (offers_to core had)) ≡ true
+  told_once =
+      ap is_said_once front_offers
+      ∙ said_is_once (map (span_of (settled core) had (room_after core had)) core.players)
 
   told_are_rows : are_rows (length core.players) (told_to core had) ≡ true
   unfolding told_to
-  told_are_rows = rw (begin, rest_offers, rest_has) refl
+  told_are_rows = rw (rest_offers, rest_has, told_once) refl
 
   rows_are : rows_in (length core.players) (told_to core had) ≡ take (room_after core had) (drop had (settled_rows core))
   unfolding told_to
   rows_are =
-      let each : List Offer = map (offer_of (settled core) had (room_after core had)) core.players in
+      let each : List Offer = map (span_of (settled core) had (room_after core had)) core.players in
+      let words : List ℕ = words_in core.players (spans_to core had) in
       let more : List Offer = take (PLAYER_LIMIT - length each) (replicate PLAYER_LIMIT none_offered) in
-      ap (λ os. map (row_in os (words_in core.players (offers_to core had))) (range_with_len 0 (row_count os))) front_offers
-      ∙ ap (λ os. map (row_in each (words_in core.players os)) (range_with_len 0 (row_count each))) offers_are
+      ap (λ os. map (row_in os words) (range_with_len 0 (row_count os))) front_offers
+      ∙ rows_said false each words (range_with_len 0 (row_count (said_once false each)))
+      ∙ ap (λ n. map (row_in each words) (range_with_len 0 n)) (count_said false each)
+      ∙ ap (λ os. map (row_in each (words_in core.players os)) (range_with_len 0 (row_count each))) spans_are
       ∙ rows_told (settled core) had (room_after core had) room_is core.players more k.reach k.stays
 
   pub tells : TellsRows core had

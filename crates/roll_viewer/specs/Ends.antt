@@ -1,16 +1,16 @@
 -- The two ends of a viewer's line, and what each makes of what it hears.
 use Rattle.std.specs.Prelude.{◌≡◌, ℕ, ◌+◌, List, [], length, max, replicate, take, false, not, nat_lt, Option, Some, None, Result, Ok, Err, if◌then◌else◌}
-use Rattle.std.specs.Option.{option_or}
+use Rattle.roll_contact.specs.Contacts.{says_hello}
 use Rattle.roll_frame.specs.Core.{Core}
 use Rattle.roll_mesh.specs.Machines.{none_offered}
 use Rattle.roll_mesh.specs.declared.limits.TheConstants.{MACHINE_LIMIT, PLAYER_LIMIT}
-use Rattle.roll_peer.specs.Contacts.{is_playing}
 use Rattle.roll_spectate.specs.Rings.{Ring}
 use Rattle.roll_spectate.specs.Sent.{Fed}
 use Rattle.roll_wire.specs.Spelling.{Content, Greets, Leaves, Plays, Turn}
-use Rattle.roll_viewer.specs.Lines.{after_bye, after_hello, after_play, content_for, mismatched, opened, opened_line, players_of, said}
-use Rattle.roll_viewer.specs.Rows.{are_rows, first_row, least_with, most_of, IsSent}
-use Rattle.roll_viewer.specs.Telling.{padded, room_after, told_to}
+use Rattle.roll_wire.specs.declared.datagram.Clocks.{Clocks}
+use Rattle.roll_viewer.specs.Lines.{after_bye, after_hello, after_play, clocks_at, greeting, hello_said, mismatched, opened, opened_line, play_said, players_of, said, turn_said}
+use Rattle.roll_viewer.specs.Rows.{are_rows, first_row, is_inside, least_with, most_of, IsSent}
+use Rattle.roll_viewer.specs.Telling.{padded, room_after, told_to, with_clocks}
 use Rattle.roll_viewer.specs.declared.line.Line.{Line}
 use Rattle.roll_viewer.specs.declared.line.TheConstants.{VIEWER}
 use Rattle.roll_viewer.specs.declared.refusal.LineRefusal.{LineRefusal}
@@ -34,14 +34,20 @@ after_ack host has =
     max host.had (least_with host.told (take (players_of host.line.settings) has))
 
 -- why what came isn't heard
+abbrev pub unheard_by_host : Hosted → Content → Option LineRefusal
+unheard_by_host host (Greets hello) = mismatched host.line hello
+unheard_by_host host (Plays t) =
+    if is_inside (players_of host.line.settings) t then None else Some NoRows
+unheard_by_host host Leaves = None
+
 abbrev pub ignored_by_host : Hosted → Result Content LineRefusal → Option LineRefusal
 ignored_by_host host (Err why) = Some why
-ignored_by_host host (Ok what) = mismatched host.line what
+ignored_by_host host (Ok what) = unheard_by_host host what
 
 abbrev pub host_after : Hosted → ℕ → Content → Hosted
 host_after host now (Greets hello) = record host { line = after_hello host.line hello now }
 host_after host now (Plays t) = record host {
-  line = after_play host.line now;
+  line = after_play host.line t.head.clocks host.told now;
   had = after_ack host t.head.view.has;
 }
 host_after host now Leaves = record host { line = after_bye host.line }
@@ -52,22 +58,27 @@ pub record HostHears (old new : Hosted) (bytes : List ℕ) (now : ℕ) : Type 0 
   pub is_opened : opened old.line VIEWER bytes ≡ Ok what
   pub new_is : new ≡ host_after old now what
 
--- what the host sends in a turn of a session: nothing once the line has ended
-abbrev pub host_sends : Hosted → Core → Option (List ℕ)
-host_sends host core =
-    if host.line.ended then None
-    else Some (said host.line.settings host.line.settings.host
-    (content_for host.line (Plays (told_to core host.had))))
-
 -- the rows up to there were told
 abbrev pub with_told : Hosted → Core → Hosted
 with_told host core = record host { told = max host.told (host.had + room_after core host.had) }
 
-abbrev pub told_rows : Hosted → Core → Hosted
-told_rows host core = if is_playing host.line.stage then with_told host core else host
+-- what the host says in a turn of a session: a hello, or its next rows
+abbrev pub host_says : Hosted → Core → (now : ℕ) → Content
+host_says host core now =
+    if says_hello host.line.contact then greeting host.line
+    else Plays (with_clocks (clocks_at host.line (with_told host core).told now) (told_to core host.had))
 
-abbrev pub host_told : Hosted → Core → Hosted
-host_told host core = if host.line.ended then host else told_rows host core
+-- and sends: nothing once the line has ended
+abbrev pub host_sends : Hosted → Core → (now : ℕ) → Option (List ℕ)
+host_sends host core now =
+    if host.line.ended then None
+    else Some (said host.line host.line.settings.host (host_says host core now))
+
+abbrev pub host_told : Hosted → Core → (now : ℕ) → Hosted
+host_told host core now =
+    if host.line.ended then host
+    else (if says_hello host.line.contact then record host { line = hello_said host.line now }
+    else record (with_told host core) { line = play_said host.line now })
 
 -- ---- the viewer's end
 
@@ -92,9 +103,8 @@ unread viewer t =
 
 -- why what came isn't heard
 abbrev pub unheard_by_viewer : Viewing → Content → Option LineRefusal
-unheard_by_viewer viewer (Greets hello) = mismatched viewer.line (Greets hello)
-unheard_by_viewer viewer (Plays t) =
-    option_or (mismatched viewer.line (Plays t)) (unread viewer t)
+unheard_by_viewer viewer (Greets hello) = mismatched viewer.line hello
+unheard_by_viewer viewer (Plays t) = unread viewer t
 unheard_by_viewer viewer Leaves = None
 
 abbrev pub ignored_by_viewer : Viewing → Result Content LineRefusal → Option LineRefusal
@@ -103,7 +113,7 @@ ignored_by_viewer viewer (Ok what) = unheard_by_viewer viewer what
 
 -- a play is heard, and its rows are sent to the spectator
 pub record HearsRows (old new : Viewing) (now : ℕ) (t : Turn) (count : ℕ) : Type 0 where
-  pub line : new.line ≡ after_play old.line now
+  pub line : new.line ≡ after_play old.line t.head.clocks (length old.fed.rows) now
   pub settled : new.settled ≡ max old.settled (most_of t.head.view.has)
   pub sent : IsSent (players_of old.line.settings) t old.fed new.fed count
 
@@ -120,10 +130,10 @@ pub record ViewerHears (old new : Viewing) (bytes : List ℕ) (now count : ℕ) 
   pub hears : Hears old new now what count
 
 -- a viewer of a match of so many players says how many rows it has
-abbrev pub acknowledged : (players rows : ℕ) → Turn
-acknowledged players rows = record {
+abbrev pub acknowledged : (players rows : ℕ) → Option Clocks → Turn
+acknowledged players rows clocks = record {
   head = record {
-    clocks = None;
+    clocks = clocks;
     view = record {
       gone = replicate MACHINE_LIMIT false;
       has = padded 0 (replicate players rows);
@@ -134,8 +144,18 @@ acknowledged players rows = record {
   words = [];
 }
 
-abbrev pub viewer_sends : Viewing → Option (List ℕ)
-viewer_sends viewer =
+-- what the viewer says in a turn: a hello, or how many rows it has
+abbrev pub viewer_says : Viewing → (now : ℕ) → Content
+viewer_says viewer now =
+    let rows = length viewer.fed.rows in
+    if says_hello viewer.line.contact then greeting viewer.line
+    else Plays (acknowledged (players_of viewer.line.settings) rows (clocks_at viewer.line rows now))
+
+-- and sends: nothing once the line has ended
+abbrev pub viewer_sends : Viewing → (now : ℕ) → Option (List ℕ)
+viewer_sends viewer now =
     if viewer.line.ended then None
-    else Some (said viewer.line.settings VIEWER (content_for viewer.line
-    (Plays (acknowledged (players_of viewer.line.settings) (length viewer.fed.rows)))))
+    else Some (said viewer.line VIEWER (viewer_says viewer now))
+
+abbrev pub viewer_told : Viewing → (now : ℕ) → Viewing
+viewer_told viewer now = record viewer { line = turn_said viewer.line now }

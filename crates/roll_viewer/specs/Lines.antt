@@ -1,51 +1,66 @@
 -- A viewer's line, as each of its ends has it.
-use Rattle.std.specs.Prelude.{◌≡◌, ℕ, List, true, false, ◌==◌, nat_lt, count_by, Option, Some, None, option_map, Result, Ok, Err, if◌then◌else◌}
-use Rattle.std.specs.Option.{option_or}
-use Rattle.roll_peer.specs.Clocks.{since}
-use Rattle.roll_peer.specs.Contacts.{greeted, is_playing}
-use Rattle.roll_peer.specs.Receiving.{mismatch_in}
-use Rattle.roll_peer.specs.Seals.{sealed, unsealed}
-use Rattle.roll_peer.specs.Sending.{is_greeted}
-use Rattle.roll_peer.specs.Settings.{hello_of, mismatch_of}
-use Rattle.roll_peer.specs.declared.contact.Stage.TheVariants.{Mismatched as IsMismatched, Playing, Silent}
-use Rattle.roll_peer.specs.declared.settings.Field.{Field}
-use Rattle.roll_peer.specs.declared.settings.MatchSettings.{MatchSettings}
+use Rattle.std.specs.Prelude.{◌≡◌, ℕ, ◌%◌, ◌^◌, List, length, slice_index_or, Bool, true, false, ◌&&◌, not, ◌==◌, nat_le, nat_lt, count_by, Option, Some, None, option_map, Result, Ok, Err, if◌then◌else◌}
+use Rattle.roll_contact.specs.Clocks.{first_clock, ticked}
+use Rattle.roll_contact.specs.Contacts.{after_hello as hello_heard, after_play as play_heard, clocks_for, hello_sent, is_playing, is_silent as is_silent_at, opened_contact, play_sent, refused, says_hello, unanswered_for, wants_clocks}
+use Rattle.roll_contact.specs.Keys.{greeting_key}
+use Rattle.roll_contact.specs.Seals.{sealed, unsealed}
+use Rattle.roll_contact.specs.Terms.{hello_of, mismatch_of}
+use Rattle.roll_contact.specs.declared.contact.Contact.{Contact}
+use Rattle.roll_contact.specs.declared.contact.Opening.{Opening}
+use Rattle.roll_contact.specs.declared.key.Key.{Key}
+use Rattle.roll_contact.specs.declared.terms.Terms.{Terms}
+use Rattle.roll_mesh.specs.declared.limits.TheConstants.{MACHINE_LIMIT}
 use Rattle.roll_wire.specs.Reading.{all_of}
-use Rattle.roll_wire.specs.Spelling.{content as content_of, spelling, Content, Greets, Leaves, Message, Plays}
-use Rattle.roll_wire.specs.declared.datagram.Body.{Body}
+use Rattle.roll_wire.specs.Spelling.{spelling, Content, Greets, Leaves, Message, Plays}
+use Rattle.roll_wire.specs.declared.datagram.Clocks.{Clocks}
 use Rattle.roll_wire.specs.declared.datagram.Hello.{Hello}
 use Rattle.roll_wire.specs.declared.fault.WireFault.{WireFault}
+use Rattle.roll_wire.specs.declared.limits.TheConstants.{DATAGRAM_LIMIT}
 use Rattle.roll_viewer.specs.declared.line.Line.{Line}
+use Rattle.roll_viewer.specs.declared.line.TheConstants.{HEADER, HELLO, KIND_AT, SENDER_AT}
+use Rattle.roll_viewer.specs.declared.refusal.LineFault.{LineFault}
+use Rattle.roll_viewer.specs.declared.refusal.LineFault.TheVariants.{Host, Machines, NoDraw}
 use Rattle.roll_viewer.specs.declared.refusal.LineRefusal.{LineRefusal}
-use Rattle.roll_viewer.specs.declared.refusal.LineRefusal.TheVariants.{Ended, Mismatched, NoDatagram, NotSealed, Stranger}
+use Rattle.roll_viewer.specs.declared.refusal.LineRefusal.TheVariants.{Ended, Mismatched, NoDatagram, NoRows, NotSealed, Stranger}
 use Rattle.roll_viewer.specs.declared.settings.LineSettings.{LineSettings}
 
 -- ---- what both ends are told
 
-abbrev pub line_of : MatchSettings → ℕ → LineSettings
-line_of settings number = record {
-  number = number;
-  host = settings.me;
+-- what the two ends compare
+abbrev pub terms_of : LineSettings → Terms
+terms_of settings = record {
   machines = settings.machines;
   owners = settings.owners;
   digest = settings.digest;
 }
 
--- the match of the host, as both ends compare it
-abbrev pub match_of : LineSettings → MatchSettings
-match_of settings = record {
-  me = settings.host;
-  machines = settings.machines;
-  owners = settings.owners;
-  match_number = settings.number;
-  digest = settings.digest;
-  silent_after = 0;
-  notify_after = 0;
-}
+-- what an end says of itself
+abbrev pub opening_of : LineSettings → Opening
+opening_of settings = record { draw = settings.draw; silent_after = settings.silent_after }
 
 -- how many players machines of the match own
 abbrev pub players_of : LineSettings → ℕ
 players_of settings = count_by (λ owner. nat_lt owner settings.machines) settings.owners
+
+-- why no end is opened by these
+abbrev pub fault_of : LineSettings → Option LineFault
+fault_of settings =
+    if settings.draw == 0 then Some NoDraw
+    else (if not (nat_le 2 settings.machines && nat_le settings.machines MACHINE_LIMIT) then Some Machines
+    else (if not (nat_lt settings.host settings.machines) then Some Host else None))
+
+-- ---- moments
+
+-- the moment of a line's clock when the program's own shows this
+abbrev pub moment_at : Line → ℕ → ℕ
+moment_at line now = (ticked now line.clock).moment
+
+-- what is known of the other end changes at a moment
+abbrev pub at_moment : ℕ → (ℕ → Contact → Contact) → Line → Line
+at_moment now change line = record line {
+  clock = ticked now line.clock;
+  contact = change (moment_at line now) line.contact;
+}
 
 -- ---- what was heard
 
@@ -53,84 +68,151 @@ players_of settings = count_by (λ owner. nat_lt owner settings.machines) settin
 abbrev pub opened_line : LineSettings → Line
 opened_line settings = record {
   settings = settings;
-  stage = Silent;
-  heard_at = 0;
+  contact = opened_contact;
+  clock = first_clock (settings.draw % 2 ^ 32);
   ended = false;
 }
 
-abbrev pub read : Result Message WireFault → Result Message LineRefusal
-read (Ok what) = Ok what
+-- by what the other end seals a datagram of a kind: hellos before any draw is believed, all else by the draws of both
+abbrev pub their_key : Line → ℕ → Option Key
+their_key line kind =
+    if kind == HELLO then Some (greeting_key line.settings.number)
+    else (if is_playing line.contact.stage then Some (record {
+      number = line.settings.number;
+      from = line.contact.draw;
+      to = line.settings.draw;
+    }) else None)
+
+-- the datagram that was sealed by a key
+abbrev pub unsealed_by : Option Key → List ℕ → Option (List ℕ)
+unsealed_by None bytes = None
+unsealed_by (Some key) bytes = unsealed key bytes
+
+-- as many bytes as a datagram can have
+abbrev pub are_enough : List ℕ → Bool
+are_enough bytes = nat_le HEADER (length bytes) && nat_le (length bytes) DATAGRAM_LIMIT
+
+abbrev pub or_not_sealed : Option (List ℕ) → Result (List ℕ) LineRefusal
+or_not_sealed None = Err NotSealed
+or_not_sealed (Some text) = Ok text
+
+-- the datagram that came as bytes, if the other end sealed it, which this sender is
+abbrev pub came : Line → ℕ → List ℕ → Result (List ℕ) LineRefusal
+came line sender bytes =
+    if line.ended then Err Ended
+    else (if not (are_enough bytes) then Err NotSealed
+    else (if not (slice_index_or bytes SENDER_AT 0 == sender) then Err Stranger
+    else or_not_sealed (unsealed_by (their_key line (slice_index_or bytes KIND_AT 0)) bytes)))
+
+abbrev pub read : Result Message WireFault → Result Content LineRefusal
+read (Ok what) = Ok what.content
 read (Err fault) = Err (NoDatagram fault)
 
-abbrev pub read_sealed : Option (List ℕ) → Result Message LineRefusal
-read_sealed None = Err NotSealed
-read_sealed (Some text) = read (all_of text)
-
--- what a datagram says, if this one sent it
-abbrev pub said_by : ℕ → Result Message LineRefusal → Result Content LineRefusal
-said_by sender (Err why) = Err why
-said_by sender (Ok what) = if what.envelope.sender == sender then Ok what.content else Err Stranger
+abbrev pub read_sealed : Result (List ℕ) LineRefusal → Result Content LineRefusal
+read_sealed (Err why) = Err why
+read_sealed (Ok text) = read (all_of text)
 
 -- what bytes say, if the other end sent them
 unfoldable pub opened : Line → ℕ → List ℕ → Result Content LineRefusal
-opened line sender bytes =
-    if line.ended then Err Ended
-    else said_by sender (read_sealed (unsealed line.settings.number bytes))
+opened line sender bytes = read_sealed (came line sender bytes)
 
-abbrev pub IsOpened : Result Body LineRefusal → Result Content LineRefusal → Type 0
-IsOpened (Ok body) what = what ≡ Ok (content_of body)
-IsOpened (Err why) what = what ≡ Err why
+-- what a function returned, seen by view, is this
+abbrev pub Gives : {X Y : Type 0} → (X → Y) → Result X LineRefusal → Result Y LineRefusal → Type 0
+Gives view (Ok x) what = what ≡ Ok (view x)
+Gives view (Err why) what = what ≡ Err why
 
--- the field by which the other end means another match: in what came, or in what was heard before
-abbrev pub mismatch : Line → Content → Option Field
-mismatch line (Greets hello) =
-    option_or (mismatch_in line.stage) (mismatch_of (match_of line.settings) hello)
-mismatch line (Plays t) = mismatch_in line.stage
-mismatch line Leaves = None
+-- why a hello is answered by a refusal: it says this opening's draw, and means another match
+abbrev pub mismatched : Line → Hello → Option LineRefusal
+mismatched line hello =
+    if hello.echo == line.settings.draw
+    then option_map (λ field. Mismatched field) (mismatch_of (terms_of line.settings) hello)
+    else None
 
--- why what came isn't heard
-abbrev pub mismatched : Line → Content → Option LineRefusal
-mismatched line what = option_map (λ field. Mismatched field) (mismatch line what)
-
--- why an end that was found to mean another match isn't heard
-abbrev pub barred : Line → Option LineRefusal
-barred line = option_map (λ field. Mismatched field) (mismatch_in line.stage)
-
--- what was heard: a hello, a play, a bye
+-- what was heard: a hello, a play by an end that is at a frame, a bye
 abbrev pub after_hello : Line → Hello → ℕ → Line
-after_hello line hello now = record line {
-  stage = greeted line.stage None hello.heard;
-  heard_at = now;
-}
+after_hello line hello now =
+    at_moment now
+    (hello_heard (opening_of line.settings) (mismatch_of (terms_of line.settings) hello) hello)
+    line
 
-abbrev pub after_play : Line → ℕ → Line
-after_play line now = record line { stage = Playing; heard_at = now }
+abbrev pub after_play : Line → Option Clocks → (frame now : ℕ) → Line
+after_play line clocks frame now = at_moment now (play_heard clocks frame) line
 
 abbrev pub after_bye : Line → Line
 after_bye line = record line { ended = true }
 
--- a refusal changes nothing; but who means another match does so for good
-abbrev pub after_refusal : LineRefusal → Line → Line
-after_refusal (Mismatched field) line = record line { stage = IsMismatched field }
-after_refusal why line = line
+-- something that the other end sealed was refused
+abbrev pub after_refused : Line → Line
+after_refused line = record line { contact = refused line.contact }
 
--- for how long the other end has been silent, if both have heard each other
+-- after a refusal: what the other end sealed is counted, but for rows that others have to come before
+abbrev pub after_unread : LineRefusal → Line → Line
+after_unread (NoDatagram fault) line = after_refused line
+after_unread NoRows line = after_refused line
+after_unread why line = line
+
+-- and a hello is heard, also if it means another match
+abbrev pub after_refusal : Line → ℕ → LineRefusal → Result Content LineRefusal → Line
+after_refusal line now why (Ok (Greets hello)) = after_hello line hello now
+after_refusal line now why (Ok (Plays t)) = after_unread why line
+after_refusal line now why (Ok Leaves) = after_unread why line
+after_refusal line now why (Err other) = after_unread why line
+
+-- for how long no new clock came back from the other end, if its draw is believed
 abbrev pub silence : Line → ℕ → ℕ
-silence line now = if is_playing line.stage then since now line.heard_at else 0
+silence line now = unanswered_for line.contact (moment_at line now)
+
+-- whether it has been silent for too long
+abbrev pub is_silent : Line → ℕ → Bool
+is_silent line now =
+    is_silent_at line.contact (moment_at line now) line.settings.silent_after
 
 -- ---- what is sent
 
+-- by what this end seals: hellos, and all else once a draw is believed
+abbrev pub own_key : Line → Key
+own_key line = record {
+  number = line.settings.number;
+  from = line.settings.draw;
+  to = line.contact.draw;
+}
+
+abbrev pub key_for : Line → Content → Key
+key_for line (Greets hello) = greeting_key line.settings.number
+key_for line (Plays t) = own_key line
+key_for line Leaves = own_key line
+
 -- the bytes by which one end says something
-unfoldable pub said : LineSettings → ℕ → Content → List ℕ
-said settings sender what = sealed (spelling (record {
-  envelope = record { match_number = settings.number; sender = sender };
+unfoldable pub said : Line → ℕ → Content → List ℕ
+said line sender what = sealed (key_for line what) (spelling (record {
+  envelope = record { match_number = line.settings.number; sender = sender };
   content = what;
 }))
 
--- until both have heard each other, which match this end means
+-- which match this end means, and which draw it heard last
 abbrev pub greeting : Line → Content
-greeting line = Greets (hello_of (match_of line.settings) (is_greeted line.stage))
+greeting line = Greets (hello_of (terms_of line.settings) (opening_of line.settings) line.contact.echo)
 
--- what is said in a turn, where this is to be told
-abbrev pub content_for : Line → Content → Content
-content_for line play = if is_playing line.stage then play else greeting line
+-- the clocks of the next play of an end that is at a frame, if it has some
+abbrev pub clocks_at : Line → (frame now : ℕ) → Option Clocks
+clocks_at line frame now =
+    if wants_clocks line.contact (moment_at line now)
+    then Some (record (clocks_for line.contact frame (moment_at line now)) { heard_frame = frame })
+    else None
+
+-- a hello was said, or a play
+abbrev pub hello_said : Line → ℕ → Line
+hello_said line now = at_moment now (λ moment. hello_sent) line
+
+abbrev pub play_said : Line → ℕ → Line
+play_said line now = at_moment now play_sent line
+
+-- after a turn of an end, in which one of them was said, unless the line has ended
+abbrev pub turn_said : Line → ℕ → Line
+turn_said line now =
+    if line.ended then line
+    else (if says_hello line.contact then hello_said line now else play_said line now)
+
+-- the bytes that say bye: none if the other end's draw isn't believed
+abbrev pub farewell : Line → (sender : ℕ) → Option (List ℕ)
+farewell line sender = if is_playing line.contact.stage then Some (said line sender Leaves) else None

@@ -1,12 +1,11 @@
 -- The rows that a play tells, and what a viewer's spectator is sent of them.
-use Rattle.std.specs.Prelude.{◌≡◌, ◌⊎◌, ℕ, ◌-◌, ◌≤◌, ◌==◌, ◌&&◌, List, [], ◌∷◌, ◌++◌, length, map, max, min, take, drop, Bool, slice_get, slice_index_or}
+use Rattle.std.specs.Prelude.{◌≡◌, ◌⊎◌, ℕ, ◌-◌, ◌≤◌, ◌==◌, nat_lt, not, ◌&&◌, ◌||◌, is_none, List, [], ◌∷◌, ◌++◌, length, map, max, min, take, drop, Bool, true, slice_get, if◌then◌else◌}
 use Rattle.std.specs.List.{list_all, range_with_len}
 use Rattle.std.specs.Option.{option_map_or}
 use Rattle.roll_frame.specs.Cells.{Rows}
 use Rattle.roll_frame.specs.declared.row.Cell.{Cell}
 use Rattle.roll_frame.specs.declared.row.Cell.TheVariants.{Gone, Word}
 use Rattle.roll_member.specs.Taking.{shares}
-use Rattle.roll_mesh.specs.Machines.{none_offered}
 use Rattle.roll_mesh.specs.declared.packet.Offer.{Offer}
 use Rattle.roll_spectate.specs.Sent.{Fed}
 use Rattle.roll_spectate.specs.declared.limits.TheConstants.{RING_ROWS}
@@ -22,9 +21,26 @@ abbrev pub least_with : ℕ → List ℕ → ℕ
 least_with most [] = most
 least_with most (n ∷ ns) = min n (least_with most ns)
 
--- the frame of the first row that is told
+-- whether words are offered; an offer of none is as if it weren't there
+abbrev pub has_words : Offer → Bool
+has_words offer = nat_lt offer.first offer.end
+
+-- the frame of the first row that is told: the first offer that has words says it
+abbrev pub first_of : List Offer → ℕ
+first_of [] = 0
+first_of (offer ∷ offers) = if has_words offer then offer.first else first_of offers
+
 abbrev pub first_row : Turn → ℕ
-first_row t = (slice_index_or t.head.offers 0 none_offered).first
+first_row t = first_of t.head.offers
+
+-- whether it is said once: the words of all others begin at the same row, and their offers say 0
+abbrev pub follows : Offer → Bool
+follows offer = not (has_words offer) || (offer.first == 0)
+
+abbrev pub is_said_once : List Offer → Bool
+is_said_once [] = true
+is_said_once (offer ∷ offers) =
+    if has_words offer then list_all follows offers else is_said_once offers
 
 -- how many rows are told: as many as there are words of some player
 abbrev pub row_count : List Offer → ℕ
@@ -43,12 +59,18 @@ rows_in players t =
     map (row_in (take players t.head.offers) t.words)
     (range_with_len 0 (row_count (take players t.head.offers)))
 
--- whether a play tells rows: those of each player begin at one frame, and nothing is of further players
+-- whether a play tells nothing of who isn't in a match of so many players: no machine is gone, no state is settled, and of
+-- further players there are neither words nor counts
+abbrev pub is_inside : ℕ → Turn → Bool
+is_inside players t =
+    list_all not t.head.view.gone
+    && (is_none t.head.settled
+    && (list_all (λ offer. not (has_words offer)) (drop players t.head.offers)
+    && list_all (λ count. count == 0) (drop players t.head.view.has)))
+
+-- whether a play tells rows
 abbrev pub are_rows : ℕ → Turn → Bool
-are_rows players t =
-    list_all (λ offer. offer.first == first_row t) (take players t.head.offers)
-    && (list_all (λ offer. offer.end == 0) (drop players t.head.offers)
-    && list_all (λ count. count == 0) (drop players t.head.view.has))
+are_rows players t = is_inside players t && is_said_once (take players t.head.offers)
 
 -- the rows that a viewer lacks, of those that a play tells
 abbrev pub news_in : ℕ → Turn → Rows → Rows

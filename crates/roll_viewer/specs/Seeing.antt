@@ -1,5 +1,5 @@
 -- Viewers see settled rows, whatever the network does.
-use Rattle.std.specs.Prelude.{◌≡◌, ℕ, List, [], ◌∷◌, ◌++◌, length, drop, take, true, All, nat_le, if◌then◌else◌}
+use Rattle.std.specs.Prelude.{◌≡◌, ℕ, List, [], ◌∷◌, ◌++◌, length, drop, take, true, All, nat_le, ◌==◌, if◌then◌else◌}
 use Rattle.roll_frame.specs.Cells.{Rows}
 use Rattle.roll_frame.specs.Core.{Core}
 use Rattle.roll_frame.specs.Events.{replay}
@@ -14,10 +14,10 @@ use Rattle.roll_viewer.specs.Rows.{are_rows, first_row, rows_in, seen_after}
 use Rattle.roll_viewer.specs.Telling.{room_after, told_to}
 
 -- what a host tells a viewer who has so many rows is its settled rows from there on, as many as there is room for: a viewer of
--- a match of as many players reads them so
+-- a match of as many players reads them so. The first row is said if there is one
 pub record TellsRows (core : Core) (had : ℕ) : Type 0 where
   pub are_rows : are_rows (length core.players) (told_to core had) ≡ true
-  pub first : first_row (told_to core had) ≡ had
+  pub first : first_row (told_to core had) ≡ (if room_after core had == 0 then 0 else had)
   pub rows : rows_in (length core.players) (told_to core had)
       ≡ take (room_after core had) (drop had (settled_rows core))
 

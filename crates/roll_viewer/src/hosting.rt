@@ -1,21 +1,21 @@
 //! The host's end of a viewer's line.
-ghost use Rattle.std.specs.Prelude.{◌≡◌, ◌≤◌, option_map, true, Some, None, IfErr, OnOk};
-ghost use Rattle.roll_wire.specs.Spelling.{content, is_turn, is_whole, turn, Leaves, Plays};
-ghost use Rattle.roll_viewer.specs.Ends.{after_ack, host_sends, host_told, ignored_by_host, opened_host, told_rows, with_told, HostHears};
-ghost use Rattle.roll_viewer.specs.Lines.{after_bye, after_refusal, content_for, opened, said, silence};
+ghost use Rattle.std.specs.Prelude.{◌≡◌, ◌≤◌, option_map, true, Some, None, IfErr, IfOk, OnOk};
+ghost use Rattle.roll_wire.specs.Spelling.{is_turn, turn, Plays};
+ghost use Rattle.roll_viewer.specs.Ends.{after_ack, host_after, host_sends, host_told, ignored_by_host, opened_host, unheard_by_host, with_told, HostHears};
+ghost use Rattle.roll_viewer.specs.Lines.{after_bye, after_refusal, after_unread, clocks_at, farewell, fault_of, is_silent, opened, silence};
 ghost use Rattle.roll_viewer.specs.Seeing.{TellsRows};
-ghost use Rattle.roll_viewer.specs.Telling.{told_to};
+ghost use Rattle.roll_viewer.specs.Telling.{told_to, with_clocks};
 ghost use Rattle.roll_viewer.specs.declared.line.TheConstants.{VIEWER as VIEWER_END};
 
 use crate::line::{Line, VIEWER};
-use crate::refusal::LineRefusal;
-use crate::rows::least_with;
+use crate::refusal::{LineFault, LineRefusal};
+use crate::rows::{is_inside, least_with};
 use crate::settings::LineSettings;
 use crate::telling::{room_after, tells_rows, told_to};
 use arrayvec::ArrayVec;
+use roll_contact::Stage;
 use roll_game::Game;
 use roll_mesh::PLAYER_LIMIT;
-use roll_peer::Stage;
 use roll_session::Session;
 use roll_wire::{Body, DATAGRAM_LIMIT, Play};
 use std::marker::Model;
@@ -45,13 +45,22 @@ impl Model for ViewerLine {
 
 impl ViewerLine {
     /// A line with a viewer of whom nothing was heard.
-    pub fn open(settings: LineSettings) -> ViewerLine
-        ensures { result ≡ opened_host settings }
+    ///
+    /// # Errors
+    ///
+    /// `NoDraw`, `Machines` or `Host`: what is wrong with the settings.
+    pub fn open(settings: LineSettings) -> Result<ViewerLine, LineFault>
+        ensures opened { IfOk result (λ host. host ≡ opened_host settings) }
+        ensures accepted { OnOk result (fault_of settings ≡ None) }
+        ensures refused { IfErr result (λ why. fault_of settings ≡ Some why) }
     {
-        ViewerLine {
-            line: Line::new(settings),
-            had: 0,
-            told: 0,
+        match settings.fault() {
+            Some(why) => Err(why),
+            None => Ok(ViewerLine {
+                line: Line::new(settings),
+                had: 0,
+                told: 0,
+            }),
         }
     }
 
@@ -59,32 +68,47 @@ impl ViewerLine {
     ///
     /// # Errors
     ///
-    /// Why they weren't heard. They changed nothing then, but that a viewer who means another match is refused for good.
+    /// Why they weren't heard: `LineRefusal` says what that changes. A viewer who means another match is told nothing until it
+    /// means this one.
     pub fn receive(&mut self, bytes: &[u8], now: u32) -> Result<(), LineRefusal>
         ensures received { OnOk result (HostHears self.old self.new bytes.now now) }
         ensures accepted { OnOk result
             (ignored_by_host self.old (opened self.old.line VIEWER_END bytes.now) ≡ None) }
         ensures ignored { IfErr result
             (λ why. ignored_by_host self.old (opened self.old.line VIEWER_END bytes.now) ≡ Some why) }
-        ensures unchanged { IfErr result
-            (λ why. self.new ≡ record self.old { line = after_refusal why self.old.line }) }
+        ensures rest { IfErr result (λ why. self.new ≡ record self.old {
+          line = after_refusal
+              self.old.line now why (opened self.old.line VIEWER_END bytes.now);
+        }) }
     {
         match self.line.open(VIEWER, bytes)? {
-            Body::Hello(hello) => {
-                self.line.hear_hello(&hello, now)?;
-                Ok(())
-            }
-            Body::Play(play) => {
-                self.line.check()?;
-                self.line.hear_play(now);
-                self.acknowledge(&play.head.view.has);
-                Ok(())
-            }
+            Body::Hello(hello) => self.line.hear_hello(&hello, now),
+            Body::Play(play) => self.hear_play(&play, now),
             Body::Bye => {
                 self.line.end();
                 Ok(())
             }
         }
+    }
+
+    /// A play is heard, if it tells nothing of who isn't in the match.
+    fn hear_play(&mut self, play: &Play, now: u32) -> Result<(), LineRefusal>
+        ensures heard { OnOk result
+            (self.new ≡ host_after self.old now (Plays (turn play.now))) }
+        ensures accepted { OnOk result
+            (unheard_by_host self.old (Plays (turn play.now)) ≡ None) }
+        ensures refused { IfErr result
+            (λ why. unheard_by_host self.old (Plays (turn play.now)) ≡ Some why) }
+        ensures rest { IfErr result
+            (λ why. self.new ≡ record self.old { line = after_unread why self.old.line }) }
+    {
+        if !is_inside(self.line.settings.players(), play) {
+            self.line.refuse();
+            return Err(LineRefusal::NoRows);
+        }
+        self.line.hear_play(play.head.clocks, self.told, now);
+        self.acknowledge(&play.head.view.has);
+        Ok(())
     }
 
     /// The viewer says how many rows it has of each player.
@@ -96,55 +120,54 @@ impl ViewerLine {
         self.had = self.had.max(rows);
     }
 
-    /// The bytes to send to the viewer in this turn of the match's session: until both ends have heard each other, which match
-    /// this one means, and then the settled rows that the viewer hasn't said that it has, as many as fit. None once the line has
-    /// ended.
-    pub fn send<G: Game>(&mut self, session: &Session<G>) -> Option<ArrayVec<u8, DATAGRAM_LIMIT>>
+    /// The bytes to send to the viewer in this turn of the match's session, at a moment: a hello, until its draw is believed, and
+    /// then now and again until its first play comes; else the settled rows that it hasn't said that it has, as many as fit.
+    /// None once the line has ended.
+    pub fn send<G: Game>(
+        &mut self,
+        session: &Session<G>,
+        now: u32,
+    ) -> Option<ArrayVec<u8, DATAGRAM_LIMIT>>
         ensures sent { option_map (λ bytes. bytes.items) result
-            ≡ host_sends self.old session.now.core }
-        ensures told { self.new ≡ host_told self.old session.now.core }
+            ≡ host_sends self.old session.now.core now }
+        ensures told { self.new ≡ host_told self.old session.now.core now }
         ensures rows { TellsRows session.now.core self.old.had }
     {
         tells_rows(session, self.had);
         if self.line.ended {
             return None;
         }
-        let body = self.body_for(session);
-        Some(self.line.say(self.line.settings.host, body))
-    }
-
-    /// What the viewer is told.
-    fn body_for<G: Game>(&mut self, session: &Session<G>) -> Body
-        ensures says { content result ≡ content_for self.old.line
-            (Plays (told_to session.now.core self.old.had)) }
-        ensures whole { is_whole (content result) ≡ true }
-        ensures told { self.new ≡ told_rows self.old session.now.core }
-    {
-        if self.line.is_playing() {
-            Body::Play(self.tell(session))
-        } else {
-            self.line.greeting()
+        let host = self.line.settings.host;
+        if self.line.contact.says_hello() {
+            return Some(self.line.greet(host, now));
         }
+        let play = self.tell(session, now);
+        Some(self.line.play(host, play, now))
     }
 
     /// The next rows, which the viewer is told from now on.
-    fn tell<G: Game>(&mut self, session: &Session<G>) -> Play
-        ensures play { turn result ≡ told_to session.now.core self.old.had }
+    fn tell<G: Game>(&mut self, session: &Session<G>, now: u32) -> Play
+        ensures play { turn result ≡ with_clocks
+            (clocks_at self.old.line (with_told self.old session.now.core).told now)
+            (told_to session.now.core self.old.had) }
         ensures whole { is_turn (turn result) ≡ true }
         ensures told { self.new ≡ with_told self.old session.now.core }
     {
         let end = self.had + room_after(session, self.had);
         self.told = self.told.max(end);
-        told_to(session, self.had)
+        let clocks = self.line.clocks(self.told, now);
+        told_to(session, self.had, clocks)
     }
 
-    /// The bytes that say that this machine leaves the viewer, and the line ends. Send them a few times, since they may be lost.
-    pub fn bye(&mut self) -> ArrayVec<u8, DATAGRAM_LIMIT>
-        ensures said { result.items ≡ said self.old.line.settings self.old.line.settings.host Leaves }
+    /// This machine leaves the viewer, and the line ends: the bytes that say so, if the viewer's draw is believed. Send them a few
+    /// times, since they may be lost.
+    pub fn bye(&mut self) -> Option<ArrayVec<u8, DATAGRAM_LIMIT>>
+        ensures said { option_map (λ bytes. bytes.items) result
+            ≡ farewell self.old.line self.old.line.settings.host }
         ensures ended { self.new ≡ record self.old { line = after_bye self.old.line } }
     {
-        self.line.end();
-        self.line.say(self.line.settings.host, Body::Bye)
+        let host = self.line.settings.host;
+        self.line.bye(host)
     }
 
     /// How many rows the viewer has said that it has, of those that it was told.
@@ -162,18 +185,26 @@ impl ViewerLine {
         self.told
     }
 
-    /// For how many milliseconds the viewer has been silent, if both have heard each other; else 0.
+    /// For how many milliseconds the viewer has answered nothing, if its draw is believed; else 0. What is only copied is no answer.
     pub fn silence(&self, now: u32) -> u32
         ensures { result ≡ silence self.now.line now }
     {
         self.line.silence(now)
     }
 
+    /// Whether the viewer has answered nothing for longer than `silent_after`, though enough was asked: end the line then. One who
+    /// was opened anew can't go on with it.
+    pub fn is_silent(&self, now: u32) -> bool
+        ensures { result ≡ is_silent self.now.line now }
+    {
+        self.line.is_silent(now)
+    }
+
     /// How far the two have come.
     pub fn stage(&self) -> Stage
-        ensures { result ≡ self.now.line.stage }
+        ensures { result ≡ self.now.line.contact.stage }
     {
-        self.line.stage
+        self.line.contact.stage
     }
 
     /// Whether one of the two has said bye.

@@ -13,6 +13,6 @@ mod viewer;
 
 pub use hosting::ViewerLine;
 pub use laws::viewers_see_settled_rows;
-pub use refusal::LineRefusal;
+pub use refusal::{LineFault, LineRefusal};
 pub use settings::LineSettings;
 pub use viewer::Viewer;

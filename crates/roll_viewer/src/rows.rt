@@ -1,11 +1,11 @@
 //! The rows that a play tells.
-ghost use Rattle.std.specs.Prelude.{◌≡◌, ◌-◌, ◌≤◌, ◌==◌, [], ◌∷◌, ◌++◌, length, take, drop, IsFalse, IsTrue};
+ghost use Rattle.std.specs.Prelude.{◌≡◌, ◌-◌, ◌≤◌, ◌==◌, [], ◌∷◌, ◌++◌, length, take, drop, not, IsFalse, IsTrue};
 ghost use Rattle.std.specs.List.{list_all};
 ghost use Rattle.roll_frame.specs.declared.limits.TheConstants.{PLAYER_LIMIT as MOST_PLAYERS};
 ghost use Rattle.roll_mesh.specs.declared.limits.TheConstants.{PLAYER_LIMIT};
 ghost use Rattle.roll_spectate.specs.declared.limits.TheConstants.{RING_ROWS};
 ghost use Rattle.roll_wire.specs.Spelling.{turn};
-ghost use Rattle.roll_viewer.specs.Rows.{are_rows, cell_in, first_row, least_with, most_of, row_count, row_in, IsSent};
+ghost use Rattle.roll_viewer.specs.Rows.{are_rows, cell_in, first_of, first_row, follows, has_words, is_inside, is_said_once, least_with, most_of, row_count, row_in, IsSent};
 
 use arrayvec::ArrayVec;
 use roll_frame::{Cell, FRAME_LIMIT, PLAYER_LIMIT, Row};
@@ -88,25 +88,70 @@ pub(crate) fn most_of(counts: &[u32]) -> u32
     most
 }
 
+/// Whether words are offered.
+pub(crate) fn has_words(offer: Offer) -> bool
+    ensures { result ≡ has_words offer }
+{
+    offer.first < offer.end
+}
+
+/// The frame of the first row: the first of these that has words says it.
+fn first_of(offers: &[Offer]) -> u32
+    ensures { result ≡ first_of offers.now }
+{
+    for offer in offers {
+        if has_words(*offer) {
+            return offer.first;
+        }
+    }
+    0
+}
+
 /// The frame of the first row.
 pub(crate) fn first_row(play: &Play) -> u32
     ensures { result ≡ first_row (turn play.now) }
 {
-    play.head.offers[0].first
+    first_of(&play.head.offers)
 }
 
-/// Whether all of these begin at a frame.
-fn all_begin(offers: &[Offer], first: u32) -> bool
-    ensures { result ≡ list_all (λ offer. offer.first == first) offers.now }
+/// Whether the words of an offer begin where others said that they do.
+fn follows(offer: Offer) -> bool
+    ensures { result ≡ follows offer }
 {
-    offers.iter().all(|offer| offer.first == first)
+    !has_words(offer) || offer.first == 0
 }
 
-/// Whether nothing is offered.
+/// Whether all of these do.
+fn all_follow(offers: &[Offer]) -> bool
+    ensures { result ≡ list_all follows offers.now }
+{
+    offers.iter().all(|offer| follows(*offer))
+}
+
+/// Whether the first row is said once.
+fn is_said_once(offers: &[Offer]) -> bool
+    ensures { result ≡ is_said_once offers.now }
+{
+    for (place, offer) in offers.iter().enumerate() {
+        if has_words(*offer) {
+            return all_follow(&offers[place + 1..]);
+        }
+    }
+    true
+}
+
+/// Whether no words are offered.
 fn all_empty(offers: &[Offer]) -> bool
-    ensures { result ≡ list_all (λ offer. offer.end == 0) offers.now }
+    ensures { result ≡ list_all (λ offer. not (has_words offer)) offers.now }
 {
-    offers.iter().all(|offer| offer.end == 0)
+    offers.iter().all(|offer| !has_words(*offer))
+}
+
+/// Whether no machine is gone.
+fn none_gone(gone: &[bool]) -> bool
+    ensures { result ≡ list_all not gone.now }
+{
+    gone.iter().all(|is_gone| !*is_gone)
 }
 
 /// Whether all counts are 0.
@@ -116,15 +161,24 @@ fn all_zero(counts: &[u32]) -> bool
     counts.iter().all(|count| *count == 0)
 }
 
+/// Whether a play tells nothing of who isn't in a match of so many players.
+pub(crate) fn is_inside(players: usize, play: &Play) -> bool
+    requires { players ≤ PLAYER_LIMIT }
+    ensures { result ≡ is_inside players (turn play.now) }
+{
+    let head = &play.head;
+    none_gone(&head.view.gone)
+        && head.settled.is_none()
+        && all_empty(&head.offers[players..])
+        && all_zero(&head.view.has[players..])
+}
+
 /// Whether a play tells rows of so many players.
 pub(crate) fn are_rows(players: usize, play: &Play) -> bool
     requires { players ≤ PLAYER_LIMIT }
     ensures { result ≡ are_rows players (turn play.now) }
 {
-    let head = &play.head;
-    all_begin(&head.offers[..players], first_row(play))
-        && all_empty(&head.offers[players..])
-        && all_zero(&head.view.has[players..])
+    is_inside(players, play) && is_said_once(&play.head.offers[..players])
 }
 
 /// Sends a spectator a row, if its ring has a place for it, and says whether it did.

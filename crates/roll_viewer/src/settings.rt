@@ -1,16 +1,19 @@
 //! What both ends of a viewer's line are told.
 ghost use Rattle.std.specs.Prelude.{◌≡◌, ◌≤◌};
 ghost use Rattle.roll_mesh.specs.declared.limits.TheConstants.{PLAYER_LIMIT};
-ghost use Rattle.roll_viewer.specs.Lines.{line_of, match_of, players_of};
+ghost use Rattle.roll_viewer.specs.Lines.{fault_of, opening_of, players_of, terms_of};
 
-use roll_mesh::PLAYER_LIMIT;
-use roll_peer::MatchSettings;
+use crate::refusal::LineFault;
+use roll_contact::{Opening, Terms};
+use roll_mesh::{MACHINE_LIMIT, PLAYER_LIMIT};
 
-/// A viewer's line with its host: the same at both ends.
+/// A viewer's line with its host: the same at both ends, but for `draw` and `silent_after`.
 #[derive(Clone, Copy, Debug)]
 pub struct LineSettings {
     /// The line's number: 64 bits drawn at random for this line alone, and told to nobody but its two ends. It isn't the match's.
     pub number: u64,
+    /// 64 bits drawn at random for this opening of this end, which aren't 0.
+    pub draw: u64,
     /// The machine of the match that tells the viewer, from 0.
     pub host: u8,
     /// How many machines the match has, 2 to 8.
@@ -19,34 +22,44 @@ pub struct LineSettings {
     pub owners: [u8; PLAYER_LIMIT],
     /// A digest of all else that must be alike: the game, its opening, the session's limits.
     pub digest: u64,
+    /// After how many milliseconds the other end is silent, which answers nothing; 0: it never is.
+    pub silent_after: u32,
 }
 
 impl LineSettings {
-    /// A line whose host is this machine of a match.
-    pub fn of(settings: &MatchSettings, number: u64) -> LineSettings
-        ensures { result ≡ line_of settings.now number }
+    /// Why no end is opened by these, if none is.
+    pub(crate) fn fault(&self) -> Option<LineFault>
+        ensures { result ≡ fault_of self.now }
     {
-        LineSettings {
-            number,
-            host: settings.me,
-            machines: settings.machines,
-            owners: settings.owners,
-            digest: settings.digest,
+        if self.draw == 0 {
+            Some(LineFault::NoDraw)
+        } else if self.machines < 2 || self.machines as usize > MACHINE_LIMIT {
+            Some(LineFault::Machines)
+        } else if self.host >= self.machines {
+            Some(LineFault::Host)
+        } else {
+            None
         }
     }
 
-    /// What the two ends compare: the match of the host.
-    pub(crate) fn as_match(&self) -> MatchSettings
-        ensures { result ≡ match_of self.now }
+    /// What the two ends compare.
+    pub(crate) fn terms(&self) -> Terms
+        ensures { result ≡ terms_of self.now }
     {
-        MatchSettings {
-            me: self.host,
+        Terms {
             machines: self.machines,
             owners: self.owners,
-            match_number: self.number,
             digest: self.digest,
-            silent_after: 0,
-            notify_after: 0,
+        }
+    }
+
+    /// What this end says of itself.
+    pub(crate) fn opening(&self) -> Opening
+        ensures { result ≡ opening_of self.now }
+    {
+        Opening {
+            draw: self.draw,
+            silent_after: self.silent_after,
         }
     }
 

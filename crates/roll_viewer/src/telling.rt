@@ -1,5 +1,5 @@
 //! What a host tells a viewer.
-ghost use Rattle.std.specs.Prelude.{◌≡◌, ℕ, ◌+◌, ◌-◌, ◌<◌, ◌≤◌, ◌++◌, length, option_map, true, slice_get};
+ghost use Rattle.std.specs.Prelude.{◌≡◌, ℕ, ◌+◌, ◌-◌, ◌<◌, ◌≤◌, ◌++◌, length, option_map, true, false, slice_get};
 ghost use Rattle.std.specs.Option.{option_map_or};
 ghost use Rattle.roll_frame.specs.Core.{settled};
 ghost use Rattle.roll_mesh.specs.Machines.{none_offered};
@@ -10,13 +10,14 @@ ghost use Rattle.roll_wire.specs.Spelling.{count_of, is_turn, turn};
 ghost use Rattle.roll_wire.specs.declared.limits.TheConstants.{WORD_LIMIT};
 ghost use Rattle.roll_viewer.specs.Ends.{acknowledged};
 ghost use Rattle.roll_viewer.specs.Seeing.{TellsRows};
-ghost use Rattle.roll_viewer.specs.Telling.{has_by, has_of, offer_of, offers_to, room_after, told_to, words_in};
+ghost use Rattle.roll_viewer.specs.Telling.{has_by, has_of, room_after, said_as, said_once, span_of, spans_to, told_to, with_clocks, words_in};
 
+use crate::rows::has_words;
 use arrayvec::ArrayVec;
 use roll_game::Game;
 use roll_mesh::{MACHINE_LIMIT, Offer, PLAYER_LIMIT, View};
 use roll_session::Session;
-use roll_wire::{Head, Play, WORD_LIMIT};
+use roll_wire::{Clocks, Head, Play, WORD_LIMIT};
 
 const NONE: Offer = Offer { first: 0, end: 0 };
 
@@ -54,10 +55,10 @@ fn counts<G: Game>(session: &Session<G>) -> [u32; PLAYER_LIMIT]
     counts
 }
 
-/// The words of the player at a place in so many rows from those on that a viewer has.
-fn offer_of<G: Game>(session: &Session<G>, place: usize, had: u32, room: u32) -> Offer
+/// Where the words of the player at a place stand in so many rows from those on that a viewer has.
+fn span_of<G: Game>(session: &Session<G>, place: usize, had: u32, room: u32) -> Offer
     requires { place < PLAYER_LIMIT }
-    ensures { result ≡ option_map_or (offer_of (settled session.now.core) had room)
+    ensures { result ≡ option_map_or (span_of (settled session.now.core) had room)
         (slice_get session.now.core.players place) none_offered }
 {
     match has_of(session, place) {
@@ -70,73 +71,102 @@ fn offer_of<G: Game>(session: &Session<G>, place: usize, had: u32, room: u32) ->
 }
 
 /// Each player's words in the rows that are told a viewer.
-fn offers_to<G: Game>(session: &Session<G>, had: u32) -> [Offer; PLAYER_LIMIT]
-    ensures { result ≡ offers_to session.now.core had }
+fn spans_to<G: Game>(session: &Session<G>, had: u32) -> [Offer; PLAYER_LIMIT]
+    ensures { result ≡ spans_to session.now.core had }
 {
     let room = room_after(session, had);
-    let mut offers = [NONE; PLAYER_LIMIT];
+    let mut spans = [NONE; PLAYER_LIMIT];
     for place in 0..PLAYER_LIMIT {
-        offers[place] = offer_of(session, place, had, room);
+        spans[place] = span_of(session, place, had, room);
+    }
+    spans
+}
+
+/// How a span is said, if its first row was said before or is to be.
+fn said_as(is_said: bool, span: Offer) -> Offer
+    ensures { result ≡ said_as is_said span }
+{
+    if !has_words(span) {
+        NONE
+    } else if is_said {
+        Offer {
+            first: 0,
+            end: span.end.saturating_sub(span.first),
+        }
+    } else {
+        span
+    }
+}
+
+/// The offers of spans that all begin at one row: the first that has words says it.
+fn said_once(spans: &[Offer; PLAYER_LIMIT]) -> [Offer; PLAYER_LIMIT]
+    ensures { result ≡ said_once false spans.now }
+{
+    let mut offers = [NONE; PLAYER_LIMIT];
+    let mut is_said = false;
+    for place in 0..PLAYER_LIMIT {
+        offers[place] = said_as(is_said, spans[place]);
+        is_said = is_said || has_words(spans[place]);
     }
     offers
 }
 
-/// Adds a player's words of an offer.
+/// Adds a player's words of a span.
 fn push_words<G: Game>(
     words: &mut ArrayVec<u32, WORD_LIMIT>,
     session: &Session<G>,
     player: u8,
-    offer: Offer,
+    span: Offer,
 )
-    requires { length words.old.items + (offer.end - offer.first) ≤ WORD_LIMIT }
+    requires { length words.old.items + (span.end - span.first) ≤ WORD_LIMIT }
     ensures { words.new.items
-        ≡ words.old.items ++ words_at (words_of session.now player) offer }
+        ≡ words.old.items ++ words_at (words_of session.now player) span }
 {
-    for frame in offer.first..offer.end {
+    for frame in span.first..span.end {
         if let Some(word) = session.confirmed_word(player, frame) {
             words.push(word);
         }
     }
 }
 
-/// The words that are offered.
-fn words_in<G: Game>(session: &Session<G>, offers: &[Offer]) -> ArrayVec<u32, WORD_LIMIT>
-    requires players { length offers.now ≤ PLAYER_LIMIT }
-    requires room { count_of offers.now ≤ WORD_LIMIT }
-    ensures { result.items ≡ words_in session.now.core.players offers.now }
+/// The words in these spans.
+fn words_in<G: Game>(session: &Session<G>, spans: &[Offer]) -> ArrayVec<u32, WORD_LIMIT>
+    requires players { length spans.now ≤ PLAYER_LIMIT }
+    requires room { count_of spans.now ≤ WORD_LIMIT }
+    ensures { result.items ≡ words_in session.now.core.players spans.now }
 {
     let mut words = ArrayVec::new();
-    for (place, offer) in offers.iter().enumerate() {
-        push_words(&mut words, session, place as u8 + 1, *offer);
+    for (place, span) in spans.iter().enumerate() {
+        push_words(&mut words, session, place as u8 + 1, *span);
     }
     words
 }
 
-/// What a host tells a viewer who has so many rows.
-pub(crate) fn told_to<G: Game>(session: &Session<G>, had: u32) -> Play
-    ensures told { turn result ≡ told_to session.now.core had }
+/// What a host tells a viewer who has so many rows, with these clocks.
+pub(crate) fn told_to<G: Game>(session: &Session<G>, had: u32, clocks: Option<Clocks>) -> Play
+    ensures told { turn result ≡ with_clocks clocks (told_to session.now.core had) }
     ensures whole { is_turn (turn result) ≡ true }
 {
     session.laws();
-    let offers = offers_to(session, had);
+    let spans = spans_to(session, had);
     Play {
         head: Head {
-            clocks: None,
+            clocks,
             view: View {
                 gone: [false; MACHINE_LIMIT],
                 has: counts(session),
             },
             settled: None,
-            offers,
+            offers: said_once(&spans),
         },
-        words: words_in(session, &offers),
+        words: words_in(session, &spans),
     }
 }
 
-/// What a viewer of a match of so many players says, who has so many rows.
-pub(crate) fn acknowledged(players: usize, rows: u32) -> Play
+/// What a viewer of a match of so many players says, who has so many rows, with these clocks.
+pub(crate) fn acknowledged(players: usize, rows: u32, clocks: Option<Clocks>) -> Play
     requires { players ≤ PLAYER_LIMIT }
-    ensures said { turn result ≡ acknowledged players rows }
+    ensures said { turn result ≡ acknowledged players rows clocks }
     ensures whole { is_turn (turn result) ≡ true }
 {
     let mut has = [0; PLAYER_LIMIT];
@@ -145,7 +175,7 @@ pub(crate) fn acknowledged(players: usize, rows: u32) -> Play
     }
     Play {
         head: Head {
-            clocks: None,
+            clocks,
             view: View {
                 gone: [false; MACHINE_LIMIT],
                 has,

@@ -1,19 +1,21 @@
 //! The viewer's end of a line.
-ghost use Rattle.std.specs.Prelude.{◌≡◌, ◌≤◌, [], ◌∷◌, ◌++◌, length, max, option_map, slice_get, true, Some, None, IfErr, IfNone, IfOk, IfSome, OnOk};
+ghost use Rattle.std.specs.Prelude.{◌≡◌, ◌≤◌, [], ◌∷◌, ◌++◌, length, option_map, slice_get, Some, None, IfErr, IfNone, IfOk, IfSome, OnOk};
+ghost use Rattle.std.specs.Option.{option_or};
 ghost use Rattle.roll_frame.specs.declared.limits.TheConstants.{FRAME_LIMIT};
-ghost use Rattle.roll_wire.specs.Spelling.{is_turn, turn, Leaves, Plays};
-ghost use Rattle.roll_viewer.specs.Ends.{acknowledged, ignored_by_viewer, opened_viewer, unheard_by_viewer, viewer_sends, HearsRows, ViewerHears};
-ghost use Rattle.roll_viewer.specs.Lines.{after_bye, after_refusal, opened, players_of, said, silence};
+ghost use Rattle.roll_wire.specs.Spelling.{turn, Plays};
+ghost use Rattle.roll_viewer.specs.Ends.{ignored_by_viewer, opened_viewer, unheard_by_viewer, viewer_sends, viewer_told, HearsRows, ViewerHears};
+ghost use Rattle.roll_viewer.specs.Lines.{after_bye, after_refusal, after_unread, farewell, fault_of, is_silent, opened, silence};
+ghost use Rattle.roll_viewer.specs.declared.refusal.LineFault.TheVariants.{NoMemory};
 ghost use Rattle.roll_viewer.specs.declared.line.TheConstants.{VIEWER as VIEWER_END};
 
 use crate::line::{Line, VIEWER};
-use crate::refusal::LineRefusal;
+use crate::refusal::{LineFault, LineRefusal};
 use crate::rows::{are_rows, first_row, most_of, send_rows};
 use crate::settings::LineSettings;
 use crate::telling::acknowledged;
 use arrayvec::ArrayVec;
-use roll_frame::{Refusal, Row};
-use roll_peer::Stage;
+use roll_contact::Stage;
+use roll_frame::Row;
 use roll_spectate::{RowReceiver, RowSender, RowStream, open_ring};
 use roll_wire::{Body, DATAGRAM_LIMIT, Play};
 use std::alloc::Global;
@@ -45,12 +47,19 @@ impl Viewer {
     ///
     /// # Errors
     ///
-    /// `NoMemory` if the allocator has no room.
-    pub fn open(alloc: Global, settings: LineSettings) -> Result<(Viewer, RowReceiver), Refusal>
+    /// `NoDraw`, `Machines` or `Host`: what is wrong with the settings. Else `NoMemory`, if the allocator has no room.
+    pub fn open(alloc: Global, settings: LineSettings) -> Result<(Viewer, RowReceiver), LineFault>
         ensures opened { IfOk result (λ ends. ends.0 ≡ opened_viewer settings ends.1) }
-        ensures refused { IfErr result (λ why. why ≡ Refusal.NoMemory) }
+        ensures accepted { OnOk result (fault_of settings ≡ None) }
+        ensures refused { IfErr result
+            (λ why. option_or (fault_of settings) (Some NoMemory) ≡ Some why) }
     {
-        let (sender, receiver) = open_ring(alloc)?;
+        if let Some(why) = settings.fault() {
+            return Err(why);
+        }
+        let Ok((sender, receiver)) = open_ring(alloc) else {
+            return Err(LineFault::NoMemory);
+        };
         let line = Line::new(settings);
         let viewer = Viewer {
             line,
@@ -65,18 +74,22 @@ impl Viewer {
     ///
     /// # Errors
     ///
-    /// Why they weren't heard. They changed nothing then, but that a host who means another match is refused for good.
+    /// Why they weren't heard: `LineRefusal` says what that changes.
     pub fn receive(&mut self, bytes: &[u8], now: u32) -> Result<u32, LineRefusal>
         ensures received { IfOk result (ViewerHears self.old self.new bytes.now now) }
         ensures accepted { OnOk result (ignored_by_viewer self.old
             (opened self.old.line self.old.line.settings.host bytes.now) ≡ None) }
         ensures ignored { IfErr result (λ why. ignored_by_viewer self.old
             (opened self.old.line self.old.line.settings.host bytes.now) ≡ Some why) }
-        ensures unchanged { IfErr result
-            (λ why. self.new ≡ record self.old { line = after_refusal why self.old.line }) }
+        ensures rest { IfErr result (λ why. self.new ≡ record self.old {
+          line = after_refusal
+              self.old.line now why
+              (opened self.old.line self.old.line.settings.host bytes.now);
+        }) }
         ensures ring { self.new.fed.ring ≡ self.old.fed.ring }
     {
-        match self.line.open(self.line.settings.host, bytes)? {
+        let host = self.line.settings.host;
+        match self.line.open(host, bytes)? {
             Body::Hello(hello) => {
                 self.line.hear_hello(&hello, now)?;
                 Ok(0)
@@ -95,19 +108,20 @@ impl Viewer {
         ensures accepted { OnOk result (unheard_by_viewer self.old (Plays (turn play.now)) ≡ None) }
         ensures refused { IfErr result
             (λ why. unheard_by_viewer self.old (Plays (turn play.now)) ≡ Some why) }
-        ensures unchanged { IfErr result
-            (λ why. self.new ≡ record self.old { line = after_refusal why self.old.line }) }
+        ensures rest { IfErr result
+            (λ why. self.new ≡ record self.old { line = after_unread why self.old.line }) }
         ensures ring { self.new.fed.ring ≡ self.old.fed.ring }
     {
-        self.line.check()?;
         let players = self.line.settings.players();
         if !are_rows(players, play) {
+            self.line.refuse();
             return Err(LineRefusal::NoRows);
         }
-        if first_row(play) > self.sender.count() {
+        let rows = self.sender.count();
+        if first_row(play) > rows {
             return Err(LineRefusal::Gap);
         }
-        self.line.hear_play(now);
+        self.line.hear_play(play.head.clocks, rows, now);
         self.settled = self.settled.max(most_of(&play.head.view.has));
         Ok(send_rows(&mut self.sender, players, play))
     }
@@ -125,30 +139,32 @@ impl Viewer {
         stream.next_beside(&mut self.sender)
     }
 
-    /// The bytes to send to the host in this turn: until both ends have heard each other, which match this one means, and then how
-    /// many rows it has. None once the line has ended.
-    pub fn send(&self) -> Option<ArrayVec<u8, DATAGRAM_LIMIT>>
-        ensures { option_map (λ bytes. bytes.items) result ≡ viewer_sends self.now }
+    /// The bytes to send to the host in this turn, at a moment: a hello, until its draw is believed, and then now and again until
+    /// its first play comes; else how many rows the viewer has. None once the line has ended.
+    pub fn send(&mut self, now: u32) -> Option<ArrayVec<u8, DATAGRAM_LIMIT>>
+        ensures sent { option_map (λ bytes. bytes.items) result ≡ viewer_sends self.old now }
+        ensures told { self.new ≡ viewer_told self.old now }
     {
         if self.line.ended {
             return None;
         }
-        let body = if self.line.is_playing() {
-            let players = self.line.settings.players();
-            Body::Play(acknowledged(players, self.sender.count()))
-        } else {
-            self.line.greeting()
-        };
-        Some(self.line.say(VIEWER, body))
+        if self.line.contact.says_hello() {
+            return Some(self.line.greet(VIEWER, now));
+        }
+        let rows = self.sender.count();
+        let clocks = self.line.clocks(rows, now);
+        let play = acknowledged(self.line.settings.players(), rows, clocks);
+        Some(self.line.play(VIEWER, play, now))
     }
 
-    /// The bytes that say that this viewer leaves, and the line ends. Send them a few times, since they may be lost.
-    pub fn bye(&mut self) -> ArrayVec<u8, DATAGRAM_LIMIT>
-        ensures said { result.items ≡ said self.old.line.settings VIEWER_END Leaves }
+    /// The viewer leaves, and the line ends: the bytes that say so, if the host's draw is believed. Send them a few times, since
+    /// they may be lost.
+    pub fn bye(&mut self) -> Option<ArrayVec<u8, DATAGRAM_LIMIT>>
+        ensures said { option_map (λ bytes. bytes.items) result
+            ≡ farewell self.old.line VIEWER_END }
         ensures ended { self.new ≡ record self.old { line = after_bye self.old.line } }
     {
-        self.line.end();
-        self.line.say(VIEWER, Body::Bye)
+        self.line.bye(VIEWER)
     }
 
     /// How many rows its spectator was sent.
@@ -166,18 +182,26 @@ impl Viewer {
         self.settled
     }
 
-    /// For how many milliseconds the host has been silent, if both have heard each other; else 0.
+    /// For how many milliseconds the host has answered nothing, if its draw is believed; else 0. What is only copied is no answer.
     pub fn silence(&self, now: u32) -> u32
         ensures { result ≡ silence self.now.line now }
     {
         self.line.silence(now)
     }
 
+    /// Whether the host has answered nothing for longer than `silent_after`, though enough was asked: end the line then. One who
+    /// was opened anew can't go on with it.
+    pub fn is_silent(&self, now: u32) -> bool
+        ensures { result ≡ is_silent self.now.line now }
+    {
+        self.line.is_silent(now)
+    }
+
     /// How far the two have come.
     pub fn stage(&self) -> Stage
-        ensures { result ≡ self.now.line.stage }
+        ensures { result ≡ self.now.line.contact.stage }
     {
-        self.line.stage
+        self.line.contact.stage
     }
 
     /// Whether one of the two has said bye.

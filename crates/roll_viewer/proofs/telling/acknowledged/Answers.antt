@@ -1,16 +1,17 @@
-use Rattle.std.proofs.Common.{◌≡◌, ◌≢◌, ◌∙◌, ◌<◌, ℕ, List, [], None, false, ap, sym, refl, arith, get_or, inl, inr, replicate, get_or-set_other, length-set}
+use Rattle.std.proofs.Common.{◌≡◌, ◌≢◌, ◌∙◌, ◌<◌, ℕ, List, [], Option, None, false, ap, sym, refl, arith, get_or, inl, inr, replicate, get_or-set_other, length-set}
 use Rattle.std.proofs.lemmas.Bool.{cases_lt}
 use Rattle.std.proofs.lemmas.List.{get_or-replicate, get_or_past, length-replicate}
 use Rattle.roll_mesh.specs.declared.limits.TheConstants.{MACHINE_LIMIT, PLAYER_LIMIT}
 use Rattle.roll_mesh.specs.Machines.{none_offered}
 use Rattle.roll_wire.specs.Spelling.{Turn}
+use Rattle.roll_wire.specs.declared.datagram.Clocks.{Clocks}
 use Rattle.roll_viewer.proofs.Padding.{filled_up, one_more}
 use Rattle.roll_viewer.proofs.telling.acknowledged.Goals as goal
 
-abbrev said_of : List ℕ → List ℕ → Turn
-said_of has words = record {
+abbrev said_of : Option Clocks → List ℕ → List ℕ → Turn
+said_of clocks has words = record {
   head = record {
-    clocks = None;
+    clocks = clocks;
     view = record { gone = replicate MACHINE_LIMIT false; has = has };
     settled = None;
     offers = replicate PLAYER_LIMIT none_offered;
@@ -28,8 +29,8 @@ returns-clause-said c =
       | inl here ↦ c.loop-place.invariant.done k (omega (arith, here, c.loop-place-test.false)) ∙ sym (get_or-replicate players k rows 0 here)
       | inr past ↦ c.loop-place.invariant.left k (omega (arith, past)) ∙ sym (get_or_past (replicate players rows) k 0 (omega (arith, past, length-replicate players rows)))
     ] in
-    ap (λ words. said_of c.loop-place.has words) c.new.ensures
-    ∙ ap (λ has. said_of has []) (filled_up 0 (replicate players rows) c.loop-place.has c.loop-place.invariant.all same)
+    ap (λ words. said_of c.args.clocks c.loop-place.has words) c.new.ensures
+    ∙ ap (λ has. said_of c.args.clocks has []) (filled_up 0 (replicate players rows) c.loop-place.has c.loop-place.invariant.all same)
 
 pub loop-place-preserved : goal.loop-place-preserved
 loop-place-preserved c =

@@ -5,7 +5,7 @@ use Rattle.roll_viewer.proofs.telling.push_words.Goals as goal
 
 pub push-requires : goal.push-requires
 push-requires g c =
-    let first = c.args.offer.first in
+    let first = c.args.span.first in
     let frame = c.loop-frame.frame in
     let told = drop first (words_of c.args.session.now c.args.player) in
     let n : length c.loop-frame.words.items ≤ length c.args.words.now.items + (frame - first) =
@@ -19,8 +19,8 @@ push-requires g c =
 
 pub returns : goal.returns
 returns g c =
-    let first = c.args.offer.first in
-    let end = c.args.offer.end in
+    let first = c.args.span.first in
+    let end = c.args.span.end in
     let told = drop first (words_of c.args.session.now c.args.player) in
     let n : c.loop-frame.frame - first ≡ end - first =
     omega (arith, c.loop-frame.invariant.within, c.loop-frame-test.false) in

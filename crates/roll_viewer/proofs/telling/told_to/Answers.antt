@@ -13,12 +13,12 @@ words_in-requires-clause-room g c =
     let known : Known s.core =
     subst Known (sym c.laws.ensures.log.core)
     (known_log s.settings (game_of g.G.Game.step s) s.log c.laws.ensures.log.log) in
-    subst (λ (os : List Offer). count_of os ≤ WORD_LIMIT) (sym c.offers_to-offers.ensures)
+    subst (λ (os : List Offer). count_of os ≤ WORD_LIMIT) (sym c.spans_to-spans.ensures)
     (told_fits s.core c.args.had known)
 
 pub returns-clause-told : goal.returns-clause-told
 unfolding told_to
-returns-clause-told g c = rw (c.counts.ensures, c.words_in.ensures, c.offers_to-offers.ensures) refl
+returns-clause-told g c = rw (c.counts.ensures, c.words_in.ensures, c.said_once.ensures, c.spans_to-spans.ensures) refl
 
 pub returns-clause-whole : goal.returns-clause-whole
 returns-clause-whole g c =
@@ -26,4 +26,4 @@ returns-clause-whole g c =
     let known : Known s.core =
     subst Known (sym c.laws.ensures.log.core)
     (known_log s.settings (game_of g.G.Game.step s) s.log c.laws.ensures.log.log) in
-    rw (c.words_in.ensures, c.offers_to-offers.ensures) (told_whole s.core c.args.had known)
+    rw (c.words_in.ensures, c.said_once.ensures, c.spans_to-spans.ensures) (told_whole s.core c.args.had known)

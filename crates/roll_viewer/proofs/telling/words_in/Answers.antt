@@ -42,7 +42,7 @@ next_player (p ∷ ps) (suc k) = next_player ps k
 pub loop-place-preserved : goal.loop-place-preserved
 loop-place-preserved g c =
     let ps = c.args.session.now.core.players in
-    let offers = c.args.offers.now in
+    let offers = c.args.spans.now in
     let place = c.loop-place.place in
     let offer : Offer = get_or offers place none_offered in
     let rest : List Offer = drop (place + 1) offers in
@@ -84,6 +84,6 @@ returns g c =
     let place = c.loop-place.place in
     sym (append-nil c.loop-place.words.items)
     ∙ ap (λ ws. c.loop-place.words.items ++ ws)
-    (sym (at_drop_all (λ os. words_in (drop place ps) os) c.args.offers.now place c.loop-place-test.false
+    (sym (at_drop_all (λ os. words_in (drop place ps) os) c.args.spans.now place c.loop-place-test.false
     ∙ nothing_offered (drop place ps)))
     ∙ c.loop-place.invariant.so_far

@@ -1,23 +1,43 @@
-use Rattle.std.proofs.Common.{◌∙◌, ap, Ok}
+use Rattle.std.proofs.Common.{◌≡◌, ◌∙◌, ap, sym, Ok, Some}
 use Rattle.roll_wire.specs.Spelling.{content, turn, Greets, Plays}
+use Rattle.roll_viewer.specs.Ends.{host_after, ignored_by_host, unheard_by_host}
+use Rattle.roll_viewer.specs.Lines.{after_hello, opened}
 use Rattle.roll_viewer.specs.declared.line.Line.{Line}
-use Rattle.roll_viewer.specs.Ends.{after_ack}
+use Rattle.roll_viewer.proofs.Answered.{if_err, on_ok}
 use Rattle.roll_viewer.proofs.hosting.ViewerLine.receive.Goals as goal
 
-pub returns-in_ok-hear_hello-in-Hello-clause-received : goal.returns-in_ok-hear_hello-in-Hello-clause-received
-returns-in_ok-hear_hello-in-Hello-clause-received c = rw (← c.self.view_is) (record {
-  what = Greets c.in-Hello.hello;
-  is_opened = c.in_ok-hello.ensures.opened ∙ ap (λ b. Ok (content b)) c.in-Hello.is;
-  new_is = ap (λ (line : Line). record { line = line; had = c.self.inside.had; told = c.self.inside.told }) c.in_ok-hear_hello-in-Hello.ensures.heard;
-})
+pub returns-in-Hello-clause-received : goal.returns-in-Hello-clause-received
+returns-in-Hello-clause-received c =
+    on_ok c.hear_hello.result
+    (λ accepted. rw (← c.self.view_is) (record {
+      what = Greets c.in-Hello.hello;
+      is_opened = c.in_ok-hello.ensures.opened ∙ ap (λ b. Ok (content b)) c.in-Hello.is;
+      new_is = ap (λ (line : Line). record { line = line; had = c.self.inside.had; told = c.self.inside.told })
+          (c.hear_hello.ensures.heard ∙ ap (λ (line : Line). after_hello line c.in-Hello.hello c.args.now) c.in_ok-hello.ensures.same);
+    }))
+    c.hear_hello.ensures.accepted
 
-pub returns-in_ok-check-in-Play-clause-received : goal.returns-in_ok-check-in-Play-clause-received
-returns-in_ok-check-in-Play-clause-received c = rw (← c.self.view_is) (record {
-  what = Plays (turn c.in-Play.play);
-  is_opened = c.in_ok-hello.ensures.opened ∙ ap (λ b. Ok (content b)) c.in-Play.is;
-  new_is = c.acknowledge.ensures ∙ ap (λ (line : Line). record {
-    line = line;
-    had = after_ack (record { line = line; had = c.self.inside.had; told = c.self.inside.told }) c.in-Play.play.head.view.has;
-    told = c.self.inside.told;
-  }) c.hear_play.ensures;
-})
+pub returns-in-Play-clause-received : goal.returns-in-Play-clause-received
+returns-in-Play-clause-received c =
+    on_ok c.hear_play.result
+    (λ heard. rw (← c.self.view_is) (record {
+      what = Plays (turn c.in-Play.play);
+      is_opened = c.in_ok-hello.ensures.opened ∙ ap (λ b. Ok (content b)) c.in-Play.is;
+      new_is = heard ∙ ap (λ (line : Line). host_after (record { line = line; had = c.self.inside.had; told = c.self.inside.told }) c.args.now (Plays (turn c.in-Play.play)))
+          c.in_ok-hello.ensures.same;
+    }))
+    c.hear_play.ensures.heard
+
+pub returns-in-Play-clause-ignored : goal.returns-in-Play-clause-ignored
+returns-in-Play-clause-ignored c = rw (← c.self.view_is) (
+    if_err
+    (λ why. unheard_by_host (record { line = c.open.new.self; had = c.self.inside.had; told = c.self.inside.told }) (Plays (turn c.in-Play.play)) ≡ Some why)
+    (λ why. ignored_by_host (record { line = c.self.inside.line; had = c.self.inside.had; told = c.self.inside.told }) (opened c.self.inside.line 255 c.args.bytes.now) ≡ Some why)
+    c.hear_play.result
+    (λ why refused.
+    ap (ignored_by_host (record { line = c.self.inside.line; had = c.self.inside.had; told = c.self.inside.told }))
+    (c.in_ok-hello.ensures.opened ∙ ap (λ b. Ok (content b)) c.in-Play.is)
+    ∙ ap (λ (line : Line). unheard_by_host (record { line = line; had = c.self.inside.had; told = c.self.inside.told }) (Plays (turn c.in-Play.play))) (sym c.in_ok-hello.ensures.same)
+    ∙ refused)
+    c.hear_play.ensures.refused
+    )

@@ -1,32 +1,47 @@
-use Rattle.std.proofs.Common.{◌∙◌, ap, refl, Ok, Err, Result}
-use Rattle.std.specs.Prelude.{IfOk}
+use Rattle.std.proofs.Common.{◌≡◌, ◌∙◌, ap, refl, subst, sym, Ok, Some}
 use Rattle.roll_wire.specs.Spelling.{content, turn, Greets, Plays}
-use Rattle.roll_viewer.specs.Ends.{HearsRows, ViewerHears}
+use Rattle.roll_viewer.specs.Ends.{ignored_by_viewer, unheard_by_viewer, HearsRows, ViewerHears, Viewing}
+use Rattle.roll_viewer.specs.Lines.{after_hello, opened}
 use Rattle.roll_viewer.specs.declared.line.Line.{Line}
+use Rattle.roll_viewer.proofs.Answered.{if_err, if_ok}
 use Rattle.roll_viewer.proofs.viewer.Viewer.receive.Goals as goal
-
-mapped : {A E : Type 0} (P Q : A → Type 0) (r : Result A E) → ((x : A) → P x → Q x) → IfOk r P → IfOk r Q
-mapped P Q (Ok x) f h = f x h
-mapped P Q (Err why) f h = h
 
 pub returns-in_ok-hear_hello-in-Hello-clause-received : goal.returns-in_ok-hear_hello-in-Hello-clause-received
 returns-in_ok-hear_hello-in-Hello-clause-received c = rw (← c.self.view_is) (record {
   what = Greets c.in-Hello.hello;
   is_opened = c.in_ok-hello.ensures.opened ∙ ap (λ b. Ok (content b)) c.in-Hello.is;
   hears = (
-    ap (λ (line : Line). record { line = line; fed = c.self.inside.sender; settled = c.self.inside.settled }) c.in_ok-hear_hello-in-Hello.ensures.heard,
+    ap (λ (line : Line). record { line = line; fed = c.self.inside.sender; settled = c.self.inside.settled })
+        (c.in_ok-hear_hello-in-Hello.ensures.heard ∙ ap (λ (line : Line). after_hello line c.in-Hello.hello c.args.now) c.in_ok-hello.ensures.same),
     refl,
   );
 })
 
 pub returns-in-Play-clause-received : goal.returns-in-Play-clause-received
 returns-in-Play-clause-received c =
-    mapped (HearsRows c.args.self.now c.hear_play.new.self c.args.now (turn c.in-Play.play))
+    let before : Line → Viewing = λ line. record { line = line; fed = c.self.inside.sender; settled = c.self.inside.settled } in
+    if_ok (HearsRows (before c.open.new.self) c.hear_play.new.self c.args.now (turn c.in-Play.play))
     (ViewerHears c.args.self.now c.hear_play.new.self c.args.bytes.now c.args.now)
     c.hear_play.result
-    (λ count h. record {
+    (λ count heard. rw (← c.self.view_is) (record {
       what = Plays (turn c.in-Play.play);
-      is_opened = rw (← c.self.view_is) (c.in_ok-hello.ensures.opened ∙ ap (λ b. Ok (content b)) c.in-Play.is);
-      hears = h;
-    })
+      is_opened = c.in_ok-hello.ensures.opened ∙ ap (λ b. Ok (content b)) c.in-Play.is;
+      hears = subst (λ (line : Line). HearsRows (before line) c.hear_play.new.self c.args.now (turn c.in-Play.play) count)
+          c.in_ok-hello.ensures.same heard;
+    }))
     c.hear_play.ensures.heard
+
+pub returns-in-Play-clause-ignored : goal.returns-in-Play-clause-ignored
+returns-in-Play-clause-ignored c =
+    let before : Line → Viewing = λ line. record { line = line; fed = c.self.inside.sender; settled = c.self.inside.settled } in
+    rw (← c.self.view_is) (
+    if_err
+    (λ why. unheard_by_viewer (before c.open.new.self) (Plays (turn c.in-Play.play)) ≡ Some why)
+    (λ why. ignored_by_viewer (before c.self.inside.line) (opened c.self.inside.line c.self.inside.line.settings.host c.args.bytes.now) ≡ Some why)
+    c.hear_play.result
+    (λ why refused.
+    ap (ignored_by_viewer (before c.self.inside.line)) (c.in_ok-hello.ensures.opened ∙ ap (λ b. Ok (content b)) c.in-Play.is)
+    ∙ ap (λ (line : Line). unheard_by_viewer (before line) (Plays (turn c.in-Play.play))) (sym c.in_ok-hello.ensures.same)
+    ∙ refused)
+    c.hear_play.ensures.refused
+    )

@@ -3,14 +3,14 @@ use Rattle.std.specs.Option.{option_map_or}
 use Rattle.std.specs.Prelude.{slice_get}
 use Rattle.roll_frame.specs.Core.{settled}
 use Rattle.roll_mesh.specs.Machines.{none_offered}
-use Rattle.roll_viewer.specs.Telling.{offer_of}
+use Rattle.roll_viewer.specs.Telling.{span_of}
 use Rattle.roll_mesh.specs.declared.limits.TheConstants.{PLAYER_LIMIT}
-use Rattle.roll_viewer.proofs.telling.offers_to.Given as goal
+use Rattle.roll_viewer.proofs.telling.spans_to.Given as goal
 
 abbrev pub invariant-loop-place : goal.invariant-loop-place
 invariant-loop-place g l = record {
-  all : length l.offers ≡ PLAYER_LIMIT;
+  all : length l.spans ≡ PLAYER_LIMIT;
   so_far : (k : ℕ) → k < l.place
-      → get_or l.offers k none_offered
-      ≡ option_map_or (offer_of (settled l.session.core) l.had l.room) (slice_get l.session.core.players k) none_offered;
+      → get_or l.spans k none_offered
+      ≡ option_map_or (span_of (settled l.session.core) l.had l.room) (slice_get l.session.core.players k) none_offered;
 }
