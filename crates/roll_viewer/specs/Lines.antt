@@ -1,7 +1,7 @@
 -- A viewer's line, as each of its ends has it.
 use Rattle.std.specs.Prelude.{◌≡◌, ℕ, ◌%◌, ◌^◌, List, length, slice_index_or, Bool, true, false, ◌&&◌, not, ◌==◌, nat_le, nat_lt, count_by, Option, Some, None, option_map, Result, Ok, Err, if◌then◌else◌}
 use Rattle.roll_contact.specs.Clocks.{first_clock, ticked}
-use Rattle.roll_contact.specs.Contacts.{after_hello as hello_heard, after_play as play_heard, clocks_for, hello_sent, is_playing, is_silent as is_silent_at, opened_contact, play_sent, refused, says_hello, unanswered_for, wants_clocks}
+use Rattle.roll_contact.specs.Contacts.{after_hello as hello_heard, after_play as play_heard, clocks_for, hello_echo, hello_sent, is_playing, is_silent as is_silent_at, opened_contact, play_sent, refused, says_hello, unanswered_for, wants_clocks}
 use Rattle.roll_contact.specs.Keys.{greeting_key}
 use Rattle.roll_contact.specs.Seals.{sealed, unsealed}
 use Rattle.roll_contact.specs.Terms.{hello_of, mismatch_of}
@@ -191,7 +191,7 @@ said line sender what = sealed (key_for line what) (spelling (record {
 
 -- which match this end means, and which draw it heard last
 abbrev pub greeting : Line → Content
-greeting line = Greets (hello_of (terms_of line.settings) (opening_of line.settings) line.contact.echo)
+greeting line = Greets (hello_of (terms_of line.settings) (opening_of line.settings) (hello_echo line.contact))
 
 -- the clocks of the next play of an end that is at a frame, if it has some
 abbrev pub clocks_at : Line → (frame now : ℕ) → Option Clocks

@@ -181,7 +181,7 @@ impl Line {
         let hello = self
             .settings
             .terms()
-            .hello(&self.settings.opening(), self.contact.echo);
+            .hello(&self.settings.opening(), self.contact.hello_echo());
         let bytes = self.say(sender, Body::Hello(hello));
         self.clock.tick(now);
         self.contact.hello_sent();
