@@ -57,18 +57,35 @@ module _ (own : Opening) (mismatch : Option Field) (hello : Hello) (now : ℕ) (
       go true e = no (sym (rw e at on))
       go false e = no (sym (rw e at on) ∙ met_plays contact.stage ∙ off)
 
-  kept : is_playing contact.stage ≡ true → (after_hello own mismatch hello now contact).draw ≡ contact.draw
+  kept : is_playing contact.stage ≡ true → contact.confirmed ≡ true
+      → (after_hello own mismatch hello now contact).draw ≡ contact.draw
   unfolding after_hello
-  kept on = go (hello.draw == contact.draw) refl (hello.echo == own.draw) refl (hello.draw == contact.restarted) refl
+  kept on sure = go (hello.draw == contact.draw) refl (hello.echo == own.draw) refl
     where
       go : (same : Bool) → (hello.draw == contact.draw) ≡ same → (echoed : Bool) → (hello.echo == own.draw) ≡ echoed
-          → (known : Bool) → (hello.draw == contact.restarted) ≡ known
           → (after_hello own mismatch hello now contact).draw ≡ contact.draw
-      go true e true f known g = rw (on, e, f) refl
-      go true e false f known g = rw (on, e, f) refl
-      go false e true f known g = rw (on, e, f) refl
-      go false e false f true g = rw (on, e, f, g) refl
-      go false e false f false g = rw (on, e, f, g) refl
+      go true e true f = rw (on, e, f) refl
+      go true e false f = rw (on, e, f) refl
+      go false e true f = rw (on, e, f, sure) refl
+      go false e false f = rw (on, e, f) refl
+
+  unsaid : is_playing contact.stage ≡ true → (hello.echo == own.draw) ≡ false
+      → (after_hello own mismatch hello now contact).draw ≡ contact.draw
+  unfolding after_hello
+  unsaid on f = go (hello.draw == contact.draw) refl
+    where
+      go : (same : Bool) → (hello.draw == contact.draw) ≡ same
+          → (after_hello own mismatch hello now contact).draw ≡ contact.draw
+      go true e = rw (on, e, f) refl
+      go false e = rw (on, e, f) refl
+
+  replaced : is_playing contact.stage ≡ true
+      → (after_hello own mismatch hello now contact).draw ≢ contact.draw → hello.echo ≡ own.draw
+  replaced on differ = go (hello.echo == own.draw) refl
+    where
+      go : (echoed : Bool) → (hello.echo == own.draw) ≡ echoed → hello.echo ≡ own.draw
+      go true f = eqb-true hello.echo own.draw f
+      go false f = absurd (differ (unsaid on f))
 
   greeted_restarts : (m : Option Field) (c : Contact) → (greeted own m hello now c).restarted ≡ c.restarted
   greeted_restarts None c = refl
@@ -87,14 +104,12 @@ module _ (own : Opening) (mismatch : Option Field) (hello : Hello) (now : ℕ) (
   stays : is_playing contact.stage ≡ true → (hello.echo == own.draw) ≡ false
       → (after_hello own mismatch hello now contact).restarted ≡ contact.restarted
   unfolding after_hello
-  stays on f = go (hello.draw == contact.draw) refl (hello.draw == contact.restarted) refl
+  stays on f = go (hello.draw == contact.draw) refl
     where
-      go : (same : Bool) → (hello.draw == contact.draw) ≡ same → (known : Bool)
-          → (hello.draw == contact.restarted) ≡ known
+      go : (same : Bool) → (hello.draw == contact.draw) ≡ same
           → (after_hello own mismatch hello now contact).restarted ≡ contact.restarted
-      go true e known g = rw (on, e, f) refl
-      go false e true g = rw (on, e, f, g) refl
-      go false e false g = rw (on, e, f, g) refl
+      go true e = rw (on, e, f) refl
+      go false e = rw (on, e, f) refl
 
   begun : (after_hello own mismatch hello now contact).restarted ≢ contact.restarted → hello.echo ≡ own.draw
   begun differ = go (is_playing contact.stage) refl (hello.echo == own.draw) refl
@@ -111,6 +126,7 @@ only_an_echo_is_believed = record {
       met_only own mismatch hello now contact off (rw (is_met own mismatch hello now contact off) at on);
   alike = λ own mismatch hello now contact off on.
       judged own mismatch hello now contact mismatch off (rw (is_met own mismatch hello now contact off) at on);
+  changed = replaced;
   lasts = kept;
   restarted = begun;
 }

@@ -115,20 +115,24 @@ same_opening own mismatch hello now contact =
     if hello.echo == own.draw then record (heard now contact) { differs = mismatch }
     else heard now contact
 
--- a hello of another opening: it was begun in the place of the one that is believed, if it says this opening's draw; else it may
--- be an old one, and is answered, unless it was found before to be another
-abbrev pub other_opening : Opening → Hello → Contact → Contact
-other_opening own hello contact =
-    if hello.echo == own.draw then record contact { restarted = hello.draw }
-    else (if hello.draw == contact.restarted then contact
-    else record contact { echo = hello.draw; owes_hello = true })
+-- a hello of another opening than the one that is believed. If it says this opening's draw, it was begun in the place of that one: too
+-- late, if that one was heard to play; else it is judged as if no other had come. If it doesn't, it may be an old one, and a hello
+-- is owed, unless it was found to be too late before
+abbrev pub other_opening : Opening → Option Field → Hello → ℕ → Contact → Contact
+other_opening own mismatch hello now contact =
+    if hello.echo == own.draw
+    then (if contact.confirmed then record contact { restarted = hello.draw }
+    else greeted own mismatch hello now (heard now contact))
+    else record contact {
+      owes_hello = contact.owes_hello || not (hello.draw == contact.restarted);
+    }
 
 -- after a hello
 unfoldable pub after_hello : Opening → Option Field → Hello → ℕ → Contact → Contact
 after_hello own mismatch hello now contact =
     if is_playing contact.stage
     then (if hello.draw == contact.draw then same_opening own mismatch hello now contact
-    else other_opening own hello contact)
+    else other_opening own mismatch hello now contact)
     else meeting own mismatch hello now contact
 
 -- ---- clocks
@@ -220,24 +224,19 @@ wants_clocks contact now =
     || (nat_lt 0 contact.patience
     && nat_le (contact.patience / CLOCKS_IN_PATIENCE) (since now contact.clocks_at))
 
--- whether the hello that is owed goes next
-abbrev pub owes_now : Contact → Bool
-owes_now contact = contact.owes_hello && (contact.sent % HELLO_EVERY == HELLO_AT)
-
--- the draw that the next hello says back: the one that is believed, or else the one that was heard last
+-- the draw that hellos say back: the one that is believed, or else the one that was heard last
 abbrev pub hello_echo : Contact → ℕ
-hello_echo contact =
-    if is_playing contact.stage && not (owes_now contact) then contact.draw else contact.echo
+hello_echo contact = if is_playing contact.stage then contact.draw else contact.echo
 
 -- whether a hello goes next: the two don't play yet; or it isn't known whether the other does, every other time; or one is owed
 abbrev pub says_hello : Contact → Bool
 says_hello contact =
     not (is_playing contact.stage)
-    || ((not contact.confirmed && (contact.sent % 2 == 0)) || owes_now contact)
+    || ((not contact.confirmed && (contact.sent % 2 == 0))
+    || (contact.owes_hello && (contact.sent % HELLO_EVERY == HELLO_AT)))
 
 abbrev pub hello_sent : Contact → Contact
-hello_sent contact =
-    counted (if owes_now contact then record contact { owes_hello = false } else contact)
+hello_sent contact = counted (record contact { owes_hello = false })
 
 abbrev pub play_sent : ℕ → Contact → Contact
 play_sent now contact = counted (

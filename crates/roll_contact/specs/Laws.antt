@@ -23,9 +23,13 @@ pub record OnlyAnEchoIsBelieved : Type 0 where
       → is_playing contact.stage ≡ false
       → is_playing (after_hello own mismatch hello now contact).stage ≡ true
       → mismatch ≡ None
-  -- no hello takes its place
-  pub lasts : (own : Opening) (mismatch : Option Field) (hello : Hello) (now : ℕ) (contact : Contact)
+  -- no hello without it takes the place of a draw
+  pub changed : (own : Opening) (mismatch : Option Field) (hello : Hello) (now : ℕ) (contact : Contact)
       → is_playing contact.stage ≡ true
+      → (after_hello own mismatch hello now contact).draw ≢ contact.draw → hello.echo ≡ own.draw
+  -- and none at all once a play of that opening was heard
+  pub lasts : (own : Opening) (mismatch : Option Field) (hello : Hello) (now : ℕ) (contact : Contact)
+      → is_playing contact.stage ≡ true → contact.confirmed ≡ true
       → (after_hello own mismatch hello now contact).draw ≡ contact.draw
   -- a restart is found out only by one that says this opening's own draw, and another than the one that is believed
   pub restarted : (own : Opening) (mismatch : Option Field) (hello : Hello) (now : ℕ) (contact : Contact)

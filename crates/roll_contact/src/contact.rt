@@ -1,7 +1,7 @@
 //! What this end knows of another.
 ghost use Rattle.std.specs.Prelude.{◌≡◌};
 ghost use Rattle.roll_contact.specs.Clocks.{difference};
-ghost use Rattle.roll_contact.specs.Contacts.{after_clocks, after_hello, after_play, are_newer, behind_of, believing, clocks_for, counted, frame_after, greeted, heard, hello_echo, hello_sent, hushed, is_before, is_fresh, is_hushed, is_playing, is_silent, least_patience, measured, meeting, opened_contact, owes_now, play_sent, refused, says_hello, silence, told, unanswered_for, wants_clocks};
+ghost use Rattle.roll_contact.specs.Contacts.{after_clocks, after_hello, after_play, are_newer, behind_of, believing, clocks_for, counted, frame_after, greeted, heard, hello_echo, hello_sent, hushed, is_before, is_fresh, is_hushed, is_playing, is_silent, least_patience, measured, meeting, opened_contact, other_opening, play_sent, refused, says_hello, silence, told, unanswered_for, wants_clocks};
 
 use crate::clock::since;
 use crate::terms::Field;
@@ -66,9 +66,9 @@ pub struct Contact {
     pub stage: Stage,
     /// The draw of the opening that is believed, 0 if none is.
     pub draw: u64,
-    /// The draw that was heard last of one that isn't believed, or is believed since, 0 if none was.
+    /// The draw that was heard last before one was believed, 0 if none was.
     pub echo: u64,
-    /// Whether a hello is owed to a draw that isn't believed, though the two play.
+    /// Whether a hello is owed, since one came of an opening that isn't believed, though the two play.
     pub owes_hello: bool,
     /// Whether a play of the opening that is believed was heard.
     pub confirmed: bool,
@@ -150,19 +150,30 @@ impl Contact {
     pub fn hello(&mut self, own: &Opening, mismatch: Option<Field>, hello: &Hello, now: u32)
         ensures { self.new ≡ after_hello own.now mismatch hello.now now self.old }
     {
-        let echoed = hello.echo == own.draw;
         if !self.is_playing() {
             self.meet(own, mismatch, hello, now);
-        } else if hello.draw == self.draw {
+        } else if hello.draw != self.draw {
+            self.hear_another(own, mismatch, hello, now);
+        } else {
             self.heard(now);
-            if echoed {
+            if hello.echo == own.draw {
                 self.differs = mismatch;
             }
-        } else if echoed {
+        }
+    }
+
+    /// A hello was heard of another opening than the one that is believed. If that one was never heard to play, and the other says this
+    /// opening's draw, it takes its place.
+    fn hear_another(&mut self, own: &Opening, mismatch: Option<Field>, hello: &Hello, now: u32)
+        ensures { self.new ≡ other_opening own.now mismatch hello.now now self.old }
+    {
+        if hello.echo != own.draw {
+            self.owes_hello |= hello.draw != self.restarted;
+        } else if self.confirmed {
             self.restarted = hello.draw;
-        } else if hello.draw != self.restarted {
-            self.echo = hello.draw;
-            self.owes_hello = true;
+        } else {
+            self.heard(now);
+            self.judge(own, mismatch, hello, now);
         }
     }
 
@@ -287,19 +298,11 @@ impl Contact {
             || self.patience > 0 && since(now, self.clocks_at) >= self.patience / CLOCKS_IN_PATIENCE
     }
 
-    /// Whether the hello that is owed goes to it next.
-    fn owes_now(&self) -> bool
-        ensures { result ≡ owes_now self.now }
-    {
-        self.owes_hello && self.sent % HELLO_EVERY == HELLO_AT
-    }
-
-    /// The draw that the next hello to it says back: the one that is believed, but that the hello that is owed says the one that was
-    /// heard last.
+    /// The draw that hellos to it say back: the one that is believed, or else the one that was heard last.
     pub fn hello_echo(&self) -> u64
         ensures { result ≡ hello_echo self.now }
     {
-        if self.is_playing() && !self.owes_now() {
+        if self.is_playing() {
             self.draw
         } else {
             self.echo
@@ -310,7 +313,9 @@ impl Contact {
     pub fn says_hello(&self) -> bool
         ensures { result ≡ says_hello self.now }
     {
-        !self.is_playing() || !self.confirmed && self.sent % 2 == 0 || self.owes_now()
+        !self.is_playing()
+            || !self.confirmed && self.sent % 2 == 0
+            || self.owes_hello && self.sent % HELLO_EVERY == HELLO_AT
     }
 
     /// One more packet was sent to it.
@@ -324,9 +329,7 @@ impl Contact {
     pub fn hello_sent(&mut self)
         ensures { self.new ≡ hello_sent self.old }
     {
-        if self.owes_now() {
-            self.owes_hello = false;
-        }
+        self.owes_hello = false;
         self.count();
     }
 
