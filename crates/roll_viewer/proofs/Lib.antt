@@ -1,4 +1,5 @@
 mod Answered
+mod Sealed
 mod Padding
 mod Once
 mod Decoded

@@ -8,7 +8,7 @@ use Rattle.roll_spectate.specs.Rings.{Ring}
 use Rattle.roll_spectate.specs.Sent.{Fed}
 use Rattle.roll_wire.specs.Spelling.{Content, Greets, Leaves, Plays, Turn}
 use Rattle.roll_wire.specs.declared.datagram.Clocks.{Clocks}
-use Rattle.roll_viewer.specs.Lines.{after_bye, after_hello, after_play, clocks_at, greeting, hello_said, mismatched, opened, opened_line, play_said, players_of, said, turn_said}
+use Rattle.roll_viewer.specs.Lines.{after_bye, after_hello, after_play, clocks_at, greeting, hello_said, mismatched, opened, opened_line, play_said, players_of, said, turn_said, IsSealedFor}
 use Rattle.roll_viewer.specs.Rows.{are_rows, first_row, is_inside, least_with, most_of, IsSent}
 use Rattle.roll_viewer.specs.Telling.{padded, room_after, told_to, with_clocks}
 use Rattle.roll_viewer.specs.declared.line.Line.{Line}
@@ -56,6 +56,7 @@ host_after host now Leaves = record host { line = after_bye host.line }
 pub record HostHears (old new : Hosted) (bytes : List ℕ) (now : ℕ) : Type 0 where
   pub what : Content
   pub is_opened : opened old.line VIEWER bytes ≡ Ok what
+  pub is_sealed : IsSealedFor old.line bytes what
   pub new_is : new ≡ host_after old now what
 
 -- the rows up to there were told
@@ -127,6 +128,7 @@ Hears old new now Leaves count = (new ≡ record old { line = after_bye old.line
 pub record ViewerHears (old new : Viewing) (bytes : List ℕ) (now count : ℕ) : Type 0 where
   pub what : Content
   pub is_opened : opened old.line old.line.settings.host bytes ≡ Ok what
+  pub is_sealed : IsSealedFor old.line bytes what
   pub hears : Hears old new now what count
 
 -- a viewer of a match of so many players says how many rows it has

@@ -3,7 +3,7 @@ use Rattle.std.specs.Prelude.{◌≡◌, ℕ, ◌%◌, ◌^◌, List, length, sl
 use Rattle.roll_contact.specs.Clocks.{first_clock, ticked}
 use Rattle.roll_contact.specs.Contacts.{after_hello as hello_heard, after_play as play_heard, clocks_for, hello_echo, hello_sent, is_playing, is_silent as is_silent_at, opened_contact, play_sent, refused, says_hello, unanswered_for, wants_clocks}
 use Rattle.roll_contact.specs.Keys.{greeting_key}
-use Rattle.roll_contact.specs.Seals.{sealed, unsealed}
+use Rattle.roll_contact.specs.Seals.{named, sealed, unsealed, IsSealed}
 use Rattle.roll_contact.specs.Terms.{hello_of, mismatch_of}
 use Rattle.roll_contact.specs.declared.contact.Contact.{Contact}
 use Rattle.roll_contact.specs.declared.contact.Opening.{Opening}
@@ -73,15 +73,19 @@ opened_line settings = record {
   ended = false;
 }
 
+-- by what the other end seals once its draw is believed
+abbrev pub key_of_both : Line → Key
+key_of_both line = record {
+  number = line.settings.number;
+  from = line.contact.draw;
+  to = line.settings.draw;
+}
+
 -- by what the other end seals a datagram of a kind: hellos before any draw is believed, all else by the draws of both
 abbrev pub their_key : Line → ℕ → Option Key
 their_key line kind =
     if kind == HELLO then Some (greeting_key line.settings.number)
-    else (if is_playing line.contact.stage then Some (record {
-      number = line.settings.number;
-      from = line.contact.draw;
-      to = line.settings.draw;
-    }) else None)
+    else (if is_playing line.contact.stage then Some (key_of_both line) else None)
 
 -- the datagram that was sealed by a key
 abbrev pub unsealed_by : Option Key → List ℕ → Option (List ℕ)
@@ -120,6 +124,22 @@ opened line sender bytes = read_sealed (came line sender bytes)
 abbrev pub Gives : {X Y : Type 0} → (X → Y) → Result X LineRefusal → Result Y LineRefusal → Type 0
 Gives view (Ok x) what = what ≡ Ok (view x)
 Gives view (Err why) what = what ≡ Err why
+
+-- bytes that say this are sealed as they have to be: hellos by the key of hellos, and all else by the draws of both ends, of which
+-- the other's is believed
+abbrev pub IsSealedFor : Line → List ℕ → Content → Type 0
+IsSealedFor line bytes (Greets hello) = IsSealed (greeting_key line.settings.number) bytes
+IsSealedFor line bytes (Plays t) =
+    (is_playing line.contact.stage ≡ true) × IsSealed (key_of_both line) bytes
+IsSealedFor line bytes Leaves =
+    (is_playing line.contact.stage ≡ true) × IsSealed (key_of_both line) bytes
+
+-- the datagram that was sealed as bytes by the key of its kind
+pub record IsUnsealed (line : Line) (bytes text : List ℕ) : Type 0 where
+  pub key : Key
+  pub is_key : their_key line (slice_index_or bytes KIND_AT 0) ≡ Some key
+  pub is_sealed : IsSealed key bytes
+  pub text_is : text ≡ named key.number bytes
 
 -- why a hello is answered by a refusal: it says this opening's draw, and means another match
 abbrev pub mismatched : Line → Hello → Option LineRefusal
@@ -189,7 +209,7 @@ said line sender what = sealed (key_for line what) (spelling (record {
   content = what;
 }))
 
--- which match this end means, and which draw it heard last
+-- which match this end means, and which draw of the other end it says back
 abbrev pub greeting : Line → Content
 greeting line = Greets (hello_of (terms_of line.settings) (opening_of line.settings) (hello_echo line.contact))
 

@@ -1,8 +1,8 @@
 //! A viewer's line: what its two ends have in common.
-ghost use Rattle.std.specs.Prelude.{◌≡◌, None, Some, option_map, true, IfErr, OnOk};
+ghost use Rattle.std.specs.Prelude.{◌≡◌, None, Some, option_map, true, IfErr, IfOk, OnOk};
 ghost use Rattle.roll_contact.specs.Contacts.{is_playing};
 ghost use Rattle.roll_wire.specs.Spelling.{content, is_turn, is_whole, turn, Plays};
-ghost use Rattle.roll_viewer.specs.Lines.{after_bye, after_hello, after_play, after_refused, after_unread, came, clocks_at, farewell, greeting, hello_said, is_silent, key_for, mismatched, moment_at, opened, opened_line, play_said, said, silence, their_key, Gives};
+ghost use Rattle.roll_viewer.specs.Lines.{after_bye, after_hello, after_play, after_refused, after_unread, came, clocks_at, farewell, greeting, hello_said, is_silent, key_for, mismatched, moment_at, opened, opened_line, play_said, said, silence, their_key, Gives, IsSealedFor, IsUnsealed};
 
 use crate::refusal::LineRefusal;
 use crate::settings::LineSettings;
@@ -52,6 +52,7 @@ impl Line {
     #[tactic(auto, unfolding(crate::specs::Lines::opened))]
     pub(crate) fn open(&mut self, sender: u8, bytes: &[u8]) -> Result<Body, LineRefusal>
         ensures opened { Gives content result (opened self.old sender bytes.now) }
+        ensures sealed { IfOk result (λ body. IsSealedFor self.old bytes.now (content body)) }
         ensures same { OnOk result (self.new ≡ self.old) }
         ensures rest { IfErr result (λ why. self.new ≡ after_unread why self.old) }
     {
@@ -68,6 +69,7 @@ impl Line {
     /// The datagram that this sender sealed as these bytes.
     fn unseal(&self, sender: u8, bytes: &[u8]) -> Result<ArrayVec<u8, DATAGRAM_LIMIT>, LineRefusal>
         ensures came { Gives (λ text. text.items) result (came self.now sender bytes.now) }
+        ensures sealed { IfOk result (λ text. IsUnsealed self.now bytes.now text.items) }
         ensures rest { IfErr result (λ why. self.now ≡ after_unread why self.now) }
     {
         if self.ended {
