@@ -1,8 +1,8 @@
 -- Who holds up a match.
-use Rattle.std.proofs.Common.{◌≡◌, ◌∙◌, ◌<◌, ◌+◌, ℕ, suc, List, Bool, true, false, Option, Some, None, refl, sym, ap, arith}
+use Rattle.std.proofs.Common.{◌≡◌, ◌∙◌, ◌≤◌, ◌+◌, ℕ, suc, List, Bool, true, false, Option, Some, None, refl, sym, ap, arith}
 use Rattle.std.specs.List.{list_all, range_with_len}
-use Rattle.std.specs.Prelude.{◌==◌, ◌&&◌, ◌||◌, not, is_none, is_some, max, if◌then◌else◌, nat_le, nat_lt, slice_index}
-use Rattle.std.proofs.lemmas.Bool.{and_right, false_from_ne_true, le-ltb, leb-true, not_from_true, or_from}
+use Rattle.std.specs.Prelude.{◌==◌, ◌&&◌, ◌||◌, not, is_none, is_some, max, if◌then◌else◌, nat_lt, slice_index}
+use Rattle.std.proofs.lemmas.Bool.{and_right, le-ltb, not_from_true, or_from}
 use Rattle.roll_mesh.specs.HoldingUp.{could_give, fewest_of, held_up_by, holds_up, is_open_at, keeps_open, least_some, most_of, Waits, WaitersHoldUpNobody}
 use Rattle.roll_mesh.specs.Machines.{is_fenced, left_at, owner_of, told_by}
 use Rattle.roll_mesh.specs.declared.holding_up.TheConstants.{DELAY_ROOM}
@@ -39,21 +39,18 @@ pub holds_up_is : (seat : Seat) (here : Machine) (threshold m : ℕ) → holds_u
 unfolding holds_up
 holds_up_is seat here threshold m = refl
 
-gt-leb : (a b : ℕ) → b < a → nat_le a b ≡ false
-gt-leb a b l = false_from_ne_true (nat_le a b) (λ e. omega (arith, leb-true a b e, l))
-
 -- who waits is kept from its next word by the player it waits for
 kept : (seat : Seat) (here : Machine) (threshold m : ℕ) (view : View) → (w : Waits seat threshold m view)
     → keeps_open seat here threshold (most_of seat view.has m PLAYER_LIMIT) view.has w.player ≡ false
 kept seat here threshold m view w =
     let own : ℕ = most_of seat view.has m PLAYER_LIMIT in
     let has : ℕ = slice_index view.has w.player in
-    let few : w.delay < 9 = w.few in
-    let more : nat_le own (has + threshold) ≡ false = gt-leb own (has + threshold) (omega (arith, w.all_given)) in
+    let few : w.delay ≤ 8 = w.few in
+    let more : nat_lt own (has + threshold) ≡ false = le-ltb own (has + threshold) (omega (arith, w.all_given)) in
     let near : nat_lt (has + threshold + DELAY_ROOM) own ≡ false = le-ltb (has + threshold + DELAY_ROOM) own (omega (arith, w.all_given, few)) in
     or_from (not (nat_lt (owner_of seat w.player) seat.machines)) (is_open_at here threshold own view.has w.player)
     (not_from_true (nat_lt (owner_of seat w.player) seat.machines) w.plays)
-    (or_from (nat_le own (has + threshold)) (is_some (left_at here w.player) && nat_lt (has + threshold + DELAY_ROOM) own)
+    (or_from (nat_lt own (has + threshold)) (is_some (left_at here w.player) && nat_lt (has + threshold + DELAY_ROOM) own)
     more (and_right (is_some (left_at here w.player)) (nat_lt (has + threshold + DELAY_ROOM) own) near))
 
 -- what the test says

@@ -31,7 +31,7 @@ fewest_of seat here m (suc p) =
 abbrev pub awaited_of : ℕ → ℕ → Option ℕ → Option ℕ
 awaited_of own threshold None = None
 awaited_of own threshold (Some fewest) =
-    if nat_lt (fewest + threshold) own then Some fewest else None
+    if nat_le (fewest + threshold) own then Some fewest else None
 
 abbrev pub awaited : Seat → Machine → ℕ → ℕ → Option ℕ
 awaited seat here threshold m =
@@ -42,7 +42,7 @@ awaited seat here threshold m =
 -- the player has left, and it has gone on since
 abbrev pub is_open_at : Machine → ℕ → ℕ → List ℕ → ℕ → Bool
 is_open_at here threshold own has p =
-    nat_le own (slice_index has p + threshold)
+    nat_lt own (slice_index has p + threshold)
     || (is_some (left_at here p) && nat_lt (slice_index has p + threshold + DELAY_ROOM) own)
 
 abbrev pub keeps_open : Seat → Machine → ℕ → ℕ → List ℕ → ℕ → Bool
@@ -71,9 +71,9 @@ pub record Waits (seat : Seat) (threshold m : ℕ) (view : View) : Type 0 where
   pub delay : ℕ
   pub is_player : player < PLAYER_LIMIT
   pub plays : nat_lt (owner_of seat player) seat.machines ≡ true
-  pub few : delay < DELAY_ROOM
+  pub few : delay ≤ DELAY_ROOM
   pub all_given : most_of seat view.has m PLAYER_LIMIT
-      ≡ slice_index view.has player + threshold + (delay + 1)
+      ≡ slice_index view.has player + threshold + delay
 
 -- who itself waits, by what it told last, holds up nobody
 abbrev pub WaitersHoldUpNobody : Type 0

@@ -9,8 +9,8 @@ use crate::mesh::Mesh;
 use crate::packet::View;
 use crate::seat::Seat;
 
-/// So many words more than a machine can have while it waits: the greatest input delay, and one.
-const DELAY_ROOM: u64 = 9;
+/// So many words more a machine can have while it waits: the greatest input delay.
+const DELAY_ROOM: u64 = 8;
 
 impl Mesh {
     /// The number of words of a player of another machine whose next one this machine waits for, if that machine holds up the match:
@@ -77,7 +77,7 @@ fn awaited(seat: &Seat, here: &Machine, machine: u8, threshold: u32) -> Option<u
 {
     let own = most_of(seat, &here.has, seat.me);
     match fewest_of(seat, here, machine) {
-        Some(fewest) if u64::from(fewest) + u64::from(threshold) < u64::from(own) => Some(fewest),
+        Some(fewest) if u64::from(fewest) + u64::from(threshold) <= u64::from(own) => Some(fewest),
         _ => None,
     }
 }
@@ -94,7 +94,7 @@ fn is_open_at(
     ensures { result ≡ is_open_at here.now threshold own has.now player }
 {
     let end = u64::from(has[player]) + u64::from(threshold);
-    u64::from(own) <= end
+    u64::from(own) < end
         || here.left_at(player as u8).is_some() && end + DELAY_ROOM < u64::from(own)
 }
 
