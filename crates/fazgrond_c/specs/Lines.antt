@@ -1,15 +1,15 @@
 -- What a call of a line at its host comes to.
 use Rattle.std.specs.Prelude.{◌≡◌, ◌≢◌, ◌⊎◌, ℕ, ℤ, pos, List, Option, Some, None, IfNone, IfSome, IsSomeAnd, if◌then◌else◌}
 use Rattle.roll_frame.specs.Core.{Core}
-use Rattle.roll_peer.specs.Contacts.{is_playing}
+use Rattle.roll_contact.specs.Contacts.{is_playing}
 use Rattle.roll_viewer.specs.Ends.{host_sends, host_told, ignored_by_host, opened_host, HostHears}
-use Rattle.roll_viewer.specs.Lines.{after_bye, after_refusal, opened as what_is_in, said, silence}
+use Rattle.roll_viewer.specs.Lines.{after_bye, after_refusal, farewell, fault_of, is_silent, opened as what_is_in, silence}
 use Rattle.roll_viewer.specs.Seeing.{TellsRows}
 use Rattle.roll_viewer.specs.declared.line.Line.{Line}
+use Rattle.roll_viewer.specs.declared.refusal.LineFault.{LineFault}
 use Rattle.roll_viewer.specs.declared.refusal.LineRefusal.{LineRefusal}
 use Rattle.roll_viewer.specs.declared.settings.LineSettings.{LineSettings}
-use Rattle.roll_wire.specs.Spelling.{Leaves}
-use Rattle.fazgrond_c.specs.LineKinds.{code_of_line, AreTold, HasNoRoom}
+use Rattle.fazgrond_c.specs.LineKinds.{code_of_fault, code_of_line, AreTold, HasNoRoom}
 use Rattle.fazgrond_c.specs.Peers.{code_unless, AreWritten, FillsBy, IsNothing}
 use Rattle.fazgrond_c.specs.declared.line_kinds.LineIn.{LineIn}
 use Rattle.fazgrond_c.specs.declared.line_kinds.LineState.{LineState}
@@ -28,52 +28,63 @@ pub record OpensBy {L : Type 0} (is_open : L → Type 0) (old new : Option L) (c
   pub opened : code ≡ pos 0 → IsSomeAnd new is_open
   pub refused : code ≢ pos 0 → new ≡ old
 
--- why no end is opened: a number has no room where it belongs, or memory ran out
+-- there is no such line
+pub record IsFaulty (given : LineIn) (code : ℤ) : Type 0 where
+  pub settings : LineSettings
+  pub are_told : AreTold given settings
+  pub fault : LineFault
+  pub why : fault_of settings ≡ Some fault
+  pub code_is : code ≡ pos (code_of_fault fault)
+
+-- why no end is opened: a number has no room where it belongs, or there is no such line, or memory ran out
 abbrev pub IsWhyClosed : LineIn → ℤ → Type 0
-IsWhyClosed given code = ((code ≡ pos 11) × HasNoRoom given) ⊎ (code ≡ pos 107)
+IsWhyClosed given code =
+    ((code ≡ pos 11) × HasNoRoom given) ⊎ (IsFaulty given code ⊎ (code ≡ pos 107))
 
 -- a host that has heard nothing of its viewer
 pub record IsOpened (given : LineIn) (live : LineLive) : Type 0 where
   pub settings : LineSettings
   pub are_told : AreTold given settings
+  pub accepted : fault_of settings ≡ None
   pub line : live.line ≡ opened_host settings
 
 -- ---- hearing and sending
 
--- bytes of the viewer are heard, or they aren't, and nothing is changed but what a refusal changes
+-- bytes of the viewer are heard, or they aren't, and what a refusal changes is changed alone
 pub record HostHearsBytes (bytes : List ℕ) (now : ℕ) (old new : LineLive) (code : ℤ)
     : Type 0 where
   pub why : Option LineRefusal
   pub why_is : ignored_by_host old.line (what_is_in old.line.line VIEWER bytes) ≡ why
   pub heard : IfNone why (HostHears old.line new.line bytes now)
   pub refused : IfSome why
-      (λ why. new.line ≡ record old.line { line = after_refusal why old.line.line })
+      (λ why. new.line ≡ record old.line {
+        line = after_refusal old.line.line now why
+            (what_is_in old.line.line VIEWER bytes);
+      })
   pub code_is : code ≡ code_unless code_of_line why
 
--- what is sent in a turn of a session is written, and told from now on: settled rows of the session, if both have heard each
--- other
-pub record IsTelling (core : Core) (old new : LineLive) (before after : List ℕ) (had size : ℕ)
+-- what is sent in a turn of a session is written, and told from now on: a hello, or settled rows of the session
+pub record IsTelling (core : Core) (now : ℕ) (old new : LineLive) (before after : List ℕ) (had size : ℕ)
     (code : ℤ) : Type 0 where
   pub bytes : Option (List ℕ)
-  pub sent : bytes ≡ host_sends old.line core
-  pub told : new ≡ record old { line = host_told old.line core }
+  pub sent : bytes ≡ host_sends old.line core now
+  pub told : new ≡ record old { line = host_told old.line core now }
   pub rows : TellsRows core old.line.had
   pub written : AreWritten bytes before after had size code
 
 -- the same through handles: the line is told of the peer's session
-pub record TellsBy (peer : Option PeerLive) (old new : Option LineLive) (before after : List ℕ)
+pub record TellsBy (now : ℕ) (peer : Option PeerLive) (old new : Option LineLive) (before after : List ℕ)
     (had size : ℕ) (code : ℤ) : Type 0 where
   pub closed : peer ≡ None → IsNothing 201 old new before after had size code
-  pub made : IfSome peer (λ of_match. FillsBy (IsTelling of_match.peer.member.session.core)
+  pub made : IfSome peer (λ of_match. FillsBy (IsTelling of_match.peer.member.session.core now)
       old new before after had size code)
 
--- the bytes by which the host says that it leaves are written, and the line has ended
+-- the bytes by which the host says that it leaves are written, if the viewer's draw is believed, and the line has ended
 pub record IsHostsBye (old new : LineLive) (before after : List ℕ) (had size : ℕ) (code : ℤ)
     : Type 0 where
   pub ended : new ≡ record old { line = record old.line { line = after_bye old.line.line } }
-  pub written : AreWritten
-      (Some (said old.line.line.settings old.line.line.settings.host Leaves)) before after had size
-      code
+  pub written : AreWritten (farewell old.line.line old.line.line.settings.host) before after had
+      size code
 
 -- ---- what is read
 
@@ -83,8 +94,9 @@ state_of line rows settled now = record {
   rows = rows;
   settled = settled;
   silence = silence line now;
-  is_playing = if is_playing line.stage then 1 else 0;
+  is_playing = if is_playing line.contact.stage then 1 else 0;
   has_ended = if line.ended then 1 else 0;
+  is_silent = if is_silent line now then 1 else 0;
 }
 
 abbrev pub host_state : ℕ → LineLive → LineState

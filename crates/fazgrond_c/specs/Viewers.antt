@@ -1,11 +1,10 @@
 -- What a call of a viewer comes to.
 use Rattle.std.specs.Prelude.{◌≡◌, ℕ, ℤ, pos, List, [], ◌∷◌, ◌++◌, length, Option, Some, None, IfNone, IfSome, MatchOption, Result, Ok, Err, IfErr, IfOk, OnErr, OnOk, slice_get}
 use Rattle.roll_frame.specs.declared.row.Cell.{Cell}
-use Rattle.roll_viewer.specs.Ends.{ignored_by_viewer, opened_viewer, viewer_sends, ViewerHears}
-use Rattle.roll_viewer.specs.Lines.{after_bye, after_refusal, opened as what_is_in, said}
+use Rattle.roll_viewer.specs.Ends.{ignored_by_viewer, opened_viewer, viewer_sends, viewer_told, ViewerHears}
+use Rattle.roll_viewer.specs.Lines.{after_bye, after_refusal, farewell, fault_of, opened as what_is_in}
 use Rattle.roll_viewer.specs.declared.refusal.LineRefusal.{LineRefusal}
 use Rattle.roll_viewer.specs.declared.settings.LineSettings.{LineSettings}
-use Rattle.roll_wire.specs.Spelling.{Leaves}
 use Rattle.fazgrond_c.specs.Kinds.{row_out}
 use Rattle.fazgrond_c.specs.LineKinds.{code_of_line, AreTold}
 use Rattle.fazgrond_c.specs.Lines.{state_of, VIEWER}
@@ -23,14 +22,15 @@ pub record IsOpenedAs (settings : LineSettings) (live : ViewerLive) : Type 0 whe
 pub record IsOpened (given : LineIn) (live : ViewerLive) : Type 0 where
   pub settings : LineSettings
   pub are_told : AreTold given settings
+  pub accepted : fault_of settings ≡ None
   pub opened : IsOpenedAs settings live
 
 abbrev pub code_of_hearing : Result ℕ LineRefusal → ℤ
 code_of_hearing (Ok count) = pos 0
 code_of_hearing (Err why) = pos (code_of_line why)
 
--- bytes of the host are heard, and it is written how many rows were taken; or they aren't, and nothing is changed but what a
--- refusal changes
+-- bytes of the host are heard, and it is written how many rows were taken; or they aren't, and what a refusal changes is changed
+-- alone
 pub record ViewerHearsBytes (bytes : List ℕ) (now : ℕ) (old new : ViewerLive) (before after : ℕ)
     (code : ℤ) : Type 0 where
   pub result : Result ℕ LineRefusal
@@ -39,27 +39,29 @@ pub record ViewerHearsBytes (bytes : List ℕ) (now : ℕ) (old new : ViewerLive
       (what_is_in old.viewer.line old.viewer.line.settings.host bytes) ≡ None)
   pub refused : IfErr result (λ why. ignored_by_viewer old.viewer
       (what_is_in old.viewer.line old.viewer.line.settings.host bytes) ≡ Some why)
-  pub unchanged : IfErr result
-      (λ why. new.viewer ≡ record old.viewer { line = after_refusal why old.viewer.line })
+  pub rest : IfErr result
+      (λ why. new.viewer ≡ record old.viewer {
+        line = after_refusal old.viewer.line now why
+            (what_is_in old.viewer.line old.viewer.line.settings.host bytes);
+      })
   pub stream : new.stream ≡ old.stream
   pub written : IfOk result (λ count. after ≡ count)
   pub unwritten : OnErr result (after ≡ before)
   pub code_is : code ≡ code_of_hearing result
 
--- what is sent to the host is written: how many rows the viewer has, if both have heard each other
-pub record IsViewersWord (old new : ViewerLive) (before after : List ℕ) (had size : ℕ)
+-- what is sent to the host is written: a hello, or how many rows the viewer has
+pub record IsViewersWord (now : ℕ) (old new : ViewerLive) (before after : List ℕ) (had size : ℕ)
     (code : ℤ) : Type 0 where
   pub bytes : Option (List ℕ)
-  pub sent : bytes ≡ viewer_sends old.viewer
-  pub kept : new ≡ old
+  pub sent : bytes ≡ viewer_sends old.viewer now
+  pub told : new ≡ record old { viewer = viewer_told old.viewer now }
   pub written : AreWritten bytes before after had size code
 
--- the bytes by which the viewer says that it leaves are written, and the line has ended
+-- the bytes by which the viewer says that it leaves are written, if the host's draw is believed, and the line has ended
 pub record IsViewersBye (old new : ViewerLive) (before after : List ℕ) (had size : ℕ) (code : ℤ)
     : Type 0 where
   pub ended : new ≡ record old { viewer = record old.viewer { line = after_bye old.viewer.line } }
-  pub written : AreWritten (Some (said old.viewer.line.settings VIEWER Leaves)) before after had
-      size code
+  pub written : AreWritten (farewell old.viewer.line VIEWER) before after had size code
 
 -- one row more was handed out
 abbrev pub with_row : List Cell → ViewerLive → ViewerLive

@@ -20,14 +20,14 @@ pub fn receive(live: &mut LineLive, bytes: &[u8], now: u32) -> i32
 }
 
 /// Writes what is to be sent to the viewer.
-pub fn send(live: &mut LineLive, peer: &PeerLive, out: &mut [u8], size: &mut usize) -> i32
-    ensures { Fills (IsTelling peer.now.peer.member.session.core) live.old live.new
+pub fn send(live: &mut LineLive, peer: &PeerLive, now: u32, out: &mut [u8], size: &mut usize) -> i32
+    ensures { Fills (IsTelling peer.now.peer.member.session.core now) live.old live.new
         out.old out.new size.old size.new result }
 {
     if out.len() < DATAGRAM_LIMIT {
         return TOO_SHORT;
     }
-    match live.line.send(peer.peer.session()) {
+    match live.line.send(peer.peer.session(), now) {
         Some(bytes) => {
             write(out, size, &bytes);
             0
@@ -43,6 +43,11 @@ pub fn bye(live: &mut LineLive, out: &mut [u8], size: &mut usize) -> i32
     if out.len() < DATAGRAM_LIMIT {
         return TOO_SHORT;
     }
-    write(out, size, &live.line.bye());
-    0
+    match live.line.bye() {
+        Some(bytes) => {
+            write(out, size, &bytes);
+            0
+        }
+        None => NOTHING,
+    }
 }

@@ -11,10 +11,12 @@ use roll_viewer::LineSettings;
 #[derive(Drop)]
 pub struct LineIn {
     pub number: u64,
+    pub draw: u64,
     pub digest: u64,
     pub host: u32,
     pub machines: u32,
     pub owners: [u32; PLAYER_LIMIT],
+    pub silent_after: u32,
 }
 
 impl LineIn {
@@ -29,10 +31,12 @@ impl LineIn {
         let owners = bytes_of(&self.owners)?;
         Some(LineSettings {
             number: self.number,
+            draw: self.draw,
             host,
             machines,
             owners,
             digest: self.digest,
+            silent_after: self.silent_after,
         })
     }
 }
@@ -46,4 +50,5 @@ pub struct LineState {
     pub silence: u32,
     pub is_playing: u32,
     pub has_ended: u32,
+    pub is_silent: u32,
 }

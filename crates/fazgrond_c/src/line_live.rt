@@ -1,11 +1,12 @@
 //! The host's end of a viewer's line.
-ghost use Rattle.std.specs.Prelude.{◌≡◌};
+ghost use Rattle.std.specs.Prelude.{◌≡◌, None, Some, IfErr, IfOk, OnOk};
 ghost use Rattle.roll_viewer.specs.Ends.{opened_host};
+ghost use Rattle.roll_viewer.specs.Lines.{fault_of};
 ghost use Rattle.fazgrond_c.specs.Lines.{host_state};
 
 use crate::line_kinds::LineState;
-use roll_peer::Stage;
-use roll_viewer::{LineSettings, ViewerLine};
+use roll_contact::Stage;
+use roll_viewer::{LineFault, LineSettings, ViewerLine};
 
 /// An open end of a host.
 #[derive(Drop)]
@@ -15,12 +16,17 @@ pub struct LineLive {
 
 impl LineLive {
     /// Nothing was heard.
-    pub fn open(settings: LineSettings) -> LineLive
-        ensures { result.line ≡ opened_host settings }
+    ///
+    /// # Errors
+    ///
+    /// What is wrong with the settings.
+    pub fn open(settings: LineSettings) -> Result<LineLive, LineFault>
+        ensures opened { IfOk result (λ live. live.line ≡ opened_host settings) }
+        ensures accepted { OnOk result (fault_of settings ≡ None) }
+        ensures refused { IfErr result (λ why. fault_of settings ≡ Some why) }
     {
-        LineLive {
-            line: ViewerLine::open(settings),
-        }
+        let line = ViewerLine::open(settings)?;
+        Ok(LineLive { line })
     }
 
     /// How far the two ends are.
@@ -33,6 +39,7 @@ impl LineLive {
             silence: self.line.silence(now),
             is_playing: u32::from(matches!(self.line.stage(), Stage::Playing)),
             has_ended: u32::from(self.line.has_ended()),
+            is_silent: u32::from(self.line.is_silent(now)),
         }
     }
 }

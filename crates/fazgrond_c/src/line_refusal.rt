@@ -1,8 +1,19 @@
-//! The numbers of why an end of a line doesn't hear bytes.
+//! The numbers of why no end of a line is opened, and of why it doesn't hear bytes.
 ghost use Rattle.std.specs.Prelude.{◌≡◌, pos};
-ghost use Rattle.fazgrond_c.specs.LineKinds.{code_of_line};
+ghost use Rattle.fazgrond_c.specs.LineKinds.{code_of_fault, code_of_line};
 
-use roll_viewer::LineRefusal;
+use roll_viewer::{LineFault, LineRefusal};
+
+/// The number of why no end of a line was opened.
+pub fn code_of_fault(why: LineFault) -> i32
+    ensures { result ≡ pos (code_of_fault why) }
+{
+    match why {
+        LineFault::NoDraw => 11,
+        LineFault::Machines | LineFault::Host => 303,
+        LineFault::NoMemory => 107,
+    }
+}
 
 /// The number of why an end of a line didn't hear bytes.
 pub fn code_of_line(why: LineRefusal) -> i32

@@ -9,6 +9,7 @@ use crate::line_calls;
 use crate::line_handle::LineHandle;
 use crate::line_kinds::{LineIn, LineState};
 use crate::line_live::LineLive;
+use crate::line_refusal::code_of_fault;
 use crate::peer_handle::PeerHandle;
 use crate::peer_live::PeerLive;
 use roll_frame::Refusal;
@@ -24,7 +25,11 @@ pub extern "C" fn fazgrond_line_open(alloc: Global, handle: &mut LineHandle, giv
     let Some(settings) = given.settings() else {
         return Refusal::InvalidRequest.code();
     };
-    let Ok(live) = Box::new(alloc, LineLive::open(settings)) else {
+    let live = match LineLive::open(settings) {
+        Ok(live) => live,
+        Err(why) => return code_of_fault(why),
+    };
+    let Ok(live) = Box::new(alloc, live) else {
         return Refusal::NoMemory.code();
     };
     let _old = handle.take(alloc);
@@ -64,17 +69,18 @@ fn tell(
     alloc: Global,
     handle: &mut LineHandle,
     peer: &PeerLive,
+    now: u32,
     out: &mut [u8],
     size: &mut usize,
 ) -> i32
-    ensures { FillsBy (IsTelling peer.now.peer.member.session.core)
+    ensures { FillsBy (IsTelling peer.now.peer.member.session.core now)
         handle.old.hold.value handle.new.hold.value
         out.old out.new size.old size.new result }
 {
     let Some(mut live) = handle.take(alloc) else {
         return CLOSED;
     };
-    let code = line_calls::send(&mut live, peer, out, size);
+    let code = line_calls::send(&mut live, peer, now, out, size);
     handle.put(live);
     code
 }
@@ -85,17 +91,18 @@ pub extern "C" fn fazgrond_line_send(
     alloc: Global,
     handle: &mut LineHandle,
     peer: &mut PeerHandle,
+    now: u32,
     out: &mut [u8],
     size: &mut usize,
 ) -> i32
-    ensures told { TellsBy peer.old.hold.value handle.old.hold.value handle.new.hold.value
+    ensures told { TellsBy now peer.old.hold.value handle.old.hold.value handle.new.hold.value
         out.old out.new size.old size.new result }
     ensures peer { peer.new.hold.value ≡ peer.old.hold.value }
 {
     let Some(of_match) = peer.take(alloc) else {
         return CLOSED;
     };
-    let code = tell(alloc, handle, &of_match, out, size);
+    let code = tell(alloc, handle, &of_match, now, out, size);
     peer.put(of_match);
     code
 }

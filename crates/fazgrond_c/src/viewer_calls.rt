@@ -23,13 +23,14 @@ pub fn receive(live: &mut ViewerLive, bytes: &[u8], now: u32, rows: &mut u32) ->
 }
 
 /// Writes what is to be sent to the host.
-pub fn send(live: &ViewerLive, out: &mut [u8], size: &mut usize) -> i32
-    ensures { Fills IsViewersWord live.now live.now out.old out.new size.old size.new result }
+pub fn send(live: &mut ViewerLive, now: u32, out: &mut [u8], size: &mut usize) -> i32
+    ensures { Fills (IsViewersWord now) live.old live.new out.old out.new size.old size.new
+        result }
 {
     if out.len() < DATAGRAM_LIMIT {
         return TOO_SHORT;
     }
-    match live.viewer.send() {
+    match live.viewer.send(now) {
         Some(bytes) => {
             write(out, size, &bytes);
             0
@@ -45,8 +46,13 @@ pub fn bye(live: &mut ViewerLive, out: &mut [u8], size: &mut usize) -> i32
     if out.len() < DATAGRAM_LIMIT {
         return TOO_SHORT;
     }
-    write(out, size, &live.viewer.bye());
-    0
+    match live.viewer.bye() {
+        Some(bytes) => {
+            write(out, size, &bytes);
+            0
+        }
+        None => NOTHING,
+    }
 }
 
 /// Writes the next row.

@@ -1,12 +1,14 @@
 //! A viewer of a game elsewhere, with the rows that it has heard.
-ghost use Rattle.std.specs.Prelude.{◌≡◌, length, slice_get, IfErr, IfNone, IfOk, IfSome};
-ghost use Rattle.roll_frame.specs.declared.refusal.Refusal.TheVariants.{NoMemory};
+ghost use Rattle.std.specs.Prelude.{◌≡◌, None, Some, length, slice_get, IfErr, IfNone, IfOk, IfSome, OnOk};
+ghost use Rattle.std.specs.Option.{option_or};
+ghost use Rattle.roll_viewer.specs.Lines.{fault_of};
+ghost use Rattle.roll_viewer.specs.declared.refusal.LineFault.TheVariants.{NoMemory};
 
 use crate::line_kinds::LineState;
-use roll_frame::{Refusal, Row};
-use roll_peer::Stage;
+use roll_contact::Stage;
+use roll_frame::Row;
 use roll_spectate::RowStream;
-use roll_viewer::{LineSettings, Viewer};
+use roll_viewer::{LineFault, LineSettings, Viewer};
 use std::alloc::Global;
 
 /// An open viewer.
@@ -24,10 +26,12 @@ impl ViewerLive {
     ///
     /// # Errors
     ///
-    /// `NoMemory` if the allocator has no room.
-    pub fn open(alloc: Global, settings: LineSettings) -> Result<ViewerLive, Refusal>
+    /// What is wrong with the settings; else `NoMemory`, if the allocator has no room.
+    pub fn open(alloc: Global, settings: LineSettings) -> Result<ViewerLive, LineFault>
         ensures opened { IfOk result (IsOpenedAs settings) }
-        ensures refused { IfErr result (λ why. why ≡ NoMemory) }
+        ensures accepted { OnOk result (fault_of settings ≡ None) }
+        ensures refused { IfErr result
+            (λ why. option_or (fault_of settings) (Some NoMemory) ≡ Some why) }
     {
         let (viewer, receiver) = Viewer::open(alloc, settings)?;
         let stream = receiver.into_stream();
@@ -53,6 +57,7 @@ impl ViewerLive {
             silence: self.viewer.silence(now),
             is_playing: u32::from(matches!(self.viewer.stage(), Stage::Playing)),
             has_ended: u32::from(self.viewer.has_ended()),
+            is_silent: u32::from(self.viewer.is_silent(now)),
         }
     }
 }

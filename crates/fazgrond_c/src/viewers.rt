@@ -8,6 +8,7 @@ ghost use Rattle.fazgrond_c.specs.Viewers.{viewer_state, IsOpened, IsSeen, IsVie
 use crate::calls::CLOSED;
 use crate::kinds::RowOut;
 use crate::line_kinds::{LineIn, LineState};
+use crate::line_refusal::code_of_fault;
 use crate::viewer_calls;
 use crate::viewer_handle::ViewerHandle;
 use crate::viewer_live::ViewerLive;
@@ -30,7 +31,7 @@ pub extern "C" fn fazgrond_viewer_open(
     };
     let live = match ViewerLive::open(alloc, settings) {
         Ok(live) => live,
-        Err(why) => return why.code(),
+        Err(why) => return code_of_fault(why),
     };
     let Ok(live) = Box::new(alloc, live) else {
         return Refusal::NoMemory.code();
@@ -73,16 +74,17 @@ pub extern "C" fn fazgrond_viewer_receive(
 pub extern "C" fn fazgrond_viewer_send(
     alloc: Global,
     handle: &mut ViewerHandle,
+    now: u32,
     out: &mut [u8],
     size: &mut usize,
 ) -> i32
-    ensures { FillsBy IsViewersWord handle.old.hold.value handle.new.hold.value
+    ensures { FillsBy (IsViewersWord now) handle.old.hold.value handle.new.hold.value
         out.old out.new size.old size.new result }
 {
-    let Some(live) = handle.take(alloc) else {
+    let Some(mut live) = handle.take(alloc) else {
         return CLOSED;
     };
-    let code = viewer_calls::send(&live, out, size);
+    let code = viewer_calls::send(&mut live, now, out, size);
     handle.put(live);
     code
 }
