@@ -53,5 +53,5 @@ pub use roll_spectate::{
 };
 pub use roll_synctest::{SyncTest, Verdict};
 pub use roll_text as text;
-pub use roll_viewer::{LineRefusal, LineSettings, Viewer, ViewerLine};
+pub use roll_viewer::{LineFault, LineRefusal, LineSettings, Viewer, ViewerLine};
 pub use roll_wire::DATAGRAM_LIMIT;
