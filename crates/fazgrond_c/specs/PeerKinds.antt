@@ -1,22 +1,22 @@
 -- What C sees of a match and of what a peer tells, and the numbers of its refusals.
 use Rattle.std.specs.Prelude.{◌≡◌, ℕ, is_some, unwrap_or, if◌then◌else◌, ◌⊎◌, ◌≤◌, slice_index}
 use Rattle.roll_frame.specs.Codes.{code_of}
+use Rattle.roll_contact.specs.declared.terms.Field.{Field}
+use Rattle.roll_contact.specs.declared.terms.Field.TheVariants.{Machines, Owners, Settings}
 use Rattle.roll_member.specs.declared.join.JoinRefusal.{JoinRefusal}
 use Rattle.roll_member.specs.declared.join.JoinRefusal.TheVariants.{InvalidSeat, Players, Started}
 use Rattle.roll_mesh.specs.declared.refusal.MeshRefusal.{MeshRefusal}
 use Rattle.roll_mesh.specs.declared.refusal.MeshRefusal.TheVariants.{CountFull, InvalidMachine as NoMachine, InvalidPlayer as NoPlayer, InvalidSeat as NoSeat, MachineGone as IsGone, Overstated as SaysMore, OwnMachine as ItsOwn}
-use Rattle.roll_peer.specs.declared.contact.Stats.{Stats}
 use Rattle.roll_peer.specs.declared.event.PeerEvent.{PeerEvent}
-use Rattle.roll_peer.specs.declared.event.PeerEvent.TheVariants.{Synchronizing, Synchronized, Running, DisconnectedFromPeer, TimeSync, Interrupted, Resumed, Desync, Mismatch, Dropped, Left}
+use Rattle.roll_peer.specs.declared.event.PeerEvent.TheVariants.{Synchronizing, Synchronized, Running, DisconnectedFromPeer, TimeSync, Interrupted, Resumed, Desync, Mismatch, Dropped, Left, Restarted, Stalled, Refused, Missing}
 use Rattle.roll_peer.specs.declared.received.Ignored.{Ignored}
-use Rattle.roll_peer.specs.declared.received.Ignored.TheVariants.{NotSealed, NoDatagram, InvalidMachine, OwnMachine, MachineGone, Mismatched, Overstated}
+use Rattle.roll_peer.specs.declared.received.Ignored.TheVariants.{NotSealed, NoDatagram, InvalidMachine, OwnMachine, MachineGone, Outside, Overstated}
 use Rattle.roll_peer.specs.declared.refusal.OpenRefusal.{OpenRefusal}
-use Rattle.roll_peer.specs.declared.refusal.OpenRefusal.TheVariants.{Join, NoMemory}
+use Rattle.roll_peer.specs.declared.refusal.OpenRefusal.TheVariants.{Join, NoDraw, NoMemory}
 use Rattle.roll_peer.specs.declared.refusal.PeerRefusal.{PeerRefusal}
 use Rattle.roll_peer.specs.declared.refusal.PeerRefusal.TheVariants.{NotSynchronized, Session}
-use Rattle.roll_peer.specs.declared.settings.Field.{Field}
-use Rattle.roll_peer.specs.declared.settings.Field.TheVariants.{Machines, Owners, Settings}
 use Rattle.roll_peer.specs.declared.settings.MatchSettings.{MatchSettings}
+use Rattle.roll_peer.specs.declared.stats.Stats.{Stats}
 use Rattle.fazgrond_c.specs.declared.peer_kinds.EventOut.{EventOut}
 use Rattle.fazgrond_c.specs.declared.peer_kinds.MatchIn.{MatchIn}
 use Rattle.fazgrond_c.specs.declared.peer_kinds.StatsOut.{StatsOut}
@@ -26,10 +26,12 @@ pub record AreMatched (given : MatchIn) (settings : MatchSettings) : Type 0 wher
   pub me : settings.me ≡ given.me
   pub machines : settings.machines ≡ given.machines
   pub owners : settings.owners ≡ given.owners
-  pub number : settings.match_number ≡ given.number
+  pub numbers : settings.numbers ≡ given.numbers
+  pub draw : settings.draw ≡ given.draw
   pub digest : settings.digest ≡ given.digest
   pub silent_after : settings.silent_after ≡ given.silent_after
   pub notify_after : settings.notify_after ≡ given.notify_after
+  pub stalled_after : settings.stalled_after ≡ given.stalled_after
 
 -- a number of it has no room in 8 bits
 abbrev pub HasNoRoom : MatchIn → Type 0
@@ -70,6 +72,11 @@ event_out (Desync machine frame) = record (bare 1102) { machine = machine; frame
 event_out (Mismatch machine field) =
     record (bare 1103) { machine = machine; field = field_out field }
 event_out Dropped = bare 1104
+event_out (Restarted machine) = record (bare 1105) { machine = machine }
+event_out (Stalled machine disconnect_in) =
+    record (bare 1106) { machine = machine; disconnect_in = disconnect_in }
+event_out (Refused machine) = record (bare 1107) { machine = machine }
+event_out (Missing machine) = record (bare 1108) { machine = machine }
 
 -- what was counted of a machine; the round trip is 0 if it wasn't measured
 abbrev pub stats_out : Stats → StatsOut
@@ -82,6 +89,7 @@ stats_out stats = record {
   words_queued = stats.words_queued;
   frames_behind = stats.frames_behind;
   their_frames_behind = stats.their_frames_behind;
+  refused = stats.refused;
 }
 
 -- ---- the numbers of refusals
@@ -92,8 +100,8 @@ code_of_ignored (NoDatagram fault) = 302
 code_of_ignored InvalidMachine = 303
 code_of_ignored OwnMachine = 304
 code_of_ignored MachineGone = 305
-code_of_ignored (Mismatched field) = 306
 code_of_ignored Overstated = 307
+code_of_ignored Outside = 312
 
 abbrev pub code_of_refusal : PeerRefusal → ℕ
 code_of_refusal NotSynchronized = 6
@@ -116,4 +124,5 @@ code_of_join Started = 11
 
 abbrev pub code_of_open : OpenRefusal → ℕ
 code_of_open (Join why) = code_of_join why
+code_of_open NoDraw = 11
 code_of_open NoMemory = 107

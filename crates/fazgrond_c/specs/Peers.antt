@@ -1,5 +1,6 @@
 -- What a call of a peer through a handle comes to.
-use Rattle.std.specs.Prelude.{◌≡◌, ◌≢◌, ◌⊎◌, ◌<◌, ◌≤◌, ℕ, ℤ, pos, List, ◌++◌, drop, length, slice_get, true, false, nat_lt, ◌&&◌, is_none, Option, Some, None, IfNone, IfSome, IsSome, IsSomeAnd, MatchOption, Result, Ok, Err, IfErr, IfOk, OnErr, OnOk, if◌then◌else◌}
+use Rattle.std.specs.Prelude.{◌≡◌, ◌≢◌, ◌⊎◌, ◌<◌, ◌≤◌, ℕ, ℤ, pos, List, ◌++◌, drop, length, slice_get, true, false, not, nat_lt, ◌&&◌, ◌||◌, is_none, Option, Some, None, IfNone, IfSome, IsSome, IsSomeAnd, MatchOption, Result, Ok, Err, IfErr, IfOk, OnErr, OnOk, if◌then◌else◌}
+use Rattle.roll_contact.specs.Contacts.{is_playing}
 use Rattle.roll_frame.specs.Codes.{code_of}
 use Rattle.roll_frame.specs.Core.{settled}
 use Rattle.roll_frame.specs.Timeline.{row_at}
@@ -13,9 +14,8 @@ use Rattle.roll_mesh.specs.declared.refusal.MeshRefusal.{MeshRefusal}
 use Rattle.roll_peer.specs.Digests.{noted}
 use Rattle.roll_peer.specs.Events.{popped}
 use Rattle.roll_peer.specs.Peered.{contact_at, GivesWord, IsNotGiven, IsOpenedAs, Peered}
-use Rattle.roll_peer.specs.Receiving.{ignored, opened as what_is_in, Receives}
-use Rattle.roll_peer.specs.Seals.{sealed}
-use Rattle.roll_peer.specs.Sending.{after_send, is_lost, stats_of, IsSent}
+use Rattle.roll_peer.specs.Receiving.{after_ignored, ignored, sender_of, ticking, Receives}
+use Rattle.roll_peer.specs.Sending.{after_send, is_lost, stats_of, text_for, IsSent}
 use Rattle.roll_peer.specs.Turning.{over, with_session, IsNotAdvanced, IsNotSynced, Polls}
 use Rattle.roll_peer.specs.declared.received.Ignored.{Ignored}
 use Rattle.roll_peer.specs.declared.received.Received.{Received}
@@ -26,7 +26,7 @@ use Rattle.roll_requests.specs.Names.{opening_digest, step_of}
 use Rattle.roll_session.specs.Changes.{advance_refusal, after_advance, after_sync, local_refusal, reached_by, sync_refusal}
 use Rattle.roll_session.specs.Started.{first_seen}
 use Rattle.roll_session.specs.declared.event.Reached.{Reached}
-use Rattle.roll_wire.specs.Spelling.{spelling, Leaves}
+use Rattle.roll_wire.specs.Spelling.{Leaves}
 use Rattle.roll_wire.specs.declared.limits.TheConstants.{DATAGRAM_LIMIT}
 use Rattle.fazgrond_c.specs.Kinds.{row_out, where_led, AreGiven, AreHanded, HaveNoRoom}
 use Rattle.fazgrond_c.specs.PeerKinds.{code_of_ignored, code_of_mesh, code_of_refusal, event_out, stats_out, AreMatched, HasNoRoom}
@@ -91,13 +91,14 @@ abbrev pub code_of_receipt : Result Received Ignored → ℤ
 code_of_receipt (Ok received) = pos 0
 code_of_receipt (Err why) = pos (code_of_ignored why)
 
--- bytes are heard, or they aren't, and nothing is changed
+-- bytes are heard, or they aren't, and nothing is changed but the clock; what their sender sealed is counted and told
 pub record IsReceived (bytes : List ℕ) (now : ℕ) (old new : PeerLive) (code : ℤ) : Type 0 where
   pub result : Result Received Ignored
-  pub received : IfOk result (Receives step_of old.peer new.peer bytes now)
-  pub accepted : OnOk result (ignored old.peer (what_is_in old.peer.settings.match_number bytes) ≡ None)
-  pub refused : IfErr result (λ why. ignored old.peer (what_is_in old.peer.settings.match_number bytes) ≡ Some why)
-  pub unchanged : OnErr result (new.peer ≡ old.peer)
+  pub received : IfOk result (Receives step_of (ticking now old.peer) new.peer bytes)
+  pub accepted : OnOk result (ignored (ticking now old.peer) bytes ≡ None)
+  pub refused : IfErr result (λ why. ignored (ticking now old.peer) bytes ≡ Some why)
+  pub left : IfErr result
+      (λ why. new.peer ≡ after_ignored (sender_of bytes) why (ticking now old.peer))
   pub given : new.given ≡ old.given
   pub code_is : code ≡ code_of_receipt result
 
@@ -118,7 +119,7 @@ pub record IsGiven (player word : ℕ) (old new : PeerLive) (code : ℤ) : Type 
 -- a poll is made, step by step; the code says why a player who is to leave is still there, if so
 pub record IsPolled (now : ℕ) (old new : PeerLive) (code : ℤ) : Type 0 where
   pub refusal : Option Refusal
-  pub polls : Polls old.peer new.peer now refusal
+  pub polls : Polls (ticking now old.peer) new.peer refusal
   pub given : new.given ≡ old.given
   pub code_is : code ≡ code_unless code_of refusal
 
@@ -186,19 +187,21 @@ AreWritten (Some bytes) before after had size code =
 pub record IsSentTo (machine now : ℕ) (old new : PeerLive) (before after : List ℕ) (had size : ℕ)
     (code : ℤ) : Type 0 where
   pub bytes : Option (List ℕ)
-  pub sent : IfSome bytes (IsSent old.peer machine now)
+  pub sent : IfSome bytes (IsSent (ticking now old.peer) machine)
   pub lost : is_none bytes ≡ is_lost old.peer machine
-  pub counted : new ≡ record old { peer = after_send old.peer machine }
+  pub counted : new ≡ record old { peer = after_send (ticking now old.peer) machine }
   pub written : AreWritten bytes before after had size code
 
--- the bytes by which this machine says that it leaves are written
-pub record IsFarewell (old new : PeerLive) (before after : List ℕ) (had size : ℕ) (code : ℤ)
-    : Type 0 where
+-- the bytes by which this machine says to another that it leaves are written; there are none for one to which nothing is sent, or
+-- that hasn't said this opening's draw
+pub record IsFarewell (machine : ℕ) (old new : PeerLive) (before after : List ℕ) (had size : ℕ)
+    (code : ℤ) : Type 0 where
   pub kept : new ≡ old
-  pub written : AreWritten (Some (sealed (spelling (record {
-    envelope = record { match_number = old.peer.settings.match_number; sender = old.peer.settings.me };
-    content = Leaves;
-  })))) before after had size code
+  pub bytes : Option (List ℕ)
+  pub said : IfSome bytes (λ text. text ≡ text_for old.peer machine Leaves)
+  pub none : is_none bytes
+      ≡ (is_lost old.peer machine || not (is_playing (contact_at old.peer machine).stage))
+  pub written : AreWritten bytes before after had size code
 
 -- nothing is done, for this reason
 pub record IsNothing {P : Type 0} (reason : ℕ) (old new : P) (before after : List ℕ) (had size : ℕ)

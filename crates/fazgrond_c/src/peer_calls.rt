@@ -98,15 +98,21 @@ pub fn send(live: &mut PeerLive, machine: u8, now: u32, out: &mut [u8], size: &m
     }
 }
 
-/// Writes what says that this machine leaves.
-pub fn bye(live: &PeerLive, out: &mut [u8], size: &mut usize) -> i32
-    ensures { Fills IsFarewell live.now live.now out.old out.new size.old size.new result }
+/// Writes what says to a machine that this one leaves.
+pub fn bye(live: &PeerLive, machine: u8, out: &mut [u8], size: &mut usize) -> i32
+    ensures { Fills (IsFarewell machine) live.now live.now out.old out.new size.old size.new
+        result }
 {
     if out.len() < DATAGRAM_LIMIT {
         return TOO_SHORT;
     }
-    write(out, size, &live.peer.bye());
-    0
+    match live.peer.bye(machine) {
+        Some(bytes) => {
+            write(out, size, &bytes);
+            0
+        }
+        None => NOTHING,
+    }
 }
 
 /// Writes bytes to the front of a buffer, and how many they are.

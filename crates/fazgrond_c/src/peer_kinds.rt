@@ -4,6 +4,7 @@ ghost use Rattle.fazgrond_c.specs.PeerKinds.{bare, event_out, field_out, stats_o
 
 use crate::kinds::SettingsIn;
 use roll_frame::PLAYER_LIMIT;
+use roll_mesh::MACHINE_LIMIT;
 use roll_peer::{Field, MatchSettings, PeerEvent, Stats};
 
 /// How a peer is opened.
@@ -11,13 +12,15 @@ use roll_peer::{Field, MatchSettings, PeerEvent, Stats};
 #[derive(Drop)]
 pub struct MatchIn {
     pub session: SettingsIn,
-    pub number: u64,
+    pub numbers: [u64; MACHINE_LIMIT],
+    pub draw: u64,
     pub digest: u64,
     pub me: u32,
     pub machines: u32,
     pub owners: [u32; PLAYER_LIMIT],
     pub silent_after: u32,
     pub notify_after: u32,
+    pub stalled_after: u32,
 }
 
 impl MatchIn {
@@ -34,10 +37,12 @@ impl MatchIn {
             me,
             machines,
             owners,
-            match_number: self.number,
+            numbers: self.numbers,
+            draw: self.draw,
             digest: self.digest,
             silent_after: self.silent_after,
             notify_after: self.notify_after,
+            stalled_after: self.stalled_after,
         })
     }
 }
@@ -116,6 +121,16 @@ impl EventOut {
                 ..EventOut::by(1103, machine)
             },
             PeerEvent::Dropped => EventOut::bare(1104),
+            PeerEvent::Restarted { machine } => EventOut::by(1105, machine),
+            PeerEvent::Stalled {
+                machine,
+                disconnect_in,
+            } => EventOut {
+                disconnect_in,
+                ..EventOut::by(1106, machine)
+            },
+            PeerEvent::Refused { machine } => EventOut::by(1107, machine),
+            PeerEvent::Missing { machine } => EventOut::by(1108, machine),
         }
     }
 
@@ -170,6 +185,7 @@ pub struct StatsOut {
     pub words_queued: u32,
     pub frames_behind: i32,
     pub their_frames_behind: i32,
+    pub refused: u32,
 }
 
 impl StatsOut {
@@ -186,6 +202,7 @@ impl StatsOut {
             words_queued: stats.words_queued,
             frames_behind: stats.frames_behind,
             their_frames_behind: stats.their_frames_behind,
+            refused: stats.refused,
         }
     }
 }

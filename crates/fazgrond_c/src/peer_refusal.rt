@@ -39,8 +39,8 @@ pub fn code_of_ignored(why: Ignored) -> i32
         Ignored::InvalidMachine => 303,
         Ignored::OwnMachine => 304,
         Ignored::MachineGone => 305,
-        Ignored::Mismatched(_) => 306,
         Ignored::Overstated => 307,
+        Ignored::Outside => 312,
     }
 }
 
@@ -85,6 +85,7 @@ fn code_of_open(why: OpenRefusal) -> i32
 {
     match why {
         OpenRefusal::Join(why) => code_of_join(why),
+        OpenRefusal::NoDraw => Refusal::InvalidRequest.code(),
         OpenRefusal::NoMemory => Refusal::NoMemory.code(),
     }
 }

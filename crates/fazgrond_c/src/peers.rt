@@ -1,5 +1,5 @@
 //! Peers for games in other languages.
-ghost use Rattle.std.specs.Prelude.{◌≡◌, ◌≢◌, length, option_map, pos, slice_get, None};
+ghost use Rattle.std.specs.Prelude.{◌≡◌, ◌≢◌, length, option_map, pos, slice_get, if◌then◌else◌, None};
 ghost use Rattle.roll_frame.specs.Core.{settled as settled_frame};
 ghost use Rattle.roll_frame.specs.Inputs.{player_at};
 ghost use Rattle.fazgrond_c.specs.Kinds.{entry_out, row_out};
@@ -84,7 +84,7 @@ pub extern "C" fn fazgrond_peer_add_local_input(
     code
 }
 
-/// What a turn does before it plays: silent machines are gone, players leave, the match begins.
+/// What a turn does before it plays: machines that are silent or hold up the match are gone, players leave, the match begins.
 #[unsafe(no_mangle)]
 pub extern "C" fn fazgrond_peer_poll(alloc: Global, handle: &mut PeerHandle, now: u32) -> i32
     ensures { Makes (IsPolled now) handle.old.hold.value handle.new.hold.value result }
@@ -95,6 +95,24 @@ pub extern "C" fn fazgrond_peer_poll(alloc: Global, handle: &mut PeerHandle, now
     let code = peer_calls::poll(&mut live, now);
     handle.put(live);
     code
+}
+
+/// Whether words came since the last rollback, or players left.
+#[unsafe(no_mangle)]
+pub extern "C" fn fazgrond_peer_has_news(
+    alloc: Global,
+    handle: &mut PeerHandle,
+    flag: &mut u32,
+) -> i32
+    ensures { Reads (λ live. if live.peer.news then 1 else 0) handle.old.hold.value
+        handle.new.hold.value flag.old flag.new result }
+{
+    let Some(live) = handle.take(alloc) else {
+        return CLOSED;
+    };
+    *flag = u32::from(live.peer.has_news());
+    handle.put(live);
+    0
 }
 
 /// The row of this frame, after a rollback where one is due.
@@ -171,21 +189,22 @@ pub extern "C" fn fazgrond_peer_send(
     code
 }
 
-/// What says to all others that this machine leaves.
+/// What says to a machine that this one leaves.
 #[unsafe(no_mangle)]
 pub extern "C" fn fazgrond_peer_bye(
     alloc: Global,
     handle: &mut PeerHandle,
+    machine: u8,
     out: &mut [u8],
     size: &mut usize,
 ) -> i32
-    ensures { FillsBy IsFarewell handle.old.hold.value handle.new.hold.value
+    ensures { FillsBy (IsFarewell machine) handle.old.hold.value handle.new.hold.value
         out.old out.new size.old size.new result }
 {
     let Some(live) = handle.take(alloc) else {
         return CLOSED;
     };
-    let code = peer_calls::bye(&live, out, size);
+    let code = peer_calls::bye(&live, machine, out, size);
     handle.put(live);
     code
 }
