@@ -88,7 +88,7 @@ text_is key bytes text e = go (is_sealed key bytes) refl e
         → (12 ≤ length bytes) × (text ≡ named key.number bytes)
     go true s e = (
       leb-true 12 (length bytes) (and_parts (nat_le 12 (length bytes)) (nat_le (length bytes) DATAGRAM_LIMIT
-      && bytes_eq (sealed key (named key.number bytes)) bytes) s).0,
+          && bytes_eq (sealed key (named key.number bytes)) bytes) s).0,
       sym (one (named key.number bytes) text e),
     )
     go false s e = absurd (none_some text e)
