@@ -125,17 +125,19 @@ enum {
     FAZGROND_PENDING = 202,                 /* requests were not taken yet */
     FAZGROND_NOTHING = 203,                 /* there is no such thing: no such player, row or word */
     FAZGROND_TOO_SHORT = 204,               /* the buffer has less room than what is to be written */
-    FAZGROND_NOT_SEALED = 301,              /* bytes that are not of this match or line, or were changed on their way */
-    FAZGROND_NO_DATAGRAM = 302,             /* they are of this match or line, and no datagram of this version */
+    FAZGROND_NOT_SEALED = 301,              /* bytes that are not of this opening of the match or line, were changed on their
+                                             * way, or are too few or too many */
+    FAZGROND_NO_DATAGRAM = 302,             /* they are sealed as they have to be, and no datagram of this version */
     FAZGROND_INVALID_MACHINE = 303,         /* there is no such machine in the match */
     FAZGROND_OWN_MACHINE = 304,             /* the machine is this one */
     FAZGROND_MACHINE_GONE = 305,            /* the sender is gone */
-    FAZGROND_MISMATCHED = 306,              /* the sender means another match */
+    FAZGROND_MISMATCHED = 306,              /* a line: a hello of the other end that means another match */
     FAZGROND_OVERSTATED = 307,              /* the sender sends words that it does not say that it has */
     FAZGROND_ENDED = 308,                   /* a viewer's line has ended: one of its ends said bye */
     FAZGROND_OTHER_SENDER = 309,            /* the other end of the line didn't send them */
     FAZGROND_NO_ROWS = 310,                 /* what the host sends are no rows of this match's players */
-    FAZGROND_ROWS_MISSING = 311             /* rows before those that the host sends have not come yet */
+    FAZGROND_ROWS_MISSING = 311,            /* rows before those that the host sends have not come yet */
+    FAZGROND_OUTSIDE = 312                  /* the sender tells of machines or players that the match hasn't */
 };
 
 /* Opens a session. Before the first request the game has its opening state as the current one and in slot 0. If the handle is
@@ -225,7 +227,11 @@ int32_t fazgrond_frames_ahead(fazgrond_session *session, uint32_t *frames);
 int32_t fazgrond_claim(fazgrond_session *session, uint8_t *out, size_t room, size_t *length);
 
 /* ---- A match over a network: a session that makes and takes datagrams itself. It has no socket and no clock. Machines are
- * numbered from 0. `now` is this machine's clock in milliseconds, which may wrap. */
+ * numbered from 0.
+ *
+ * `now` is this machine's clock in milliseconds, from a moment of its own choice. It may wrap, and it may jump: time that goes
+ * back counts as none, and a leap forwards alone makes nobody silent, since whoever is gone for its silence has left ten of this
+ * machine's clocks unanswered. Give the same clock to all calls of a peer. */
 
 /* A peer, in the game's memory, as a fazgrond_session. Begin with FAZGROND_CLOSED. */
 typedef struct fazgrond_peer {
@@ -236,17 +242,39 @@ typedef struct fazgrond_peer {
 /* The owner of a player whom there isn't. */
 #define FAZGROND_NO_PLAYER 255
 
-/* All but the session's local players and delays, `me` and the two times is the same at each machine. */
+/* The most machines of a match. */
+#define FAZGROND_MACHINES 8
+
+/* Of the session its players, limits and masks are the same at each machine; so are `digest`, `machines` and `owners`, and the
+ * number of each two machines at both of them.
+ *
+ * The draw: 64 bits of the system's source of random bits (getrandom, BCryptGenRandom or the like), drawn anew for each opening
+ * of a peer, and never 0. Nothing has to be agreed on for it: machines tell each other theirs, and by them what was sent in an
+ * earlier opening of the same match isn't heard in this one. It has to be a new one each time. If a draw comes again, whoever
+ * recorded the earlier opening can play it into this one; and to the other machines two openings with one draw are one, which
+ * has forgotten what it had told them. */
 typedef struct fazgrond_match {
-    fazgrond_settings session;         /* its local players are those that `me` owns */
-    uint64_t number;                   /* the match's number: 64 random bits that only its machines know */
-    uint64_t digest;                   /* of all else that has to be alike at all machines */
-    uint32_t me;                       /* which machine this is */
-    uint32_t machines;                 /* how many there are, 2 to 8 */
-    uint32_t owners[FAZGROND_PLAYERS]; /* the machine of each player, player 1 first; FAZGROND_NO_PLAYER if there is none */
-    uint32_t silent_after;             /* milliseconds of silence after which a machine is gone */
-    uint32_t notify_after;             /* milliseconds of silence after which FAZGROND_INTERRUPTED is told */
+    fazgrond_settings session;           /* its local players are those that `me` owns */
+    uint64_t numbers[FAZGROND_MACHINES]; /* with each machine a number that only these two know, 64 random bits; that of `me` is
+                                          * not read. The same in all places: the match's number */
+    uint64_t draw;                       /* drawn for this opening: not 0 */
+    uint64_t digest;                     /* of all else that has to be alike at all machines */
+    uint32_t me;                         /* which machine this is */
+    uint32_t machines;                   /* how many there are, 2 to 8 */
+    uint32_t owners[FAZGROND_PLAYERS];   /* the machine of each player, player 1 first; FAZGROND_NO_PLAYER if there is none */
+    uint32_t silent_after;               /* milliseconds after which a machine is gone that answers nothing; 0: it never is */
+    uint32_t notify_after;               /* milliseconds after which FAZGROND_INTERRUPTED tells of a machine of which nothing
+                                          * comes, and FAZGROND_STALLED of one that holds this one up; 0: neither is told */
+    uint32_t stalled_after;              /* milliseconds after which a machine is gone that answers, and holds this one up since
+                                          * it gives no words; 0: it never is, and the match may stand for good */
 } fazgrond_match;
+
+/* A match that has one number, which all its machines know: each of them could speak in the name of another. */
+static inline void fazgrond_one_number(fazgrond_match *match, uint64_t number) {
+    int at;
+    for (at = 0; at < FAZGROND_MACHINES; at++)
+        match->numbers[at] = number;
+}
 
 /* SYNCHRONIZING: `machine` was heard; `count` of `total` steps are done. SYNCHRONIZED: it and this one have heard each other.
  * RUNNING: all have, and the match begins. DISCONNECTED: `player` has left.
@@ -254,11 +282,18 @@ typedef struct fazgrond_match {
  * INTERRUPTED: `machine` is silent, and gone in `disconnect_in` milliseconds. RESUMED: it was heard again.
  * LEFT: `machine` is gone for good. DESYNC: it has another state at the settled frame `frame`.
  * MISMATCH: `machine` means another match: `field` is 1 if it has another number of machines, 2 if other owners, 3 if another
- * digest. DROPPED: another machine regards this one as gone. */
+ * digest. It may come in the middle of a match too. DROPPED: another machine regards this one as gone.
+ * RESTARTED: `machine` was opened anew. It can't come back into this match: its old opening is silent from now on, and gone by
+ * that; told once for each opening. STALLED: `machine` is heard, and holds this one up, since it gives no words. If it is to be
+ * gone for that, it is in `disconnect_in` milliseconds, else that is 0. Told once, until it gives a word.
+ * REFUSED: what `machine` sealed was refused, or a word of it was: its program is broken, or it lies. Told at the first of a run.
+ * MISSING: `silent_after` has passed since this peer was opened, and `machine` isn't there yet. Told once. It is waited for, until
+ * you disconnect it. */
 enum {
     FAZGROND_SYNCHRONIZING = 1001, FAZGROND_SYNCHRONIZED = 1002, FAZGROND_RUNNING = 1003, FAZGROND_DISCONNECTED = 1004,
     FAZGROND_TIME_SYNC = 1005, FAZGROND_INTERRUPTED = 1006, FAZGROND_RESUMED = 1007, FAZGROND_LEFT = 1101,
-    FAZGROND_DESYNC = 1102, FAZGROND_MISMATCH = 1103, FAZGROND_DROPPED = 1104
+    FAZGROND_DESYNC = 1102, FAZGROND_MISMATCH = 1103, FAZGROND_DROPPED = 1104, FAZGROND_RESTARTED = 1105,
+    FAZGROND_STALLED = 1106, FAZGROND_REFUSED = 1107, FAZGROND_MISSING = 1108
 };
 
 /* What an event doesn't say is 0. */
@@ -284,6 +319,7 @@ typedef struct fazgrond_stats {
     uint32_t words_queued;       /* words that it hasn't said that it has, at most 160 of each player; 0 if nothing is sent to it */
     int32_t frames_behind;       /* by how many frames this machine is behind the other: negative if it is ahead */
     int32_t their_frames_behind; /* and the other, as it says, behind this one */
+    uint32_t refused;            /* how many datagrams that it sealed were refused, or had words that were */
 } fazgrond_stats;
 
 /* The most bytes of a datagram. */
@@ -291,22 +327,27 @@ typedef struct fazgrond_stats {
 
 /* Opens a peer, as fazgrond_open a session. FAZGROND_INVALID_MACHINE: too few or too many machines, or `me` is none of them.
  * FAZGROND_INVALID_PLAYER: the session's players are not those that machines own, or its local ones not those of `me`.
- * FAZGROND_INVALID_REQUEST also if `me`, `machines` or an owner is over 255. */
+ * FAZGROND_INVALID_REQUEST also if the draw is 0, or if `me`, `machines` or an owner is over 255. */
 int32_t fazgrond_peer_open(fazgrond_peer *peer, const fazgrond_match *match);
 
 /* Closes it. Nothing happens if it is closed. */
 void fazgrond_peer_close(fazgrond_peer *peer);
 
-/* Takes a datagram that came. What is refused, by a code from 301 on, has changed nothing. */
+/* Takes a datagram that came. What is refused, by a code from 301 on, has changed nothing but what is counted and told of its
+ * sender. */
 int32_t fazgrond_peer_receive(fazgrond_peer *peer, const uint8_t *bytes, size_t length, uint32_t now);
 
 /* Gives a local player's word of this frame. FAZGROND_NOT_SYNCHRONIZED before the match has begun. */
 int32_t fazgrond_peer_add_local_input(fazgrond_peer *peer, uint8_t player, uint32_t word);
 
-/* Once a turn, before the next two: machines that were silent too long are gone, players of who is gone leave, and the match
+/* Once a turn, before the next three: machines that were silent too long are gone, players of who is gone leave, and the match
  * begins once all machines have heard each other. FAZGROND_LOG_FULL or FAZGROND_NO_MEMORY if a player who is to leave is still
  * there: all else is done, and the next poll tries again. */
 int32_t fazgrond_peer_poll(fazgrond_peer *peer, uint32_t now);
+
+/* Whether words came since the last rollback, or players left: `flag` is 1 if so, else 0. A turn that plays no frame has
+ * something to synchronize then. Without, fazgrond_peer_synchronize_input would change nothing but the log, by one entry more. */
+int32_t fazgrond_peer_has_news(fazgrond_peer *peer, uint32_t *flag);
 
 /* As fazgrond_synchronize_input. Leaves requests. FAZGROND_NOT_SYNCHRONIZED before the match has begun. */
 int32_t fazgrond_peer_synchronize_input(fazgrond_peer *peer, fazgrond_row *row);
@@ -321,8 +362,9 @@ size_t fazgrond_peer_take_requests(fazgrond_peer *peer, fazgrond_request *out, s
  * there is less room, FAZGROND_TOO_SHORT, and nothing was sent. FAZGROND_NOTHING: the machine is gone, or this one, or none. */
 int32_t fazgrond_peer_send(fazgrond_peer *peer, uint8_t machine, uint32_t now, uint8_t *out, size_t room, size_t *length);
 
-/* The datagram that says to all others that this machine leaves the match. Send it a few times. */
-int32_t fazgrond_peer_bye(fazgrond_peer *peer, uint8_t *out, size_t room, size_t *length);
+/* The datagram that says to a machine that this one leaves the match: another one for each machine. Send each a few times.
+ * FAZGROND_NOTHING: the machine is gone, or this one, or none, or it and this one haven't heard each other. */
+int32_t fazgrond_peer_bye(fazgrond_peer *peer, uint8_t machine, uint8_t *out, size_t room, size_t *length);
 
 /* Regards a machine as gone, for good. */
 int32_t fazgrond_peer_disconnect(fazgrond_peer *peer, uint8_t machine);
@@ -349,7 +391,7 @@ int32_t fazgrond_peer_log_length(fazgrond_peer *peer, size_t *entries);
 int32_t fazgrond_peer_log_entry(fazgrond_peer *peer, size_t place, fazgrond_entry *entry);
 
 /* ---- Spectators over a network: a viewer on another machine is sent the settled rows of a match by one of its machines, the
- * host. Each viewer has a line of its own with its host. `now` is each end's own clock in milliseconds, which may wrap. */
+ * host. Each viewer has a line of its own with its host. `now` is each end's own clock, as a peer's. */
 
 /* A host's end of a viewer's line, and the viewer's end, in the game's memory, as a fazgrond_session. Begin with
  * FAZGROND_CLOSED. */
@@ -363,39 +405,45 @@ typedef struct fazgrond_viewer {
     void *at;
 } fazgrond_viewer;
 
-/* The same at both ends. */
+/* The same at both ends, but for the draw and the time. */
 typedef struct fazgrond_line_settings {
     uint64_t number;                   /* the line's own number: 64 random bits that only these two know. Not the match's */
+    uint64_t draw;                     /* drawn for this opening of this end, as in the match: not 0 */
     uint64_t digest;                   /* as in the match */
     uint32_t host;                     /* which machine of the match is watched, from 0 */
     uint32_t machines;                 /* as in the match */
     uint32_t owners[FAZGROND_PLAYERS]; /* as in the match */
+    uint32_t silent_after;             /* milliseconds after which the other end is silent, which answers nothing; 0: it never is */
 } fazgrond_line_settings;
 
 typedef struct fazgrond_line_state {
     uint32_t rows;       /* that the viewer has: at the host's end, that it said that it has */
     uint32_t settled;    /* the most rows that the host said to be settled: at the host's end, that the viewer was told */
-    uint32_t silence;    /* milliseconds since the other end was heard, if both have heard each other; else 0 */
+    uint32_t silence;    /* milliseconds since the other end answered last, if both have heard each other; else 0 */
     uint32_t is_playing; /* whether both have heard each other */
     uint32_t has_ended;  /* whether one of the two has said bye */
+    uint32_t is_silent;  /* whether the other end has answered nothing for longer than `silent_after`: close the line then. It
+                          * can't come back if it was opened anew */
 } fazgrond_line_state;
 
-/* Opens a line at its host, as fazgrond_open a session. FAZGROND_INVALID_REQUEST if `host`, `machines` or an owner is over
- * 255. */
+/* Opens a line at its host, as fazgrond_open a session. FAZGROND_INVALID_MACHINE: too few or too many machines, or `host` is none
+ * of them. FAZGROND_INVALID_REQUEST: the draw is 0, or `host`, `machines` or an owner is over 255. */
 int32_t fazgrond_line_open(fazgrond_line *line, const fazgrond_line_settings *settings);
 
 /* Closes it. Nothing happens if it is closed. */
 void fazgrond_line_close(fazgrond_line *line);
 
-/* Takes a datagram that came of the viewer. What is refused, by a code from 301 on, has changed nothing; but after
- * FAZGROND_MISMATCHED the line stays refused. */
+/* Takes a datagram that came of the viewer. What is refused, by a code from 301 on, has changed nothing, but that after
+ * FAZGROND_MISMATCHED no rows are sent: until a hello of the viewer means this match. */
 int32_t fazgrond_line_receive(fazgrond_line *line, const uint8_t *bytes, size_t length, uint32_t now);
 
 /* The datagram to send to the viewer in this turn, as fazgrond_peer_send: settled rows of the peer's session from those on that
  * the viewer has, as many as fit. Always give it the same peer. FAZGROND_NOTHING once the line has ended. */
-int32_t fazgrond_line_send(fazgrond_line *line, fazgrond_peer *peer, uint8_t *out, size_t room, size_t *length);
+int32_t fazgrond_line_send(fazgrond_line *line, fazgrond_peer *peer, uint32_t now, uint8_t *out, size_t room,
+                           size_t *length);
 
-/* The datagram that says that the host leaves the viewer: the line has ended. Send it a few times. */
+/* The datagram that says that the host leaves the viewer: the line has ended. Send it a few times. FAZGROND_NOTHING: the two
+ * haven't heard each other. */
 int32_t fazgrond_line_bye(fazgrond_line *line, uint8_t *out, size_t room, size_t *length);
 
 /* How far the two ends are. */
@@ -412,9 +460,10 @@ void fazgrond_viewer_close(fazgrond_viewer *viewer);
 int32_t fazgrond_viewer_receive(fazgrond_viewer *viewer, const uint8_t *bytes, size_t length, uint32_t now, uint32_t *rows);
 
 /* The datagram to send to the host in this turn, as fazgrond_line_send. */
-int32_t fazgrond_viewer_send(fazgrond_viewer *viewer, uint8_t *out, size_t room, size_t *length);
+int32_t fazgrond_viewer_send(fazgrond_viewer *viewer, uint32_t now, uint8_t *out, size_t room, size_t *length);
 
-/* The datagram that says that the viewer leaves: the line has ended. Send it a few times. */
+/* The datagram that says that the viewer leaves: the line has ended. Send it a few times. FAZGROND_NOTHING: the two haven't heard
+ * each other. */
 int32_t fazgrond_viewer_bye(fazgrond_viewer *viewer, uint8_t *out, size_t room, size_t *length);
 
 /* The next row that is to be played, from frame 0 on; FAZGROND_NOTHING if none is there. */

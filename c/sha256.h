@@ -1,4 +1,4 @@
-/* SHA-256 of FIPS 180-4, and the tag of a packet (docs/WIRE.md): for the fuzzers, and for what is watched over a broker. */
+/* SHA-256 of FIPS 180-4, and the tag of a packet (docs/WIRE.md): for tests and fuzzers, and for what is watched over a broker. */
 #ifndef FAZGROND_SHA256_H
 #define FAZGROND_SHA256_H
 
@@ -67,8 +67,8 @@ static inline void sha256_add(sha256 *self, const uint8_t *bytes, size_t count) 
     }
 }
 
-/* The first 8 bytes of the digest, as a number. */
-static inline uint64_t sha256_end(sha256 *self) {
+/* All has come: the digest is in the state. */
+static inline void sha256_pad(sha256 *self) {
     static const uint8_t padding[64] = { 0x80 };
     uint64_t bits = self->length * 8;
     uint8_t last[8];
@@ -76,34 +76,65 @@ static inline uint64_t sha256_end(sha256 *self) {
     for (int at = 0; at < 8; at++)
         last[at] = (uint8_t)(bits >> (56 - 8 * at));
     sha256_add(self, last, 8);
+}
+
+/* The first 8 bytes of the digest, as a number. */
+static inline uint64_t sha256_end(sha256 *self) {
+    sha256_pad(self);
     return (uint64_t)self->state[0] << 32 | self->state[1];
 }
 
-/* The tag of a packet of at least 12 bytes, in the match with this number. */
-static inline uint64_t tag_of(const uint8_t *packet, size_t length, uint64_t number) {
-    sha256 made = sha256_begin();
-    uint8_t bytes[8];
+/* What a packet is sealed with: the number of the two machines, and the draw of the sender's opening and of the receiver's. In a
+ * hello both draws are 0. */
+typedef struct seal_key {
+    uint64_t number, from, to;
+} seal_key;
+
+/* A number as 8 bytes, the highest first. */
+static inline void seal_put(uint8_t *out, uint64_t number) {
     for (int at = 0; at < 8; at++)
-        bytes[at] = (uint8_t)(number >> (56 - 8 * at));
-    sha256_add(&made, packet, 4);
-    sha256_add(&made, bytes, 8);
-    sha256_add(&made, packet + 12, length - 12);
-    return sha256_end(&made);
+        out[at] = (uint8_t)(number >> (56 - 8 * at));
+}
+
+/* The beginning of one of the two digests of HMAC-SHA-256 (RFC 2104) with a key: the inner one has 0x36, the outer one 0x5c. */
+static inline sha256 seal_begin(seal_key key, uint8_t with) {
+    sha256 made = sha256_begin();
+    uint8_t block[64] = { 0 };
+    seal_put(block, key.number);
+    seal_put(block + 8, key.from);
+    seal_put(block + 16, key.to);
+    for (int at = 0; at < 64; at++)
+        block[at] ^= with;
+    sha256_add(&made, block, sizeof block);
+    return made;
+}
+
+/* The tag of a packet of at least 12 bytes: of all of it, with the number of the two machines in the place of the tag. */
+static inline uint64_t tag_of(const uint8_t *packet, size_t length, seal_key key) {
+    sha256 inner = seal_begin(key, 0x36), outer = seal_begin(key, 0x5c);
+    uint8_t bytes[32];
+    seal_put(bytes, key.number);
+    sha256_add(&inner, packet, 4);
+    sha256_add(&inner, bytes, 8);
+    sha256_add(&inner, packet + 12, length - 12);
+    sha256_pad(&inner);
+    for (int at = 0; at < 32; at++)
+        bytes[at] = (uint8_t)(inner.state[at / 4] >> (24 - 8 * (at % 4)));
+    sha256_add(&outer, bytes, sizeof bytes);
+    return sha256_end(&outer);
 }
 
 /* Puts the tag at place 4 of a packet of at least 12 bytes. */
-static inline void seal(uint8_t *packet, size_t length, uint64_t number) {
-    uint64_t tag = tag_of(packet, length, number);
-    for (int at = 0; at < 8; at++)
-        packet[4 + at] = (uint8_t)(tag >> (56 - 8 * at));
+static inline void seal(uint8_t *packet, size_t length, seal_key key) {
+    seal_put(packet + 4, tag_of(packet, length, key));
 }
 
 /* Whether a packet has the tag that it is to have. */
-static inline bool is_sealed(const uint8_t *packet, size_t length, uint64_t number) {
+static inline bool is_sealed(const uint8_t *packet, size_t length, seal_key key) {
     uint64_t tag = 0;
     for (size_t at = 0; at < 8 && length >= 12; at++)
         tag = tag << 8 | packet[4 + at];
-    return length >= 12 && tag == tag_of(packet, length, number);
+    return length >= 12 && tag == tag_of(packet, length, key);
 }
 
 #endif

@@ -43,15 +43,17 @@ HAS(fazgrond_peer, 16);
 AT(fazgrond_peer, full, 0);
 AT(fazgrond_peer, at, 8);
 
-HAS(fazgrond_match, 152);
+HAS(fazgrond_match, 224);
 AT(fazgrond_match, session, 0);
-AT(fazgrond_match, number, 88);
-AT(fazgrond_match, digest, 96);
-AT(fazgrond_match, me, 104);
-AT(fazgrond_match, machines, 108);
-AT(fazgrond_match, owners, 112);
-AT(fazgrond_match, silent_after, 144);
-AT(fazgrond_match, notify_after, 148);
+AT(fazgrond_match, numbers, 88);
+AT(fazgrond_match, draw, 152);
+AT(fazgrond_match, digest, 160);
+AT(fazgrond_match, me, 168);
+AT(fazgrond_match, machines, 172);
+AT(fazgrond_match, owners, 176);
+AT(fazgrond_match, silent_after, 208);
+AT(fazgrond_match, notify_after, 212);
+AT(fazgrond_match, stalled_after, 216);
 
 HAS(fazgrond_event, 36);
 AT(fazgrond_event, code, 0);
@@ -64,7 +66,7 @@ AT(fazgrond_event, disconnect_in, 24);
 AT(fazgrond_event, frame, 28);
 AT(fazgrond_event, field, 32);
 
-HAS(fazgrond_stats, 32);
+HAS(fazgrond_stats, 36);
 AT(fazgrond_stats, is_measured, 0);
 AT(fazgrond_stats, round_trip, 4);
 AT(fazgrond_stats, sent, 8);
@@ -73,6 +75,7 @@ AT(fazgrond_stats, lost, 16);
 AT(fazgrond_stats, words_queued, 20);
 AT(fazgrond_stats, frames_behind, 24);
 AT(fazgrond_stats, their_frames_behind, 28);
+AT(fazgrond_stats, refused, 32);
 
 HAS(fazgrond_line, 16);
 AT(fazgrond_line, full, 0);
@@ -82,16 +85,19 @@ HAS(fazgrond_viewer, 16);
 AT(fazgrond_viewer, full, 0);
 AT(fazgrond_viewer, at, 8);
 
-HAS(fazgrond_line_settings, 56);
+HAS(fazgrond_line_settings, 72);
 AT(fazgrond_line_settings, number, 0);
-AT(fazgrond_line_settings, digest, 8);
-AT(fazgrond_line_settings, host, 16);
-AT(fazgrond_line_settings, machines, 20);
-AT(fazgrond_line_settings, owners, 24);
+AT(fazgrond_line_settings, draw, 8);
+AT(fazgrond_line_settings, digest, 16);
+AT(fazgrond_line_settings, host, 24);
+AT(fazgrond_line_settings, machines, 28);
+AT(fazgrond_line_settings, owners, 32);
+AT(fazgrond_line_settings, silent_after, 64);
 
-HAS(fazgrond_line_state, 20);
+HAS(fazgrond_line_state, 24);
 AT(fazgrond_line_state, rows, 0);
 AT(fazgrond_line_state, settled, 4);
 AT(fazgrond_line_state, silence, 8);
 AT(fazgrond_line_state, is_playing, 12);
 AT(fazgrond_line_state, has_ended, 16);
+AT(fazgrond_line_state, is_silent, 20);

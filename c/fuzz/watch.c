@@ -53,8 +53,9 @@ static size_t change(input *in, uint8_t *bytes, size_t length, uint64_t number) 
         length = length * take_byte(in) / 255;
     bool is_rows = faz_kind_of(bytes, length) == FAZ_ROWS;
     uint32_t first = is_rows && length > FIRST ? (uint32_t)bytes[0] << 24 | bytes[1] << 16 | bytes[2] << 8 | bytes[3] : 0;
+    seal_key key = { number + first, is_rows ? 1 : 0, is_rows ? 2 : 0 };
     if ((how & 32) != 0 && length >= FIRST + 12)
-        seal(bytes + (is_rows ? FIRST : 0), length - (is_rows ? FIRST : 0), number + first);
+        seal(bytes + (is_rows ? FIRST : 0), length - (is_rows ? FIRST : 0), key);
     return length;
 }
 

@@ -5,7 +5,15 @@
 #include <stdio.h>
 #include <string.h>
 
-enum { HEAD = 14, KIND = 13, VERSION = 1, SUM = 16, FIRST = 4, HEAD_FIELDS = 20 + 4 * FAZGROND_PLAYERS };
+enum { HEAD = 14, KIND = 13, VERSION = 2, SUM = 16, FIRST = 4, HEAD_FIELDS = 20 + 4 * FAZGROND_PLAYERS, HELLO = 52 };
+
+/* The draws of the two ends of a run's line. They are always the same, since a run is read by whoever gets it, whenever. */
+enum { HOST_DRAW = 1, VIEWER_DRAW = 2 };
+
+/* What a run is sealed with, and what all else is. */
+static seal_key key_of_rows(uint64_t number, uint32_t first) { return (seal_key){ number + first, HOST_DRAW, VIEWER_DRAW }; }
+
+static seal_key key_of(uint64_t number) { return (seal_key){ number, 0, 0 }; }
 
 /* Names. */
 
@@ -36,7 +44,7 @@ void faz_id(char *out, const char *match, faz_kind kind, uint32_t frame) {
 
 /* A run begins with its first frame, which is less than these letters are as a number. */
 faz_kind faz_kind_of(const uint8_t *bytes, size_t length) {
-    return length > KIND && memcmp(bytes, "FZG1", 4) == 0 ? (faz_kind)bytes[KIND] : FAZ_ROWS;
+    return length > KIND && memcmp(bytes, "FZG2", 4) == 0 ? (faz_kind)bytes[KIND] : FAZ_ROWS;
 }
 
 /* Numbers: the highest byte first. */
@@ -63,15 +71,15 @@ uint32_t faz_frame_of(const uint8_t *bytes, size_t length) {
 
 /* The first bytes of a packet, without its tag; the sender is 0. */
 static void begin(uint8_t *out, faz_kind kind) {
-    memcpy(out, "FZG1", 4);
+    memcpy(out, "FZG2", 4);
     memset(out + 4, 0, HEAD - 4);
     out[KIND] = (uint8_t)kind;
 }
 
 /* Whether this is a packet of such a kind, with so many bytes behind the first ones at least. */
 static bool is_packet(const uint8_t *bytes, size_t length, faz_kind kind, size_t least, uint64_t number) {
-    return length >= HEAD + least && memcmp(bytes, "FZG1", 4) == 0 && bytes[12] == 0 && bytes[KIND] == kind
-        && is_sealed(bytes, length, number);
+    return length >= HEAD + least && memcmp(bytes, "FZG2", 4) == 0 && bytes[12] == 0 && bytes[KIND] == kind
+        && is_sealed(bytes, length, key_of(number));
 }
 
 /* The header: version, players, rate, profile, threshold, run, chapter, size, masks, and the game's name. */
@@ -88,7 +96,7 @@ size_t faz_write_head(uint8_t *out, uint64_t number, const faz_head *head) {
     for (size_t player = 0; player < FAZGROND_PLAYERS; player++)
         put(at + 20 + 4 * player, head->masks[player], 4);
     memcpy(at + HEAD_FIELDS, head->game, name);
-    seal(out, HEAD + HEAD_FIELDS + name, number);
+    seal(out, HEAD + HEAD_FIELDS + name, key_of(number));
     return HEAD + HEAD_FIELDS + name;
 }
 
@@ -109,7 +117,7 @@ bool faz_read_head(const uint8_t *bytes, size_t length, uint64_t number, faz_hea
 }
 
 /* Rows: the first frame, and then a play as a host sends it by a viewer's line, on which the run's first frame is frame 0. The
- * line's number is the match's and the first frame. */
+ * line's number is the match's and the first frame, and its ends have draws that everybody knows. */
 
 static size_t put_short(uint8_t *out, uint32_t number) {
     size_t length = 0;
@@ -168,9 +176,25 @@ size_t faz_write_rows(uint8_t *out, uint64_t number, uint32_t first, const fazgr
             packet[length++] = 0;
             packet[length++] = (uint8_t)told[player];
         }
+    packet[length++] = 0; /* no marks */
     length += put_words(packet + length, words, all);
-    seal(packet, length, number + first);
+    seal(packet, length, key_of_rows(number, first));
     return FIRST + length;
+}
+
+/* The hello of a run's host, which says its draw. It is the same for all runs, so that the reader says it to itself. */
+static bool greet(fazgrond_viewer *viewer, const fazgrond_line_settings *line) {
+    uint8_t hello[HELLO] = { 0 }, *at = hello + HEAD;
+    uint32_t taken;
+    begin(hello, 0);
+    at[0] = (uint8_t)line->machines;
+    for (uint32_t player = 0; player < FAZGROND_PLAYERS; player++)
+        at[1 + player] = (uint8_t)line->owners[player];
+    put(at + 9, line->digest, 8);
+    put(at + 17, HOST_DRAW, 8);
+    put(at + 25, VIEWER_DRAW, 8);
+    seal(hello, sizeof hello, key_of(line->number));
+    return fazgrond_viewer_receive(viewer, hello, sizeof hello, 0, &taken) == FAZGROND_OK;
 }
 
 uint32_t faz_read_rows(const uint8_t *bytes, size_t length, uint64_t number, uint32_t players, uint32_t *first,
@@ -179,12 +203,13 @@ uint32_t faz_read_rows(const uint8_t *bytes, size_t length, uint64_t number, uin
         return 0;
     uint32_t frame = get_word(bytes), count = 0, taken;
     fazgrond_viewer viewer = FAZGROND_CLOSED;
-    fazgrond_line_settings line = { .number = number + frame, .machines = 2 };
+    fazgrond_line_settings line = { .number = number + frame, .draw = VIEWER_DRAW, .machines = 2 };
     for (uint32_t player = 0; player < FAZGROND_PLAYERS; player++)
         line.owners[player] = player < players ? 0 : FAZGROND_NO_PLAYER;
     if (frame % FAZ_RUN != 0 || frame >= FAZ_LAST_FRAME || fazgrond_viewer_open(&viewer, &line) != FAZGROND_OK)
         return 0;
-    if (fazgrond_viewer_receive(&viewer, bytes + FIRST, length - FIRST, 0, &taken) == FAZGROND_OK && taken <= FAZ_RUN)
+    if (bytes[FIRST + KIND] == FAZ_ROWS && greet(&viewer, &line)
+        && fazgrond_viewer_receive(&viewer, bytes + FIRST, length - FIRST, 0, &taken) == FAZGROND_OK && taken <= FAZ_RUN)
         while (count < taken && fazgrond_viewer_row(&viewer, &rows[count]) == FAZGROND_OK)
             count++;
     fazgrond_viewer_close(&viewer);
@@ -208,7 +233,7 @@ static bool get_sum(const uint8_t *bytes, faz_sum *sum) {
 
 size_t faz_write_sum(uint8_t *out, uint64_t number, const faz_sum *sum) {
     put_sum(out, FAZ_SUM, sum);
-    seal(out, HEAD + SUM, number);
+    seal(out, HEAD + SUM, key_of(number));
     return HEAD + SUM;
 }
 
@@ -219,7 +244,7 @@ bool faz_read_sum(const uint8_t *bytes, size_t length, uint64_t number, faz_sum 
 size_t faz_write_snap(uint8_t *out, uint64_t number, const faz_sum *sum, const void *state, size_t size) {
     put_sum(out, FAZ_SNAP, sum);
     memcpy(out + HEAD + SUM, state, size);
-    seal(out, HEAD + SUM + size, number);
+    seal(out, HEAD + SUM + size, key_of(number));
     return HEAD + SUM + size;
 }
 
@@ -238,7 +263,7 @@ size_t faz_write_end(uint8_t *out, uint64_t number, uint32_t frames, const char 
     begin(out, FAZ_END);
     put(out + HEAD, frames, 4);
     memcpy(out + HEAD + 4, reason, length);
-    seal(out, HEAD + 4 + length, number);
+    seal(out, HEAD + 4 + length, key_of(number));
     return HEAD + 4 + length;
 }
 

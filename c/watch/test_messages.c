@@ -35,14 +35,14 @@ static bool is_same(const fazgrond_row *one, const fazgrond_row *other) {
 /* The words of docs/WIRE.md's first example, as it writes them, of one player. */
 static void bytes_of_rows(void) {
     static const uint32_t words[] = { 0, 0, 5, 5, 5, 7 };
-    static const uint8_t wanted[] = { 0, 0, 0, 15, 'F', 'Z', 'G', '1', 0, 0, 0, 0, 0, 0, 0, 0, 0, 1, /* the first frame; a play */
-                                      0, 0, 1, 6, 0, 1, 0, 6,                                       /* counts, offers */
+    static const uint8_t wanted[] = { 0, 0, 0, 15, 'F', 'Z', 'G', '2', 0, 0, 0, 0, 0, 0, 0, 0, 0, 1, /* the first frame; a play */
+                                      0, 0, 1, 6, 0, 1, 0, 6, 0,                                    /* counts, offers, no marks */
                                       2, 5, 2, 7 };
     fazgrond_row rows[6] = { 0 };
     for (uint32_t at = 0; at < 6; at++)
         rows[at] = (fazgrond_row){ .count = 1, .words = { words[at] } };
     size_t length = faz_write_rows(bytes, NUMBER, 15, rows, 6);
-    MUST(length == sizeof wanted && is_sealed(bytes + 4, length - 4, NUMBER + 15));
+    MUST(length == sizeof wanted && is_sealed(bytes + 4, length - 4, (seal_key){ NUMBER + 15, 1, 2 }));
     memset(bytes + 8, 0, 8);
     MUST(memcmp(bytes, wanted, sizeof wanted) == 0);
 }

@@ -35,13 +35,15 @@ CALL(int32_t, fazgrond_peer_receive, (fazgrond_peer *peer, const uint8_t *bytes,
      (peer, bytes, length, now))
 CALL(int32_t, fazgrond_peer_add_local_input, (fazgrond_peer *peer, uint8_t player, uint32_t word), (peer, player, word))
 CALL(int32_t, fazgrond_peer_poll, (fazgrond_peer *peer, uint32_t now), (peer, now))
+CALL(int32_t, fazgrond_peer_has_news, (fazgrond_peer *peer, uint32_t *flag), (peer, flag))
 CALL(int32_t, fazgrond_peer_synchronize_input, (fazgrond_peer *peer, fazgrond_row *row), (peer, row))
 CALL(int32_t, fazgrond_peer_advance_frame, (fazgrond_peer *peer, fazgrond_reached *reached), (peer, reached))
 CALL(size_t, fazgrond_peer_take_requests, (fazgrond_peer *peer, fazgrond_request *out, size_t room), (peer, out, room))
 CALL(int32_t, fazgrond_peer_send,
      (fazgrond_peer *peer, uint8_t machine, uint32_t now, uint8_t *out, size_t room, size_t *length),
      (peer, machine, now, out, room, length))
-CALL(int32_t, fazgrond_peer_bye, (fazgrond_peer *peer, uint8_t *out, size_t room, size_t *length), (peer, out, room, length))
+CALL(int32_t, fazgrond_peer_bye, (fazgrond_peer *peer, uint8_t machine, uint8_t *out, size_t room, size_t *length),
+     (peer, machine, out, room, length))
 CALL(int32_t, fazgrond_peer_disconnect, (fazgrond_peer *peer, uint8_t machine), (peer, machine))
 CALL(int32_t, fazgrond_peer_note_settled, (fazgrond_peer *peer, uint64_t digest), (peer, digest))
 CALL(int32_t, fazgrond_peer_settled_slot, (fazgrond_peer *peer, uint32_t *frame, uint32_t *slot), (peer, frame, slot))
@@ -57,8 +59,9 @@ CALL(int32_t, fazgrond_line_open, (fazgrond_line *line, const fazgrond_line_sett
 CALL(void, fazgrond_line_close, (fazgrond_line *line), (line))
 CALL(int32_t, fazgrond_line_receive, (fazgrond_line *line, const uint8_t *bytes, size_t length, uint32_t now),
      (line, bytes, length, now))
-CALL(int32_t, fazgrond_line_send, (fazgrond_line *line, fazgrond_peer *peer, uint8_t *out, size_t room, size_t *length),
-     (line, peer, out, room, length))
+CALL(int32_t, fazgrond_line_send,
+     (fazgrond_line *line, fazgrond_peer *peer, uint32_t now, uint8_t *out, size_t room, size_t *length),
+     (line, peer, now, out, room, length))
 CALL(int32_t, fazgrond_line_bye, (fazgrond_line *line, uint8_t *out, size_t room, size_t *length), (line, out, room, length))
 CALL(int32_t, fazgrond_line_look, (fazgrond_line *line, uint32_t now, fazgrond_line_state *state), (line, now, state))
 CALL(int32_t, fazgrond_viewer_open, (fazgrond_viewer *viewer, const fazgrond_line_settings *settings), (viewer, settings))
@@ -66,8 +69,8 @@ CALL(void, fazgrond_viewer_close, (fazgrond_viewer *viewer), (viewer))
 CALL(int32_t, fazgrond_viewer_receive,
      (fazgrond_viewer *viewer, const uint8_t *bytes, size_t length, uint32_t now, uint32_t *rows),
      (viewer, bytes, length, now, rows))
-CALL(int32_t, fazgrond_viewer_send, (fazgrond_viewer *viewer, uint8_t *out, size_t room, size_t *length),
-     (viewer, out, room, length))
+CALL(int32_t, fazgrond_viewer_send, (fazgrond_viewer *viewer, uint32_t now, uint8_t *out, size_t room, size_t *length),
+     (viewer, now, out, room, length))
 CALL(int32_t, fazgrond_viewer_bye, (fazgrond_viewer *viewer, uint8_t *out, size_t room, size_t *length),
      (viewer, out, room, length))
 CALL(int32_t, fazgrond_viewer_row, (fazgrond_viewer *viewer, fazgrond_row *row), (viewer, row))
