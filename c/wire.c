@@ -16,25 +16,36 @@ static void is(int64_t got, int64_t wanted, int line) {
 
 #define MATCH 0x1122334455667788
 
-static const uint8_t hello[32] = {
-    0x46, 0x5a, 0x47, 0x31, 0xdd, 0x8d, 0x44, 0xc5, 0x82, 0x8c, 0x25, 0xd1, 0x01, 0x00, 0x01, 0x02,
-    0x00, 0x01, 0xff, 0xff, 0xff, 0xff, 0xff, 0xff, 0x01, 0x23, 0x45, 0x67, 0x89, 0xab, 0xcd, 0xef,
-};
-static const uint8_t turn[45] = {
-    0x46, 0x5a, 0x47, 0x31, 0xae, 0x83, 0xfd, 0xe0, 0xaf, 0x8b, 0x0a, 0x63, 0x01, 0x01, 0x01, 0x82,
-    0x01, 0x78, 0x76, 0xe0, 0x0f, 0xc0, 0x0f, 0x10, 0x00, 0x03, 0x77, 0x7b, 0x01, 0x6e, 0xfe, 0xdc,
-    0xba, 0x98, 0x76, 0x54, 0x32, 0x10, 0x02, 0x75, 0x06, 0x02, 0x05, 0x02, 0x07,
-};
-static const uint8_t held[32] = {
-    0x46, 0x5a, 0x47, 0x31, 0x13, 0x5d, 0x90, 0x96, 0xd5, 0x82, 0x58, 0xb2, 0x01, 0x01, 0x00, 0x00,
-    0x03, 0x9f, 0x9c, 0x01, 0xa3, 0x9c, 0x01, 0x00, 0x02, 0x9d, 0x9c, 0x01, 0x06, 0x00, 0x05, 0x05,
-};
-static const uint8_t bye[14] = { 0x46, 0x5a, 0x47, 0x31, 0xf6, 0xa6, 0xc7, 0x33, 0x22, 0x34, 0x11, 0x84, 0x01, 0x02 };
+/* What each of the two machines drew. */
+static const uint64_t draws[2] = { 0x0102030405060708, 0x1112131415161718 };
 
-static fazgrond_peer opened(uint32_t me, uint64_t number) {
+static const uint8_t hello[52] = {
+    0x46, 0x5a, 0x47, 0x32, 0x91, 0x90, 0xc1, 0x5c, 0x9a, 0xd0, 0x68, 0x3d, 0x01, 0x00, 0x02, 0x00,
+    0x01, 0xff, 0xff, 0xff, 0xff, 0xff, 0xff, 0x01, 0x23, 0x45, 0x67, 0x89, 0xab, 0xcd, 0xef, 0x11,
+    0x12, 0x13, 0x14, 0x15, 0x16, 0x17, 0x18, 0x01, 0x02, 0x03, 0x04, 0x05, 0x06, 0x07, 0x08, 0x00,
+    0x00, 0x13, 0x88, 0x00,
+};
+static const uint8_t turn[46] = {
+    0x46, 0x5a, 0x47, 0x32, 0x44, 0x2c, 0xab, 0x0f, 0x54, 0x60, 0x97, 0x78, 0x01, 0x01, 0x01, 0x82,
+    0x01, 0x78, 0x76, 0xe0, 0x0f, 0xc0, 0x0f, 0x10, 0x00, 0x03, 0x77, 0x7b, 0x01, 0x6e, 0xfe, 0xdc,
+    0xba, 0x98, 0x76, 0x54, 0x32, 0x10, 0x02, 0x75, 0x06, 0x00, 0x02, 0x05, 0x02, 0x07,
+};
+static const uint8_t held[33] = {
+    0x46, 0x5a, 0x47, 0x32, 0x0c, 0x90, 0x1d, 0x7b, 0x11, 0xe7, 0x17, 0xdf, 0x01, 0x01, 0x00, 0x00,
+    0x03, 0x9f, 0x9c, 0x01, 0xa3, 0x9c, 0x01, 0x00, 0x02, 0x9d, 0x9c, 0x01, 0x06, 0x00, 0x00, 0x05,
+    0x05,
+};
+static const uint8_t bye[14] = {
+    0x46, 0x5a, 0x47, 0x32, 0x9d, 0xba, 0x50, 0xef, 0x7f, 0x8f, 0x36, 0xf9, 0x01, 0x02,
+};
+
+enum { KIND = 13, HELLO = 0, PLAY = 1 };
+
+static fazgrond_peer opened(uint32_t me, uint64_t number, uint64_t draw) {
     fazgrond_peer peer = FAZGROND_CLOSED;
-    fazgrond_match match = { .number = number, .digest = 0x0123456789abcdef, .me = me, .machines = 2,
+    fazgrond_match match = { .draw = draw, .digest = 0x0123456789abcdef, .me = me, .machines = 2,
                              .silent_after = 5000, .notify_after = 750 };
+    fazgrond_one_number(&match, number);
     match.session = (fazgrond_settings){ .players = 2, .local = 1u << me, .threshold = 8, .limit = 100, .log = 1000 };
     for (uint32_t at = 0; at < FAZGROND_PLAYERS; at++)
         match.owners[at] = at < 2 ? at : FAZGROND_NO_PLAYER;
@@ -42,26 +53,36 @@ static fazgrond_peer opened(uint32_t me, uint64_t number) {
     return peer;
 }
 
+/* What one of the two sends to the other. */
+static size_t sent(fazgrond_peer *from, uint8_t machine, uint32_t now, uint8_t *bytes) {
+    size_t length;
+    IS(fazgrond_peer_send(from, machine, now, bytes, FAZGROND_DATAGRAM, &length), FAZGROND_OK);
+    return length;
+}
+
 static void pass(fazgrond_peer *from, fazgrond_peer *to, uint8_t machine, uint32_t sent_at, uint32_t heard_at) {
     uint8_t bytes[FAZGROND_DATAGRAM];
-    size_t length;
-    IS(fazgrond_peer_send(from, machine, sent_at, bytes, sizeof bytes, &length), FAZGROND_OK);
+    size_t length = sent(from, machine, sent_at, bytes);
     IS(fazgrond_peer_receive(to, bytes, length, heard_at), FAZGROND_OK);
 }
 
 /* Each example is heard, and what machine 1 sends is the example. */
 static void examples(void) {
-    fazgrond_peer one = opened(0, MATCH), two = opened(1, MATCH);
+    fazgrond_peer one = opened(0, MATCH, draws[0]), two = opened(1, MATCH, draws[1]);
     uint8_t bytes[FAZGROND_DATAGRAM];
     size_t length;
+    IS(fazgrond_peer_receive(&one, turn, sizeof turn, 0), FAZGROND_NOT_SEALED); /* machine 1's draw isn't known yet */
+    IS(fazgrond_peer_bye(&two, 0, bytes, sizeof bytes, &length), FAZGROND_NOTHING);
     pass(&one, &two, 1, 0, 0);
-    IS(fazgrond_peer_send(&two, 0, 0, bytes, sizeof bytes, &length), FAZGROND_OK);
-    IS(length, sizeof hello);
-    IS(memcmp(bytes, hello, length), 0);
-    IS(fazgrond_peer_bye(&two, bytes, sizeof bytes, &length), FAZGROND_OK);
+    IS(sent(&two, 0, 0, bytes), sizeof hello);
+    IS(memcmp(bytes, hello, sizeof hello), 0);
+    IS(fazgrond_peer_receive(&one, hello, sizeof hello, 0), FAZGROND_OK);
+    IS(sent(&one, 1, 0, bytes) > sizeof bye, 1); /* its first play, which would say nothing to the other yet */
+    IS(bytes[KIND], PLAY);
+    pass(&one, &two, 1, 0, 0); /* so a hello comes after it */
+    IS(fazgrond_peer_bye(&two, 0, bytes, sizeof bytes, &length), FAZGROND_OK);
     IS(length, sizeof bye);
     IS(memcmp(bytes, bye, length), 0);
-    IS(fazgrond_peer_receive(&one, hello, sizeof hello, 0), FAZGROND_OK);
     IS(fazgrond_peer_receive(&one, turn, sizeof turn, 0), FAZGROND_OK);
     IS(fazgrond_peer_receive(&one, held, sizeof held, 0), FAZGROND_OK);
     IS(fazgrond_peer_receive(&one, bye, sizeof bye, 0), FAZGROND_OK);
@@ -70,35 +91,45 @@ static void examples(void) {
     fazgrond_peer_close(&two);
 }
 
-/* An example isn't heard if any bit of it is another. */
+/* An example isn't heard if any bit of it is another. What isn't of the other machine isn't even opened. */
 static void is_whole(const uint8_t *text, size_t length) {
-    fazgrond_peer one = opened(0, MATCH);
-    uint8_t bytes[sizeof turn];
+    fazgrond_peer one = opened(0, MATCH, draws[0]);
+    uint8_t bytes[sizeof hello];
+    if (text[KIND] != HELLO)
+        IS(fazgrond_peer_receive(&one, hello, sizeof hello, 0), FAZGROND_OK);
     memcpy(bytes, text, length);
     for (size_t bit = 0; bit < 8 * length; bit++) {
         bytes[bit / 8] ^= (uint8_t)(1 << bit % 8);
-        IS(fazgrond_peer_receive(&one, bytes, length, 0), FAZGROND_NOT_SEALED);
+        IS(fazgrond_peer_receive(&one, bytes, length, 0),
+           bytes[12] == 1 ? FAZGROND_NOT_SEALED : bytes[12] == 0 ? FAZGROND_OWN_MACHINE : FAZGROND_INVALID_MACHINE);
         bytes[bit / 8] ^= (uint8_t)(1 << bit % 8);
     }
     IS(fazgrond_peer_receive(&one, bytes, length, 0), FAZGROND_OK);
     fazgrond_peer_close(&one);
 }
 
-/* Nor is one of another match, with the number in the place of its tag, or of another length. */
+/* Nor is one of another match or another opening, with the number in the place of its tag, or of another length. */
 static void refused(void) {
-    static const uint8_t zeros[1201];
-    uint8_t named[sizeof bye] = { 0x46, 0x5a, 0x47, 0x31, 0x11, 0x22, 0x33, 0x44, 0x55, 0x66, 0x77, 0x88, 0x01, 0x02 };
-    fazgrond_peer one = opened(0, MATCH), next = opened(0, MATCH + 1), none = opened(0, 0);
+    static const uint8_t zeros[1201] = { [12] = 1 };
+    uint8_t named[sizeof bye];
+    fazgrond_peer one = opened(0, MATCH, draws[0]), next = opened(0, MATCH + 1, draws[0]), again = opened(0, MATCH, draws[0] + 1);
+    memcpy(named, bye, sizeof bye);
+    for (int at = 0; at < 8; at++)
+        named[4 + at] = (uint8_t)(MATCH >> (56 - 8 * at));
+    IS(fazgrond_peer_receive(&next, hello, sizeof hello, 0), FAZGROND_NOT_SEALED);
+    IS(fazgrond_peer_receive(&again, hello, sizeof hello, 0), FAZGROND_OK); /* but it answers another draw */
+    IS(fazgrond_peer_receive(&one, hello, sizeof hello, 0), FAZGROND_OK);
     IS(fazgrond_peer_receive(&next, bye, sizeof bye, 0), FAZGROND_NOT_SEALED);
-    IS(fazgrond_peer_receive(&none, bye, sizeof bye, 0), FAZGROND_NOT_SEALED);
+    IS(fazgrond_peer_receive(&again, bye, sizeof bye, 0), FAZGROND_NOT_SEALED);
     IS(fazgrond_peer_receive(&one, named, sizeof named, 0), FAZGROND_NOT_SEALED);
-    IS(fazgrond_peer_receive(&one, bye, 13, 0), FAZGROND_NOT_SEALED);
-    IS(fazgrond_peer_receive(&one, bye, 11, 0), FAZGROND_NOT_SEALED);
+    for (size_t length = 0; length < sizeof bye; length++)
+        IS(fazgrond_peer_receive(&one, bye, length, 0), FAZGROND_NOT_SEALED);
+    IS(fazgrond_peer_receive(&one, zeros, sizeof zeros - 1, 0), FAZGROND_NOT_SEALED);
     IS(fazgrond_peer_receive(&one, zeros, sizeof zeros, 0), FAZGROND_NOT_SEALED);
     IS(fazgrond_peer_receive(&one, bye, sizeof bye, 0), FAZGROND_OK);
     fazgrond_peer_close(&one);
     fazgrond_peer_close(&next);
-    fazgrond_peer_close(&none);
+    fazgrond_peer_close(&again);
 }
 
 static void no_event_but(fazgrond_peer *peer, uint32_t code) {
@@ -121,54 +152,61 @@ static void play(fazgrond_peer *peer, uint8_t player, int frames) {
     }
 }
 
-/* The clock of the first machine begins anew. Every 16th datagram tells clocks: the first of these after 48 milliseconds, of which
- * the other held it for 8. */
+/* The two hear each other, and each a play of the other. A first play comes before the other can open it. */
+static void meet(fazgrond_peer *one, fazgrond_peer *two, uint32_t at_one, uint32_t at_two) {
+    uint8_t bytes[FAZGROND_DATAGRAM];
+    pass(one, two, 1, at_one, at_two);
+    pass(two, one, 0, at_two, at_one);
+    IS(fazgrond_peer_receive(two, bytes, sent(one, 1, at_one, bytes), at_two), FAZGROND_NOT_SEALED);
+    for (int at = 0; at < 4; at++) {
+        pass(one, two, 1, at_one, at_two);
+        pass(two, one, 0, at_two, at_one);
+    }
+    IS(fazgrond_peer_poll(one, at_one), FAZGROND_OK);
+    IS(fazgrond_peer_poll(two, at_two), FAZGROND_OK);
+    no_event_but(one, FAZGROND_RUNNING);
+    no_event_but(two, FAZGROND_RUNNING);
+}
+
+/* The clock of the first machine begins anew, and so do the clocks that it sends, a little later. A play tells clocks if the last
+ * are 5000 / 16 milliseconds old. They come back after 48 milliseconds, of which the other held them for 8. */
 static void clocks(void) {
     const uint32_t start = UINT32_MAX - 9;
-    fazgrond_peer one = opened(0, MATCH), two = opened(1, MATCH);
-    fazgrond_stats stats;
+    fazgrond_peer one = opened(0, MATCH, draws[0] | 0xffffff00), two = opened(1, MATCH, draws[1]);
+    fazgrond_stats stats, before;
     uint8_t bytes[FAZGROND_DATAGRAM];
-    size_t length;
-    pass(&two, &one, 0, 500, start);
-    for (int at = 0; at < 16; at++)
-        pass(&one, &two, 1, start, 500);
-    for (int at = 1; at < 16; at++)
-        pass(&two, &one, 0, 508, start);
-    IS(fazgrond_peer_stats(&one, 1, &stats), FAZGROND_OK);
-    IS(stats.is_measured, 0);
-    IS(fazgrond_peer_poll(&one, start), FAZGROND_OK);
-    IS(fazgrond_peer_poll(&two, 508), FAZGROND_OK);
-    no_event_but(&one, FAZGROND_RUNNING);
+    meet(&one, &two, start, 500);
     play(&one, 1, 4);
     play(&two, 2, 1);
-    pass(&one, &two, 1, start, 500);
+    pass(&one, &two, 1, start + 400, 900);
     play(&one, 1, 1);
     play(&two, 2, 1);
-    pass(&two, &one, 0, 508, start + 48);
+    IS(fazgrond_peer_stats(&one, 1, &before), FAZGROND_OK);
+    pass(&two, &one, 0, 908, start + 448);
     IS(fazgrond_peer_stats(&one, 1, &stats), FAZGROND_OK);
     IS(stats.is_measured, 1);
     IS(stats.round_trip, 40);
-    IS(stats.sent, 17);
-    IS(stats.received, 17);
+    IS(stats.received, before.received + 1);
     IS(stats.lost, 0);
-    IS(stats.frames_behind, -3);      /* the first was at frame 5 and heard of frame 2 */
+    IS(stats.frames_behind, -3);      /* the first is at frame 5 and heard of frame 2 */
     IS(stats.their_frames_behind, 3); /* the other was at 2, and took the first to be at 5: at 4 as it told, and one more */
     /* 750 milliseconds of silence aren't told, and 751 are, once */
-    IS(fazgrond_peer_poll(&one, start + 48 + 750), FAZGROND_OK);
+    IS(fazgrond_peer_poll(&one, start + 448 + 750), FAZGROND_OK);
     no_event_but(&one, 0);
-    IS(fazgrond_peer_poll(&one, start + 48 + 751), FAZGROND_OK);
+    IS(fazgrond_peer_poll(&one, start + 448 + 751), FAZGROND_OK);
     no_event_but(&one, FAZGROND_INTERRUPTED);
-    IS(fazgrond_peer_poll(&one, start + 48 + 752), FAZGROND_OK);
+    IS(fazgrond_peer_poll(&one, start + 448 + 752), FAZGROND_OK);
     no_event_but(&one, 0);
-    pass(&two, &one, 0, 600, start + 900);
+    pass(&two, &one, 0, 1000, start + 1300);
     no_event_but(&one, FAZGROND_RESUMED);
     /* one of the datagrams up to the next that tells clocks isn't heard */
-    IS(fazgrond_peer_send(&two, 0, 600, bytes, sizeof bytes, &length), FAZGROND_OK);
-    for (int at = 19; at < 33; at++)
-        pass(&two, &one, 0, 600, start + 900);
+    sent(&two, 0, 1000, bytes);
+    for (int at = 0; at < 20; at++)
+        pass(&two, &one, 0, 1000 + (uint32_t)at * 16, start + 1300 + (uint32_t)at * 16);
     IS(fazgrond_peer_stats(&one, 1, &stats), FAZGROND_OK);
-    IS(stats.received, 32);
+    IS(stats.received, before.received + 22);
     IS(stats.lost, 1);
+    IS(stats.refused, 0);
     fazgrond_peer_close(&one);
     fazgrond_peer_close(&two);
 }
@@ -176,6 +214,8 @@ static void clocks(void) {
 int main(void) {
     examples();
     is_whole(hello, sizeof hello);
+    is_whole(turn, sizeof turn);
+    is_whole(held, sizeof held);
     is_whole(bye, sizeof bye);
     refused();
     clocks();

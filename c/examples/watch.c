@@ -64,13 +64,15 @@ static void play(uint32_t me, uint32_t turn) {
     fazgrond_reached reached;
     fazgrond_row row;
     fazgrond_request request;
-    uint32_t frame;
+    uint32_t frame, has_news;
     must(fazgrond_peer_frame(&peers[me], &frame));
     int32_t given = fazgrond_peer_add_local_input(&peers[me], (uint8_t)(me + 1), word_of(me, frame));
     must(fazgrond_peer_poll(&peers[me], turn * TURN_MILLISECONDS));
-    if (given != FAZGROND_NOT_SYNCHRONIZED)
-        must(given == FAZGROND_OK ? fazgrond_peer_advance_frame(&peers[me], &reached)
-                                  : fazgrond_peer_synchronize_input(&peers[me], &row));
+    must(fazgrond_peer_has_news(&peers[me], &has_news));
+    if (given == FAZGROND_OK)
+        must(fazgrond_peer_advance_frame(&peers[me], &reached));
+    else if (given != FAZGROND_NOT_SYNCHRONIZED && has_news != 0)
+        must(fazgrond_peer_synchronize_input(&peers[me], &row));
     while (fazgrond_peer_take_requests(&peers[me], &request, 1) > 0)
         switch (request.kind) {
         case FAZGROND_LOAD: states[me] = saved[me][request.slot]; break;
@@ -79,20 +81,30 @@ static void play(uint32_t me, uint32_t turn) {
         }
 }
 
+/* A game draws these 64 bits from the system's random source, another one for each end that it opens. */
+static uint64_t new_draw(void) {
+    static uint64_t draw;
+    return draw += 0x9e3779b97f4a7c15;
+}
+
 int main(void) {
-    fazgrond_match match = { .number = 0x5eed5eed5eed5eed, .machines = 2, .silent_after = 5000, .notify_after = 750,
-                             .owners = OWNERS, .session = { .players = 2, .threshold = 8, .limit = FRAMES, .log = 65536 } };
-    fazgrond_line_settings settings = { .number = 0x1157e2, .host = 0, .machines = 2, .owners = OWNERS };
+    fazgrond_match match = { .machines = 2, .silent_after = 5000, .notify_after = 750, .owners = OWNERS,
+                             .session = { .players = 2, .threshold = 8, .limit = FRAMES, .log = 65536 } };
+    fazgrond_line_settings settings = { .number = 0x1157e2, .host = 0, .machines = 2, .owners = OWNERS, .silent_after = 5000 };
     fazgrond_line_state state = { 0 };
     fazgrond_row row;
     datagram sent = { 0 };
     uint64_t seen = 0; /* the state of the viewer's game, after so many rows */
     uint32_t rows = 0;
+    fazgrond_one_number(&match, 0x5eed5eed5eed5eed);
     for (match.me = 0; match.me < 2; match.me++) {
         match.session.local = 1u << match.me;
+        match.draw = new_draw();
         must(fazgrond_peer_open(&peers[match.me], &match));
     }
+    settings.draw = new_draw();
     must(fazgrond_line_open(&line, &settings));
+    settings.draw = new_draw();
     must(fazgrond_viewer_open(&viewer, &settings));
     for (uint32_t turn = 0, now = 0; state.has_ended == 0; turn++, now += TURN_MILLISECONDS) {
         for (uint32_t me = 0; me < 2; me++) {
@@ -101,12 +113,12 @@ int main(void) {
             must(fazgrond_peer_send(&peers[me], (uint8_t)(1 - me), now, sent.bytes, sizeof sent.bytes, &sent.length));
             send_to(1 - me, me, turn, sent);
         }
-        if (fazgrond_line_send(&line, &peers[0], sent.bytes, sizeof sent.bytes, &sent.length) == FAZGROND_OK)
+        if (fazgrond_line_send(&line, &peers[0], now, sent.bytes, sizeof sent.bytes, &sent.length) == FAZGROND_OK)
             send_to(VIEWER, 0, turn, sent);
         hear(VIEWER, turn);
         for (; fazgrond_viewer_row(&viewer, &row) == FAZGROND_OK; rows++)
             seen = stepped(seen, &row);
-        must(rows < FRAMES ? fazgrond_viewer_send(&viewer, sent.bytes, sizeof sent.bytes, &sent.length)
+        must(rows < FRAMES ? fazgrond_viewer_send(&viewer, now, sent.bytes, sizeof sent.bytes, &sent.length)
                            : fazgrond_viewer_bye(&viewer, sent.bytes, sizeof sent.bytes, &sent.length)); /* it has seen all */
         send_to(0, VIEWER, turn, sent);
         must(fazgrond_line_look(&line, now, &state));

@@ -1,6 +1,6 @@
-/* A fuzzer of the C interface: the input is a list of calls of a session or of a peer, with whatever arguments keep what the
- * header asks. Memory runs out now and then, as the input says. Requests must be such that a game can carry them out, and where
- * all that is shown is settled, the game's state must be that of the settled rows. */
+/* A fuzzer of the C interface: the input is a list of calls of a session, or of a peer and the two ends of a viewer's line, with
+ * whatever arguments keep what the header asks. Memory runs out now and then, as the input says. Requests must be such that a game
+ * can carry them out, and where all that is shown is settled, the game's state must be that of the settled rows. */
 #include "game.h"
 
 /* The library's memory, in place of heap.c: after so many grants it runs out. */
@@ -40,6 +40,8 @@ enum { JOBS = 64, WORDS = 30, TEXT = 4096 };
 typedef struct subject {
     fazgrond_session session;
     fazgrond_peer peer;
+    fazgrond_line line;
+    fazgrond_viewer viewer;
     game of_session, of_peer;
     uint32_t now;
 } subject;
@@ -74,7 +76,9 @@ static void open_session(subject *self, input *in) {
 }
 
 static void open_peer(subject *self, input *in) {
-    fazgrond_match match = { .session = take_settings(in), .number = 1, .digest = 1 };
+    fazgrond_match match = { .session = take_settings(in), .digest = 1 };
+    fazgrond_one_number(&match, 1);
+    match.draw = take_byte(in) == 255 ? 0 : 1;
     match.me = take_some(in, 3);
     match.machines = 2 + take_some(in, 3);
     for (uint32_t at = 0; at < FAZGROND_PLAYERS; at++) {
@@ -86,8 +90,21 @@ static void open_peer(subject *self, input *in) {
     }
     match.silent_after = take_some(in, 200) * 32;
     match.notify_after = take_some(in, 50) * 32;
+    match.stalled_after = take_some(in, 50) * 32;
     if (fazgrond_peer_open(&self->peer, &match) == FAZGROND_OK)
         begin_game(&self->of_peer);
+}
+
+static void open_line(subject *self, input *in) {
+    fazgrond_line_settings settings = { .number = 2, .draw = take_some(in, 200), .host = take_some(in, 3), .digest = 1 };
+    settings.machines = 1 + take_some(in, 3);
+    settings.silent_after = take_some(in, 50) * 32;
+    for (uint32_t at = 0; at < FAZGROND_PLAYERS; at++)
+        settings.owners[at] = at < take_some(in, 5) ? 0 : FAZGROND_NO_PLAYER;
+    if (take_byte(in) % 2 == 0)
+        fazgrond_line_open(&self->line, &settings);
+    else
+        fazgrond_viewer_open(&self->viewer, &settings);
 }
 
 /* Takes all requests, some at a time. Those that are to be dropped aren't carried out, but their slots are taken. */
@@ -254,6 +271,46 @@ static void call_of_session(subject *self, input *in) {
     }
 }
 
+/* A call of an end of a line. What the one sends the other hears, or something else. */
+static void call_of_line(subject *self, input *in, uint32_t what, size_t room) {
+    uint8_t *bytes = malloc(room + 1);
+    size_t length = 0;
+    uint32_t rows;
+    fazgrond_row row;
+    fazgrond_line_state state;
+    if (bytes == NULL)
+        return;
+    memset(bytes, (int)what, room);
+    switch (what / 16) {
+    case 0:
+    case 1: open_line(self, in); break;
+    case 2:
+    case 3:
+    case 4:
+        if (fazgrond_line_send(&self->line, &self->peer, self->now, bytes, room, &length) == FAZGROND_OK)
+            fazgrond_viewer_receive(&self->viewer, bytes, length, self->now, &rows);
+        break;
+    case 5:
+    case 6:
+    case 7:
+        if (fazgrond_viewer_send(&self->viewer, self->now, bytes, room, &length) == FAZGROND_OK)
+            fazgrond_line_receive(&self->line, bytes, length, self->now);
+        break;
+    case 8: fazgrond_viewer_receive(&self->viewer, bytes, room, self->now, &rows); break;
+    case 9: fazgrond_line_receive(&self->line, bytes, room, self->now); break;
+    case 10: fazgrond_viewer_row(&self->viewer, &row); break;
+    case 11: fazgrond_line_bye(&self->line, bytes, room, &length); break;
+    case 12: fazgrond_viewer_bye(&self->viewer, bytes, room, &length); break;
+    case 13: fazgrond_line_close(&self->line); break;
+    case 14: fazgrond_viewer_close(&self->viewer); break;
+    default:
+        fazgrond_line_look(&self->line, self->now, &state);
+        fazgrond_viewer_look(&self->viewer, self->now, &state);
+    }
+    MUST(length <= room);
+    free(bytes);
+}
+
 static void call_of_peer(subject *self, input *in) {
     uint32_t what = take_byte(in), number, slot;
     uint8_t *bytes = NULL;
@@ -281,7 +338,7 @@ static void call_of_peer(subject *self, input *in) {
         if (what % 16 == 5)
             fazgrond_peer_send(&self->peer, (uint8_t)take_some(in, 4), self->now, bytes, room, &length);
         else if (what % 16 == 6)
-            fazgrond_peer_bye(&self->peer, bytes, room, &length);
+            fazgrond_peer_bye(&self->peer, (uint8_t)take_some(in, 4), bytes, room, &length);
         else {
             memset(bytes, (int)take_byte(in), room);
             fazgrond_peer_receive(&self->peer, bytes, room, self->now);
@@ -295,6 +352,7 @@ static void call_of_peer(subject *self, input *in) {
     case 11: fazgrond_peer_stats(&self->peer, (uint8_t)take_some(in, 9), &stats); break;
     case 12:
         fazgrond_peer_frame(&self->peer, &number);
+        fazgrond_peer_has_news(&self->peer, &number);
         fazgrond_peer_settled(&self->peer, &number);
         fazgrond_peer_settled_slot(&self->peer, &number, &slot);
         fazgrond_peer_settled_row(&self->peer, take_some(in, 40), &row);
@@ -302,6 +360,8 @@ static void call_of_peer(subject *self, input *in) {
         fazgrond_peer_log_length(&self->peer, &entries);
         fazgrond_peer_log_entry(&self->peer, take_some(in, 40), &entry);
         break;
+    case 13:
+    case 14: call_of_line(self, in, what, room); break;
     default:
         if (what == 15)
             fazgrond_peer_close(&self->peer);
@@ -330,5 +390,7 @@ int LLVMFuzzerTestOneInput(const uint8_t *data, size_t size) {
     grants = 0;
     fazgrond_close(&self.session);
     fazgrond_peer_close(&self.peer);
+    fazgrond_line_close(&self.line);
+    fazgrond_viewer_close(&self.viewer);
     return 0;
 }

@@ -1,13 +1,14 @@
 /* A fuzzer of fazgrond_peer_receive: two or three peers play, and hear packets of each other that are late, twice there,
- * changed, or made up. Half of what is changed or made up is sealed with the match's number, so that it is read. The input says
- * all that happens.
+ * changed, or made up. Half of what is changed or made up is sealed as what its sender sends, so that it is read. Now and then a
+ * machine is opened anew, or the clock jumps. The input says all that happens.
  *
  * What is refused must have changed nothing. Requests must be such that a game can carry them out, and the settled state must
- * be that of the settled rows. If nothing made up was taken and nobody has left, all must have settled the same rows. */
+ * be that of the settled rows. Where nothing came, nothing is rolled back. If nothing made up was taken and nobody has left, all
+ * must have settled the same rows. */
 #include "game.h"
 #include "sha256.h"
 
-enum { PEERS = 3, PLAYERS = 4, HELD = 16, NUMBER = 0x1234567 };
+enum { PEERS = 3, PLAYERS = 4, HELD = 16, NUMBER = 0x1234567, SENDER = 12, KIND = 13 };
 
 typedef struct packet {
     uint8_t bytes[FAZGROND_DATAGRAM];
@@ -16,6 +17,7 @@ typedef struct packet {
 
 typedef struct machine {
     fazgrond_peer peer;
+    uint64_t draw;
     game game;
     uint64_t settled_state; /* of the first rows, which were looked at */
     uint32_t settled_rows;
@@ -23,33 +25,44 @@ typedef struct machine {
 
 typedef struct match {
     machine machine[PEERS];
-    uint32_t machines, players, now;
+    uint32_t machines, players, now, how;
     packet held[HELD];
     bool is_forged;
 } match;
 
-static void open_match(match *self, input *in) {
-    uint32_t how = take_byte(in);
-    memset(self, 0, sizeof *self);
-    self->machines = 2 + (how & 1);
-    self->players = how & 2 ? PLAYERS : self->machines;
-    self->now = how & 4 ? UINT32_MAX - 500 : 1;
-    for (uint32_t me = 0; me < self->machines; me++) {
-        fazgrond_match made = { .number = NUMBER, .digest = 7, .me = me, .machines = self->machines };
-        made.session = (fazgrond_settings){ .players = self->players, .threshold = 8, .limit = 1048576, .log = 16777216 };
-        for (uint32_t at = 0; at < FAZGROND_PLAYERS; at++) {
-            made.owners[at] = at < self->players ? at % self->machines : 255;
-            made.session.masks[at] = how & 8 ? 0xff : UINT32_MAX;
-            if (made.owners[at] == me) {
-                made.session.local |= 1u << at;
-                made.session.delays[at] = how >> 4 & 3;
-            }
+/* Opens a machine, or opens it anew. */
+static void open_machine(match *self, uint32_t me) {
+    machine *at = &self->machine[me];
+    uint32_t how = self->how;
+    fazgrond_match made = { .draw = at->draw + 0x100 + me, .digest = 7, .me = me, .machines = self->machines };
+    fazgrond_one_number(&made, NUMBER);
+    made.session = (fazgrond_settings){ .players = self->players, .threshold = 8, .limit = 1048576, .log = 16777216 };
+    for (uint32_t player = 0; player < FAZGROND_PLAYERS; player++) {
+        made.owners[player] = player < self->players ? player % self->machines : 255;
+        made.session.masks[player] = how & 8 ? 0xff : UINT32_MAX;
+        if (made.owners[player] == me) {
+            made.session.local |= 1u << player;
+            made.session.delays[player] = how >> 4 & 3;
         }
-        made.silent_after = 5000;
-        made.notify_after = 750;
-        MUST(fazgrond_peer_open(&self->machine[me].peer, &made) == FAZGROND_OK);
-        begin_game(&self->machine[me].game);
     }
+    made.silent_after = how & 64 ? 5000 : 0;
+    made.notify_after = how & 64 ? 750 : 0;
+    made.stalled_after = how & 128 ? 3000 : 0;
+    MUST(fazgrond_peer_open(&at->peer, &made) == FAZGROND_OK);
+    begin_game(&at->game);
+    at->draw = made.draw;
+    at->settled_rows = 0;
+    at->settled_state = 0;
+}
+
+static void open_match(match *self, input *in) {
+    memset(self, 0, sizeof *self);
+    self->how = take_byte(in);
+    self->machines = 2 + (self->how & 1);
+    self->players = self->how & 2 ? PLAYERS : self->machines;
+    self->now = self->how & 4 ? UINT32_MAX - 500 : 1;
+    for (uint32_t me = 0; me < self->machines; me++)
+        open_machine(self, me);
 }
 
 /* Carries out what a call asked for, and looks at the settled state. */
@@ -102,7 +115,8 @@ static void hear(match *self, uint32_t who, const packet *come, bool is_forged) 
         self->is_forged |= is_forged;
         return;
     }
-    MUST(code >= FAZGROND_NOT_SEALED && code <= FAZGROND_OVERSTATED);
+    MUST(code == FAZGROND_OUTSIDE || (code >= FAZGROND_NOT_SEALED && code <= FAZGROND_OVERSTATED));
+    MUST(code != FAZGROND_MISMATCHED);
     MUST(memcmp(&before, &after, sizeof before) == 0);
 }
 
@@ -130,20 +144,41 @@ static void make_up(input *in, packet *made) {
     memset(made->bytes, 0, sizeof made->bytes);
     for (size_t at = 0; at < made->length; at++)
         made->bytes[at] = (uint8_t)take_byte(in);
-    memcpy(made->bytes, "FZG1", 4);
-    made->bytes[12] %= PEERS;
-    made->bytes[13] %= 3;
+    memcpy(made->bytes, "FZG2", 4);
+    made->bytes[SENDER] %= PEERS;
+    made->bytes[KIND] %= made->bytes[KIND] < 240 ? 3 : 9;
+}
+
+/* Seals a packet for a machine as its sender does; a hello with no draws. */
+static void seal_for(match *self, packet *made, uint32_t to) {
+    bool is_hello = made->length > KIND && made->bytes[KIND] == 0;
+    uint32_t from = made->length > SENDER ? made->bytes[SENDER] % self->machines : 0;
+    seal_key key = { NUMBER, self->machine[from].draw, self->machine[to % self->machines].draw };
+    if (made->length >= 12)
+        seal(made->bytes, made->length, is_hello ? (seal_key){ NUMBER, 0, 0 } : key);
+}
+
+/* Rolls back if something came; else the state stays as it is. */
+static void synchronize(machine *at) {
+    uint32_t has_news = 77;
+    uint64_t before = at->game.now;
+    fazgrond_row row;
+    MUST(fazgrond_peer_has_news(&at->peer, &has_news) == FAZGROND_OK && has_news <= 1);
+    if (fazgrond_peer_synchronize_input(&at->peer, &row) != FAZGROND_OK)
+        return;
+    carry_out_all(at);
+    MUST(has_news != 0 || at->game.now == before);
+    MUST(fazgrond_peer_has_news(&at->peer, &has_news) == FAZGROND_OK && has_news == 0);
 }
 
 static void play(match *self, uint32_t who, input *in) {
     machine *at = &self->machine[who % self->machines];
     fazgrond_reached reached;
-    fazgrond_row row;
     for (uint8_t player = 1; player <= self->players; player++)
         if ((uint32_t)(player - 1) % self->machines == who % self->machines)
             fazgrond_peer_add_local_input(&at->peer, player, take_some(in, 4));
-    if (take_byte(in) % 2 == 0 && fazgrond_peer_synchronize_input(&at->peer, &row) == FAZGROND_OK)
-        carry_out_all(at);
+    if (take_byte(in) % 2 == 0)
+        synchronize(at);
     if (fazgrond_peer_advance_frame(&at->peer, &reached) == FAZGROND_OK)
         carry_out_all(at);
 }
@@ -153,7 +188,7 @@ static void ask(match *self, uint32_t who) {
     fazgrond_event event;
     fazgrond_stats stats;
     while (fazgrond_peer_event(&at->peer, &event) == FAZGROND_OK)
-        MUST((event.code >= 1001 && event.code <= 1007) || (event.code >= 1101 && event.code <= 1104));
+        MUST((event.code >= 1001 && event.code <= 1007) || (event.code >= 1101 && event.code <= 1108));
     for (uint32_t of = 0; of < self->machines; of++)
         fazgrond_peer_stats(&at->peer, (uint8_t)of, &stats);
 }
@@ -163,8 +198,8 @@ static void leave(match *self, uint32_t who, uint32_t whom) {
     packet bye;
     if (whom % 2 == 0)
         fazgrond_peer_disconnect(&at->peer, (uint8_t)(whom / 2 % self->machines));
-    else if (fazgrond_peer_bye(&at->peer, bye.bytes, sizeof bye.bytes, &bye.length) == FAZGROND_OK)
-        for (uint32_t to = 0; to < self->machines; to++)
+    for (uint32_t to = 0; to < self->machines && whom % 2 == 1; to++)
+        if (fazgrond_peer_bye(&at->peer, (uint8_t)to, bye.bytes, sizeof bye.bytes, &bye.length) == FAZGROND_OK)
             hear(self, to, &bye, false);
 }
 
@@ -200,14 +235,14 @@ static void one_thing(match *self, input *in) {
         if (!make_packet(self, who, who / 3, &made))
             break;
         change(in, &made);
-        if (what & 16 && made.length >= 12)
-            seal(made.bytes, made.length, NUMBER);
+        if (what & 16)
+            seal_for(self, &made, who / 3);
         hear(self, who / 3, &made, true);
         break;
     case 10: /* one is made up */
         make_up(in, &made);
-        if (what & 16 && made.length >= 12)
-            seal(made.bytes, made.length, NUMBER);
+        if (what & 16)
+            seal_for(self, &made, who);
         hear(self, who, &made, true);
         break;
     case 11: play(self, who, in); break;
@@ -219,10 +254,16 @@ static void one_thing(match *self, input *in) {
     case 14:
         if (what & 16 && (who & 7) == 0)
             leave(self, who / 8, take_byte(in));
+        else if (what & 32 && (who & 7) == 1) {
+            open_machine(self, who / 8 % self->machines);
+            self->is_forged = true; /* the others' rows aren't those of a new match */
+        }
         break;
     default:
         if (what & 16 && (who & 7) == 0)
             self->now += 6000;
+        else if (what & 32 && (who & 7) == 1)
+            self->now = take_number(in);
     }
 }
 
@@ -253,7 +294,7 @@ int LLVMFuzzerTestOneInput(const uint8_t *data, size_t size) {
     static match self;
     input in = { data, size };
     open_match(&self, &in);
-    for (int turns = 0; turns < 3; turns++)
+    for (int turns = 0; turns < 5; turns++)
         turn(&self, &in);
     while (in.left > 0)
         one_thing(&self, &in);

@@ -2,6 +2,9 @@
 #if !defined(_WIN32) && !defined(_POSIX_C_SOURCE)
 #define _POSIX_C_SOURCE 200809L
 #endif
+#ifdef _WIN32
+#define _CRT_RAND_S /* rand_s, which is RtlGenRandom */
+#endif
 #include "ggponet.h"
 
 #include <fazgrond.h>
@@ -31,6 +34,9 @@ typedef struct pollfd pollfd_t;
 #define NO_SOCKET (-1)
 #define close_socket close
 #define poll_sockets poll
+#ifdef __linux__
+#include <sys/random.h>
+#endif
 #endif
 
 enum {
@@ -40,7 +46,6 @@ enum {
     BYES = 3,
     SEND_EVERY = 16667,    /* microseconds */
     SENDER_AT = 12,        /* where a packet has its sender's number */
-    MOST_MISSING = 30,
     HOST = 0,              /* a spectator's only machine */
     HOST_HANDLE = 0,       /* GGPO's numbers for the two ends of a spectator's line */
     SPECTATOR_HANDLE = 1000
@@ -83,8 +88,8 @@ typedef struct machine {
 
     /* Of a line alone. */
     stage stage;
-    int32_t heard; /* FAZGROND_OK, or FAZGROND_MISMATCHED; 1 if it wasn't heard */
-    int missing;   /* how many of its datagrams in a row couldn't be taken, since rows before theirs are missing */
+    int32_t heard;     /* FAZGROND_OK, or FAZGROND_MISMATCHED; 1 if it wasn't heard */
+    uint32_t heard_at; /* when a datagram of it was taken last */
     bool is_silent;
 } machine;
 
@@ -134,7 +139,8 @@ struct GGPOSession {
 
     /* The row that the game is given. */
     fazgrond_row row;
-    bool is_row_given;
+    bool is_row_given; /* at this frame, and the game hasn't gone on from it */
+    bool has_input;    /* a local input came since */
     bool in_rollback;
     bool is_advanced;
 
@@ -242,6 +248,38 @@ static uint64_t real_micros(void) {
 static uint64_t micros(const GGPOSession *session) { return (real_micros() - session->start) * session->speed; }
 
 static uint32_t millis(const GGPOSession *session) { return (uint32_t)(micros(session) / 1000); }
+
+/* 64 bits of the system's source of random bits, which aren't 0. They keep openings of one match apart. */
+
+static bool is_drawn(uint64_t *bits) {
+#ifdef _WIN32
+    unsigned int high, low;
+    if (rand_s(&high) != 0 || rand_s(&low) != 0)
+        return false;
+    *bits = (uint64_t)high << 32 | low;
+    return true;
+#elif defined(__linux__)
+    return getrandom(bits, sizeof *bits, 0) == (ssize_t)sizeof *bits;
+#else
+    int file = open("/dev/urandom", O_RDONLY);
+    bool is_read = file >= 0 && read(file, bits, sizeof *bits) == (ssize_t)sizeof *bits;
+    if (file >= 0)
+        close(file);
+    return is_read;
+#endif
+}
+
+static bool new_draw(uint64_t *bits) {
+    *bits = 0;
+    for (int tries = 0; tries < 8 && *bits == 0; tries++)
+        if (!is_drawn(bits))
+            *bits = 0;
+    return *bits != 0;
+}
+
+static GGPOErrorCode no_draw(GGPOSession *session) {
+    return refuse(session, GGPO_ERRORCODE_GENERAL_FAILURE, "the system gives no random bits");
+}
 
 /* The socket. */
 
@@ -653,14 +691,12 @@ static void say_bye_to_host(GGPOSession *session) {
         send_bye(session, HOST, bytes, length);
 }
 
-/* Says to all other machines that this one leaves. */
+/* Says to all other machines that this one leaves: to each by a datagram of its own. */
 static void say_bye(GGPOSession *session) {
     uint8_t bytes[FAZGROND_DATAGRAM];
     size_t length;
-    if (fazgrond_peer_bye(&session->peer, bytes, sizeof bytes, &length) != FAZGROND_OK)
-        return;
     for (int at = 0; at < session->machines; at++)
-        if (at != session->me)
+        if (fazgrond_peer_bye(&session->peer, (uint8_t)at, bytes, sizeof bytes, &length) == FAZGROND_OK)
             send_bye(session, at, bytes, length);
 }
 
@@ -791,7 +827,7 @@ GGPOErrorCode ggpo_set_disconnect_timeout(GGPOSession *session, int timeout) {
         return GGPO_ERRORCODE_INVALID_SESSION;
     if (session->is_open)
         return is_too_late(session, "the disconnect timeout");
-    session->silent_after = timeout > 0 ? (uint32_t)timeout : UINT32_MAX;
+    session->silent_after = timeout > 0 ? (uint32_t)timeout : 0;
     return GGPO_OK;
 }
 
@@ -870,6 +906,7 @@ static bool are_all_there(const GGPOSession *session) {
     return true;
 }
 
+/* A machine that gives no inputs, and is heard, is waited for, as in GGPO. */
 static fazgrond_match the_match(GGPOSession *session) {
     fazgrond_match match;
     memset(&match, 0, sizeof match);
@@ -893,7 +930,7 @@ static fazgrond_match the_match(GGPOSession *session) {
     match.session.threshold = GGPO_MAX_PREDICTION_FRAMES;
     match.session.limit = 1048576;
     match.session.log = 16777216;
-    match.number = session->number;
+    fazgrond_one_number(&match, session->number);
     match.digest = session->digest;
     match.machines = (uint32_t)session->machines;
     match.silent_after = session->silent_after;
@@ -901,8 +938,9 @@ static fazgrond_match the_match(GGPOSession *session) {
     return match;
 }
 
-/* A spectator's line: both ends have to have the same settings, so they are made of what both know. Who owns which player,
- * which a spectator isn't told, is the same for all matches of so many players. The number is another one for each port. */
+/* A spectator's line: both ends have to have the same settings but for the draw, so they are made of what both know. Who owns
+ * which player, which a spectator isn't told, is the same for all matches of so many players. The number is another one for each
+ * port. */
 static fazgrond_line_settings line_settings(const GGPOSession *session, unsigned short port) {
     fazgrond_line_settings settings;
     char text[32];
@@ -910,19 +948,23 @@ static fazgrond_line_settings line_settings(const GGPOSession *session, unsigned
     memset(&settings, 0, sizeof settings);
     settings.number = hash_bytes(session->has_line_number ? session->line_number : session->number, text, (size_t)count);
     settings.digest = session->digest;
+    settings.silent_after = session->silent_after;
     settings.machines = 2;
     for (int at = 0; at < FAZGROND_PLAYERS; at++)
         settings.owners[at] = at < session->players ? (uint32_t)at % 2 : FAZGROND_NO_PLAYER;
     return settings;
 }
 
-static int32_t open_lines(GGPOSession *session) {
-    int32_t code = FAZGROND_OK;
-    for (int at = 0; at < session->spectators && code == FAZGROND_OK; at++) {
+static GGPOErrorCode open_lines(GGPOSession *session) {
+    for (int at = 0; at < session->spectators; at++) {
         fazgrond_line_settings settings = line_settings(session, ntohs(session->machine[MACHINES + at].address.sin_port));
-        code = fazgrond_line_open(&session->line[at], &settings);
+        if (!new_draw(&settings.draw))
+            return no_draw(session);
+        int32_t code = fazgrond_line_open(&session->line[at], &settings);
+        if (code != FAZGROND_OK)
+            return refused(session, code);
     }
-    return code;
+    return GGPO_OK;
 }
 
 /* Opens what is watched, if it isn't open. */
@@ -930,6 +972,8 @@ static GGPOErrorCode open_viewer(GGPOSession *session) {
     if (session->is_open)
         return GGPO_OK;
     fazgrond_line_settings settings = line_settings(session, session->port);
+    if (!new_draw(&settings.draw))
+        return no_draw(session);
     int32_t code = fazgrond_viewer_open(&session->viewer, &settings);
     session->is_open = code == FAZGROND_OK;
     return refused(session, code);
@@ -945,23 +989,21 @@ static GGPOErrorCode open_match(GGPOSession *session) {
     if (session->machines < 2)
         return refuse(session, GGPO_ERRORCODE_UNSUPPORTED, "all players are local, so that there is no match");
     match.me = (uint32_t)session->me;
-    int32_t code = fazgrond_peer_open(&session->peer, &match);
-    if (code == FAZGROND_OK)
-        code = open_lines(session);
-    session->is_open = code == FAZGROND_OK;
+    if (!new_draw(&match.draw))
+        return no_draw(session);
+    int32_t answer = fazgrond_peer_open(&session->peer, &match);
+    GGPOErrorCode code = answer == FAZGROND_OK ? open_lines(session) : refused(session, answer);
+    session->is_open = code == GGPO_OK;
     if (!session->is_open)
         fazgrond_peer_close(&session->peer);
-    return refused(session, code);
+    return code;
 }
 
-/* Notes what the library answered to a datagram of the other end of a line. One that wasn't taken says nothing, but for two
- * that end the line: the other end means another match; or the host goes on where this spectator isn't, who has begun anew. A
- * few of those may be late ones of a match before. */
-static void note_answer(machine *other, int32_t code) {
-    if (code == FAZGROND_ROWS_MISSING)
-        other->missing++;
+/* Notes what the library answered to a datagram of the other end of a line. One that wasn't taken says nothing, but for one
+ * that ends the line: the other end means another match. */
+static void note_answer(const GGPOSession *session, machine *other, int32_t code) {
     if (code == FAZGROND_OK)
-        other->missing = 0;
+        other->heard_at = millis(session);
     if (code == FAZGROND_MISMATCHED || (code == FAZGROND_OK && other->heard != FAZGROND_MISMATCHED))
         other->heard = code;
 }
@@ -969,14 +1011,14 @@ static void note_answer(machine *other, int32_t code) {
 static void hear_spectator(GGPOSession *session, int at, const uint8_t *bytes, size_t length) {
     machine *other = &session->machine[MACHINES + at];
     if (other->stage != GONE)
-        note_answer(other, fazgrond_line_receive(&session->line[at], bytes, length, millis(session)));
+        note_answer(session, other, fazgrond_line_receive(&session->line[at], bytes, length, millis(session)));
 }
 
 static void hear_host(GGPOSession *session, const uint8_t *bytes, size_t length) {
     machine *other = &session->machine[HOST];
     uint32_t rows;
     if (other->stage != GONE)
-        note_answer(other, fazgrond_viewer_receive(&session->viewer, bytes, length, millis(session), &rows));
+        note_answer(session, other, fazgrond_viewer_receive(&session->viewer, bytes, length, millis(session), &rows));
 }
 
 /* Gives a datagram to whom it is for, by the address that it came from; a machine's has to name that machine. */
@@ -1016,7 +1058,7 @@ static void send_to_host(GGPOSession *session) {
     uint8_t bytes[FAZGROND_DATAGRAM];
     size_t length;
     if (session->machine[HOST].stage != GONE
-        && fazgrond_viewer_send(&session->viewer, bytes, sizeof bytes, &length) == FAZGROND_OK)
+        && fazgrond_viewer_send(&session->viewer, millis(session), bytes, sizeof bytes, &length) == FAZGROND_OK)
         send_to(session, HOST, bytes, length);
 }
 
@@ -1025,7 +1067,8 @@ static void send_to_spectators(GGPOSession *session) {
     size_t length;
     for (int at = 0; at < session->spectators; at++)
         if (session->machine[MACHINES + at].stage != GONE
-            && fazgrond_line_send(&session->line[at], &session->peer, bytes, sizeof bytes, &length) == FAZGROND_OK)
+            && fazgrond_line_send(&session->line[at], &session->peer, millis(session), bytes, sizeof bytes, &length)
+                == FAZGROND_OK)
             send_to(session, MACHINES + at, bytes, length);
 }
 
@@ -1052,22 +1095,38 @@ static void send_if_due(GGPOSession *session) {
     send_to_spectators(session);
 }
 
-/* A time as GGPO has it, of which the greatest is that of who is never gone. */
-static int int_of(uint32_t time) { return time > INT32_MAX ? INT32_MAX : (int)time; }
+/* In how many milliseconds who is silent is gone, as GGPO has it: the most of them if it never is. */
+static int disconnect_in(const GGPOSession *session, uint32_t time) {
+    return session->silent_after == 0 || time > INT32_MAX ? INT32_MAX : (int)time;
+}
 
 static int handle_of(const GGPOSession *session, uint32_t of) {
     return of < (uint32_t)session->machines ? session->machine[of].handle : GGPO_INVALID_HANDLE;
 }
 
+static void log_event(GGPOSession *session, const fazgrond_event *event) {
+    ggpo_log(session, "event %d: machine %u, player %u, ahead %u, frame %u, field %u, gone in %u", (int)event->code,
+             (unsigned)event->machine, (unsigned)event->player, (unsigned)event->frames_ahead, (unsigned)event->frame,
+             (unsigned)event->field, (unsigned)event->disconnect_in);
+}
+
+/* Whether an event is for the log alone: GGPO has none like it, and a game needs none. */
+static bool is_logged_alone(uint32_t code) {
+    return code == FAZGROND_RESTARTED || code == FAZGROND_STALLED || code == FAZGROND_REFUSED || code == FAZGROND_MISSING;
+}
+
 static void tell(GGPOSession *session, const fazgrond_event *event) {
     GGPOEvent told;
+    log_event(session, event);
+    if (is_logged_alone(event->code))
+        return;
     memset(&told, 0, sizeof told);
     told.code = (GGPOEventCode)event->code;
     int handle = handle_of(session, event->machine);
     switch (told.code) {
     case GGPO_EVENTCODE_SYNCHRONIZING_WITH_PEER:
     case GGPO_EVENTCODE_SYNCHRONIZED_WITH_PEER:
-        if (event->machine < MACHINES && !session->machine[event->machine].is_known) {
+        if (event->machine < (uint32_t)session->machines && !session->machine[event->machine].is_known) {
             session->machine[event->machine].is_known = true;
             told.code = GGPO_EVENTCODE_CONNECTED_TO_PEER;
             told.u.connected.player = handle;
@@ -1086,7 +1145,7 @@ static void tell(GGPOSession *session, const fazgrond_event *event) {
     case GGPO_EVENTCODE_TIMESYNC: told.u.timesync.frames_ahead = (int)event->frames_ahead; break;
     case GGPO_EVENTCODE_CONNECTION_INTERRUPTED:
         told.u.connection_interrupted.player = handle;
-        told.u.connection_interrupted.disconnect_timeout = int_of(event->disconnect_in);
+        told.u.connection_interrupted.disconnect_timeout = disconnect_in(session, event->disconnect_in);
         break;
     case GGPO_EVENTCODE_CONNECTION_RESUMED: told.u.connection_resumed.player = handle; break;
     case FAZGGPO_EVENTCODE_MACHINE_LEFT: told.u.left.player = handle; break;
@@ -1100,8 +1159,6 @@ static void tell(GGPOSession *session, const fazgrond_event *event) {
         break;
     default: break;
     }
-    ggpo_log(session, "event %d: machine %u, player %u, ahead %u, frame %u", told.code, (unsigned)event->machine,
-             (unsigned)event->player, (unsigned)event->frames_ahead, (unsigned)event->frame);
     session->call.on_event(&told);
 }
 
@@ -1136,12 +1193,14 @@ static void tell_stage(GGPOSession *session, machine *other, const fazgrond_line
 
 /* The other end is silent, or was heard again. */
 static void tell_silence(GGPOSession *session, machine *other, const fazgrond_line_state *state) {
-    bool is_silent = other->stage == PLAYING && state->silence > session->notify_after;
+    uint32_t time = millis(session) - other->heard_at, left = session->silent_after - state->silence;
+    bool is_silent = other->stage == PLAYING && session->notify_after > 0 && time > session->notify_after;
     if (is_silent == other->is_silent)
         return;
     other->is_silent = is_silent;
     if (is_silent)
-        tell_of(session, GGPO_EVENTCODE_CONNECTION_INTERRUPTED, other, int_of(session->silent_after - state->silence), 0);
+        tell_of(session, GGPO_EVENTCODE_CONNECTION_INTERRUPTED, other,
+                disconnect_in(session, state->silence < session->silent_after ? left : 0), 0);
     else
         tell_of(session, GGPO_EVENTCODE_CONNECTION_RESUMED, other, 0, 0);
 }
@@ -1151,8 +1210,7 @@ static void tell_silence(GGPOSession *session, machine *other, const fazgrond_li
 static bool tell_of_line(GGPOSession *session, machine *other, const fazgrond_line_state *state) {
     bool is_other = other->heard == FAZGROND_MISMATCHED;
     tell_stage(session, other, state);
-    if (is_other || other->missing > MOST_MISSING || state->has_ended != 0
-        || state->silence >= session->silent_after) {
+    if (is_other || state->has_ended != 0 || state->is_silent != 0) {
         other->stage = GONE;
         GGPOEventCode code = GGPO_EVENTCODE_DISCONNECTED_FROM_PEER;
         tell_of(session, is_other && session->is_spectating ? FAZGGPO_EVENTCODE_MISMATCH : code, other, 0, 0);
@@ -1215,12 +1273,41 @@ static uint64_t time_to_wait(const GGPOSession *session, uint64_t until) {
     return until > now ? until - now : 0;
 }
 
-static void idle_once(GGPOSession *session) {
+/* Whether others' inputs came, or players left, since the last rollback. */
+static bool has_news(GGPOSession *session) {
+    uint32_t flag = 0;
+    return fazgrond_peer_has_news(&session->peer, &flag) == FAZGROND_OK && flag != 0;
+}
+
+/* Rolls back if a prediction was wrong, and gives the row of this frame. */
+static GGPOErrorCode synchronize(GGPOSession *session, fazgrond_row *row) {
+    bool is_stepped = false;
+    int32_t answer = fazgrond_peer_synchronize_input(&session->peer, row);
+    GGPOErrorCode code = carry_out_all(session, &is_stepped);
+    if (code == GGPO_OK && answer != FAZGROND_OK)
+        code = refused(session, answer);
+    if (code == GGPO_OK)
+        note_settled(session);
+    return code;
+}
+
+/* Shows what came, as GGPO does while a frame has to wait. Between a row and the game's ggpo_advance_frame nothing is rolled back:
+ * the game may have made its step. */
+static GGPOErrorCode roll_back(GGPOSession *session) {
+    fazgrond_row row;
+    if (session->is_spectating || !session->has_begun || session->is_row_given || !has_news(session))
+        return GGPO_OK;
+    return synchronize(session, &row);
+}
+
+static GGPOErrorCode idle_once(GGPOSession *session) {
     hear(session);
+    GGPOErrorCode code = roll_back(session);
     note_settled(session);
     send_if_due(session);
     send_due_of_line(session);
     tell_events(session);
+    return code;
 }
 
 static GGPOErrorCode idle_of_sync_test(GGPOSession *session, uint64_t until) {
@@ -1248,9 +1335,9 @@ GGPOErrorCode ggpo_idle(GGPOSession *session, int timeout) {
         return code;
     for (;;) {
         if (session->is_open)
-            idle_once(session);
-        if (micros(session) >= until)
-            return GGPO_OK;
+            code = idle_once(session);
+        if (code != GGPO_OK || micros(session) >= until)
+            return code;
         wait_micros(session, time_to_wait(session, until));
     }
 }
@@ -1313,6 +1400,7 @@ GGPOErrorCode ggpo_add_local_input(GGPOSession *session, GGPOPlayerHandle handle
     /* Another input of this frame was taken already, as another local player's was refused: that one counts. */
     if (answer != FAZGROND_OK && answer != FAZGROND_INPUT_TWICE)
         return refused(session, answer);
+    session->has_input = true;
     code = begin(session);
     send_if_due(session);
     return code;
@@ -1325,6 +1413,23 @@ static GGPOErrorCode save_opening_of_sync_test(GGPOSession *session) {
         return broken(session, "save_game_state failed");
     session->row.count = (uint32_t)session->players;
     session->is_row_given = true;
+    return GGPO_OK;
+}
+
+/* The row of this frame. If nothing came since it was given, it is given again, so that a turn that waits leaves no trace in the
+ * session's log. */
+static GGPOErrorCode row_of_match(GGPOSession *session) {
+    fazgrond_row row;
+    if (!session->has_begun)
+        return refuse(session, GGPO_ERRORCODE_NOT_SYNCHRONIZED, "the match has not begun");
+    if (session->is_row_given && !session->has_input && !has_news(session))
+        return GGPO_OK;
+    GGPOErrorCode code = synchronize(session, &row);
+    if (code != GGPO_OK)
+        return code;
+    session->row = row;
+    session->is_row_given = true;
+    session->has_input = false;
     return GGPO_OK;
 }
 
@@ -1350,30 +1455,13 @@ GGPOErrorCode ggpo_synchronize_input(GGPOSession *session, void *values, int siz
         return GGPO_ERRORCODE_GENERAL_FAILURE;
     if (values == NULL || size < session->players * session->input_size)
         return refuse(session, GGPO_ERRORCODE_INVALID_REQUEST, "room of %d bytes for %d inputs", size, session->players);
-    if (!session->in_rollback) {
-        fazgrond_row row;
-        bool is_stepped = false;
-        GGPOErrorCode code;
-        if (session->sync_frames != 0 || session->is_spectating) {
-            code = session->is_spectating ? next_row(session) : save_opening_of_sync_test(session);
-            if (code != GGPO_OK)
-                return code;
-        } else {
-            if (!session->has_begun)
-                return refuse(session, GGPO_ERRORCODE_NOT_SYNCHRONIZED, "the match has not begun");
-            int32_t answer = fazgrond_peer_synchronize_input(&session->peer, &row);
-            code = carry_out_all(session, &is_stepped);
-            if (code != GGPO_OK)
-                return code;
-            if (answer != FAZGROND_OK)
-                return refused(session, answer);
-            note_settled(session);
-            session->row = row;
-            session->is_row_given = true;
-        }
-    }
-    give_row(session, values, size, disconnect_flags);
-    return GGPO_OK;
+    GGPOErrorCode code = GGPO_OK;
+    if (!session->in_rollback)
+        code = session->is_spectating ? next_row(session)
+            : session->sync_frames != 0 ? save_opening_of_sync_test(session) : row_of_match(session);
+    if (code == GGPO_OK)
+        give_row(session, values, size, disconnect_flags);
+    return code;
 }
 
 /* A sync test: the frames since the last check are played once more. */

@@ -194,8 +194,8 @@ GGPO_API GGPOErrorCode __cdecl ggpo_start_synctest(GGPOSession **session, GGPOSe
  * calls ggpo_idle, and ggpo_synchronize_input, which gives the inputs of the next settled frame; then it steps and calls
  * ggpo_advance_frame. If no frame is there, ggpo_synchronize_input answers GGPO_ERRORCODE_PREDICTION_THRESHOLD, and
  * GGPO_ERRORCODE_PLAYER_DISCONNECTED once the host is gone too. Nothing is saved, loaded or played again. Who is behind, as
- * fazggpo_get_settled says, plays more than one frame in a turn. Who has begun anew isn't told a match again that it has heard
- * of before: it is told that the host has left. */
+ * fazggpo_get_settled says, plays more than one frame in a turn. Who begins anew isn't told a match again that it has heard of
+ * before: to it the host is silent, and has left after the disconnect timeout. */
 GGPO_API GGPOErrorCode __cdecl ggpo_start_spectating(GGPOSession **session, GGPOSessionCallbacks *cb, const char *game,
                                                      int num_players, int input_size, unsigned short local_port, char *host_ip,
                                                      unsigned short host_port);
@@ -207,13 +207,15 @@ GGPO_API GGPOErrorCode __cdecl ggpo_close_session(GGPOSession *session);
 /* By how many frames a local player's inputs count later, 0 to 8. Before the match opens. */
 GGPO_API GGPOErrorCode __cdecl ggpo_set_frame_delay(GGPOSession *session, GGPOPlayerHandle player, int frame_delay);
 
-/* Hears the others, tells events, and sends. It may take so many milliseconds, and waits as long. */
+/* Hears the others, rolls back if inputs came that weren't predicted, tells events, and sends. It may take so many milliseconds,
+ * and waits as long. */
 GGPO_API GGPOErrorCode __cdecl ggpo_idle(GGPOSession *session, int timeout);
 
 /* A local player's input for this frame. If it is refused, no frame is played in this turn. */
 GGPO_API GGPOErrorCode __cdecl ggpo_add_local_input(GGPOSession *session, GGPOPlayerHandle player, void *values, int size);
 
-/* All players' inputs for this frame. `disconnect_flags` may be null; bit p - 1 is set if player p has left. */
+/* All players' inputs for this frame. `disconnect_flags` may be null; bit p - 1 is set if player p has left. The same inputs are
+ * given again if nothing came since, and ggpo_advance_frame neither. */
 GGPO_API GGPOErrorCode __cdecl ggpo_synchronize_input(GGPOSession *session, void *values, int size, int *disconnect_flags);
 
 /* Puts the machine of a remote player out of the match, with all its players; of a local player, all other machines. */
@@ -224,13 +226,17 @@ GGPO_API GGPOErrorCode __cdecl ggpo_advance_frame(GGPOSession *session);
 
 GGPO_API GGPOErrorCode __cdecl ggpo_get_network_stats(GGPOSession *session, GGPOPlayerHandle player, GGPONetworkStats *stats);
 
-/* After how much silence a machine is gone: 5000 if nothing is said, and never if it is 0. Before the match opens. */
+/* After how much silence a machine is gone: 5000 if nothing is said, and never if it is 0. Before the match opens. A machine that
+ * is heard and gives no inputs is waited for, as in GGPO. */
 GGPO_API GGPOErrorCode __cdecl ggpo_set_disconnect_timeout(GGPOSession *session, int timeout);
 
-/* After how much silence GGPO_EVENTCODE_CONNECTION_INTERRUPTED is told: 750 if nothing is said. Before the match opens. */
+/* After how much silence GGPO_EVENTCODE_CONNECTION_INTERRUPTED is told: 750 if nothing is said, and never if it is 0. Before the
+ * match opens. */
 GGPO_API GGPOErrorCode __cdecl ggpo_set_disconnect_notify_start(GGPOSession *session, int timeout);
 
-/* A line for the log: the file that the environment variable FAZGROND_GGPO_LOG names, `-` for standard error. */
+/* A line for the log: the file that the environment variable FAZGROND_GGPO_LOG names, `-` for standard error. All refusals and
+ * events stand there, and four events that no game is told: 1105 a machine was begun anew, 1106 one is heard and gives no inputs,
+ * 1107 what one sent is against the rules, 1108 one isn't there after the disconnect timeout. */
 GGPO_API void __cdecl ggpo_log(GGPOSession *session, const char *fmt, ...);
 GGPO_API void __cdecl ggpo_logv(GGPOSession *session, const char *fmt, va_list args);
 
@@ -240,9 +246,11 @@ GGPO_API void __cdecl ggpo_logv(GGPOSession *session, const char *fmt, va_list a
 GGPO_API const char *__cdecl ggpo_last_error(GGPOSession *session);
 
 /* The match's number, before the match opens. Each packet is sealed with it, so who doesn't know it can't make one: a lobby
- * should draw 64 random bits for each match, and tell them to its machines alone. GGPO has no such number. Without this call it
- * is made of the game's name, the number of players and the size of inputs, which anyone can guess. Then all that keeps others
- * out is that a packet has to come from the address of a player, as in GGPO; and addresses can be forged. */
+ * should draw 64 random bits for the machines of a match, and tell them to these alone. GGPO has no such number. Without this
+ * call it is made of the game's name, the number of players and the size of inputs, which anyone can guess. Then all that keeps
+ * others out is that a packet has to come from the address of a player, as in GGPO; and addresses can be forged. Matches with one
+ * number don't get mixed up: each session draws bits of its own, which its packets are sealed with too. So a rematch on the same
+ * addresses needs no other number, and old packets are no matter. */
 GGPO_API GGPOErrorCode __cdecl fazggpo_set_match(GGPOSession *session, uint64_t number);
 
 /* The same for spectators, in the place of the match's number. Each line of a host and a spectator has a number of its own,

@@ -3,6 +3,7 @@
 #include <stdio.h>
 #include <stdlib.h>
 #include <string.h>
+#include <sys/types.h>
 
 #define MUST(what) \
     do { \
@@ -225,6 +226,37 @@ static void late_spectator(void) {
     end();
 }
 
+/* In the place of the system's random source, which may have none. */
+static bool has_no_random;
+
+ssize_t getrandom(void *to, size_t size, unsigned flags);
+ssize_t getrandom(void *to, size_t size, unsigned flags) {
+    static unsigned char next;
+    MUST(flags == 0);
+    memset(to, ++next, size);
+    return has_no_random ? -1 : (ssize_t)size;
+}
+
+/* Without random bits nothing is opened. */
+static void nothing_random(void) {
+    char host[] = "127.0.0.1";
+    has_no_random = true;
+    MUST(ggpo_start_session(&game.session, &calls, name, 2, sizeof(int), 0) == GGPO_OK);
+    MUST(add(GGPO_PLAYERTYPE_LOCAL, 1, NULL) == GGPO_OK && add(GGPO_PLAYERTYPE_REMOTE, 2, "127.0.0.1") == GGPO_OK);
+    for (int times = 0; times < 2; times++) {
+        MUST(ggpo_idle(game.session, 0) == GGPO_ERRORCODE_GENERAL_FAILURE);
+        MUST(strcmp(ggpo_last_error(game.session), "the system gives no random bits") == 0);
+    }
+    has_no_random = false;
+    MUST(ggpo_idle(game.session, 0) == GGPO_OK);
+    end();
+    has_no_random = true;
+    MUST(ggpo_start_spectating(&game.session, &calls, name, 2, 4, 0, host, 9) == GGPO_OK);
+    MUST(ggpo_idle(game.session, 0) == GGPO_ERRORCODE_GENERAL_FAILURE);
+    has_no_random = false;
+    end();
+}
+
 static void refused_players(void) {
     int input = 1;
     MUST(add(GGPO_PLAYERTYPE_LOCAL, 3, NULL) == GGPO_ERRORCODE_PLAYER_OUT_OF_RANGE);
@@ -295,6 +327,7 @@ int main(void) {
     refused_sessions();
     refused_watchers();
     late_spectator();
+    nothing_random();
     MUST(ggpo_start_session(&game.session, &calls, name, 2, sizeof(int), 0) == GGPO_OK);
     refused_players();
     refused_spectators();

@@ -1,6 +1,9 @@
 /* Two sessions in one process. First their inputs come at the worst moment, between a game's own step and its
  * ggpo_advance_frame: both must come to the state of a plain run all the same. Then one of them plays by other rules, and then
- * one means another match: both must be told. It prints nothing if all is right. two_sessions PORT */
+ * one means another match: both must be told. Then one gives no inputs, so that the other has to wait: its log must stand too,
+ * and ggpo_idle show what comes. At last they play again and again on the same ports, without a word of who arranges it. It prints
+ * nothing if all is right. two_sessions PORT */
+#include <fazgrond.h>
 #include <ggponet.h>
 #include <stdio.h>
 #include <stdlib.h>
@@ -94,6 +97,9 @@ static bool on_event(GGPOEvent *info) {
     return true;
 }
 
+/* Whether nothing is said of the match's number. */
+static bool has_no_number;
+
 static void begin(int me, int port, int input_size) {
     GGPOSessionCallbacks calls = { .save_game_state = on_save, .load_game_state = on_load, .free_buffer = on_free,
                                    .advance_frame = on_advance, .on_event = on_event };
@@ -101,7 +107,7 @@ static void begin(int me, int port, int input_size) {
     game = &games[me];
     memset(game, 0, sizeof *game);
     MUST(ggpo_start_session(&game->session, &calls, "two sessions", 2, input_size, (unsigned short)(port + me)) == GGPO_OK);
-    MUST(fazggpo_set_match(game->session, 0x1234567890abcdefu) == GGPO_OK);
+    MUST(has_no_number || fazggpo_set_match(game->session, 0x1234567890abcdefu) == GGPO_OK);
     MUST(fazggpo_set_speed(game->session, SPEED) == GGPO_OK && ggpo_set_disconnect_timeout(game->session, 0) == GGPO_OK);
     for (int player = 0; player < 2; player++) {
         GGPOPlayer added = { .size = sizeof added, .type = GGPO_PLAYERTYPE_REMOTE, .player_num = player + 1 };
@@ -184,10 +190,85 @@ static void other_match(int port) {
     end();
 }
 
+static size_t log_length(int me) {
+    size_t entries = 0;
+    MUST(fazgrond_peer_log_length(fazggpo_get_peer(games[me].session), &entries) == FAZGROND_OK);
+    return entries;
+}
+
+/* The first plays on until it has to wait for the second, which only hears. */
+static void wait_for_the_second(int port) {
+    for (int me = 0; me < 2; me++)
+        begin(me, port, 1);
+    for (int turns = 0; games[1].now.frame < 50; turns++)
+        turn(turns % 2, false);
+    for (int turns = 0; turns < 50; turns++) {
+        game = &games[1];
+        MUST(ggpo_idle(game->session, 20) == GGPO_OK);
+        turn(0, false);
+    }
+    MUST(games[0].now.frame > games[1].now.frame && games[0].now.frame <= games[1].now.frame + 16);
+}
+
+static void standing(int port) {
+    unsigned char input, inputs[2];
+    wait_for_the_second(port);
+    size_t entries = log_length(0);
+    int frame = games[0].now.frame, again = games[0].again;
+    for (int turns = 0; turns < 50; turns++)
+        turn(0, false);
+    MUST(log_length(0) == entries && games[0].now.frame == frame && games[0].again == again);
+    /* frames of the second are shown by ggpo_idle alone */
+    for (int turns = 0; turns < 3; turns++)
+        turn(1, false);
+    game = &games[0];
+    for (int times = 0; times < 5; times++)
+        MUST(ggpo_idle(game->session, 20) == GGPO_OK);
+    MUST(game->now.frame == frame && game->again > again && log_length(0) > entries);
+    /* a game that asks for the inputs of a frame that it can't go on from is told the same each time */
+    while (game->now.frame < frame + 3)
+        turn(0, false);
+    for (int turns = 0; turns < 50; turns++) {
+        input = input_of(0, game->now.frame);
+        MUST(ggpo_add_local_input(game->session, 1, &input, 1) == GGPO_ERRORCODE_PREDICTION_THRESHOLD);
+        MUST(ggpo_synchronize_input(game->session, inputs, sizeof inputs, NULL) == GGPO_OK);
+        MUST(ggpo_idle(game->session, 20) == GGPO_OK);
+        MUST(turns == 0 || log_length(0) == entries);
+        entries = log_length(0);
+    }
+    end();
+}
+
+/* Match after match on the same ports. The first leaves and begins anew while the second is still in the match before. */
+static void again_and_again(int port) {
+    has_no_number = true;
+    for (int me = 0; me < 2; me++)
+        begin(me, port, 1);
+    for (int matches = 0; matches < 10; matches++) {
+        for (int turns = 0; settled() < 60; turns++) {
+            MUST(turns < 2000);
+            turn(turns % 2, false);
+        }
+        for (int me = 0; me < 2; me++) {
+            game = &games[me];
+            MUST(game->desyncs == 0 && game->mismatches == 0 && ggpo_close_session(game->session) == GGPO_OK);
+            MUST(game->buffers == 0);
+            for (int times = 0; times < 3 && me == 0; times++) {
+                game = &games[1];
+                MUST(ggpo_idle(game->session, 20) == GGPO_OK);
+            }
+            begin(me, port, 1);
+        }
+    }
+    end();
+}
+
 int main(int count, char **words) {
     MUST(count == 2);
     right(atoi(words[1]));
     wrong(atoi(words[1]));
     other_match(atoi(words[1]));
+    standing(atoi(words[1]));
+    again_and_again(atoi(words[1]));
     return 0;
 }
