@@ -1,0 +1,468 @@
+#include "world.h"
+
+#include <stdlib.h>
+#include <string.h>
+
+enum { MOST_AT_ONCE = 256, BYES = 3, REQUESTS = 16 };
+
+const setup plain = { .machines = 2, .rate = 60, .delay = 20, .silent_after = 5000, .notify_after = 750, .seed = 1 };
+
+static world the_world;
+
+/* ---- Numbers by chance. */
+
+static uint64_t next_random(world *self) {
+    self->random ^= self->random << 13;
+    self->random ^= self->random >> 7;
+    self->random ^= self->random << 17;
+    return self->random * 0x2545f4914f6cdd1du;
+}
+
+uint32_t world_draw(world *self, uint32_t below) { return (uint32_t)((next_random(self) >> 32) * below >> 32); }
+
+uint32_t world_millis(const world *self) { return (uint32_t)(self->now / 1000); }
+
+uint32_t world_clock(const world *self, uint32_t who) {
+    return (uint32_t)((int64_t)(self->now / 1000) + self->machine[who].clock_ahead);
+}
+
+/* ---- The network: a heap of what is on its way. */
+
+static bool is_before(const datagram *one, const datagram *other) {
+    return one->due != other->due ? one->due < other->due : one->order < other->order;
+}
+
+static void swap(world *self, size_t one, size_t other) {
+    datagram *kept = self->way[one];
+    self->way[one] = self->way[other];
+    self->way[other] = kept;
+}
+
+static void put_on_way(world *self, datagram *sent) {
+    if (self->on_way == self->way_room) {
+        self->way_room = 2 * self->way_room + 64;
+        self->way = realloc(self->way, self->way_room * sizeof *self->way);
+        if (self->way == NULL)
+            abort();
+    }
+    size_t at = self->on_way++;
+    self->way[at] = sent;
+    for (; at > 0 && is_before(self->way[at], self->way[(at - 1) / 2]); at = (at - 1) / 2)
+        swap(self, at, (at - 1) / 2);
+}
+
+static datagram *take_from_way(world *self) {
+    datagram *first = self->way[0];
+    self->way[0] = self->way[--self->on_way];
+    for (size_t at = 0, least;; at = least) {
+        least = at;
+        for (size_t below = 2 * at + 1; below <= 2 * at + 2 && below < self->on_way; below++)
+            if (is_before(self->way[below], self->way[least]))
+                least = below;
+        if (least == at)
+            return first;
+        swap(self, at, least);
+    }
+}
+
+void world_send(world *self, uint32_t from, uint32_t to, const uint8_t *bytes, size_t length, uint32_t milliseconds) {
+    datagram *sent = malloc(sizeof *sent);
+    if (sent == NULL || length > sizeof sent->bytes)
+        abort();
+    sent->due = self->now + 1000u * (uint64_t)milliseconds;
+    sent->order = self->orders++;
+    sent->from = from;
+    sent->to = to;
+    sent->length = length;
+    memcpy(sent->bytes, bytes, length);
+    put_on_way(self, sent);
+}
+
+/* What a machine sends goes the way of the network: it is lost, or late, or comes twice. */
+static void post(world *self, datagram *sent) {
+    const setup *with = &self->setup;
+    if (self->watcher != NULL && !self->watcher(self, sent))
+        return;
+    for (int copies = world_draw(self, 100) < with->copies ? 2 : 1; copies > 0; copies--)
+        if (world_draw(self, 100) >= with->loss)
+            world_send(self, sent->from, sent->to, sent->bytes, sent->length, with->delay + world_draw(self, with->jitter + 1));
+}
+
+static void arrive(world *self, datagram *come) {
+    machine *to = &self->machine[come->to];
+    bool is_lost = come->from < MACHINES && (self->machine[come->from].is_mute || self->is_cut[come->from][come->to]);
+    if (!is_lost && to->is_open && !to->is_dead && !to->is_deaf && to->waiting < sizeof to->inbox / sizeof *to->inbox)
+        to->inbox[to->waiting++] = come;
+    else
+        free(come);
+}
+
+/* ---- A game. */
+
+static void is_wrong(world *self, const char *what) {
+    if (self->wrong == NULL)
+        self->wrong = what;
+}
+
+static uint64_t state_after(uint64_t state, const fazgrond_row *row) {
+    for (uint32_t at = 0; at < row->count; at++)
+        state = (state ^ row->words[at]) * 0x100000001b3u + (row->gone >> at & 1) + 1;
+    return state;
+}
+
+static void carry_out(world *self, machine *at, const fazgrond_request *request) {
+    uint32_t slot = request->slot;
+    if (slot >= SLOTS || (request->kind != FAZGROND_STEP && at->is_taken[slot] != (request->kind != FAZGROND_SAVE))) {
+        is_wrong(self, "a slot that is saved to is taken, or one that is loaded or freed isn't");
+        return;
+    }
+    switch (request->kind) {
+    case FAZGROND_LOAD:
+        at->state = at->saved[slot];
+        at->rolled_back++;
+        break;
+    case FAZGROND_SAVE:
+        at->saved[slot] = at->state;
+        at->is_taken[slot] = true;
+        break;
+    case FAZGROND_STEP: at->state = state_after(at->state, &request->row); break;
+    case FAZGROND_FREE: at->is_taken[slot] = false; break;
+    default: is_wrong(self, "a kind of request");
+    }
+}
+
+/* Keeps the state after one settled row more; the first one is the opening. */
+static void keep_history(machine *at, uint32_t frame, uint64_t state) {
+    if (frame >= at->room) {
+        at->room = 2 * at->room + 1024;
+        at->history = realloc(at->history, at->room * sizeof *at->history);
+        if (at->history == NULL)
+            abort();
+    }
+    at->history[frame] = state;
+    at->settled = frame;
+}
+
+/* The states after the rows that were settled, by these rows alone. The library's settled state has to be the last of them. */
+static void look_at_settled(world *self, machine *at) {
+    uint32_t frame, slot;
+    fazgrond_row row;
+    if (fazgrond_peer_settled_slot(&at->peer, &frame, &slot) != FAZGROND_OK || frame < at->settled || slot >= SLOTS) {
+        is_wrong(self, "the settled frame fell");
+        return;
+    }
+    while (at->settled < frame) {
+        if (fazgrond_peer_settled_row(&at->peer, at->settled, &row) != FAZGROND_OK)
+            is_wrong(self, "a settled row is missing");
+        keep_history(at, at->settled + 1, state_after(at->history[at->settled], &row));
+    }
+    if (at->saved[slot] != at->history[frame] || !at->is_taken[slot])
+        is_wrong(self, "the settled state isn't that of the settled rows");
+    fazgrond_peer_note_settled(&at->peer, at->history[frame]);
+}
+
+static void carry_out_all(world *self, machine *at) {
+    fazgrond_request requests[REQUESTS];
+    size_t count;
+    while ((count = fazgrond_peer_take_requests(&at->peer, requests, REQUESTS)) > 0)
+        for (size_t one = 0; one < count; one++)
+            carry_out(self, at, &requests[one]);
+    look_at_settled(self, at);
+}
+
+/* ---- A machine. */
+
+static uint32_t players_of(const setup *with) { return with->players != 0 ? with->players : with->machines; }
+
+static uint32_t owner_of(const setup *with, uint32_t player) {
+    return player < players_of(with) ? player % with->machines : FAZGROND_NO_PLAYER;
+}
+
+static fazgrond_match match_of(const world *self, uint32_t who) {
+    const setup *with = &self->setup;
+    fazgrond_match made = { .draw = self->machine[who].draw, .digest = 0x6d617463, .me = who, .machines = with->machines };
+    made.session = (fazgrond_settings){ .players = players_of(with), .threshold = 8, .limit = 1048576, .log = 16777216 };
+    made.session.profile = made.session.players > 4 ? FAZGROND_WIDE : FAZGROND_GGPO;
+    for (uint32_t player = 0; player < FAZGROND_PLAYERS; player++) {
+        made.owners[player] = owner_of(with, player);
+        made.session.masks[player] = UINT32_MAX;
+        if (made.owners[player] == who) {
+            made.session.local |= 1u << player;
+            made.session.delays[player] = with->input_delay;
+        }
+    }
+    for (uint32_t other = 0; other < MACHINES; other++)
+        made.numbers[other] = self->numbers[who][other];
+    made.silent_after = with->silent_after;
+    made.notify_after = with->notify_after;
+    made.stalled_after = with->stalled_after;
+    return made;
+}
+
+static void empty(machine *at) {
+    while (at->waiting > 0)
+        free(at->inbox[--at->waiting]);
+}
+
+void world_open(world *self, uint32_t who) {
+    machine *at = &self->machine[who];
+    do
+        at->draw = next_random(self);
+    while (at->draw == 0);
+    fazgrond_match match = match_of(self, who);
+    empty(at);
+    if (fazgrond_peer_open(&at->peer, &match) != FAZGROND_OK)
+        is_wrong(self, "a machine doesn't open");
+    memset(at->is_taken, 0, sizeof at->is_taken);
+    at->is_taken[0] = true;
+    at->state = at->saved[0] = 0;
+    at->frame = at->wait = at->rolled_back = 0;
+    keep_history(at, 0, 0);
+    at->opening++;
+    at->is_open = true;
+    at->is_dead = false;
+    at->next_turn = self->now + world_draw(self, 1000000 / self->setup.rate);
+}
+
+void world_open_all(world *self) {
+    for (uint32_t who = 0; who < self->setup.machines; who++)
+        world_open(self, who);
+}
+
+void world_leave(world *self, uint32_t who) {
+    machine *at = &self->machine[who];
+    datagram said = { .from = who };
+    for (said.to = 0; said.to < self->setup.machines; said.to++)
+        if (fazgrond_peer_bye(&at->peer, (uint8_t)said.to, said.bytes, FAZGROND_DATAGRAM, &said.length) == FAZGROND_OK)
+            for (int times = 0; times < BYES; times++)
+                post(self, &said);
+    fazgrond_peer_close(&at->peer);
+    at->is_open = false;
+    empty(at);
+}
+
+/* A word that changes now and then: another one at each player, the same whenever the frame is played. */
+static uint32_t word_of(const world *self, uint32_t player, uint32_t frame) {
+    uint64_t mixed = (self->setup.seed + 7) * 0x9e3779b97f4a7c15u + frame / (3 + player) * 0xff51afd7ed558ccdu + player;
+    mixed = (mixed ^ mixed >> 29) * 0xbf58476d1ce4e5b9u;
+    return self->setup.is_idle ? 0 : (uint32_t)(mixed >> 40) & 0xffff;
+}
+
+static void hear(world *self, uint32_t who) {
+    machine *at = &self->machine[who];
+    size_t taken = at->waiting < MOST_AT_ONCE ? at->waiting : MOST_AT_ONCE;
+    for (size_t one = 0; one < taken; one++) {
+        int32_t code = fazgrond_peer_receive(&at->peer, at->inbox[one]->bytes, at->inbox[one]->length, world_clock(self, who));
+        at->answers[code >= 0 && code < CODES ? code : CODES - 1]++;
+        free(at->inbox[one]);
+    }
+    at->waiting -= taken;
+    memmove(at->inbox, at->inbox + taken, at->waiting * sizeof *at->inbox);
+}
+
+static int32_t give_words(world *self, uint32_t who) {
+    machine *at = &self->machine[who];
+    int32_t given = FAZGROND_LOCAL_INPUT_MISSING;
+    if (at->wait > 0) {
+        at->wait--;
+        return given;
+    }
+    if (at->is_stalled || (at->word_every != 0 && at->turns % at->word_every != 0)
+        || (self->setup.last_frame != 0 && at->frame >= self->setup.last_frame))
+        return given;
+    for (uint32_t player = 0; player < players_of(&self->setup); player++)
+        if (owner_of(&self->setup, player) == who) {
+            given = fazgrond_peer_add_local_input(&at->peer, (uint8_t)(player + 1), word_of(self, player, at->frame));
+            if (given != FAZGROND_OK)
+                break;
+        }
+    return given;
+}
+
+static void tell(world *self, uint32_t who, const fazgrond_event *event) {
+    machine *at = &self->machine[who];
+    if (event->code == FAZGROND_TIME_SYNC)
+        at->wait = event->frames_ahead;
+    if (self->events < MOST_TOLD)
+        self->told[self->events++] = (told){ world_millis(self), who, at->opening, *event };
+    if (self->out == NULL || event->code == FAZGROND_TIME_SYNC)
+        return;
+    fprintf(self->out, "%9.3f  machine %u: %s", (double)self->now / 1e6, who, world_name(event->code));
+    if (event->code == FAZGROND_DISCONNECTED)
+        fprintf(self->out, " player %u", event->player);
+    else if (event->code != FAZGROND_RUNNING && event->code != FAZGROND_DROPPED)
+        fprintf(self->out, " machine %u", event->machine);
+    if (event->code == FAZGROND_INTERRUPTED || event->code == FAZGROND_STALLED)
+        fprintf(self->out, ", gone in %u", event->disconnect_in);
+    if (event->code == FAZGROND_MISMATCH)
+        fprintf(self->out, ", field %u", event->field);
+    if (event->code == FAZGROND_DESYNC)
+        fprintf(self->out, ", frame %u", event->frame);
+    fputs("\n", self->out);
+}
+
+static void send_all(world *self, uint32_t who) {
+    machine *at = &self->machine[who];
+    datagram sent = { .from = who };
+    for (sent.to = 0; sent.to < self->setup.machines; sent.to++)
+        if (fazgrond_peer_send(&at->peer, (uint8_t)sent.to, world_clock(self, who), sent.bytes, FAZGROND_DATAGRAM, &sent.length)
+            == FAZGROND_OK)
+            post(self, &sent);
+}
+
+/* A turn of the main loop, as docs/C.md has it. */
+static void turn(world *self, uint32_t who) {
+    machine *at = &self->machine[who];
+    fazgrond_reached reached;
+    fazgrond_event event;
+    fazgrond_row row;
+    uint32_t has_news = 0;
+    hear(self, who);
+    fazgrond_peer_frame(&at->peer, &at->frame);
+    int32_t given = give_words(self, who), code = FAZGROND_OK;
+    if (fazgrond_peer_poll(&at->peer, world_clock(self, who)) != FAZGROND_OK)
+        is_wrong(self, "a poll is refused");
+    fazgrond_peer_has_news(&at->peer, &has_news);
+    if (given == FAZGROND_OK)
+        code = fazgrond_peer_advance_frame(&at->peer, &reached);
+    else if (given != FAZGROND_NOT_SYNCHRONIZED && has_news != 0)
+        code = fazgrond_peer_synchronize_input(&at->peer, &row);
+    if (code != FAZGROND_OK && code != FAZGROND_NOT_SYNCHRONIZED)
+        is_wrong(self, "a turn is refused");
+    carry_out_all(self, at);
+    fazgrond_peer_frame(&at->peer, &at->frame);
+    while (fazgrond_peer_event(&at->peer, &event) == FAZGROND_OK)
+        tell(self, who, &event);
+    send_all(self, who);
+    at->turns++;
+}
+
+/* ---- Time. */
+
+world *world_begin(const setup *with) {
+    world *self = &the_world;
+    world_end(self);
+    self->setup = *with;
+    self->random = 0x9e3779b97f4a7c15u * (2 * with->seed + 1);
+    for (uint32_t one = 0; one < MACHINES; one++)
+        for (uint32_t other = 0; other <= one; other++)
+            self->numbers[one][other] = self->numbers[other][one]
+                = with->has_pair_numbers ? next_random(self) : 0x5eed5eed5eed5eed;
+    self->now = 1000000;
+    for (uint32_t who = 0; who < MACHINES; who++)
+        self->machine[who].clock_ahead = world_draw(self, 1 << 30);
+    return self;
+}
+
+void world_end(world *self) {
+    for (uint32_t who = 0; who < MACHINES; who++) {
+        machine *at = &self->machine[who];
+        fazgrond_peer_close(&at->peer);
+        empty(at);
+        free(at->history);
+    }
+    while (self->on_way > 0)
+        free(self->way[--self->on_way]);
+    free(self->way);
+    memset(self, 0, sizeof *self);
+}
+
+/* The machine whose turn is next, or MACHINES if none plays. */
+static uint32_t next_machine(const world *self) {
+    uint32_t found = MACHINES;
+    for (uint32_t who = 0; who < self->setup.machines; who++) {
+        const machine *at = &self->machine[who];
+        if (at->is_open && !at->is_dead && (found == MACHINES || at->next_turn < self->machine[found].next_turn))
+            found = who;
+    }
+    return found;
+}
+
+/* A turn is as long as it should be, but for a twentieth: no program's turns are all alike. */
+static uint64_t turn_length(world *self) {
+    uint32_t whole = 1000000 / self->setup.rate;
+    return whole - whole / 20 + world_draw(self, whole / 10 + 1);
+}
+
+/* The next thing that happens before some time, if there is one. */
+static bool step(world *self, uint64_t until) {
+    uint32_t who = next_machine(self);
+    uint64_t turn_at = who < MACHINES ? self->machine[who].next_turn : UINT64_MAX;
+    uint64_t come_at = self->on_way > 0 ? self->way[0]->due : UINT64_MAX;
+    uint64_t at = come_at <= turn_at ? come_at : turn_at;
+    if (at >= until)
+        return false;
+    self->now = at > self->now ? at : self->now;
+    if (come_at <= turn_at) {
+        arrive(self, take_from_way(self));
+    } else {
+        self->machine[who].next_turn += turn_length(self);
+        turn(self, who);
+    }
+    return true;
+}
+
+void world_stand_still(world *self, uint32_t who, uint32_t milliseconds) {
+    self->machine[who].next_turn = self->now + 1000u * (uint64_t)milliseconds;
+}
+
+void world_run(world *self, uint32_t milliseconds) {
+    uint64_t until = self->now + 1000u * (uint64_t)milliseconds;
+    while (step(self, until)) {}
+    self->now = until;
+}
+
+static bool have_settled(const world *self, uint32_t frames) {
+    for (uint32_t who = 0; who < self->setup.machines; who++)
+        if (self->machine[who].is_open && !self->machine[who].is_dead && self->machine[who].settled < frames)
+            return false;
+    return true;
+}
+
+bool world_play(world *self, uint32_t frames, uint32_t milliseconds) {
+    for (uint32_t passed = 0; passed < milliseconds && !have_settled(self, frames); passed += 10)
+        world_run(self, 10);
+    return have_settled(self, frames);
+}
+
+/* ---- What is seen. */
+
+static bool is_this(const world *self, const told *one, uint32_t who, uint32_t code, uint32_t of) {
+    return one->who == who && one->opening == self->machine[who].opening && one->event.code == code
+        && (of == NOBODY || one->event.machine == of);
+}
+
+uint32_t world_told(const world *self, uint32_t who, uint32_t code, uint32_t of) {
+    uint32_t count = 0;
+    for (size_t at = 0; at < self->events; at++)
+        count += is_this(self, &self->told[at], who, code, of);
+    return count;
+}
+
+uint32_t world_told_at(const world *self, uint32_t who, uint32_t code, uint32_t of) {
+    for (size_t at = 0; at < self->events; at++)
+        if (is_this(self, &self->told[at], who, code, of))
+            return (uint32_t)self->told[at].at;
+    return 0;
+}
+
+bool world_agree(const world *self, uint32_t one, uint32_t other, uint32_t frames) {
+    const machine *first = &self->machine[one], *second = &self->machine[other];
+    uint32_t both = first->settled < second->settled ? first->settled : second->settled;
+    return both >= frames && memcmp(first->history, second->history, (both + 1) * sizeof *first->history) == 0;
+}
+
+size_t world_log(world *self, uint32_t who) {
+    size_t entries = 0;
+    fazgrond_peer_log_length(&self->machine[who].peer, &entries);
+    return entries;
+}
+
+const char *world_name(uint32_t code) {
+    static const char *const ggpo[] = { "SYNCHRONIZING", "SYNCHRONIZED", "RUNNING", "DISCONNECTED", "TIME_SYNC", "INTERRUPTED",
+                                        "RESUMED" };
+    static const char *const own[] = { "LEFT", "DESYNC", "MISMATCH", "DROPPED", "RESTARTED", "STALLED", "REFUSED", "MISSING" };
+    if (code >= FAZGROND_SYNCHRONIZING && code <= FAZGROND_RESUMED)
+        return ggpo[code - FAZGROND_SYNCHRONIZING];
+    return code >= FAZGROND_LEFT && code <= FAZGROND_MISSING ? own[code - FAZGROND_LEFT] : "an event that isn't known";
+}
