@@ -15,20 +15,30 @@ static void is(int64_t got, int64_t wanted, int line) {
 }
 
 #define MATCH 0x1122334455667788
+#define DIGEST 0x0123456789abcdef
+#define LINE 0x99aabbccddeeff00
 
-/* What each of the two machines drew. */
+/* What each of the two machines drew; and the two ends of a line. */
 static const uint64_t draws[2] = { 0x0102030405060708, 0x1112131415161718 };
+static const uint64_t host_draw = 0xc1c2c3c4c5c6c7c8, viewer_draw = 0xd1d2d3d4d5d6d7d8;
 
+static const uint8_t first_hello[52] = {
+    0x46, 0x5a, 0x47, 0x32, 0x6b, 0x51, 0x0a, 0x79, 0x32, 0x40, 0x69, 0x40, 0x01, 0x00, 0x02, 0x00,
+    0x01, 0xff, 0xff, 0xff, 0xff, 0xff, 0xff, 0x01, 0x23, 0x45, 0x67, 0x89, 0xab, 0xcd, 0xef, 0x11,
+    0x12, 0x13, 0x14, 0x15, 0x16, 0x17, 0x18, 0x00, 0x00, 0x00, 0x00, 0x00, 0x00, 0x00, 0x00, 0x00,
+    0x00, 0x13, 0x88, 0x00,
+};
 static const uint8_t hello[52] = {
     0x46, 0x5a, 0x47, 0x32, 0x91, 0x90, 0xc1, 0x5c, 0x9a, 0xd0, 0x68, 0x3d, 0x01, 0x00, 0x02, 0x00,
     0x01, 0xff, 0xff, 0xff, 0xff, 0xff, 0xff, 0x01, 0x23, 0x45, 0x67, 0x89, 0xab, 0xcd, 0xef, 0x11,
     0x12, 0x13, 0x14, 0x15, 0x16, 0x17, 0x18, 0x01, 0x02, 0x03, 0x04, 0x05, 0x06, 0x07, 0x08, 0x00,
     0x00, 0x13, 0x88, 0x00,
 };
-static const uint8_t turn[46] = {
-    0x46, 0x5a, 0x47, 0x32, 0x44, 0x2c, 0xab, 0x0f, 0x54, 0x60, 0x97, 0x78, 0x01, 0x01, 0x01, 0x82,
-    0x01, 0x78, 0x76, 0xe0, 0x0f, 0xc0, 0x0f, 0x10, 0x00, 0x03, 0x77, 0x7b, 0x01, 0x6e, 0xfe, 0xdc,
-    0xba, 0x98, 0x76, 0x54, 0x32, 0x10, 0x02, 0x75, 0x06, 0x00, 0x02, 0x05, 0x02, 0x07,
+static const uint8_t turn[51] = {
+    0x46, 0x5a, 0x47, 0x32, 0x24, 0x22, 0xf1, 0xae, 0x19, 0x39, 0x29, 0x70, 0x01, 0x01, 0x01, 0x82,
+    0x01, 0x78, 0x76, 0xf8, 0xbd, 0xd8, 0xa8, 0x01, 0xc8, 0x9d, 0x98, 0x28, 0x10, 0x00, 0x03, 0x77,
+    0x7b, 0x01, 0x6e, 0xfe, 0xdc, 0xba, 0x98, 0x76, 0x54, 0x32, 0x10, 0x02, 0x75, 0x06, 0x00, 0x02,
+    0x05, 0x02, 0x07,
 };
 static const uint8_t held[33] = {
     0x46, 0x5a, 0x47, 0x32, 0x0c, 0x90, 0x1d, 0x7b, 0x11, 0xe7, 0x17, 0xdf, 0x01, 0x01, 0x00, 0x00,
@@ -39,11 +49,29 @@ static const uint8_t bye[14] = {
     0x46, 0x5a, 0x47, 0x32, 0x9d, 0xba, 0x50, 0xef, 0x7f, 0x8f, 0x36, 0xf9, 0x01, 0x02,
 };
 
+/* Of a viewer's line. */
+static const uint8_t viewers_hello[52] = {
+    0x46, 0x5a, 0x47, 0x32, 0x2b, 0xf6, 0xa4, 0x7f, 0x9d, 0x63, 0xb1, 0xb9, 0xff, 0x00, 0x02, 0x00,
+    0x01, 0xff, 0xff, 0xff, 0xff, 0xff, 0xff, 0x01, 0x23, 0x45, 0x67, 0x89, 0xab, 0xcd, 0xef, 0xd1,
+    0xd2, 0xd3, 0xd4, 0xd5, 0xd6, 0xd7, 0xd8, 0xc1, 0xc2, 0xc3, 0xc4, 0xc5, 0xc6, 0xc7, 0xc8, 0x00,
+    0x00, 0x0b, 0xb8, 0x00,
+};
+static const uint8_t rows[51] = {
+    0x46, 0x5a, 0x47, 0x32, 0x7b, 0x1d, 0x49, 0x6e, 0x3e, 0x10, 0x03, 0x6e, 0x00, 0x01, 0x01, 0x80,
+    0x05, 0xdb, 0x04, 0xdb, 0x04, 0xe8, 0xdd, 0x9b, 0xae, 0x0c, 0xd8, 0xfd, 0xdb, 0xae, 0x0d, 0x08,
+    0x00, 0x03, 0xdb, 0x04, 0xd9, 0x04, 0x00, 0x03, 0xd8, 0x04, 0x03, 0x00, 0x01, 0x00, 0x00, 0x05,
+    0x01, 0x09, 0x01,
+};
+static const uint8_t viewers_answer[24] = {
+    0x46, 0x5a, 0x47, 0x32, 0xfa, 0x88, 0x1a, 0x26, 0x1a, 0x6e, 0xfa, 0x05, 0xff, 0x01, 0x00, 0x00,
+    0x03, 0xdb, 0x04, 0xdb, 0x04, 0x00, 0x00, 0x00,
+};
+
 enum { KIND = 13, HELLO = 0, PLAY = 1 };
 
 static fazgrond_peer opened(uint32_t me, uint64_t number, uint64_t draw) {
     fazgrond_peer peer = FAZGROND_CLOSED;
-    fazgrond_match match = { .draw = draw, .digest = 0x0123456789abcdef, .me = me, .machines = 2,
+    fazgrond_match match = { .draw = draw, .digest = DIGEST, .me = me, .machines = 2,
                              .silent_after = 5000, .notify_after = 750 };
     fazgrond_one_number(&match, number);
     match.session = (fazgrond_settings){ .players = 2, .local = 1u << me, .threshold = 8, .limit = 100, .log = 1000 };
@@ -73,13 +101,15 @@ static void examples(void) {
     size_t length;
     IS(fazgrond_peer_receive(&one, turn, sizeof turn, 0), FAZGROND_NOT_SEALED); /* machine 1's draw isn't known yet */
     IS(fazgrond_peer_bye(&two, 0, bytes, sizeof bytes, &length), FAZGROND_NOTHING);
+    IS(sent(&two, 0, 0, bytes), sizeof first_hello);
+    IS(memcmp(bytes, first_hello, sizeof first_hello), 0);
+    IS(fazgrond_peer_receive(&one, first_hello, sizeof first_hello, 0), FAZGROND_OK);
+    IS(fazgrond_peer_receive(&one, turn, sizeof turn, 0), FAZGROND_NOT_SEALED); /* nor is it believed yet */
     pass(&one, &two, 1, 0, 0);
+    IS(sent(&two, 0, 0, bytes) > 0, 1); /* a play */
     IS(sent(&two, 0, 0, bytes), sizeof hello);
     IS(memcmp(bytes, hello, sizeof hello), 0);
     IS(fazgrond_peer_receive(&one, hello, sizeof hello, 0), FAZGROND_OK);
-    IS(sent(&one, 1, 0, bytes) > sizeof bye, 1); /* its first play, which would say nothing to the other yet */
-    IS(bytes[KIND], PLAY);
-    pass(&one, &two, 1, 0, 0); /* so a hello comes after it */
     IS(fazgrond_peer_bye(&two, 0, bytes, sizeof bytes, &length), FAZGROND_OK);
     IS(length, sizeof bye);
     IS(memcmp(bytes, bye, length), 0);
@@ -94,7 +124,7 @@ static void examples(void) {
 /* An example isn't heard if any bit of it is another. What isn't of the other machine isn't even opened. */
 static void is_whole(const uint8_t *text, size_t length) {
     fazgrond_peer one = opened(0, MATCH, draws[0]);
-    uint8_t bytes[sizeof hello];
+    uint8_t bytes[FAZGROND_DATAGRAM];
     if (text[KIND] != HELLO)
         IS(fazgrond_peer_receive(&one, hello, sizeof hello, 0), FAZGROND_OK);
     memcpy(bytes, text, length);
@@ -130,6 +160,40 @@ static void refused(void) {
     fazgrond_peer_close(&one);
     fazgrond_peer_close(&next);
     fazgrond_peer_close(&again);
+}
+
+/* The examples of a line: what the viewer sends is the example, and each end opens what is for it. */
+static void line_examples(void) {
+    fazgrond_line_settings settings = { .number = LINE, .draw = host_draw, .digest = DIGEST, .machines = 2, .silent_after = 5000 };
+    fazgrond_peer peer = opened(0, MATCH, draws[0]);
+    fazgrond_line line = FAZGROND_CLOSED;
+    fazgrond_viewer viewer = FAZGROND_CLOSED;
+    uint8_t bytes[FAZGROND_DATAGRAM];
+    uint32_t taken;
+    size_t length;
+    for (uint32_t at = 0; at < FAZGROND_PLAYERS; at++)
+        settings.owners[at] = at < 2 ? at : FAZGROND_NO_PLAYER;
+    IS(fazgrond_line_open(&line, &settings), FAZGROND_OK);
+    settings.draw = viewer_draw;
+    settings.silent_after = 3000;
+    IS(fazgrond_viewer_open(&viewer, &settings), FAZGROND_OK);
+    IS(fazgrond_viewer_receive(&viewer, rows, sizeof rows, 0, &taken), FAZGROND_NOT_SEALED);
+    IS(fazgrond_line_send(&line, &peer, 0, bytes, sizeof bytes, &length), FAZGROND_OK);
+    IS(fazgrond_viewer_receive(&viewer, bytes, length, 0, &taken), FAZGROND_OK);
+    IS(fazgrond_viewer_send(&viewer, 0, bytes, sizeof bytes, &length), FAZGROND_OK);
+    IS(length, sizeof viewers_hello);
+    IS(memcmp(bytes, viewers_hello, length), 0);
+    IS(fazgrond_line_receive(&line, viewers_answer, sizeof viewers_answer, 0), FAZGROND_NOT_SEALED);
+    IS(fazgrond_line_receive(&line, viewers_hello, sizeof viewers_hello, 0), FAZGROND_OK);
+    for (int at = 0; at < 2; at++) { /* a play that the viewer can't open yet, and a hello */
+        IS(fazgrond_line_send(&line, &peer, 0, bytes, sizeof bytes, &length), FAZGROND_OK);
+        (void)fazgrond_viewer_receive(&viewer, bytes, length, 0, &taken);
+    }
+    IS(fazgrond_viewer_receive(&viewer, rows, sizeof rows, 0, &taken), FAZGROND_ROWS_MISSING); /* it has none before row 600 */
+    IS(fazgrond_line_receive(&line, viewers_answer, sizeof viewers_answer, 0), FAZGROND_OK);
+    fazgrond_line_close(&line);
+    fazgrond_viewer_close(&viewer);
+    fazgrond_peer_close(&peer);
 }
 
 static void no_event_but(fazgrond_peer *peer, uint32_t code) {
@@ -213,6 +277,8 @@ static void clocks(void) {
 
 int main(void) {
     examples();
+    line_examples();
+    is_whole(first_hello, sizeof first_hello);
     is_whole(hello, sizeof hello);
     is_whole(turn, sizeof turn);
     is_whole(held, sizeof held);
