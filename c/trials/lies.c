@@ -563,7 +563,7 @@ static void kinds_as_text(unsigned kinds, char *out, size_t room) {
 
 /* What the honest machines' library answered, and what they were told. */
 static void must_be_answered(world *self, const lie *one, uint32_t who, const uint32_t *before, uint32_t since) {
-    const machine *at = &self->machine[who];
+    machine *at = &self->machine[who];
     char text[160], kinds[100];
     for (int32_t code = FAZGROND_NOT_SEALED; code <= FAZGROND_OUTSIDE; code++) {
         bool is_answered = at->answers[code] > before[code];
@@ -573,6 +573,10 @@ static void must_be_answered(world *self, const lie *one, uint32_t who, const ui
         /* what else is no other answer: after a liar is gone, and what others send in between */
         trial_must_of(code == one->answer || !is_answered || code == FAZGROND_MACHINE_GONE || one->sends != NULL, who, text);
     }
+    fazgrond_stats stats = { 0 };
+    uint32_t refused = at->answers[FAZGROND_NO_DATAGRAM] + at->answers[FAZGROND_OVERSTATED] + at->answers[FAZGROND_OUTSIDE];
+    fazgrond_peer_stats(&at->peer, LIAR, &stats);
+    trial_must_of(stats.refused == refused, who, "what is refused is counted");
     unsigned told = trial_kinds(self, who, since);
     kinds_as_text(told, kinds, sizeof kinds);
     snprintf(text, sizeof text, "it was told%s", kinds);

@@ -147,6 +147,31 @@ static void silent(uint32_t machines, uint32_t which, uint32_t input_delay, uint
     world_end(self);
 }
 
+/* Nobody is ever gone, and nothing is told, if the times are 0: one is away for a minute, and comes back. */
+static void patient(uint32_t machines, uint32_t notify_after, uint32_t seed) {
+    setup with = plain;
+    with.machines = machines;
+    with.silent_after = 0;
+    with.notify_after = notify_after;
+    with.seed = seed;
+    trial_case("one of %u is away for a minute, silent after 0, told after %u, seed %u", (unsigned)machines,
+               (unsigned)notify_after, (unsigned)seed);
+    world *self = world_begin(&with);
+    world_open(self, 0);
+    world_run(self, 30000);
+    trial_must(world_told(self, 0, FAZGROND_MISSING, NOBODY) == 0, "nobody is missing");
+    for (uint32_t who = 1; who < machines; who++)
+        world_open(self, who);
+    trial_must(world_play(self, 60, 10000), "the match begins");
+    world_stand_still(self, 1, 60000);
+    world_run(self, 61000);
+    uint32_t frames = self->machine[0].settled;
+    world_run(self, 3000);
+    trial_nothing_but(self, notify_after == 0 ? 0 : MAY_INTERRUPT | MAY_STALL);
+    must_go_on(self, NOBODY, frames + 100);
+    world_end(self);
+}
+
 /* What is told of a machine that gives no words. */
 static void must_be_stalled(world *self, uint32_t which, uint32_t since) {
     uint32_t stalled_after = self->setup.stalled_after;
@@ -201,6 +226,8 @@ void trial_stalls(uint32_t count, uint32_t seed) {
                 stalled(machines, which, 0, input_delay, seed + time);
                 stalled(machines, which, 3000, input_delay, seed + time);
             }
+            patient(machines, 0, seed + time);
+            patient(machines, 750, seed + time);
             slow(machines, which, 6, 0, seed + time);
             slow(machines, which, 6, 1000, seed + time);
             slow(machines, which, 60, 3000, seed + time);
@@ -293,9 +320,11 @@ static void honest(uint32_t seed, uint32_t milliseconds) {
     with.loss = 30;
     with.copies = seed % 5 == 0 ? 10 : 0;
     with.stalled_after = seed % 2 * with.silent_after;
-    trial_case("honest: %u machines, %u turns a second, %u to %u ms, silent after %u, stalled after %u, seed %u",
+    with.silent_first = seed % 4 == 3 ? 1000 : 0;
+    with.input_delay = seed / 2 % 3;
+    trial_case("honest: %u machines, %u turns a second, %u to %u ms, silent after %u, the first %u, stalled after %u, seed %u",
                (unsigned)with.machines, (unsigned)with.rate, (unsigned)with.delay, (unsigned)(with.delay + with.jitter),
-               (unsigned)with.silent_after, (unsigned)with.stalled_after, (unsigned)seed);
+               (unsigned)with.silent_after, (unsigned)with.silent_first, (unsigned)with.stalled_after, (unsigned)seed);
     world *self = world_begin(&with);
     world_open_all(self);
     world_run(self, milliseconds);

@@ -193,7 +193,7 @@ static fazgrond_match match_of(const world *self, uint32_t who) {
     }
     for (uint32_t other = 0; other < MACHINES; other++)
         made.numbers[other] = self->numbers[who][other];
-    made.silent_after = with->silent_after;
+    made.silent_after = who == 0 && with->silent_first != 0 ? with->silent_first : with->silent_after;
     made.notify_after = with->notify_after;
     made.stalled_after = with->stalled_after;
     return made;

@@ -17,6 +17,7 @@ typedef struct setup {
     uint32_t delay, jitter; /* milliseconds one way: at least so many, and so many more at most */
     uint32_t loss, copies;  /* of a hundred datagrams: how many are lost, and how many come twice */
     uint32_t silent_after, notify_after, stalled_after;
+    uint32_t silent_first;  /* machine 0 has this time in the place of silent_after, if it isn't 0 */
     uint32_t input_delay;   /* frames by which all words count later */
     uint32_t last_frame;    /* nobody gives words from this frame on; 0: no such frame */
     bool has_pair_numbers;  /* each two machines have a number of their own */
