@@ -132,7 +132,8 @@ enum {
     FAZGROND_OWN_MACHINE = 304,             /* the machine is this one */
     FAZGROND_MACHINE_GONE = 305,            /* the sender is gone */
     FAZGROND_MISMATCHED = 306,              /* a line: a hello of the other end that means another match */
-    FAZGROND_OVERSTATED = 307,              /* the sender sends words that it does not say that it has */
+    FAZGROND_OVERSTATED = 307,              /* the sender sends words that it does not say that it has, or says that it has words
+                                             * of this machine that it was never given */
     FAZGROND_ENDED = 308,                   /* a viewer's line has ended: one of its ends said bye */
     FAZGROND_OTHER_SENDER = 309,            /* the other end of the line didn't send them */
     FAZGROND_NO_ROWS = 310,                 /* what the host sends are no rows of this match's players */
@@ -284,7 +285,7 @@ static inline void fazgrond_one_number(fazgrond_match *match, uint64_t number) {
  * MISMATCH: `machine` means another match: `field` is 1 if it has another number of machines, 2 if other owners, 3 if another
  * digest. It may come in the middle of a match too. DROPPED: another machine regards this one as gone.
  * RESTARTED: `machine` was opened anew. It can't come back into this match: its old opening is silent from now on, and gone by
- * that; told once for each opening. STALLED: `machine` is heard, and holds this one up, since it gives no words. If it is to be
+ * that, and its new one waits until you open a match anew too. Told once for each opening. STALLED: `machine` is heard, and holds this one up, since it gives no words. If it is to be
  * gone for that, it is in `disconnect_in` milliseconds, else that is 0. Told once, until it gives a word.
  * REFUSED: what `machine` sealed was refused, or a word of it was: its program is broken, or it lies. Told at the first of a run.
  * MISSING: `silent_after` has passed since this peer was opened, and `machine` isn't there yet. Told once. It is waited for, until
@@ -422,8 +423,8 @@ typedef struct fazgrond_line_state {
     uint32_t silence;    /* milliseconds since the other end answered last, if both have heard each other; else 0 */
     uint32_t is_playing; /* whether both have heard each other */
     uint32_t has_ended;  /* whether one of the two has said bye */
-    uint32_t is_silent;  /* whether the other end has answered nothing for longer than `silent_after`: close the line then. It
-                          * can't come back if it was opened anew */
+    uint32_t is_silent;  /* whether the other end has answered nothing for longer than `silent_after`: close the line then. If it
+                          * was opened anew, it waits until this one is too */
 } fazgrond_line_state;
 
 /* Opens a line at its host, as fazgrond_open a session. FAZGROND_INVALID_MACHINE: too few or too many machines, or `host` is none
@@ -443,7 +444,7 @@ int32_t fazgrond_line_send(fazgrond_line *line, fazgrond_peer *peer, uint32_t no
                            size_t *length);
 
 /* The datagram that says that the host leaves the viewer: the line has ended. Send it a few times. FAZGROND_NOTHING: the two
- * haven't heard each other. */
+ * haven't heard each other, so that nobody is to be told; the line has ended all the same. */
 int32_t fazgrond_line_bye(fazgrond_line *line, uint8_t *out, size_t room, size_t *length);
 
 /* How far the two ends are. */
@@ -463,7 +464,7 @@ int32_t fazgrond_viewer_receive(fazgrond_viewer *viewer, const uint8_t *bytes, s
 int32_t fazgrond_viewer_send(fazgrond_viewer *viewer, uint32_t now, uint8_t *out, size_t room, size_t *length);
 
 /* The datagram that says that the viewer leaves: the line has ended. Send it a few times. FAZGROND_NOTHING: the two haven't heard
- * each other. */
+ * each other, so that nobody is to be told; the line has ended all the same. */
 int32_t fazgrond_viewer_bye(fazgrond_viewer *viewer, uint8_t *out, size_t room, size_t *length);
 
 /* The next row that is to be played, from frame 0 on; FAZGROND_NOTHING if none is there. */

@@ -401,8 +401,6 @@ static void other_viewer(fazgrond_peer *peer, fazgrond_line *line, fazgrond_view
     IS(fazgrond_viewer_open(viewer, &settings), FAZGROND_OK);
     IS(fazgrond_viewer_send(viewer, 0, bytes, FAZGROND_DATAGRAM - 1, &sent), FAZGROND_TOO_SHORT);
     IS(fazgrond_line_send(line, peer, 0, bytes, FAZGROND_DATAGRAM - 1, &sent), FAZGROND_TOO_SHORT);
-    IS(fazgrond_viewer_bye(viewer, bytes, sizeof bytes, &sent), FAZGROND_NOTHING);
-    IS(fazgrond_line_bye(line, bytes, sizeof bytes, &sent), FAZGROND_NOTHING);
     IS((int32_t)sent, 77);
     IS(fazgrond_viewer_row(viewer, &row), FAZGROND_NOTHING);
     to_viewer(line, peer, viewer, 0);
@@ -411,6 +409,26 @@ static void other_viewer(fazgrond_peer *peer, fazgrond_line *line, fazgrond_view
     settings = watched();
     settings.draw = 92;
     IS(fazgrond_viewer_open(viewer, &settings), FAZGROND_OK);
+}
+
+/* Who leaves before the two have heard each other has nobody to tell. */
+static void nobody_to_tell(void) {
+    fazgrond_line line = FAZGROND_CLOSED;
+    fazgrond_viewer viewer = FAZGROND_CLOSED;
+    fazgrond_line_settings settings = watched();
+    fazgrond_line_state state;
+    size_t sent = 77;
+    IS(fazgrond_line_open(&line, &settings), FAZGROND_OK);
+    IS(fazgrond_viewer_open(&viewer, &settings), FAZGROND_OK);
+    IS(fazgrond_line_bye(&line, bytes, sizeof bytes, &sent), FAZGROND_NOTHING);
+    IS(fazgrond_viewer_bye(&viewer, bytes, sizeof bytes, &sent), FAZGROND_NOTHING);
+    IS((int32_t)sent, 77);
+    IS(fazgrond_line_look(&line, 0, &state), FAZGROND_OK);
+    IS((int32_t)state.has_ended, 1);
+    IS(fazgrond_viewer_look(&viewer, 0, &state), FAZGROND_OK);
+    IS((int32_t)state.has_ended, 1);
+    fazgrond_line_close(&line);
+    fazgrond_viewer_close(&viewer);
 }
 
 /* A viewer of the peer's match. */
@@ -468,6 +486,7 @@ int main(void) {
     open_both(&one, &two);
     before(&one, &two);
     during(&one, &two);
+    nobody_to_tell();
     viewers(&one);
     after(&one, &two);
     fazgrond_peer_close(&one);

@@ -74,7 +74,7 @@ static fazgrond_peer opened(uint32_t me, uint64_t number, uint64_t draw) {
     fazgrond_match match = { .draw = draw, .digest = DIGEST, .me = me, .machines = 2,
                              .silent_after = 5000, .notify_after = 750 };
     fazgrond_one_number(&match, number);
-    match.session = (fazgrond_settings){ .players = 2, .local = 1u << me, .threshold = 8, .limit = 100, .log = 1000 };
+    match.session = (fazgrond_settings){ .players = 2, .local = 1u << me, .threshold = 8, .limit = 1048576, .log = 16777216 };
     for (uint32_t at = 0; at < FAZGROND_PLAYERS; at++)
         match.owners[at] = at < 2 ? at : FAZGROND_NO_PLAYER;
     IS(fazgrond_peer_open(&peer, &match), FAZGROND_OK);
@@ -94,27 +94,111 @@ static void pass(fazgrond_peer *from, fazgrond_peer *to, uint8_t machine, uint32
     IS(fazgrond_peer_receive(to, bytes, length, heard_at), FAZGROND_OK);
 }
 
-/* Each example is heard, and what machine 1 sends is the example. */
+static void no_event_but(fazgrond_peer *peer, uint32_t code) {
+    fazgrond_event event;
+    int found = 0;
+    while (fazgrond_peer_event(peer, &event) == FAZGROND_OK)
+        found += event.code == code;
+    IS(found, code != 0);
+}
+
+/* A player's word of a frame: those of player 1 are in the examples. */
+static uint32_t word_of(uint8_t player, uint32_t frame) {
+    static const uint32_t told[] = { 0, 0, 5, 5, 5, 7 };
+    if (player == 1 || frame < 117)
+        return 0;
+    return frame < 123 ? told[frame - 117] : 5;
+}
+
+/* Plays so many frames, all of which a machine may predict. */
+static void play(fazgrond_peer *peer, uint8_t player, int frames) {
+    fazgrond_request requests[8];
+    fazgrond_reached reached;
+    uint32_t frame;
+    for (int at = 0; at < frames; at++) {
+        IS(fazgrond_peer_frame(peer, &frame), FAZGROND_OK);
+        IS(fazgrond_peer_add_local_input(peer, player, word_of(player, frame)), FAZGROND_OK);
+        IS(fazgrond_peer_advance_frame(peer, &reached), FAZGROND_OK);
+        while (fazgrond_peer_take_requests(peer, requests, 8) > 0)
+            ;
+    }
+}
+
+/* Both play up to a frame, and hear each other in each of them. */
+static void play_up_to(fazgrond_peer *one, fazgrond_peer *two, uint32_t end) {
+    uint32_t frames[2] = { 0, 0 };
+    while (frames[0] < end || frames[1] < end) {
+        if (frames[0] < end)
+            play(one, 1, 1);
+        if (frames[1] < end)
+            play(two, 2, 1);
+        pass(one, two, 1, 0, 0);
+        pass(two, one, 0, 0, 0);
+        IS(fazgrond_peer_frame(one, &frames[0]), FAZGROND_OK);
+        IS(fazgrond_peer_frame(two, &frames[1]), FAZGROND_OK);
+    }
+}
+
+/* Machine 0 has the words of an example, up to a frame, that it had not before. */
+static void has_words(fazgrond_peer *one, uint32_t from, uint32_t end) {
+    fazgrond_entry entry;
+    uint32_t words;
+    size_t entries;
+    IS(fazgrond_peer_confirmed(one, 2, &words), FAZGROND_OK);
+    IS(words, end);
+    IS(fazgrond_peer_log_length(one, &entries), FAZGROND_OK);
+    for (uint32_t frame = end; frame-- > from;) {
+        IS(fazgrond_peer_log_entry(one, --entries, &entry), FAZGROND_OK);
+        IS(entry.kind, FAZGROND_REMOTE);
+        IS(entry.frame, frame);
+        IS(entry.word, word_of(2, frame));
+    }
+}
+
+/* The two come to play, and what machine 1 sends meanwhile are the examples. */
+static void greet(fazgrond_peer *one, fazgrond_peer *two) {
+    uint8_t bytes[FAZGROND_DATAGRAM];
+    size_t length;
+    IS(fazgrond_peer_receive(one, turn, sizeof turn, 0), FAZGROND_NOT_SEALED); /* machine 1's draw isn't known yet */
+    IS(fazgrond_peer_bye(two, 0, bytes, sizeof bytes, &length), FAZGROND_NOTHING);
+    IS(sent(two, 0, 0, bytes), sizeof first_hello);
+    IS(memcmp(bytes, first_hello, sizeof first_hello), 0);
+    IS(fazgrond_peer_receive(one, first_hello, sizeof first_hello, 0), FAZGROND_OK);
+    IS(fazgrond_peer_receive(one, turn, sizeof turn, 0), FAZGROND_NOT_SEALED); /* nor is it believed yet */
+    pass(one, two, 1, 0, 0);
+    IS(sent(two, 0, 0, bytes) > 0, 1); /* a play, which the other can't open yet */
+    IS(sent(two, 0, 0, bytes), sizeof hello);
+    IS(memcmp(bytes, hello, sizeof hello), 0);
+    IS(fazgrond_peer_receive(one, hello, sizeof hello, 0), FAZGROND_OK);
+    for (int at = 0; at < 3; at++) {
+        pass(one, two, 1, 0, 0);
+        pass(two, one, 0, 0, 0);
+    }
+    IS(fazgrond_peer_poll(one, 0), FAZGROND_OK);
+    IS(fazgrond_peer_poll(two, 0), FAZGROND_OK);
+}
+
+/* Each example is heard, and what machine 1 sends is the example. The plays are heard where they may be: machine 0 has the words that
+ * machine 1 says that it has of it. */
 static void examples(void) {
     fazgrond_peer one = opened(0, MATCH, draws[0]), two = opened(1, MATCH, draws[1]);
     uint8_t bytes[FAZGROND_DATAGRAM];
     size_t length;
-    IS(fazgrond_peer_receive(&one, turn, sizeof turn, 0), FAZGROND_NOT_SEALED); /* machine 1's draw isn't known yet */
-    IS(fazgrond_peer_bye(&two, 0, bytes, sizeof bytes, &length), FAZGROND_NOTHING);
-    IS(sent(&two, 0, 0, bytes), sizeof first_hello);
-    IS(memcmp(bytes, first_hello, sizeof first_hello), 0);
-    IS(fazgrond_peer_receive(&one, first_hello, sizeof first_hello, 0), FAZGROND_OK);
-    IS(fazgrond_peer_receive(&one, turn, sizeof turn, 0), FAZGROND_NOT_SEALED); /* nor is it believed yet */
+    greet(&one, &two);
+    IS(fazgrond_peer_receive(&one, turn, sizeof turn, 0), FAZGROND_OVERSTATED); /* it has no word yet, and not 119 */
+    play_up_to(&one, &two, 117);
+    play(&one, 1, 2);
     pass(&one, &two, 1, 0, 0);
-    IS(sent(&two, 0, 0, bytes) > 0, 1); /* a play */
-    IS(sent(&two, 0, 0, bytes), sizeof hello);
-    IS(memcmp(bytes, hello, sizeof hello), 0);
-    IS(fazgrond_peer_receive(&one, hello, sizeof hello, 0), FAZGROND_OK);
+    play(&two, 2, 6); /* now both have what the example tells */
+    IS(fazgrond_peer_receive(&one, turn, sizeof turn, 0), FAZGROND_OK);
+    has_words(&one, 117, 123);
+    play_up_to(&one, &two, 19997);
+    play(&one, 1, 2);
+    IS(fazgrond_peer_receive(&one, held, sizeof held, 0), FAZGROND_OK);
+    has_words(&one, 19997, 20003);
     IS(fazgrond_peer_bye(&two, 0, bytes, sizeof bytes, &length), FAZGROND_OK);
     IS(length, sizeof bye);
     IS(memcmp(bytes, bye, length), 0);
-    IS(fazgrond_peer_receive(&one, turn, sizeof turn, 0), FAZGROND_OK);
-    IS(fazgrond_peer_receive(&one, held, sizeof held, 0), FAZGROND_OK);
     IS(fazgrond_peer_receive(&one, bye, sizeof bye, 0), FAZGROND_OK);
     IS(fazgrond_peer_receive(&one, bye, sizeof bye, 0), FAZGROND_MACHINE_GONE);
     fazgrond_peer_close(&one);
@@ -134,7 +218,8 @@ static void is_whole(const uint8_t *text, size_t length) {
            bytes[12] == 1 ? FAZGROND_NOT_SEALED : bytes[12] == 0 ? FAZGROND_OWN_MACHINE : FAZGROND_INVALID_MACHINE);
         bytes[bit / 8] ^= (uint8_t)(1 << bit % 8);
     }
-    IS(fazgrond_peer_receive(&one, bytes, length, 0), FAZGROND_OK);
+    int32_t code = fazgrond_peer_receive(&one, bytes, length, 0);
+    IS(code == FAZGROND_OK || (text[KIND] == PLAY && code == FAZGROND_OVERSTATED), 1);
     fazgrond_peer_close(&one);
 }
 
@@ -194,26 +279,6 @@ static void line_examples(void) {
     fazgrond_line_close(&line);
     fazgrond_viewer_close(&viewer);
     fazgrond_peer_close(&peer);
-}
-
-static void no_event_but(fazgrond_peer *peer, uint32_t code) {
-    fazgrond_event event;
-    int found = 0;
-    while (fazgrond_peer_event(peer, &event) == FAZGROND_OK)
-        found += event.code == code;
-    IS(found, code != 0);
-}
-
-/* Plays so many frames, all of which a machine may predict. */
-static void play(fazgrond_peer *peer, uint8_t player, int frames) {
-    fazgrond_request requests[8];
-    fazgrond_reached reached;
-    for (int at = 0; at < frames; at++) {
-        IS(fazgrond_peer_add_local_input(peer, player, 0), FAZGROND_OK);
-        IS(fazgrond_peer_advance_frame(peer, &reached), FAZGROND_OK);
-        while (fazgrond_peer_take_requests(peer, requests, 8) > 0)
-            ;
-    }
 }
 
 /* The two hear each other, and each a play of the other. A first play comes before the other can open it. */

@@ -88,8 +88,9 @@ typedef struct machine {
 
     /* Of a line alone. */
     stage stage;
-    int32_t heard;     /* FAZGROND_OK, or FAZGROND_MISMATCHED; 1 if it wasn't heard */
-    uint32_t heard_at; /* when a datagram of it was taken last */
+    int32_t heard;       /* FAZGROND_OK, or FAZGROND_MISMATCHED; 1 if it wasn't heard */
+    uint32_t heard_at;   /* when a datagram of it was taken last */
+    uint32_t greeted_at; /* and when the first was, which the game was told */
     bool is_silent;
 } machine;
 
@@ -1178,6 +1179,7 @@ static void tell_of(GGPOSession *session, GGPOEventCode code, const machine *oth
 static void tell_stage(GGPOSession *session, machine *other, const fazgrond_line_state *state) {
     if (other->stage == UNHEARD && other->heard == FAZGROND_OK) {
         other->stage = HEARD;
+        other->greeted_at = millis(session);
         tell_of(session, GGPO_EVENTCODE_CONNECTED_TO_PEER, other, 0, 0);
         tell_of(session, GGPO_EVENTCODE_SYNCHRONIZING_WITH_PEER, other, 1, 2);
     }
@@ -1205,12 +1207,18 @@ static void tell_silence(GGPOSession *session, machine *other, const fazgrond_li
         tell_of(session, GGPO_EVENTCODE_CONNECTION_RESUMED, other, 0, 0);
 }
 
+/* Whether the host is there for another spectator: for the one before, who was at this port, since this one was begun anew. */
+static bool is_for_another(const GGPOSession *session, const machine *other) {
+    return session->is_spectating && other->stage == HEARD && session->silent_after > 0
+        && millis(session) - other->greeted_at > session->silent_after;
+}
+
 /* Tells what is new of the other end of a line, and whether the line is over. That a spectator means another match is no matter
  * of the host's game: to it that one has left. */
 static bool tell_of_line(GGPOSession *session, machine *other, const fazgrond_line_state *state) {
     bool is_other = other->heard == FAZGROND_MISMATCHED;
     tell_stage(session, other, state);
-    if (is_other || state->has_ended != 0 || state->is_silent != 0) {
+    if (is_other || state->has_ended != 0 || state->is_silent != 0 || is_for_another(session, other)) {
         other->stage = GONE;
         GGPOEventCode code = GGPO_EVENTCODE_DISCONNECTED_FROM_PEER;
         tell_of(session, is_other && session->is_spectating ? FAZGGPO_EVENTCODE_MISMATCH : code, other, 0, 0);

@@ -195,7 +195,7 @@ GGPO_API GGPOErrorCode __cdecl ggpo_start_synctest(GGPOSession **session, GGPOSe
  * ggpo_advance_frame. If no frame is there, ggpo_synchronize_input answers GGPO_ERRORCODE_PREDICTION_THRESHOLD, and
  * GGPO_ERRORCODE_PLAYER_DISCONNECTED once the host is gone too. Nothing is saved, loaded or played again. Who is behind, as
  * fazggpo_get_settled says, plays more than one frame in a turn. Who begins anew isn't told a match again that it has heard of
- * before: to it the host is silent, and has left after the disconnect timeout. */
+ * before: it is told after the disconnect timeout that the host has left. */
 GGPO_API GGPOErrorCode __cdecl ggpo_start_spectating(GGPOSession **session, GGPOSessionCallbacks *cb, const char *game,
                                                      int num_players, int input_size, unsigned short local_port, char *host_ip,
                                                      unsigned short host_port);

@@ -74,10 +74,16 @@ static void most_of_its_own(world *self, packet *made, uint32_t to) {
     made->counts[LIAR] = UINT32_MAX;
 }
 
-static void most_of_others(world *self, packet *made, uint32_t to) {
-    (void)self, (void)to;
+static void most_of_yours(world *self, packet *made, uint32_t to) {
+    (void)self;
     made->counted |= 3;
-    made->counts[0] = made->counts[1] = UINT32_MAX;
+    made->counts[to] = UINT32_MAX;
+}
+
+static void most_of_others(world *self, packet *made, uint32_t to) {
+    (void)self;
+    made->counted |= 3;
+    made->counts[1 - to] = UINT32_MAX;
 }
 
 static void fewer_of_others(world *self, packet *made, uint32_t to) {
@@ -445,7 +451,8 @@ static const lie lies[] = {
     SAYS(offered_stranger, FAZGROND_OUTSIDE, OUT, GOES_ON),
     { .name = "overstated", .says = overstated, .answer = FAZGROND_OVERSTATED, .told = OUT, .course = GOES_ON },
     SAYS(most_of_its_own, FAZGROND_OK, 0, GOES_ON),
-    SAYS(most_of_others, FAZGROND_OK, MAY_STALL, STANDS),
+    SAYS(most_of_yours, FAZGROND_OVERSTATED, OUT, GOES_ON),
+    SAYS(most_of_others, FAZGROND_OK, 0, GOES_ON),
     SAYS(fewer_of_others, FAZGROND_OK, MAY_STALL, STANDS),
     SAYS(other_words_to_one, FAZGROND_OK, MAY_DESYNC, GOES_ON),
     WITHHOLDS(gap),

@@ -101,13 +101,14 @@ static bool play_match(world *self, size_t kept) {
     return is_played(self, FRAMES) && world_agree(self, 0, 1, FRAMES);
 }
 
-static void rematches(uint32_t delay, uint32_t jitter, bool is_copied, uint32_t seed) {
+static void rematches(uint32_t delay, uint32_t jitter, uint32_t loss, bool is_copied, uint32_t seed) {
     setup with = plain;
     with.delay = delay;
     with.jitter = jitter;
+    with.loss = loss;
     with.seed = seed;
-    trial_case("%d matches on a line of %u to %u ms, seed %u%s", MATCHES, (unsigned)delay, (unsigned)(delay + jitter),
-               (unsigned)seed, is_copied ? ", all hellos of those before copied" : "");
+    trial_case("%d matches on a line of %u to %u ms that loses %u %%, seed %u%s", MATCHES, (unsigned)delay,
+               (unsigned)(delay + jitter), (unsigned)loss, (unsigned)seed, is_copied ? ", all hellos of those before copied" : "");
     world *self = world_begin(&with);
     if (is_copied)
         proxy_begin(self, NOBODY);
@@ -121,23 +122,45 @@ static void rematches(uint32_t delay, uint32_t jitter, bool is_copied, uint32_t 
             trial_must(false, text);
             break;
         }
-        trial_nothing_but(self, MAY_INTERRUPT | MAY_MISS | (jitter > 0 ? MAY_RESTART : 0));
+        trial_nothing_but(self, MAY_INTERRUPT | MAY_MISS);
         world_leave(self, leaver);
         proxy_thin(before, 40);
         world_open(self, leaver);
     }
-    trial_must(is_copied || jitter > 0 || self->machine[0].opening + self->machine[1].opening == 2 * MATCHES + 1,
+    trial_must(is_copied || loss > 0 || self->machine[0].opening + self->machine[1].opening == 2 * MATCHES + 1,
                "each match is opened once");
     proxy_end();
+    world_end(self);
+}
+
+/* One leaves, which nobody hears, and begins anew; the other stays in the match before for so long. Then they play. */
+static void before_the_other(uint32_t milliseconds, uint32_t seed) {
+    setup with = plain;
+    with.seed = seed;
+    trial_case("a rematch that one begins %u ms before the other, seed %u", (unsigned)milliseconds, (unsigned)seed);
+    world *self = world_begin(&with);
+    world_open_all(self);
+    trial_must(world_play(self, FRAMES, 5000), "the match is played");
+    world_open(self, 0);
+    world_run(self, milliseconds);
+    trial_must(world_told(self, 0, FAZGROND_RUNNING, NOBODY) == 0, "it waits for the other");
+    trial_must(world_told(self, 1, FAZGROND_RESTARTED, 0) == 1 || milliseconds < 500, "the other is told");
+    world_open(self, 1);
+    trial_must(world_play(self, FRAMES, 5000) && world_agree(self, 0, 1, FRAMES), "the rematch is played");
+    trial_nothing_but(self, MAY_MISS);
     world_end(self);
 }
 
 void trial_rematches(uint32_t count, uint32_t seed) {
     static const uint32_t delays[] = { 1, 20, 50, 100 };
     for (uint32_t at = 0; at < count; at++)
-        rematches(delays[at % 4], 0, at % 8 >= 4, seed + at);
+        rematches(delays[at % 4], 0, 0, at % 8 >= 4, seed + at);
+    for (uint32_t at = 0; at < count / 4; at++) {
+        rematches(delays[at % 4], 30, 0, at % 2 == 1, seed + at);
+        rematches(delays[at % 4], 30, 20, at % 2 == 1, seed + at);
+    }
     for (uint32_t at = 0; at < count / 4; at++)
-        rematches(delays[at % 4], 20, at % 2 == 1, seed + at);
+        before_the_other(500 * at, seed + at);
 }
 
 /* ---- Restarts. */
@@ -173,9 +196,10 @@ static void restart(uint32_t still, uint32_t times, uint32_t seed) {
     world_run(self, 8000);
     for (uint32_t who = 0; who < 2; who++)
         must_have_parted(self, who, since, still < with.silent_after ? times : 0);
-    trial_must(world_told(self, 2, still < with.silent_after ? FAZGROND_LEFT : FAZGROND_MISSING, 0) == 1,
-               "who was begun anew is alone");
-    self->machine[2].is_dead = true; /* it is told much else */
+    for (uint32_t who = 0; who < 2; who++)
+        trial_must_of(world_told(self, 2, FAZGROND_MISSING, who) == 1, who, "it is missing to the one that was begun anew");
+    trial_must(world_told(self, 2, FAZGROND_RUNNING, NOBODY) == 0, "to which no match begins");
+    self->machine[2].is_dead = true;
     trial_must(world_agree(self, 0, 1, frames + 200), "the match of the others goes on");
     trial_only_of(self, 2, MAY_INTERRUPT | MAY_LEAVE | MAY_STALL | MAY_RESTART);
     world_end(self);

@@ -194,7 +194,7 @@ static void follows(uint32_t machines, uint32_t delay, uint32_t loss, uint32_t l
     scene_end(self);
 }
 
-/* An end is opened anew: the other one sees that its old opening is silent, in time, and so does it. */
+/* An end is opened anew: the other one sees that its old opening is silent, in time. The new one doesn't come to play with it. */
 static void reopened(bool is_viewer, uint32_t seed) {
     trial_case("%s of a line is opened anew, seed %u", is_viewer ? "the viewer's end" : "the host's end", (unsigned)seed);
     scene *self = scene_begin(2, 20, 0, 3000, seed);
@@ -208,8 +208,15 @@ static void reopened(bool is_viewer, uint32_t seed) {
     scene_run(self, 2400);
     must_be_silent(self, false, false);
     scene_run(self, 1600);
-    must_be_silent(self, true, true);
+    must_be_silent(self, is_viewer, !is_viewer);
+    trial_must((is_viewer ? viewer_sees(self) : host_sees(self)).is_playing == 0, "the new end doesn't play with the old one");
     trial_must(!is_viewer || self->rows == 0, "it is told nothing again");
+    if (is_viewer)
+        open_line(self);
+    else
+        open_viewer(self);
+    scene_run(self, 3000);
+    must_follow(self, 20);
     scene_end(self);
 }
 
