@@ -87,12 +87,7 @@ impl EventOut {
                 machine,
                 count,
                 total,
-            } => EventOut {
-                machine: u32::from(machine),
-                count: u32::from(count),
-                total: u32::from(total),
-                ..EventOut::bare(1001)
-            },
+            } => EventOut::after_steps(machine, count, total),
             PeerEvent::Synchronized { machine } => EventOut::by(1002, machine),
             PeerEvent::Running => EventOut::bare(1003),
             PeerEvent::DisconnectedFromPeer { player } => EventOut {
@@ -106,10 +101,7 @@ impl EventOut {
             PeerEvent::Interrupted {
                 machine,
                 disconnect_in,
-            } => EventOut {
-                disconnect_in,
-                ..EventOut::by(1006, machine)
-            },
+            } => EventOut::before_end(1006, machine, disconnect_in),
             PeerEvent::Resumed { machine } => EventOut::by(1007, machine),
             PeerEvent::Left { machine } => EventOut::by(1101, machine),
             PeerEvent::Desync { machine, frame } => EventOut {
@@ -125,10 +117,7 @@ impl EventOut {
             PeerEvent::Stalled {
                 machine,
                 disconnect_in,
-            } => EventOut {
-                disconnect_in,
-                ..EventOut::by(1106, machine)
-            },
+            } => EventOut::before_end(1106, machine, disconnect_in),
             PeerEvent::Refused { machine } => EventOut::by(1107, machine),
             PeerEvent::Missing { machine } => EventOut::by(1108, machine),
         }
@@ -158,6 +147,27 @@ impl EventOut {
         EventOut {
             machine: u32::from(machine),
             ..EventOut::bare(code)
+        }
+    }
+
+    /// One that says how far it is with a machine.
+    fn after_steps(machine: u8, count: u8, total: u8) -> EventOut
+        ensures { result ≡ record (bare 1001) { machine = machine; count = count; total = total } }
+    {
+        EventOut {
+            count: u32::from(count),
+            total: u32::from(total),
+            ..EventOut::by(1001, machine)
+        }
+    }
+
+    /// One that says when a machine is gone.
+    fn before_end(code: u32, machine: u8, disconnect_in: u32) -> EventOut
+        ensures { result ≡ record (bare code) { machine = machine; disconnect_in = disconnect_in } }
+    {
+        EventOut {
+            disconnect_in,
+            ..EventOut::by(code, machine)
         }
     }
 }
