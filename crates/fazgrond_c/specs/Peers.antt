@@ -7,6 +7,7 @@ use Rattle.roll_frame.specs.Timeline.{row_at}
 use Rattle.roll_frame.specs.declared.refusal.Refusal.{Refusal}
 use Rattle.roll_frame.specs.declared.row.Cell.{Cell}
 use Rattle.roll_frame.specs.declared.settings.Settings.{Settings}
+use Rattle.roll_member.specs.Joined.{join_refusal}
 use Rattle.roll_mesh.specs.Machines.{leave}
 use Rattle.roll_mesh.specs.Meshes.{leave_refusal, stepped}
 use Rattle.roll_mesh.specs.declared.limits.TheConstants.{MACHINE_LIMIT}
@@ -16,6 +17,7 @@ use Rattle.roll_peer.specs.Events.{popped}
 use Rattle.roll_peer.specs.Peered.{contact_at, GivesWord, IsNotGiven, IsOpenedAs, Peered}
 use Rattle.roll_peer.specs.Receiving.{after_ignored, ignored, sender_of, ticking, Receives}
 use Rattle.roll_peer.specs.Sending.{after_send, is_lost, stats_of, text_for, IsSent}
+use Rattle.roll_peer.specs.Settings.{seat_of}
 use Rattle.roll_peer.specs.Turning.{over, with_session, IsNotAdvanced, IsNotSynced, Polls}
 use Rattle.roll_peer.specs.declared.received.Ignored.{Ignored}
 use Rattle.roll_peer.specs.declared.received.Received.{Received}
@@ -62,6 +64,8 @@ pub record IsOpened (given : MatchIn) (live : PeerLive) : Type 0 where
   pub matched : MatchSettings
   pub are_given : AreGiven given.session settings
   pub are_matched : AreMatched given matched
+  pub accepted : join_refusal (first_seen settings opening_digest opened) (seat_of matched) ≡ None
+  pub drawn : matched.draw ≢ 0
   pub peer : IsOpenedAs (first_seen settings opening_digest opened) matched live.peer
 
 -- there is no such session or no such match

@@ -1,7 +1,9 @@
 //! A peer of a game elsewhere, with how many of its requests were handed out.
-ghost use Rattle.std.specs.Prelude.{◌≡◌, false, true, IfErr, IfOk, None, OnOk};
+ghost use Rattle.std.specs.Prelude.{◌≡◌, ◌≢◌, false, true, IfErr, IfOk, None, OnOk};
 ghost use Rattle.roll_frame.specs.Timeline.{row_at};
+ghost use Rattle.roll_member.specs.Joined.{join_refusal};
 ghost use Rattle.roll_peer.specs.Peered.{IsOpenedAs};
+ghost use Rattle.roll_peer.specs.Settings.{seat_of};
 ghost use Rattle.roll_peer.specs.Turning.{over, with_session, IsNotAdvanced, IsNotSynced};
 ghost use Rattle.roll_requests.specs.Leading.{opened};
 ghost use Rattle.roll_requests.specs.Names.{opening_digest};
@@ -40,6 +42,9 @@ impl PeerLive {
     ) -> Result<PeerLive, NotOpened>
         ensures opened { IfOk result (λ live.
             IsOpenedAs (first_seen settings opening_digest opened) of_match live.peer) }
+        ensures accepted { OnOk result
+            (join_refusal (first_seen settings opening_digest opened) (seat_of of_match) ≡ None) }
+        ensures drawn { OnOk result (of_match.draw ≢ 0) }
         ensures refused { IfErr result (IsWhyNotOpened settings of_match) }
     {
         let session = match start(alloc, settings, false) {
