@@ -147,7 +147,7 @@ impl Side {
             return None;
         }
         self.byes -= 1;
-        Some(self.peer.bye())
+        self.peer.bye(self.other)
     }
 
     /// Whether the last frame is settled here, and nothing is left to tell: the other said that it has all words of this side.
@@ -186,11 +186,14 @@ fn the_match(me: u8) -> MatchSettings {
         me,
         machines: 2,
         owners: [0, 1, 255, 255, 255, 255, 255, 255],
-        // Whoever arranges a match draws it.
-        match_number: 0x1122_3344_5566_7788,
+        // Whoever arranges a match draws it, anew for each.
+        numbers: [0x1122_3344_5566_7788; 8],
+        // Each machine draws its own, anew whenever it opens a match. Here it is fixed, so that the program prints the same.
+        draw: 0x99AA_BBCC_DDEE_FF00 + u64::from(me),
         digest: digest(&Fight::opening()),
         silent_after: 5_000,
         notify_after: 750,
+        stalled_after: 0,
     }
 }
 

@@ -2,9 +2,13 @@
 
 use crate::network::Letter;
 use crate::options::PeersOptions;
+use crate::settings::{draw_of, match_number};
+use arrayvec::ArrayVec;
 use prog_sides::Draws;
+use roll_contact::Key;
+use roll_contact::seal::seal;
 use roll_mesh::MACHINE_LIMIT;
-use sha2::{Digest, Sha256};
+use roll_wire::DATAGRAM_LIMIT;
 use std::alloc::{AllocError, Global};
 
 /// How many real datagrams are kept, to be sent again.
@@ -13,6 +17,10 @@ const KEPT: usize = 64;
 const MOST_BYTES: u32 = 1_300;
 /// The number of the stream that the enemy of machine 0 draws from; the others follow.
 const FIRST_STREAM: u64 = 48;
+/// Where a datagram has its kind, and the kind of a hello.
+const KIND_AT: usize = 13;
+
+const HELLO: u8 = 0;
 
 /// How a datagram is made to deceive.
 #[derive(Clone, Copy, Debug, PartialEq, Eq)]
@@ -21,11 +29,11 @@ pub enum Trick {
     Noise,
     /// A real one, with a bit changed.
     Changed,
-    /// A real one, sealed for another match.
+    /// A real one, sealed for another match, or for another opening of its sender or its receiver.
     Foreign,
     /// A real one of a machine that is gone.
     Gone,
-    /// A real one that came before. It may be heard again.
+    /// A real one of a machine that isn't gone, which came before. It may be heard again.
     Again,
 }
 
@@ -77,27 +85,36 @@ impl Kept {
     }
 }
 
-/// Who makes such datagrams for a machine.
+/// Who makes such datagrams for a machine. It knows the match's number and all draws, and never seals by the key that is right.
 #[derive(Drop)]
 pub struct Enemy {
     draws: Draws,
-    /// The number of another match.
-    other_match: u64,
+    /// The number of the match.
+    number: u64,
+    /// The draws of all openings, machine 0's first.
+    openings: [u64; MACHINE_LIMIT],
+    /// The machine that it deceives.
+    me: u8,
     /// Datagrams of machines that stay.
     lasting: Kept,
     /// Datagrams of machines that go silent.
     parting: Kept,
+    /// Who sent the datagram that is copied.
+    from: u8,
     bytes: Vec<u8>,
 }
 
 impl Enemy {
     /// The enemy of a machine, which has seen nothing yet.
-    pub fn new(alloc: Global, seed: u64, machine: u8, match_number: u64) -> Enemy {
+    pub fn new(alloc: Global, seed: u64, options: &PeersOptions, me: u8) -> Enemy {
         Enemy {
-            draws: Draws::numbered(seed, FIRST_STREAM + u64::from(machine)),
-            other_match: match_number.wrapping_add(1),
+            draws: Draws::numbered(seed, FIRST_STREAM + u64::from(me)),
+            number: match_number(options),
+            openings: openings(options),
+            me,
             lasting: Kept::new(alloc),
             parting: Kept::new(alloc),
+            from: 0,
             bytes: Vec::new(alloc),
         }
     }
@@ -127,7 +144,7 @@ impl Enemy {
         match self.draws.below(5) {
             0 => self.copy_changed(),
             1 => self.copy_foreign(),
-            2 => self.copy_gone(gone),
+            2 => self.copy_parting(gone),
             3 => self.copy_again(),
             _ => self.draw_noise(),
         }
@@ -148,10 +165,11 @@ impl Enemy {
         Ok(Trick::Noise)
     }
 
-    /// Copies a datagram of a machine that stays, or draws one where there is none.
+    /// Copies a datagram of a machine that stays, if there is one.
     fn copy(&mut self) -> Result<bool, AllocError> {
         match self.lasting.draw(&mut self.draws) {
             Some(past) => {
+                self.from = past.from;
                 self.bytes.extend_from_slice(&past.bytes)?;
                 Ok(true)
             }
@@ -186,21 +204,74 @@ impl Enemy {
         if !self.copy()? {
             return self.draw_noise();
         }
-        if self.bytes.len() >= 12 {
-            self.bytes[4..12].copy_from_slice(&self.other_match.to_be_bytes());
-            let digest = Sha256::digest(self.bytes.as_slice());
-            self.bytes[4..12].copy_from_slice(&digest[..8]);
-        }
+        let key = self.another_key();
+        seal_anew(&mut self.bytes, &key)?;
         Ok(Trick::Foreign)
     }
 
-    fn copy_gone(&mut self, gone: &[bool; MACHINE_LIMIT]) -> Result<Trick, AllocError> {
-        if let Some(past) = self.parting.draw(&mut self.draws) {
-            if gone.get(usize::from(past.from)) == Some(&true) {
-                self.bytes.extend_from_slice(&past.bytes)?;
-                return Ok(Trick::Gone);
-            }
+    /// The key by which the copied datagram was sealed, but that one of its three numbers is another.
+    fn another_key(&mut self) -> Key {
+        let mut key = self.key();
+        match self.draws.below(3) {
+            0 => key.number = key.number.wrapping_add(1),
+            1 => key.from = key.from.wrapping_add(1),
+            _ => key.to = key.to.wrapping_add(1),
         }
-        self.draw_noise()
+        key
     }
+
+    /// The key by which it was sealed.
+    fn key(&self) -> Key {
+        if self.bytes.get(KIND_AT) == Some(&HELLO) {
+            return Key::of_hellos(self.number);
+        }
+        Key {
+            number: self.number,
+            from: opening_of(&self.openings, self.from),
+            to: opening_of(&self.openings, self.me),
+        }
+    }
+
+    /// Copies a datagram of a machine that goes silent, or draws one where there is none.
+    fn copy_parting(&mut self, gone: &[bool; MACHINE_LIMIT]) -> Result<Trick, AllocError> {
+        let Some(past) = self.parting.draw(&mut self.draws) else {
+            return self.draw_noise();
+        };
+        self.bytes.extend_from_slice(&past.bytes)?;
+        if gone.get(usize::from(past.from)) == Some(&true) {
+            Ok(Trick::Gone)
+        } else {
+            Ok(Trick::Again)
+        }
+    }
+}
+
+/// The draws of the openings of all machines.
+fn openings(options: &PeersOptions) -> [u64; MACHINE_LIMIT] {
+    let mut openings = [0; MACHINE_LIMIT];
+    for machine in 0..MACHINE_LIMIT {
+        openings[machine] = draw_of(options, machine as u8);
+    }
+    openings
+}
+
+fn opening_of(openings: &[u64; MACHINE_LIMIT], machine: u8) -> u64 {
+    match openings.get(usize::from(machine)) {
+        Some(draw) => *draw,
+        None => 0,
+    }
+}
+
+/// Seals a datagram again, by another key.
+fn seal_anew(bytes: &mut Vec<u8>, key: &Key) -> Result<(), AllocError> {
+    let Ok(mut datagram) = ArrayVec::<u8, DATAGRAM_LIMIT>::try_from(bytes.as_slice()) else {
+        return Ok(());
+    };
+    if datagram.len() < 12 {
+        return Ok(());
+    }
+    datagram[4..12].copy_from_slice(&key.number.to_be_bytes());
+    seal(&mut datagram, key);
+    bytes.clear();
+    bytes.extend_from_slice(&datagram)
 }

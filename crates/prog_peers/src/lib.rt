@@ -11,6 +11,7 @@ mod picture;
 mod playing;
 mod program;
 mod report;
+mod settings;
 mod stops;
 mod table;
 

@@ -7,6 +7,7 @@ use crate::digest::digest_of;
 use crate::enemy::{Enemy, Trick};
 use crate::network::{Letter, Network, Route};
 use crate::options::PeersOptions;
+use crate::settings::match_settings;
 use prog_observer::{Observer, has_rolled};
 use prog_sides::{Draws, Engines, drawn, word_at};
 use roll_frame::{Refusal, Settings, SettingsFault};
@@ -16,10 +17,6 @@ use roll_peer::{MatchSettings, OpenRefusal, Peer, PeerEvent, PeerRefusal};
 use roll_session::Session;
 use std::alloc::Global;
 
-/// After how many milliseconds of silence a machine is regarded as gone.
-const SILENT_AFTER: u32 = 1_000;
-/// After how many milliseconds of silence that is told.
-const NOTIFY_AFTER: u32 = 300;
 /// The number of the stream from which the words of machine 0 are drawn; the others follow.
 const FIRST_STREAM: u64 = 16;
 /// How many hostile datagrams come before each real one.
@@ -335,7 +332,7 @@ fn enemy_of(alloc: Global, options: &PeersOptions, me: u8) -> Option<Enemy>
     ensures { is_some result ≡ is_some options.now.hostile }
 {
     match options.hostile {
-        Some(seed) => Some(Enemy::new(alloc, seed, me, options.common.seed)),
+        Some(seed) => Some(Enemy::new(alloc, seed, options, me)),
         None => None,
     }
 }
@@ -357,25 +354,6 @@ fn plain_settings(options: &PeersOptions, player: u8) -> Result<Settings, Settin
         .with_delay(player, options.common.delay)?
         .with_threshold(options.common.threshold)?
         .with_frame_limit(options.common.frames)
-}
-
-/// The match, as a machine plays it.
-fn match_settings(options: &PeersOptions, me: u8) -> MatchSettings {
-    let mut owners = [255; MACHINE_LIMIT];
-    for machine in 0..options.machines {
-        if usize::from(machine) < MACHINE_LIMIT {
-            owners[usize::from(machine)] = machine;
-        }
-    }
-    MatchSettings {
-        me,
-        machines: options.machines,
-        owners,
-        match_number: options.common.seed,
-        digest: u64::from(options.common.frames),
-        silent_after: SILENT_AFTER,
-        notify_after: NOTIFY_AFTER,
-    }
 }
 
 /// A session, and over it a peer that joins the match.
@@ -412,7 +390,7 @@ fn open<G: Shown + Drop>(
 /// What refuses a match that can't be opened.
 fn refusal_of(why: OpenRefusal) -> Refusal {
     match why {
-        OpenRefusal::Join(_) => Refusal::InvalidRequest,
+        OpenRefusal::Join(_) | OpenRefusal::NoDraw => Refusal::InvalidRequest,
         OpenRefusal::NoMemory => Refusal::NoMemory,
     }
 }

@@ -1,0 +1,50 @@
+//! The match, as each of its machines plays it.
+ghost use Rattle.std.specs.Prelude.{◌≢◌};
+
+use crate::options::PeersOptions;
+use prog_sides::Draws;
+use roll_mesh::MACHINE_LIMIT;
+use roll_peer::MatchSettings;
+
+/// After how many milliseconds of silence a machine is regarded as gone.
+const SILENT_AFTER: u32 = 1_000;
+/// After how many milliseconds of silence that is told.
+const NOTIFY_AFTER: u32 = 300;
+/// The number of the stream that the draw of machine 0 is drawn from; the others follow.
+const FIRST_STREAM: u64 = 64;
+
+/// The number of the match.
+pub fn match_number(options: &PeersOptions) -> u64 {
+    options.common.seed
+}
+
+/// The draw of a machine's opening. It comes of the seed, so that the match repeats.
+pub fn draw_of(options: &PeersOptions, machine: u8) -> u64
+    ensures { result ≢ 0 }
+{
+    let mut draws = Draws::numbered(options.common.seed, FIRST_STREAM + u64::from(machine));
+    let high = u64::from(draws.below(u32::MAX));
+    let low = u64::from(draws.below(u32::MAX));
+    high * (1 << 32) + low + 1
+}
+
+/// The match, as a machine plays it.
+pub fn match_settings(options: &PeersOptions, me: u8) -> MatchSettings {
+    let mut owners = [255; MACHINE_LIMIT];
+    for machine in 0..options.machines {
+        if usize::from(machine) < MACHINE_LIMIT {
+            owners[usize::from(machine)] = machine;
+        }
+    }
+    MatchSettings {
+        me,
+        machines: options.machines,
+        owners,
+        numbers: [match_number(options); MACHINE_LIMIT],
+        draw: draw_of(options, me),
+        digest: u64::from(options.common.frames),
+        silent_after: SILENT_AFTER,
+        notify_after: NOTIFY_AFTER,
+        stalled_after: 0,
+    }
+}
