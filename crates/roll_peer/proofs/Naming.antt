@@ -24,7 +24,7 @@ use Rattle.roll_peer.specs.Notices.{after_heard, came, desync, differs, dropped,
 use Rattle.roll_peer.specs.Digests.{digest_at}
 use Rattle.roll_peer.specs.Paces.{paced, wait_of}
 use Rattle.roll_peer.specs.Peered.{contact_at, stall_at, Peered}
-use Rattle.roll_peer.specs.Receiving.{after_ignored, deaf_to, ignored, is_refusal, opened, refused_of, sender_of, unheard_in, Hears, Receives}
+use Rattle.roll_peer.specs.Receiving.{after_ignored, deaf_to, ignored, ignored_sized, is_refusal, is_sized, opened, refused_of, sender_of, unheard_in, Hears, Receives}
 use Rattle.roll_peer.specs.Stalls.{is_overdue, is_to_tell}
 use Rattle.roll_peer.specs.Turning.{are_ready, begun, farewell_at, farewell_until, hushed_until, is_missed, lead_in, looked_after, missed_at, missed_until, over, silenced_at, silenced_until, stall_ended, stall_told, timed, watched_at, watched_until, IsParted, Polls}
 use Rattle.roll_peer.specs.Waiting.{Waiting}
@@ -33,7 +33,7 @@ use Rattle.roll_peer.specs.declared.event.PeerEvent.{PeerEvent}
 use Rattle.roll_peer.specs.declared.event.PeerEvent.TheVariants.{TimeSync}
 use Rattle.roll_peer.specs.declared.event.TheConstants.{EVENT_LIMIT}
 use Rattle.roll_peer.specs.declared.received.Ignored.{Ignored}
-use Rattle.roll_peer.specs.declared.received.Ignored.TheVariants.{InvalidMachine}
+use Rattle.roll_peer.specs.declared.received.Ignored.TheVariants.{InvalidMachine, NotSealed}
 use Rattle.roll_peer.specs.declared.received.Received.{Received}
 use Rattle.roll_peer.specs.declared.received.Received.TheVariants.{Hello as HelloHeard, Play as PlayHeard, Bye as ByeHeard}
 use Rattle.roll_peer.proofs.Said.{begun_is, ignored_is, over_is}
@@ -115,7 +115,7 @@ module _ (n : ℕ) where
   -- ---- what is heard
 
   module _ (old : Peered) (bytes : List ℕ) (seated : old.member.mesh.seat.machines ≡ n) where
-    stranger : nat_le old.member.mesh.seat.machines (sender_of bytes) ≡ true → ignored old bytes ≡ Some InvalidMachine
+    stranger : nat_le old.member.mesh.seat.machines (sender_of bytes) ≡ true → ignored_sized old bytes ≡ Some InvalidMachine
     stranger e = ignored_is old bytes ∙ rw e refl
 
     within : nat_le old.member.mesh.seat.machines (sender_of bytes) ≡ false → nat_lt (sender_of bytes) n ≡ true
@@ -123,16 +123,23 @@ module _ (n : ℕ) where
         let less = leb-false old.member.mesh.seat.machines (sender_of bytes) e in
         lt-ltb (sender_of bytes) n (omega (arith, less, seated))
 
-    known : ignored old bytes ≡ None → nat_lt (sender_of bytes) n ≡ true
-    known h = go (nat_le old.member.mesh.seat.machines (sender_of bytes)) refl
+    known_sized : ignored_sized old bytes ≡ None → nat_lt (sender_of bytes) n ≡ true
+    known_sized h = go (nat_le old.member.mesh.seat.machines (sender_of bytes)) refl
       where
         go : (b : Bool) → nat_le old.member.mesh.seat.machines (sender_of bytes) ≡ b → nat_lt (sender_of bytes) n ≡ true
         go true e = absurd (none_some InvalidMachine (sym h ∙ stranger e))
         go false e = within e
 
-    refusal_named : (why : Ignored) → AreNamed n old.waiting → ignored old bytes ≡ Some why
+    known : ignored old bytes ≡ None → nat_lt (sender_of bytes) n ≡ true
+    known h = go (is_sized bytes) h
+      where
+        go : (b : Bool) → (if b then ignored_sized old bytes else Some NotSealed) ≡ None → nat_lt (sender_of bytes) n ≡ true
+        go true h = known_sized h
+        go false h = absurd (none_some NotSealed (sym h))
+
+    sized_named : (why : Ignored) → AreNamed n old.waiting → ignored_sized old bytes ≡ Some why
         → AreNamed n (after_ignored (sender_of bytes) why old).waiting
-    refusal_named why h i = go (nat_le old.member.mesh.seat.machines (sender_of bytes)) refl
+    sized_named why h i = go (nat_le old.member.mesh.seat.machines (sender_of bytes)) refl
       where
         same : (a b : Ignored) → Some a ≡ Some b → a ≡ b
         same a b e = cc
@@ -150,6 +157,19 @@ module _ (n : ℕ) where
             subst (λ (w : Ignored). AreNamed n (after_ignored (sender_of bytes) w old).waiting)
             (same InvalidMachine why (sym (stranger e) ∙ i)) h
         go false e = counted (is_refusal why) (within e)
+
+    refusal_named : (why : Ignored) → AreNamed n old.waiting → ignored old bytes ≡ Some why
+        → AreNamed n (after_ignored (sender_of bytes) why old).waiting
+    refusal_named why h i = go (is_sized bytes) i
+      where
+        same : (a b : Ignored) → Some a ≡ Some b → a ≡ b
+        same a b e = cc
+
+        go : (b : Bool) → (if b then ignored_sized old bytes else Some NotSealed) ≡ Some why
+            → AreNamed n (after_ignored (sender_of bytes) why old).waiting
+        go true i = sized_named why h i
+        go false i =
+            subst (λ (w : Ignored). AreNamed n (after_ignored (sender_of bytes) w old).waiting) (same NotSealed why i) h
 
     hearing_named : (step : Step) (new : Peered) (what : Content) (received : Received) → AreNamed n old.waiting
         → nat_lt (sender_of bytes) n ≡ true → Hears step old new (sender_of bytes) what received

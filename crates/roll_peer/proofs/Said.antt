@@ -7,7 +7,7 @@ use Rattle.roll_peer.specs.Events.{pushed}
 use Rattle.roll_peer.specs.Notices.{told}
 use Rattle.roll_peer.specs.Paces.{paced, wait_of}
 use Rattle.roll_peer.specs.Peered.{contact_at, Peered}
-use Rattle.roll_peer.specs.Receiving.{byte_at, deaf_to, ignored, key_of, moment_of, open_by, opened, sender_of, unheard_in}
+use Rattle.roll_peer.specs.Receiving.{byte_at, deaf_to, ignored_sized, key_of, moment_of, open_by, opened, sender_of, unheard_in}
 use Rattle.roll_peer.specs.Sending.{after_send, is_lost, stats_of, with_sent}
 use Rattle.roll_peer.specs.declared.receiving.TheConstants.{KIND_AT}
 use Rattle.roll_peer.specs.Turning.{are_ready, begun, lead_in, over}
@@ -18,10 +18,10 @@ pub opened_is : (peer : Peered) (bytes : List ℕ)
 unfolding opened
 opened_is peer bytes = refl
 
-pub ignored_is : (peer : Peered) (bytes : List ℕ) → ignored peer bytes
+pub ignored_is : (peer : Peered) (bytes : List ℕ) → ignored_sized peer bytes
     ≡ (if is_some (deaf_to peer (sender_of bytes)) then deaf_to peer (sender_of bytes)
     else unheard_in peer (sender_of bytes) (opened peer bytes))
-unfolding ignored
+unfolding ignored_sized
 ignored_is peer bytes = refl
 
 pub over_is : (peer : Peered) → over peer ≡ record peer {

@@ -1,5 +1,5 @@
 -- A peer hears bytes.
-use Rattle.std.specs.Prelude.{◌≡◌, ℕ, List, length, Bool, true, false, ◌||◌, ◌==◌, not, nat_le, nat_lt, is_some, Option, Some, None, Result, Ok, Err, if◌then◌else◌, slice_index_or, slice_set}
+use Rattle.std.specs.Prelude.{◌≡◌, ℕ, List, length, Bool, true, false, ◌&&◌, ◌||◌, ◌==◌, not, nat_le, nat_lt, is_some, Option, Some, None, Result, Ok, Err, if◌then◌else◌, slice_index_or, slice_set}
 use Rattle.roll_contact.specs.Clocks.{ticked}
 use Rattle.roll_contact.specs.Contacts.{after_hello, after_play, heard, is_playing, refused}
 use Rattle.roll_contact.specs.Keys.{greeting_key}
@@ -19,6 +19,7 @@ use Rattle.roll_wire.specs.declared.datagram.Clocks.{Clocks}
 use Rattle.roll_wire.specs.declared.datagram.Hello.{Hello}
 use Rattle.roll_wire.specs.declared.fault.WireFault.{WireFault}
 use Rattle.roll_wire.specs.Reading.{all_of}
+use Rattle.roll_wire.specs.declared.limits.TheConstants.{DATAGRAM_LIMIT}
 use Rattle.roll_wire.specs.Spelling.{content as content_of, Content, Greets, Leaves, Message, Plays, Turn}
 use Rattle.roll_peer.specs.Judging.{are_no_more, is_inside}
 use Rattle.roll_peer.specs.Notices.{after_heard, desync, dropped, told}
@@ -28,7 +29,7 @@ use Rattle.roll_peer.specs.declared.received.Ignored.{Ignored}
 use Rattle.roll_peer.specs.declared.received.Ignored.TheVariants.{NotSealed, NoDatagram, InvalidMachine, OwnMachine, MachineGone, Outside, Overstated}
 use Rattle.roll_peer.specs.declared.received.Received.{Received}
 use Rattle.roll_peer.specs.declared.received.Received.TheVariants.{Hello as HelloHeard, Play as PlayHeard, Bye as ByeHeard}
-use Rattle.roll_peer.specs.declared.receiving.TheConstants.{KIND_AT, SENDER_AT}
+use Rattle.roll_peer.specs.declared.receiving.TheConstants.{HEAD, KIND_AT, SENDER_AT}
 
 -- ---- the clock
 
@@ -117,11 +118,19 @@ abbrev pub unheard_in : Peered → ℕ → Result Content Ignored → Option Ign
 unheard_in peer sender (Err why) = Some why
 unheard_in peer sender (Ok what) = unheard peer sender what
 
--- why bytes aren't heard
-unfoldable pub ignored : Peered → List ℕ → Option Ignored
-ignored peer bytes =
+-- whether bytes are as many as a datagram has
+abbrev pub is_sized : List ℕ → Bool
+is_sized bytes = nat_le HEAD (length bytes) && nat_le (length bytes) DATAGRAM_LIMIT
+
+-- why bytes that are aren't heard
+unfoldable pub ignored_sized : Peered → List ℕ → Option Ignored
+ignored_sized peer bytes =
     if is_some (deaf_to peer (sender_of bytes)) then deaf_to peer (sender_of bytes)
     else unheard_in peer (sender_of bytes) (opened peer bytes)
+
+-- why bytes aren't heard
+abbrev pub ignored : Peered → List ℕ → Option Ignored
+ignored peer bytes = if is_sized bytes then ignored_sized peer bytes else Some NotSealed
 
 -- whether what was ignored for this was sealed by its sender
 abbrev pub is_refusal : Ignored → Bool

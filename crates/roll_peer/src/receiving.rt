@@ -5,7 +5,7 @@ ghost use Rattle.roll_mesh.specs.declared.limits.TheConstants.{MACHINE_LIMIT};
 ghost use Rattle.roll_member.specs.Hearing.{HearsPacket};
 ghost use Rattle.roll_mesh.specs.Meshes.{is_had};
 ghost use Rattle.roll_peer.specs.Peered.{contact_at};
-ghost use Rattle.roll_peer.specs.Receiving.{after_ignored, after_words, byte_at, deaf_to, ignored, is_refusal, key_of, knowing, moment_of, open_by, opened, packet_of, refused_of, sender_of, ticking, unheard, unplayed, with_news, Hears, HearsBye, HearsHello, HearsTurn, IsOpened, Receives};
+ghost use Rattle.roll_peer.specs.Receiving.{after_ignored, after_words, byte_at, deaf_to, ignored, ignored_sized, is_refusal, is_sized, key_of, knowing, moment_of, open_by, opened, packet_of, refused_of, sender_of, ticking, unheard, unplayed, with_news, Hears, HearsBye, HearsHello, HearsTurn, IsOpened, Receives};
 ghost use Rattle.roll_wire.specs.Spelling.{content, turn, Plays};
 
 use crate::judging::{are_no_more, is_inside};
@@ -16,12 +16,14 @@ use roll_contact::{Contact, Key};
 use roll_game::Game;
 use roll_member::Taken;
 use roll_mesh::Packet;
-use roll_wire::{Body, Clocks, Hello, Play, decode};
+use roll_wire::{Body, Clocks, DATAGRAM_LIMIT, Hello, Play, decode};
 
 /// Where a datagram has its sender's number, and its kind.
 const SENDER_AT: usize = 12;
 
 const KIND_AT: usize = 13;
+/// How many bytes each datagram has at least.
+const HEAD: usize = 14;
 
 impl<G: Game> Peer<G> {
     /// Hears bytes that came by the network, at a moment. Words that they hold become words of the session, and what its sender
@@ -40,15 +42,18 @@ impl<G: Game> Peer<G> {
             (λ why. self.new ≡ after_ignored (sender_of bytes.now) why (ticking now self.old)) }
     {
         self.clock.tick(now);
-        self.receive_now(bytes)
+        if !is_sized(bytes) {
+            return Err(Ignored::NotSealed);
+        }
+        self.receive_sized(bytes)
     }
 
-    /// Hears bytes at the moment that the clock shows.
+    /// Hears bytes that are as many as a datagram has, at the moment that the clock shows.
     #[tactic(auto, using(crate::proofs::Said::ignored_is))]
-    fn receive_now(&mut self, bytes: &[u8]) -> Result<Received, Ignored>
+    fn receive_sized(&mut self, bytes: &[u8]) -> Result<Received, Ignored>
         ensures received { IfOk result (Receives G.step self.old self.new bytes.now) }
-        ensures accepted { OnOk result (ignored self.old bytes.now ≡ None) }
-        ensures ignored { IfErr result (λ why. ignored self.old bytes.now ≡ Some why) }
+        ensures accepted { OnOk result (ignored_sized self.old bytes.now ≡ None) }
+        ensures ignored { IfErr result (λ why. ignored_sized self.old bytes.now ≡ Some why) }
         ensures refused { IfErr result
             (λ why. self.new ≡ after_ignored (sender_of bytes.now) why self.old) }
     {
@@ -275,6 +280,13 @@ impl<G: Game> Peer<G> {
         self.contacts[place] = contact;
         let _ = self.member.leave(sender);
     }
+}
+
+/// Whether bytes are as many as a datagram has.
+fn is_sized(bytes: &[u8]) -> bool
+    ensures { result ≡ is_sized bytes.now }
+{
+    HEAD <= bytes.len() && bytes.len() <= DATAGRAM_LIMIT
 }
 
 /// The byte at a place, 0 if there is none.
