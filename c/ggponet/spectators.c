@@ -81,7 +81,7 @@ static bool on_event(GGPOEvent *info) {
         MUST(info->u.synchronizing.count == 1 && info->u.synchronizing.total == 2);
     int left = info->u.connection_interrupted.disconnect_timeout;
     if (info->code == GGPO_EVENTCODE_CONNECTION_INTERRUPTED)
-        MUST(left > 0 && left < TIMEOUT);
+        MUST(left >= 0 && left < TIMEOUT); /* 0 if this process stood still meanwhile */
     snprintf(text, sizeof text, handle == 0 ? "%d " : "%d:%d ", info->code, handle);
     MUST(strlen(game->events) + strlen(text) < sizeof game->events);
     strcat(game->events, text);
