@@ -234,7 +234,7 @@ void trial_restarts(uint32_t count, uint32_t seed) {
     for (uint32_t at = 0; at < count; at++) {
         restart(0, 1, seed + at);
         restart(1000, 1, seed + at);
-        restart(2500, 1, seed + at);
+        restart(2000, 1, seed + at);
         restart(4000, 1, seed + at);
         restart(8000, 1, seed + at);
         restart(500, 3, seed + at);
