@@ -139,6 +139,7 @@ refusals_end_no_silence contact now silent_after = refl
 -- what a silence is told by
 record WaitsAs (one other : Contact) : Type 0 where
   stage : one.stage ≡ other.stage
+  sure : one.confirmed ≡ true
   answered : one.answered ≡ other.answered
   at : one.answered_at ≡ other.answered_at
   unanswered : one.unanswered ≡ other.unanswered
@@ -146,52 +147,61 @@ record WaitsAs (one other : Contact) : Type 0 where
 not_fresh : (clock newest now : ℕ) → is_before newest clock ≡ false → is_fresh clock newest now ≡ false
 not_fresh clock newest now e = rw e (and_right (not (clock == 0)) false refl)
 
-old_clocks : (play : Coming) (contact : Contact) → IsOld contact.answered play
+old_clocks : (play : Coming) (contact : Contact) → contact.confirmed ≡ true → IsOld contact.answered play
     → WaitsAs (after_play play.clocks play.frame play.now contact) contact
 unfolding after_play
-old_clocks play contact old = go play.clocks refl
+old_clocks play contact sure old = go play.clocks refl
   where
     new : (clocks : Clocks) → play.clocks ≡ Some clocks → (b : Bool) → are_newer contact.their_clocks clocks ≡ b
         → WaitsAs (after_play (Some clocks) play.frame play.now contact) contact
     new clocks e true f =
         let stale = not_fresh clocks.heard_clock contact.answered play.now (old clocks e) in
         record {
-          stage = rw (f, stale) refl;
-          answered = rw (f, stale) refl;
-          at = rw (f, stale) refl;
-          unanswered = rw (f, stale) refl;
+          stage = rw (sure, f, stale) refl;
+          sure = rw (sure, f, stale) refl;
+          answered = rw (sure, f, stale) refl;
+          at = rw (sure, f, stale) refl;
+          unanswered = rw (sure, f, stale) refl;
         }
     new clocks e false f = record {
-      stage = rw f refl;
-      answered = rw f refl;
-      at = rw f refl;
-      unanswered = rw f refl;
+      stage = rw (sure, f) refl;
+      sure = rw (sure, f) refl;
+      answered = rw (sure, f) refl;
+      at = rw (sure, f) refl;
+      unanswered = rw (sure, f) refl;
     }
 
     go : (clocks : Option Clocks) → play.clocks ≡ clocks
         → WaitsAs (after_play play.clocks play.frame play.now contact) contact
-    go None e = rw e (record { stage = refl; answered = refl; at = refl; unanswered = refl })
+    go None e = rw e (record {
+      stage = rw sure refl;
+      sure = rw sure refl;
+      answered = rw sure refl;
+      at = rw sure refl;
+      unanswered = rw sure refl;
+    })
     go (Some clocks) e = rw e (new clocks e (are_newer contact.their_clocks clocks) refl)
 
-still : (plays : List Coming) (contact : Contact) → All (IsOld contact.answered) plays
+still : (plays : List Coming) (contact : Contact) → contact.confirmed ≡ true → All (IsOld contact.answered) plays
     → WaitsAs (after_plays plays contact) contact
 unfolding after_plays
-still [] contact old = record { stage = refl; answered = refl; at = refl; unanswered = refl }
-still (play ∷ plays) contact old =
-    let first = old_clocks play contact (All-head (IsOld contact.answered) play plays old) in
-    let rest = still plays (after_play play.clocks play.frame play.now contact)
+still [] contact sure old = record { stage = refl; sure = sure; answered = refl; at = refl; unanswered = refl }
+still (play ∷ plays) contact sure old =
+    let first = old_clocks play contact sure (All-head (IsOld contact.answered) play plays old) in
+    let rest = still plays (after_play play.clocks play.frame play.now contact) first.sure
     (subst (λ (n : ℕ). All (IsOld n) plays) (sym first.answered) (All-tail (IsOld contact.answered) play plays old)) in
     record {
       stage = rest.stage ∙ first.stage;
+      sure = rest.sure;
       answered = rest.answered ∙ first.answered;
       at = rest.at ∙ first.at;
       unanswered = rest.unanswered ∙ first.unanswered;
     }
 
 pub copies_end_no_silence : CopiesEndNoSilence
-copies_end_no_silence plays contact now silent_after on old =
-    let same = still plays contact old in
-    rw (same.stage, same.at, same.unanswered) refl
+copies_end_no_silence plays contact now silent_after sure old =
+    let same = still plays contact sure old in
+    rw (same.stage, same.sure, same.at, same.unanswered, sure) refl
 
 -- ---- keys
 

@@ -198,11 +198,17 @@ with_clocks None frame now contact = contact
 with_clocks (Some clocks) frame now contact =
     if are_newer contact.their_clocks clocks then after_clocks clocks frame now contact else contact
 
+-- a play was heard: from the first one on its silence counts
+abbrev pub confirming : ℕ → Contact → Contact
+confirming now contact =
+    if contact.confirmed then contact
+    else record contact { confirmed = true; answered_at = now; unanswered = 0 }
+
 -- after a play
 unfoldable pub after_play : Option Clocks → ℕ → ℕ → Contact → Contact
 after_play clocks frame now contact =
     with_clocks clocks frame now
-    (record (heard now contact) { confirmed = true; is_refusing = false })
+    (record (confirming now (heard now contact)) { is_refusing = false })
 
 -- what an end at a frame tells it. A clock is 0 only if none was heard
 abbrev pub clocks_for : Contact → ℕ → ℕ → Clocks
@@ -256,11 +262,15 @@ silence contact now = if is_playing contact.stage then since now contact.heard_a
 abbrev pub unanswered_for : Contact → ℕ → ℕ
 unanswered_for contact now = if is_playing contact.stage then since now contact.answered_at else 0
 
--- whether it is gone: no new clock came back for so long, and enough clocks were sent since
-abbrev pub is_silent : Contact → ℕ → ℕ → Bool
-is_silent contact now silent_after =
+-- whether no new clock came back for longer than that, though enough clocks were sent since
+abbrev pub is_unanswered : Contact → ℕ → ℕ → Bool
+is_unanswered contact now silent_after =
     nat_lt 0 silent_after
     && (nat_lt silent_after (unanswered_for contact now) && nat_le UNANSWERED contact.unanswered)
+
+-- whether it is gone: it was heard to play, and nothing is answered any more
+abbrev pub is_silent : Contact → ℕ → ℕ → Bool
+is_silent contact now silent_after = contact.confirmed && is_unanswered contact now silent_after
 
 -- whether its silence is to be told, and wasn't told yet
 abbrev pub is_hushed : Contact → ℕ → ℕ → Bool

@@ -55,7 +55,7 @@ IsOld newest play = (clocks : Clocks) → play.clocks ≡ Some clocks
 -- whoever is only copied falls silent as one who sends nothing
 abbrev pub CopiesEndNoSilence : Type 0
 CopiesEndNoSilence = (plays : List Coming) (contact : Contact) (now silent_after : ℕ)
-    → is_playing contact.stage ≡ true → All (IsOld contact.answered) plays
+    → contact.confirmed ≡ true → All (IsOld contact.answered) plays
     → is_silent (after_plays plays contact) now silent_after ≡ is_silent contact now silent_after
 
 -- what is refused changes no silence

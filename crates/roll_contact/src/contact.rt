@@ -1,7 +1,7 @@
 //! What this end knows of another.
 ghost use Rattle.std.specs.Prelude.{◌≡◌};
 ghost use Rattle.roll_contact.specs.Clocks.{difference};
-ghost use Rattle.roll_contact.specs.Contacts.{after_clocks, after_hello, after_play, are_newer, behind_of, believing, clocks_for, counted, frame_after, greeted, heard, hello_echo, hello_sent, hushed, is_before, is_fresh, is_hushed, is_playing, is_silent, least_patience, measured, meeting, opened_contact, other_opening, play_sent, refused, says_hello, silence, told, unanswered_for, wants_clocks};
+ghost use Rattle.roll_contact.specs.Contacts.{after_clocks, after_hello, after_play, are_newer, behind_of, believing, clocks_for, confirming, counted, frame_after, greeted, heard, hello_echo, hello_sent, hushed, is_before, is_fresh, is_hushed, is_playing, is_silent, is_unanswered, least_patience, measured, meeting, opened_contact, other_opening, play_sent, refused, says_hello, silence, told, unanswered_for, wants_clocks};
 
 use crate::clock::since;
 use crate::terms::Field;
@@ -84,7 +84,7 @@ pub struct Contact {
     pub interrupted: bool,
     /// The newest clock of this end's own that came back.
     pub answered: u32,
-    /// When it did; before the first, when the draw was believed.
+    /// When it did; before the first, when the first play was heard, and before that, when the draw was believed.
     pub answered_at: u32,
     /// How many clocks were sent to it since.
     pub unanswered: u32,
@@ -219,11 +219,22 @@ impl Contact {
         ensures { self.new ≡ after_play clocks frame now self.old }
     {
         self.heard(now);
-        self.confirmed = true;
+        self.confirm(now);
         self.is_refusing = false;
         match clocks {
             Some(clocks) if self.are_newer(&clocks) => self.clocks(&clocks, frame, now),
             _ => {}
+        }
+    }
+
+    /// A play of the opening that is believed was heard: from the first one on it believes this one too, and its silence counts.
+    fn confirm(&mut self, now: u32)
+        ensures { self.new ≡ confirming now self.old }
+    {
+        if !self.confirmed {
+            self.confirmed = true;
+            self.answered_at = now;
+            self.unanswered = 0;
         }
     }
 
@@ -370,9 +381,16 @@ impl Contact {
         }
     }
 
-    /// Whether it has been silent for so long that it is gone; 0 is never.
+    /// Whether it has been silent for so long that it is gone; 0 is never, and so it is before a play of it was heard.
     pub fn is_silent(&self, now: u32, silent_after: u32) -> bool
         ensures { result ≡ is_silent self.now now silent_after }
+    {
+        self.confirmed && self.is_unanswered(now, silent_after)
+    }
+
+    /// Whether no new clock came back for longer than that, though enough clocks were sent since; 0 is never.
+    fn is_unanswered(&self, now: u32, silent_after: u32) -> bool
+        ensures { result ≡ is_unanswered self.now now silent_after }
     {
         silent_after > 0 && self.unanswered_for(now) > silent_after && self.unanswered >= UNANSWERED
     }

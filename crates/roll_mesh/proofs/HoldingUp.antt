@@ -40,10 +40,10 @@ unfolding holds_up
 holds_up_is seat here threshold m = refl
 
 -- who waits is kept from its next word by the player it waits for
-kept : (seat : Seat) (here : Machine) (threshold m : ℕ) (view : View) → (w : Waits seat threshold m view)
-    → keeps_open seat here threshold (most_of seat view.has m PLAYER_LIMIT) view.has w.player ≡ false
+kept : (seat : Seat) (here : Machine) (threshold m : ℕ) (view : View) → (w : Waits seat here threshold m view)
+    → keeps_open seat here threshold (most_of seat here.has m PLAYER_LIMIT) view.has w.player ≡ false
 kept seat here threshold m view w =
-    let own : ℕ = most_of seat view.has m PLAYER_LIMIT in
+    let own : ℕ = most_of seat here.has m PLAYER_LIMIT in
     let has : ℕ = slice_index view.has w.player in
     let few : w.delay ≤ 8 = w.few in
     let more : nat_lt own (has + threshold) ≡ false = le-ltb own (has + threshold) (omega (arith, w.all_given)) in
@@ -55,14 +55,14 @@ kept seat here threshold m view w =
 
 -- what the test says
 pub could_is : (seat : Seat) (here : Machine) (threshold m : ℕ) (view : View) → could_give seat here threshold m view
-    ≡ list_all (keeps_open seat here threshold (most_of seat view.has m PLAYER_LIMIT) view.has) (range_with_len 0 PLAYER_LIMIT)
+    ≡ list_all (keeps_open seat here threshold (most_of seat here.has m PLAYER_LIMIT) view.has) (range_with_len 0 PLAYER_LIMIT)
 unfolding could_give
 could_is seat here threshold m view = refl
 
 pub waiters_hold_up_nobody : WaitersHoldUpNobody
 waiters_hold_up_nobody seat here threshold m view told w =
     let shut : could_give seat here threshold m view ≡ false =
-    could_is seat here threshold m view ∙ (not_all_below (keeps_open seat here threshold (most_of seat view.has m PLAYER_LIMIT) view.has)
+    could_is seat here threshold m view ∙ (not_all_below (keeps_open seat here threshold (most_of seat here.has m PLAYER_LIMIT) view.has)
     PLAYER_LIMIT w.player w.is_player (kept seat here threshold m view w)) in
     holds_up_is seat here threshold m ∙ go (is_fenced seat here m) shut
   where

@@ -49,10 +49,10 @@ abbrev pub keeps_open : Seat → Machine → ℕ → ℕ → List ℕ → ℕ �
 keeps_open seat here threshold own has p =
     not (nat_lt (owner_of seat p) seat.machines) || is_open_at here threshold own has p
 
--- whether a machine that told this could give its next word: no player of the match keeps it from that
+-- whether a machine that told this could give its next word, after those that came here: no player of the match keeps it from that
 unfoldable pub could_give : Seat → Machine → ℕ → ℕ → View → Bool
 could_give seat here threshold m view =
-    list_all (keeps_open seat here threshold (most_of seat view.has m PLAYER_LIMIT) view.has)
+    list_all (keeps_open seat here threshold (most_of seat here.has m PLAYER_LIMIT) view.has)
     (range_with_len 0 PLAYER_LIMIT)
 
 abbrev pub held_up_by : Seat → Machine → ℕ → ℕ → Option View → Option ℕ
@@ -65,17 +65,18 @@ unfoldable pub holds_up : Seat → Machine → ℕ → ℕ → Option ℕ
 holds_up seat here threshold m =
     if is_fenced seat here m then None else held_up_by seat here threshold m (told_by here m)
 
--- a machine waits for a player of the match: it has given all that it may, with an input delay of at most 8
-pub record Waits (seat : Seat) (threshold m : ℕ) (view : View) : Type 0 where
+-- a machine waits for a player of the match, by what it told last: it has given all that it may, with an input delay of at most 8, and
+-- that came here
+pub record Waits (seat : Seat) (here : Machine) (threshold m : ℕ) (view : View) : Type 0 where
   pub player : ℕ
   pub delay : ℕ
   pub is_player : player < PLAYER_LIMIT
   pub plays : nat_lt (owner_of seat player) seat.machines ≡ true
   pub few : delay ≤ DELAY_ROOM
-  pub all_given : most_of seat view.has m PLAYER_LIMIT
+  pub all_given : most_of seat here.has m PLAYER_LIMIT
       ≡ slice_index view.has player + threshold + delay
 
--- who itself waits, by what it told last, holds up nobody
+-- who itself waits holds up nobody
 abbrev pub WaitersHoldUpNobody : Type 0
 WaitersHoldUpNobody = (seat : Seat) (here : Machine) (threshold m : ℕ) (view : View)
-    → told_by here m ≡ Some view → Waits seat threshold m view → holds_up seat here threshold m ≡ None
+    → told_by here m ≡ Some view → Waits seat here threshold m view → holds_up seat here threshold m ≡ None

@@ -98,11 +98,11 @@ fn is_open_at(
         || here.left_at(player as u8).is_some() && end + DELAY_ROOM < u64::from(own)
 }
 
-/// Whether a machine that told this could give its next word: no player of the match keeps it from that.
+/// Whether a machine that told this could give its next word, after those that came here: no player of the match keeps it from that.
 fn could_give(seat: &Seat, here: &Machine, view: &View, machine: u8, threshold: u32) -> bool
     ensures { result ≡ could_give seat.now here.now threshold machine view.now }
 {
-    let own = most_of(seat, &view.has, machine);
+    let own = most_of(seat, &here.has, machine);
     for player in 0..PLAYER_LIMIT {
         if seat.owner_of(player) < seat.machines
             && !is_open_at(here, own, &view.has, player, threshold)

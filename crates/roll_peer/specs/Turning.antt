@@ -13,7 +13,7 @@ use Rattle.roll_session.specs.Changes.{advance_refusal, after_advance, after_syn
 use Rattle.roll_session.specs.declared.event.Reached.{Reached}
 use Rattle.roll_session.specs.Seen.{Seen}
 use Rattle.roll_contact.specs.Clocks.{since}
-use Rattle.roll_contact.specs.Contacts.{hushed, is_playing, is_silent, unanswered_for}
+use Rattle.roll_contact.specs.Contacts.{hushed, is_silent, unanswered_for}
 use Rattle.roll_mesh.specs.HoldingUp.{holds_up}
 use Rattle.roll_peer.specs.Events.{pushed}
 use Rattle.roll_peer.specs.Notices.{interrupted, only_if, player_left, told, told_of}
@@ -35,7 +35,7 @@ without m mesh =
 -- whether a machine is ready to play, or needn't be: it is gone, or this one
 abbrev pub is_ready_at : Peered → Seated → ℕ → Bool
 is_ready_at peer mesh m =
-    (m == mesh.seat.me) || (is_in mesh.machine.gone m || is_playing (contact_at peer m).stage)
+    (m == mesh.seat.me) || (is_in mesh.machine.gone m || (contact_at peer m).confirmed)
 
 abbrev pub are_ready : Peered → Seated → Bool
 are_ready peer mesh = list_all (is_ready_at peer mesh) (range_with_len 0 mesh.seat.machines)

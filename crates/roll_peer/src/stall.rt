@@ -1,8 +1,11 @@
 //! For how long another machine has held up the match.
 ghost use Rattle.std.specs.Prelude.{◌≡◌, false};
-ghost use Rattle.roll_peer.specs.Stalls.{first_stall, held_for, is_overdue, is_to_tell, watched};
+ghost use Rattle.roll_peer.specs.Stalls.{first_stall, goes_on, held_for, is_overdue, is_to_tell, watched};
 
 use roll_contact::since;
+
+/// In milliseconds: what lasts longer between two looks is a clock that leapt, or a program that stood still.
+const LEAP: u32 = 1_000;
 
 /// For how long a machine has held up the match.
 #[derive(Clone, Copy, Debug)]
@@ -11,6 +14,8 @@ pub(crate) struct Stall {
     words: u32,
     /// Since when there are no more.
     since: u32,
+    /// When it was looked at last.
+    seen: u32,
     /// Whether that was told.
     pub(crate) told: bool,
     /// Whether it was told that the machine hasn't come.
@@ -25,6 +30,7 @@ impl Stall {
         Stall {
             words: 0,
             since: 0,
+            seen: 0,
             told: false,
             missed: false,
         }
@@ -34,19 +40,22 @@ impl Stall {
     pub(crate) fn watch(&mut self, held: Option<u32>, now: u32)
         ensures { self.new ≡ watched held now self.old }
     {
-        match held {
-            Some(words) if words == self.words => {}
-            Some(words) => self.begin(words, now),
-            None => self.begin(0, now),
+        if !self.goes_on(held, now) {
+            self.words = held.unwrap_or(0);
+            self.since = now;
+            self.told = false;
         }
+        self.seen = now;
     }
 
-    fn begin(&mut self, words: u32, now: u32)
-        ensures { self.new ≡ record self.old { words = words; since = now; told = false } }
+    /// Whether it holds up the match as it did when it was looked at last, which was just now.
+    fn goes_on(&self, held: Option<u32>, now: u32) -> bool
+        ensures { result ≡ goes_on held now self.now }
     {
-        self.words = words;
-        self.since = now;
-        self.told = false;
+        match held {
+            Some(words) => words == self.words && since(now, self.seen) <= LEAP,
+            None => false,
+        }
     }
 
     /// For how many milliseconds.

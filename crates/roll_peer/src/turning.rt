@@ -284,7 +284,7 @@ impl<G: Game> Peer<G> {
         left.refusal
     }
 
-    /// Whether each other machine that isn't gone has heard this one, and this one it.
+    /// Whether a play was heard of each other machine that isn't gone: so it believes this one's draw, and this one its.
     fn are_ready(&self) -> bool
         ensures { result ≡ are_ready self.now self.now.member.mesh }
     {
@@ -302,7 +302,7 @@ impl<G: Game> Peer<G> {
     {
         machine == self.member.mesh().seat().me
             || self.member.mesh().is_gone(machine)
-            || self.contacts[usize::from(machine)].is_playing()
+            || self.contacts[usize::from(machine)].confirmed
     }
 
     /// The match begins once all are ready.
