@@ -1,9 +1,9 @@
 -- Who holds up a match.
 use Rattle.std.proofs.Common.{◌≡◌, ◌∙◌, ◌≤◌, ◌+◌, ℕ, suc, List, Bool, true, false, Option, Some, None, refl, sym, ap, arith}
 use Rattle.std.specs.List.{list_all, range_with_len}
-use Rattle.std.specs.Prelude.{◌==◌, ◌&&◌, ◌||◌, not, is_none, is_some, max, if◌then◌else◌, nat_lt, slice_index}
+use Rattle.std.specs.Prelude.{◌==◌, ◌&&◌, ◌||◌, not, is_none, is_some, max, min, if◌then◌else◌, nat_lt, slice_index}
 use Rattle.std.proofs.lemmas.Bool.{and_right, le-ltb, not_from_true, or_from}
-use Rattle.roll_mesh.specs.HoldingUp.{could_give, fewest_of, held_up_by, holds_up, is_open_at, keeps_open, least_some, most_of, Waits, WaitersHoldUpNobody}
+use Rattle.roll_mesh.specs.HoldingUp.{could_give, fewest_of, given_by, held_up_by, holds_up, is_open_at, keeps_open, least_some, most_of, Waits, WaitersHoldUpNobody}
 use Rattle.roll_mesh.specs.Machines.{is_fenced, left_at, owner_of, told_by}
 use Rattle.roll_mesh.specs.declared.holding_up.TheConstants.{DELAY_ROOM}
 use Rattle.roll_mesh.specs.declared.limits.TheConstants.{PLAYER_LIMIT}
@@ -39,15 +39,19 @@ pub holds_up_is : (seat : Seat) (here : Machine) (threshold m : ℕ) → holds_u
 unfolding holds_up
 holds_up_is seat here threshold m = refl
 
+least : (m n : ℕ) → n ≤ m → min m n ≡ n
+least m n le = omega (arith, le)
+
 -- who waits is kept from its next word by the player it waits for
 kept : (seat : Seat) (here : Machine) (threshold m : ℕ) (view : View) → (w : Waits seat here threshold m view)
-    → keeps_open seat here threshold (most_of seat here.has m PLAYER_LIMIT) view.has w.player ≡ false
+    → keeps_open seat here threshold (given_by seat here m view) view.has w.player ≡ false
 kept seat here threshold m view w =
-    let own : ℕ = most_of seat here.has m PLAYER_LIMIT in
+    let own : ℕ = given_by seat here m view in
+    let all : own ≡ most_of seat view.has m PLAYER_LIMIT = least (most_of seat here.has m PLAYER_LIMIT) (most_of seat view.has m PLAYER_LIMIT) w.came in
     let has : ℕ = slice_index view.has w.player in
     let few : w.delay ≤ 8 = w.few in
-    let more : nat_lt own (has + threshold) ≡ false = le-ltb own (has + threshold) (omega (arith, w.all_given)) in
-    let near : nat_lt (has + threshold + DELAY_ROOM) own ≡ false = le-ltb (has + threshold + DELAY_ROOM) own (omega (arith, w.all_given, few)) in
+    let more : nat_lt own (has + threshold) ≡ false = le-ltb own (has + threshold) (omega (arith, all, w.all_given)) in
+    let near : nat_lt (has + threshold + DELAY_ROOM) own ≡ false = le-ltb (has + threshold + DELAY_ROOM) own (omega (arith, all, w.all_given, few)) in
     or_from (not (nat_lt (owner_of seat w.player) seat.machines)) (is_open_at here threshold own view.has w.player)
     (not_from_true (nat_lt (owner_of seat w.player) seat.machines) w.plays)
     (or_from (nat_lt own (has + threshold)) (is_some (left_at here w.player) && nat_lt (has + threshold + DELAY_ROOM) own)
@@ -55,14 +59,14 @@ kept seat here threshold m view w =
 
 -- what the test says
 pub could_is : (seat : Seat) (here : Machine) (threshold m : ℕ) (view : View) → could_give seat here threshold m view
-    ≡ list_all (keeps_open seat here threshold (most_of seat here.has m PLAYER_LIMIT) view.has) (range_with_len 0 PLAYER_LIMIT)
+    ≡ list_all (keeps_open seat here threshold (given_by seat here m view) view.has) (range_with_len 0 PLAYER_LIMIT)
 unfolding could_give
 could_is seat here threshold m view = refl
 
 pub waiters_hold_up_nobody : WaitersHoldUpNobody
 waiters_hold_up_nobody seat here threshold m view told w =
     let shut : could_give seat here threshold m view ≡ false =
-    could_is seat here threshold m view ∙ (not_all_below (keeps_open seat here threshold (most_of seat here.has m PLAYER_LIMIT) view.has)
+    could_is seat here threshold m view ∙ (not_all_below (keeps_open seat here threshold (given_by seat here m view) view.has)
     PLAYER_LIMIT w.player w.is_player (kept seat here threshold m view w)) in
     holds_up_is seat here threshold m ∙ go (is_fenced seat here m) shut
   where

@@ -49,10 +49,14 @@ abbrev pub keeps_open : Seat → Machine → ℕ → ℕ → List ℕ → ℕ �
 keeps_open seat here threshold own has p =
     not (nat_lt (owner_of seat p) seat.machines) || is_open_at here threshold own has p
 
--- whether a machine that told this could give its next word, after those that came here: no player of the match keeps it from that
+-- how many words of its own a machine has given, which told this: as many as it says that it has, and no more than came here
+abbrev pub given_by : Seat → Machine → ℕ → View → ℕ
+given_by seat here m view = min (most_of seat here.has m PLAYER_LIMIT) (most_of seat view.has m PLAYER_LIMIT)
+
+-- whether a machine that told this could give its next word: no player of the match keeps it from that
 unfoldable pub could_give : Seat → Machine → ℕ → ℕ → View → Bool
 could_give seat here threshold m view =
-    list_all (keeps_open seat here threshold (most_of seat here.has m PLAYER_LIMIT) view.has)
+    list_all (keeps_open seat here threshold (given_by seat here m view) view.has)
     (range_with_len 0 PLAYER_LIMIT)
 
 abbrev pub held_up_by : Seat → Machine → ℕ → ℕ → Option View → Option ℕ
@@ -73,8 +77,9 @@ pub record Waits (seat : Seat) (here : Machine) (threshold m : ℕ) (view : View
   pub is_player : player < PLAYER_LIMIT
   pub plays : nat_lt (owner_of seat player) seat.machines ≡ true
   pub few : delay ≤ DELAY_ROOM
-  pub all_given : most_of seat here.has m PLAYER_LIMIT
+  pub all_given : most_of seat view.has m PLAYER_LIMIT
       ≡ slice_index view.has player + threshold + delay
+  pub came : most_of seat view.has m PLAYER_LIMIT ≤ most_of seat here.has m PLAYER_LIMIT
 
 -- who itself waits holds up nobody
 abbrev pub WaitersHoldUpNobody : Type 0

@@ -1,6 +1,6 @@
 //! Who holds up a match.
 ghost use Rattle.std.specs.Prelude.{◌≡◌, ◌<◌};
-ghost use Rattle.roll_mesh.specs.HoldingUp.{awaited, could_give, fewest_of, holds_up, is_open_at, least_some, most_of};
+ghost use Rattle.roll_mesh.specs.HoldingUp.{awaited, could_give, fewest_of, given_by, holds_up, is_open_at, least_some, most_of};
 ghost use Rattle.roll_mesh.specs.declared.limits.TheConstants.{PLAYER_LIMIT};
 
 use crate::limits::PLAYER_LIMIT;
@@ -98,11 +98,18 @@ fn is_open_at(
         || here.left_at(player as u8).is_some() && end + DELAY_ROOM < u64::from(own)
 }
 
-/// Whether a machine that told this could give its next word, after those that came here: no player of the match keeps it from that.
+/// How many words of its own a machine has given, which told this: as many as it says that it has, and no more than came here.
+fn given_by(seat: &Seat, here: &Machine, view: &View, machine: u8) -> u32
+    ensures { result ≡ given_by seat.now here.now machine view.now }
+{
+    most_of(seat, &here.has, machine).min(most_of(seat, &view.has, machine))
+}
+
+/// Whether a machine that told this could give its next word: no player of the match keeps it from that.
 fn could_give(seat: &Seat, here: &Machine, view: &View, machine: u8, threshold: u32) -> bool
     ensures { result ≡ could_give seat.now here.now threshold machine view.now }
 {
-    let own = most_of(seat, &here.has, machine);
+    let own = given_by(seat, here, view, machine);
     for player in 0..PLAYER_LIMIT {
         if seat.owner_of(player) < seat.machines
             && !is_open_at(here, own, &view.has, player, threshold)
