@@ -278,7 +278,7 @@ static inline void fazgrond_one_number(fazgrond_match *match, uint64_t number) {
 }
 
 /* SYNCHRONIZING: `machine` was heard; `count` of `total` steps are done. SYNCHRONIZED: it and this one have heard each other.
- * RUNNING: all have, and the match begins. DISCONNECTED: `player` has left.
+ * RUNNING: a play of each has come, and the match begins. DISCONNECTED: `player` has left.
  * TIME_SYNC: this machine is ahead: give no word for `frames_ahead` turns.
  * INTERRUPTED: `machine` is silent, and gone in `disconnect_in` milliseconds. RESUMED: it was heard again.
  * LEFT: `machine` is gone for good. DESYNC: it has another state at the settled frame `frame`.
@@ -342,7 +342,7 @@ int32_t fazgrond_peer_receive(fazgrond_peer *peer, const uint8_t *bytes, size_t 
 int32_t fazgrond_peer_add_local_input(fazgrond_peer *peer, uint8_t player, uint32_t word);
 
 /* Once a turn, before the next three: machines that were silent too long are gone, players of who is gone leave, and the match
- * begins once all machines have heard each other. FAZGROND_LOG_FULL or FAZGROND_NO_MEMORY if a player who is to leave is still
+ * begins once a play of each machine has come. FAZGROND_LOG_FULL or FAZGROND_NO_MEMORY if a player who is to leave is still
  * there: all else is done, and the next poll tries again. */
 int32_t fazgrond_peer_poll(fazgrond_peer *peer, uint32_t now);
 
