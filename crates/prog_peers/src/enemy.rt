@@ -1,4 +1,5 @@
 //! Datagrams that are made to deceive a machine.
+ghost use Rattle.std.specs.Prelude.{◌≢◌};
 
 use crate::network::Letter;
 use crate::options::PeersOptions;
@@ -17,9 +18,9 @@ const KEPT: usize = 64;
 const MOST_BYTES: u32 = 1_300;
 /// The number of the stream that the enemy of machine 0 draws from; the others follow.
 const FIRST_STREAM: u64 = 48;
-/// Where a datagram has its kind, and the kind of a hello.
+/// Where a datagram has its kind.
 const KIND_AT: usize = 13;
-
+/// The kind of a hello.
 const HELLO: u8 = 0;
 
 /// How a datagram is made to deceive.
@@ -33,18 +34,18 @@ pub enum Trick {
     Foreign,
     /// A real one of a machine that is gone.
     Gone,
-    /// A real one of a machine that isn't gone, which came before. It may be heard again.
+    /// A real one that was heard before, of a machine that isn't gone. It may be heard again.
     Again,
 }
 
-/// A real datagram that has come.
+/// A real datagram that was heard.
 #[derive(Drop)]
 struct Past {
     from: u8,
     bytes: Vec<u8>,
 }
 
-/// The real datagrams that came last.
+/// The real datagrams that were heard last.
 #[derive(Drop)]
 struct Kept {
     pasts: Vec<Past>,
@@ -119,7 +120,7 @@ impl Enemy {
         }
     }
 
-    /// Sees a datagram that came to its machine.
+    /// Sees a datagram that its machine heard.
     pub fn see(
         &mut self,
         alloc: Global,
@@ -204,23 +205,12 @@ impl Enemy {
         if !self.copy()? {
             return self.draw_noise();
         }
-        let key = self.another_key();
+        let key = other_key(self.key(), self.draws.below(3));
         seal_anew(&mut self.bytes, &key)?;
         Ok(Trick::Foreign)
     }
 
-    /// The key by which the copied datagram was sealed, but that one of its three numbers is another.
-    fn another_key(&mut self) -> Key {
-        let mut key = self.key();
-        match self.draws.below(3) {
-            0 => key.number = key.number.wrapping_add(1),
-            1 => key.from = key.from.wrapping_add(1),
-            _ => key.to = key.to.wrapping_add(1),
-        }
-        key
-    }
-
-    /// The key by which it was sealed.
+    /// The key by which the copied datagram was sealed.
     fn key(&self) -> Key {
         if self.bytes.get(KIND_AT) == Some(&HELLO) {
             return Key::of_hellos(self.number);
@@ -260,6 +250,19 @@ fn opening_of(openings: &[u64; MACHINE_LIMIT], machine: u8) -> u64 {
         Some(draw) => *draw,
         None => 0,
     }
+}
+
+/// A key of which one of the three numbers is another.
+fn other_key(key: Key, place: u32) -> Key
+    ensures { result ≢ key }
+{
+    let mut other = key;
+    match place {
+        0 => other.number = key.number.wrapping_add(1),
+        1 => other.from = key.from.wrapping_add(1),
+        _ => other.to = key.to.wrapping_add(1),
+    }
+    other
 }
 
 /// Seals a datagram again, by another key.

@@ -34,9 +34,9 @@ pub struct Counts {
     pub ignored: u64,
     /// Hostile datagrams that came.
     pub hostile: u64,
-    /// Those of them that were heard: old ones, which come again.
+    /// Those of them that were heard, and may be: real ones that were heard before, of machines that aren't gone.
     pub again: u64,
-    /// Those of them that were heard, and should not have been.
+    /// Those of them that were heard, and should not have been: all others.
     pub fooled: u64,
     /// How often another machine told of another state than this one had.
     pub desyncs: u64,
@@ -160,7 +160,7 @@ impl<G: Shown + Drop> Machine<G> {
         Ok(())
     }
 
-    /// Hears a datagram.
+    /// Hears a datagram. If it is taken, its enemy can copy it from then on.
     fn hear(
         &mut self,
         alloc: Global,
@@ -172,6 +172,7 @@ impl<G: Shown + Drop> Machine<G> {
     {
         if self.peer.receive(&letter.bytes, now).is_err() {
             self.counts.ignored = self.counts.ignored.saturating_add(1);
+            return Ok(());
         }
         if let Some(enemy) = &mut self.enemy {
             enemy.see(alloc, options, letter)?;
