@@ -164,6 +164,10 @@ static void before(fazgrond_peer *one, fazgrond_peer *two) {
     IS(fazgrond_peer_bye(one, 1, bytes, FAZGROND_DATAGRAM - 1, &length), FAZGROND_TOO_SHORT);
     is((int32_t)length, 77, __LINE__);
     IS(fazgrond_peer_poll(one, 16), FAZGROND_OK);
+    IS(fazgrond_peer_event(one, &event), FAZGROND_NOTHING); /* a play of the other one has to come, too */
+    pass_play(two, one, 0, 16);
+    pass_play(one, two, 1, 16);
+    IS(fazgrond_peer_poll(one, 16), FAZGROND_OK);
     IS(fazgrond_peer_poll(two, 16), FAZGROND_OK);
     next_event(one, FAZGROND_RUNNING, 0);
     next_event(two, FAZGROND_RUNNING, 0);
@@ -273,7 +277,7 @@ static void standing_still(void) {
         IS(fazgrond_peer_poll(&one, now), FAZGROND_OK);
     next_event(&one, FAZGROND_MISSING, 1);
     IS(fazgrond_peer_event(&one, &event), FAZGROND_NOTHING);
-    for (int at = 0; at < 3; at++) {
+    for (int at = 0; at < 4; at++) {
         size_t sent;
         IS(fazgrond_peer_send(&one, 1, 5100, bytes, sizeof bytes, &sent), FAZGROND_OK);
         (void)fazgrond_peer_receive(&two, bytes, sent, 0);

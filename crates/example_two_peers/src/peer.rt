@@ -91,7 +91,7 @@ impl Side {
             let Some(bytes) = inbox.receive(turn) else {
                 return;
             };
-            // What is ignored changed nothing.
+            // What is ignored changed nothing of the match.
             let _ = self.peer.receive(&bytes, now);
         }
     }

@@ -7,9 +7,9 @@ use roll_mesh::MACHINE_LIMIT;
 use roll_peer::MatchSettings;
 
 /// After how many milliseconds of silence a machine is regarded as gone.
-const SILENT_AFTER: u32 = 1_000;
+const SILENT_AFTER: u32 = 5_000;
 /// After how many milliseconds of silence that is told.
-const NOTIFY_AFTER: u32 = 300;
+const NOTIFY_AFTER: u32 = 750;
 /// The number of the stream that the draw of machine 0 is drawn from; the others follow.
 const FIRST_STREAM: u64 = 64;
 
