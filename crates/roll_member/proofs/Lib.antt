@@ -5,3 +5,4 @@ pub mod Tied
 pub mod Rooms
 pub mod Partings
 pub mod Holding
+pub mod Beside

@@ -1,10 +1,9 @@
 -- What a change of one player's words leaves of all players.
-use Rattle.std.proofs.Common.{◌≡◌, ◌≢◌, ◌⊎◌, ◌∙◌, ℕ, ◌-◌, List, [], ◌++◌, map, refl, ap, sym, Bool, true, false, cond, inl, inr, Option, Some, None, eqb, append-nil}
-use Rattle.std.specs.Prelude.{slice_get, ◌==◌}
-use Rattle.std.specs.Option.{option_map, option_map_or}
+use Rattle.std.proofs.Common.{◌≡◌, ◌≢◌, ◌⊎◌, ◌∙◌, ℕ, List, [], ◌++◌, ap, sym, Bool, true, false, cond, inl, inr, Option, Some, eqb, append-nil}
+use Rattle.std.specs.Prelude.{◌==◌}
+use Rattle.std.specs.Option.{option_map_or}
 use Rattle.std.proofs.lemmas.Bool.{cases_Bool, eqb-true, eq-eqb, false≢true}
-use Rattle.std.proofs.lemmas.Option.{slice_get-map}
-use Rattle.roll_frame.specs.Inputs.{changed, of_player, player_at, with_none_given}
+use Rattle.roll_frame.specs.Inputs.{changed, of_player, player_at}
 use Rattle.roll_frame.specs.Timeline.{Player}
 use Rattle.roll_inputs.proofs.Players.{at_changed, at_other}
 
@@ -50,15 +49,3 @@ test_changed test change players p x e keeps q = go (cases_Bool (eqb q p))
     go (inr other) =
         let apart : q ≢ p = λ f. false≢true (sym other ∙ eq-eqb q p f) in
         ap (λ o. option_map_or test o false) (at_other change players p q x e apart)
-
--- what is seen of a player, once no word of this frame is given any more
-pub none_given : {X : Type 0} (seen : Option Player → X)
-    → ((o : Option Player) → seen (option_map with_none_given o) ≡ seen o)
-    → (players : List Player) (p : ℕ)
-    → seen (player_at (map with_none_given players) p) ≡ seen (player_at players p)
-none_given seen each players p = go (eqb p 0)
-  where
-    go : (b : Bool) → seen (cond b None (slice_get (map with_none_given players) (p - 1)))
-        ≡ seen (cond b None (slice_get players (p - 1)))
-    go true = refl
-    go false = rw (slice_get-map with_none_given players (p - 1)) (each (slice_get players (p - 1)))

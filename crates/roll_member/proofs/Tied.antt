@@ -1,15 +1,13 @@
 -- What keeps a session tied to its mesh.
 use Rattle.std.proofs.Common.{◌≡◌, ◌∙◌, ◌⊎◌, ℕ, ◌+◌, ◌<◌, ◌≤◌, List, [], ◌∷◌, ◌++◌, drop, take, append-nil, cond, length-append, arith, length, refl, ap, sym, subst, Bool, true, false, Option, Some, None, Result, Ok, Err, inl, inr}
-use Rattle.std.specs.Prelude.{is_none, is_some, not, nat_lt, ◌-◌, ◌||◌, IfErr, OnOk, OnErr, max, nat_le, slice_index, slice_index_or, slice_set, ◌==◌, ◌&&◌, if◌then◌else◌}
-use Rattle.roll_frame.specs.Inputs.{local_tests, of_player, player_at, with_given, with_none_given}
+use Rattle.std.specs.Prelude.{is_none, is_some, not, nat_lt, ◌-◌, ◌||◌, OnOk, OnErr, max, nat_le, slice_index, slice_index_or, slice_set, ◌==◌, ◌&&◌, if◌then◌else◌}
+use Rattle.roll_frame.specs.Inputs.{local_tests, of_player, player_at, with_given}
 use Rattle.roll_frame.specs.Timeline.{Player}
-use Rattle.roll_session.specs.Changes.{advance_refusal, after_advance, after_local, local_refusal, IsRollRefused}
-use Rattle.roll_session.specs.declared.event.Reached.{Reached}
+use Rattle.roll_session.specs.Changes.{after_local, local_refusal}
 use Rattle.roll_member.specs.Leaving.{DisconnectsAll}
 use Rattle.roll_member.specs.declared.leaving.Left.{Left}
-use Rattle.roll_member.proofs.Players.{none_given, test_changed, words_at, words_changed, words_in}
+use Rattle.roll_member.proofs.Players.{test_changed, words_changed}
 use Rattle.std.specs.Bool.{beq}
-use Rattle.std.specs.Option.{option_map, option_map_or}
 use Rattle.roll_member.specs.declared.join.JoinRefusal.TheVariants.{InvalidSeat, Players, Started}
 use Rattle.roll_mesh.specs.declared.limits.TheConstants.{MACHINE_LIMIT, PLAYER_LIMIT}
 use Rattle.roll_mesh.specs.declared.machine.Machine.{Machine}
@@ -33,6 +31,7 @@ use Rattle.roll_mesh.proofs.Trimmed.{trimmed_heard}
 use Rattle.roll_session.specs.Headline.{words_of}
 use Rattle.roll_session.specs.Seen.{Seen, Step}
 use Rattle.roll_member.specs.Joined.{held, are_fresh, are_seated, is_fresh_at, is_gone_at, is_local_at, is_seated_at, join_refusal, AreCounts, IsTied, IsTiedAt}
+use Rattle.roll_member.specs.Beside.{caught_up, IsSteady}
 use Rattle.roll_member.specs.Taking.{news_at, Hearing, KeepsPlayers, TakesAll}
 use Rattle.roll_member.proofs.Taking.{fed, fed_few, news_length, IsFed}
 use Rattle.roll_frame.specs.declared.refusal.Refusal.{Refusal}
@@ -245,76 +244,24 @@ leave_left seat m machine = go (m == seat.me)
     go true = refl
     go false = refl
 
-keeps_same : (s : Seen) → KeepsPlayers s s
-keeps_same s = record { local = λ p. refl; gone = λ p. refl }
-
 -- a machine is regarded as gone, or isn't
-pub leave_tied : (s : Seen) (old new : Seated) (m : ℕ) (result : Result Unit MeshRefusal)
+pub leave_steady : (old new : Seated) (m : ℕ) (result : Result Unit MeshRefusal)
     → OnOk result (new ≡ stepped (λ seat here. leave seat m here) old) → OnErr result (new ≡ old)
-    → IsTied s old → IsTied s new
-leave_tied s old new m (Err why) left same tied = subst (IsTied s) (sym same) tied
-leave_tied s old new m (Ok done) left same tied =
-    subst (IsTied s) (sym left)
-    (tied_after s s old (stepped (λ seat here. leave seat m here) old) tied (keeps_same s)
-    ((leave_changes (match_of old.seat) [] old.seat.me m old.machine).unfenced tied.here)
-    (ap (λ (ns : List ℕ). length ns) (leave_has old.seat m old.machine) ∙ tied.sized)
-    (λ p lt. ap (λ ns. slice_index ns p) (leave_has old.seat m old.machine) ∙ (tied.players p lt).count) refl
-    (leave_left old.seat m old.machine)
-    (λ p n lt h. ap (λ ns. slice_index ns p) (leave_has old.seat m old.machine)))
-
--- ---- the session's own calls
-
--- a session whose words and players are as they were stays tied
-pub tied_still : (old new : Seen) (mesh : Seated) → ((p : ℕ) → words_of new p ≡ words_of old p)
-    → KeepsPlayers old new → IsTied old mesh → IsTied new mesh
-tied_still old new mesh words players tied =
-    tied_after old new mesh mesh tied players tied.here tied.sized
-    (λ p lt. (tied.players p lt).count ∙ ap (λ (ws : List ℕ). length ws) (sym (words (p + 1)))) refl refl
-    (λ p n lt h. refl)
-
--- a session whose players are these
-tied_players : (old new : Seen) (mesh : Seated) → new.core.players ≡ old.core.players
-    → IsTied old mesh → IsTied new mesh
-tied_players old new mesh same =
-    tied_still old new mesh (λ p. ap (λ ps. words_at ps p) same) (record {
-      local = λ p. ap (λ ps. of_player (λ player. player.local) ps p) same;
-      gone = λ p. ap (λ ps. of_player (λ player. player.gone) ps p) same;
-    })
-
-advanced : (s : Seen) → KeepsPlayers s (after_advance s)
-advanced s = record {
-  local = none_given (λ o. option_map_or (λ player. player.local) o false) each s.core.players;
-  gone = none_given (λ o. option_map_or (λ player. player.gone) o false) each_gone s.core.players;
-}
-  where
-    each : (o : Option Player) → option_map_or (λ player. player.local) (option_map with_none_given o) false
-        ≡ option_map_or (λ player. player.local) o false
-    each None = refl
-    each (Some player) = refl
-
-    each_gone : (o : Option Player)
-        → option_map_or (λ player. player.gone) (option_map with_none_given o) false
-        ≡ option_map_or (λ player. player.gone) o false
-    each_gone None = refl
-    each_gone (Some player) = refl
-
-each_words : (o : Option Player) → words_in (option_map with_none_given o) ≡ words_in o
-each_words None = refl
-each_words (Some player) = refl
-
--- an advance, however it ends
-pub advance_tied : (old new : Seen) (mesh : Seated) (result : Result Reached Refusal)
-    → OnOk result (new ≡ after_advance old)
-    → IfErr result (IsRollRefused (advance_refusal old) old new (old.core.frame + 1))
-    → IsTied old mesh → IsTied new mesh
-advance_tied old new mesh (Ok reached) rolled refused tied =
-    subst (λ s. IsTied s mesh) (sym rolled)
-    (tied_still old (after_advance old) mesh (none_given words_in each_words old.core.players)
-    (advanced old) tied)
-advance_tied old new mesh (Err why) rolled (inl r) tied =
-    subst (λ s. IsTied s mesh) (sym r.unchanged) tied
-advance_tied old new mesh (Err why) rolled (inr h) tied =
-    tied_players old new mesh (ap (λ (s : Seen). s.core.players) h.2.seen) tied
+    → IsSteady old → IsSteady new
+leave_steady old new m (Err why) left same steady = subst IsSteady (sym same) steady
+leave_steady old new m (Ok done) left same steady = subst IsSteady (sym left) (record {
+  here = (leave_changes (match_of old.seat) [] old.seat.me m old.machine).unfenced steady.here;
+  sized = ap (λ (ns : List ℕ). length ns) (leave_has old.seat m old.machine) ∙ steady.sized;
+  players = λ p lt.
+      let was = steady.players p lt in
+      let at : left_at (leave old.seat m old.machine) p ≡ left_at old.machine p =
+      ap (λ l. left_at (record old.machine { left = l }) p) (leave_left old.seat m old.machine) in
+      record {
+        stays = λ n h. ap (λ ns. slice_index ns p) (leave_has old.seat m old.machine)
+            ∙ was.stays n (sym at ∙ h);
+        remote = λ h. was.remote (sym (ap (λ o. is_some o) at) ∙ h);
+      };
+})
 
 -- a player, once the players of who is gone have left
 left_tied : (old new : Seen) (mesh : Seated) (who : Left) → IsTied old mesh
@@ -572,6 +519,26 @@ module _ (s : Seen) (mesh : Seated) (player word : ℕ) where
       keeps p n lt h = other p (λ same. false≢true
           (sym ((tied.players p lt).remote (ap (λ o. is_some o) h)) ∙ ap (λ k. is_local_at s k) same ∙ is_local))
 
+-- a mesh that catches up with a session that was given a word gives it
+pub own_given : (s : Seen) (mesh : Seated) (player word : ℕ) → local_refusal s player ≡ None
+    → IsTied s mesh → length s.core.players ≤ PLAYER_LIMIT
+    → held (record { session = after_local s player word; mesh = caught_up (after_local s player word) mesh })
+    ≡ give_word mesh.seat (player - 1) word (held (record { session = s; mesh = mesh }))
+own_given s mesh player word fine tied few =
+    let new : Seen = after_local s player word in
+    let both = give_both s mesh player word fine tied few in
+    let count : ℕ → ℕ = λ p. length (words_of new (p + 1)) in
+    let many : length (given_to s mesh player word).machine.has ≡ length mesh.machine.has =
+    both.tied.sized ∙ sym tied.sized in
+    let same : (given_to s mesh player word).machine.has ≡ at_places count mesh.machine.has =
+    filled count mesh.machine.has (given_to s mesh player word).machine.has 0 many
+    (λ k l. (both.tied.players k (omega (arith, l, tied.sized))).count) in
+    let has = ap (λ (m : Seated). m.machine.has) both.is_given in
+    ap (λ (m : Seated). held (record { session = new; mesh = m }))
+    (ap (λ (ns : List ℕ). record mesh { machine = record mesh.machine { has = ns } })
+    (sym (has ∙ same)) ∙ both.is_given)
+    ∙ both.held_is
+
 -- ---- a session that takes its seat
 
 none_gone : (m : ℕ) → is_in first_machine.gone m ≡ false
@@ -588,7 +555,7 @@ none_left p = go (cases_lt p PLAYER_LIMIT)
     go (inl l) = get_or-replicate PLAYER_LIMIT p None None l
     go (inr g) = get_or_past first_machine.left p None g
 
-same_bools : (a b : Bool) → beq a b ≡ true → a ≡ b
+pub same_bools : (a b : Bool) → beq a b ≡ true → a ≡ b
 same_bools true true e = refl
 same_bools false false e = refl
 same_bools true false e = absurd (false≢true e)

@@ -3,3 +3,5 @@ pub mod Taking
 pub mod Hearing
 pub mod Leaving
 pub mod Telling
+pub mod Beside
+pub mod Laws

@@ -1,6 +1,7 @@
 //! A session takes its seat.
 ghost use Rattle.std.specs.Prelude.{◌≡◌, ◌+◌, ◌<◌, ◌≤◌, true, length, slice_index, slice_set};
 ghost use Rattle.roll_member.specs.Joined.{are_fresh, are_seated, is_fresh_at, is_seated_at, join_refusal, AreCounts};
+ghost use Rattle.roll_member.specs.Beside.{caught_up, is_near, is_near_at};
 ghost use Rattle.roll_mesh.specs.Machines.{owner_of};
 ghost use Rattle.roll_mesh.specs.Worlds.{first_machine};
 ghost use Rattle.roll_mesh.specs.declared.limits.TheConstants.{PLAYER_LIMIT};
@@ -24,13 +25,6 @@ pub enum JoinRefusal {
     /// The session has words of another machine's player, or a player has left.
     #[error("the session has heard of others already")]
     Started,
-}
-
-/// A session that can't take its seat, and why.
-#[derive(Drop)]
-pub struct JoinFault<G: Game> {
-    pub why: JoinRefusal,
-    pub session: Session<G>,
 }
 
 /// Whether the player at a place is local if the seat owns it, and there is one if a machine owns it.
@@ -121,6 +115,47 @@ pub(crate) fn give_all<G: Game>(session: &Session<G>, mesh: &mut Mesh)
     } }
     ensures all { length mesh.new.machine.has ≡ PLAYER_LIMIT }
     ensures counts { AreCounts session.now mesh.new.machine.has }
+{
+    for place in 0..PLAYER_LIMIT as u8 {
+        if session.is_local(place + 1) {
+            give_own(session, mesh, place);
+        }
+    }
+}
+
+/// Whether a session may be the mesh's, as far as the player at a place tells.
+fn is_near_at<G: Game>(session: &Session<G>, mesh: &Mesh, place: u8) -> bool
+    requires { place < PLAYER_LIMIT }
+    ensures { result ≡ is_near_at session.now mesh.now place }
+{
+    let seat = mesh.seat();
+    let own = seat.owners[usize::from(place)] == seat.me;
+    let count = session.confirmed(place + 1).unwrap_or(0);
+    let has = mesh.has()[usize::from(place)];
+    session.is_local(place + 1) == own
+        && (has <= count
+            && ((own || has == count)
+                && (session.source(place + 1, count) != Some(Source::Gone)
+                    || mesh.left(place).is_some())))
+}
+
+/// Whether a session may be the mesh's.
+pub(crate) fn is_near<G: Game>(session: &Session<G>, mesh: &Mesh) -> bool
+    ensures { result ≡ is_near session.now mesh.now }
+{
+    for place in 0..PLAYER_LIMIT as u8 {
+        if !is_near_at(session, mesh, place) {
+            return false;
+        }
+    }
+    true
+}
+
+/// The mesh learns of the words that the session has of its own players.
+pub(crate) fn catch_up<G: Game>(session: &Session<G>, mesh: &mut Mesh)
+    requires near { is_near session.now mesh.old ≡ true }
+    requires sized { length mesh.old.machine.has ≡ PLAYER_LIMIT }
+    ensures { mesh.new ≡ caught_up session.now mesh.old }
 {
     for place in 0..PLAYER_LIMIT as u8 {
         if session.is_local(place + 1) {

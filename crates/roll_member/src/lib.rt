@@ -1,13 +1,16 @@
-//! A session in its seat of a match of several machines: what is confirmed in it is what its mesh says that it has.
+//! What a machine of a match knows of the others, beside its session: what is confirmed in the session is what its mesh says that
+//! it has.
 #![tactic(auto)]
 
 mod join;
+mod laws;
 mod leaving;
 mod member;
 mod telling;
 mod words;
 
-pub use join::{JoinFault, JoinRefusal};
+pub use join::JoinRefusal;
+pub use laws::own_words_are_given;
 pub use leaving::Left;
 pub use member::{Member, Taken};
 pub use telling::Told;

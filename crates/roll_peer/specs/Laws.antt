@@ -1,16 +1,16 @@
--- Laws of peers.
+-- Laws of the network of a match.
 use Rattle.std.specs.Prelude.{◌≡◌, ◌<◌, ℕ, List, length, get_or, Bool, true, false, nat_lt, Option, Some, None, Ok, All, IsSome, OnSome, IfSome}
 use Rattle.roll_contact.specs.Contacts.{is_playing}
 use Rattle.roll_contact.specs.Seals.{unsealed}
 use Rattle.roll_contact.specs.declared.key.Key.{Key}
 use Rattle.roll_frame.specs.declared.refusal.Refusal.{Refusal}
-use Rattle.roll_session.specs.Seen.{Step}
+use Rattle.roll_session.specs.Seen.{Seen, Step}
 use Rattle.roll_wire.specs.Spelling.{Content, Greets, Leaves, Plays}
 use Rattle.roll_peer.specs.Peered.{contact_at, Peered}
 use Rattle.roll_peer.specs.Receiving.{after_ignored, ignored, opened, sender_of, Receives}
 use Rattle.roll_peer.specs.Sending.{with_draws}
 use Rattle.roll_peer.specs.Settings.{number_for}
-use Rattle.roll_peer.specs.Turning.{over, Polls}
+use Rattle.roll_peer.specs.Turning.{Polls}
 use Rattle.roll_peer.specs.Waiting.{Waiting}
 use Rattle.roll_peer.specs.declared.event.PeerEvent.{PeerEvent}
 use Rattle.roll_peer.specs.declared.event.PeerEvent.TheVariants.{Synchronizing, Synchronized, Running, DisconnectedFromPeer, TimeSync, Interrupted, Resumed, Desync, Mismatch, Dropped, Left, Restarted, Stalled, Refused, Missing}
@@ -78,15 +78,14 @@ NamesMachines peer = AreNamed peer.settings.machines peer.waiting
 abbrev pub IsSeatedSo : Peered → Type 0
 IsSeatedSo peer = peer.member.mesh.seat.machines ≡ peer.settings.machines
 
--- whatever is heard, refused, polled or played, each event that waits names a machine of the match
+-- whatever is heard, refused or polled, each event that waits names a machine of the match
 pub record EventsNameMachines : Type 0 where
-  pub heard : (step : Step) (old new : Peered) (bytes : List ℕ) (received : Received) → IsSeatedSo old
-      → NamesMachines old → ignored old bytes ≡ None → Receives step old new bytes received
+  pub heard : (step : Step) (before after : Seen) (old new : Peered) (bytes : List ℕ) (received : Received)
+      → IsSeatedSo old → NamesMachines old → ignored old bytes ≡ None
+      → Receives step before after old new bytes received
       → AreNamed old.settings.machines new.waiting
   pub refused : (old : Peered) (bytes : List ℕ) (why : Ignored) → IsSeatedSo old
       → NamesMachines old → ignored old bytes ≡ Some why
       → AreNamed old.settings.machines (after_ignored (sender_of bytes) why old).waiting
-  pub polled : (old new : Peered) (refusal : Option Refusal) → NamesMachines old
-      → Polls old new refusal → AreNamed old.settings.machines new.waiting
-  pub played : (peer : Peered) → NamesMachines peer
-      → AreNamed peer.settings.machines (over peer).waiting
+  pub polled : (before after : Seen) (old new : Peered) (refusal : Option Refusal) → NamesMachines old
+      → Polls before after old new refusal → AreNamed old.settings.machines new.waiting

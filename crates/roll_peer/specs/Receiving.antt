@@ -1,5 +1,5 @@
--- A peer hears bytes.
-use Rattle.std.specs.Prelude.{◌≡◌, ℕ, List, length, Bool, true, false, ◌&&◌, ◌||◌, ◌==◌, not, nat_le, nat_lt, is_some, Option, Some, None, Result, Ok, Err, if◌then◌else◌, slice_index_or, slice_set}
+-- Bytes are heard.
+use Rattle.std.specs.Prelude.{◌≡◌, ◌⊎◌, ℕ, List, length, Bool, true, false, ◌&&◌, ◌==◌, not, nat_le, is_some, Option, Some, None, Result, Ok, Err, if◌then◌else◌, slice_index_or, slice_set}
 use Rattle.roll_contact.specs.Clocks.{ticked}
 use Rattle.roll_contact.specs.Contacts.{after_hello, after_play, heard, is_playing, refused}
 use Rattle.roll_contact.specs.Keys.{greeting_key}
@@ -8,12 +8,12 @@ use Rattle.roll_contact.specs.Terms.{mismatch_of}
 use Rattle.roll_contact.specs.declared.contact.Contact.{Contact}
 use Rattle.roll_contact.specs.declared.key.Key.{Key}
 use Rattle.roll_member.specs.Hearing.{HearsPacket}
-use Rattle.roll_member.specs.Joined.{Joined}
+use Rattle.roll_member.specs.Beside.{met, IsOf, Membership}
 use Rattle.roll_member.specs.declared.member.Taken.{Taken}
 use Rattle.roll_mesh.specs.declared.packet.Packet.{Packet}
 use Rattle.roll_mesh.specs.Machines.{is_in, leave, shortened}
 use Rattle.roll_mesh.specs.Meshes.{is_had, stepped}
-use Rattle.roll_session.specs.Seen.{Step}
+use Rattle.roll_session.specs.Seen.{Seen, Step}
 use Rattle.roll_wire.specs.declared.datagram.Body.{Body}
 use Rattle.roll_wire.specs.declared.datagram.Clocks.{Clocks}
 use Rattle.roll_wire.specs.declared.datagram.Hello.{Hello}
@@ -23,10 +23,10 @@ use Rattle.roll_wire.specs.declared.limits.TheConstants.{DATAGRAM_LIMIT}
 use Rattle.roll_wire.specs.Spelling.{content as content_of, Content, Greets, Leaves, Message, Plays, Turn}
 use Rattle.roll_peer.specs.Judging.{are_no_more, is_inside}
 use Rattle.roll_peer.specs.Notices.{after_heard, desync, dropped, told}
-use Rattle.roll_peer.specs.Peered.{contact_at, Peered}
+use Rattle.roll_peer.specs.Peered.{beside, contact_at, Peered}
 use Rattle.roll_peer.specs.Settings.{number_for, opening_of, terms_of}
 use Rattle.roll_peer.specs.declared.received.Ignored.{Ignored}
-use Rattle.roll_peer.specs.declared.received.Ignored.TheVariants.{NotSealed, NoDatagram, InvalidMachine, OwnMachine, MachineGone, Outside, Overstated}
+use Rattle.roll_peer.specs.declared.received.Ignored.TheVariants.{NotSealed, NoDatagram, InvalidMachine, OwnMachine, MachineGone, OtherSession, Outside, Overstated}
 use Rattle.roll_peer.specs.declared.received.Received.{Received}
 use Rattle.roll_peer.specs.declared.received.Received.TheVariants.{Hello as HelloHeard, Play as PlayHeard, Bye as ByeHeard}
 use Rattle.roll_peer.specs.declared.receiving.TheConstants.{HEAD, KIND_AT, SENDER_AT}
@@ -36,6 +36,14 @@ use Rattle.roll_peer.specs.declared.receiving.TheConstants.{HEAD, KIND_AT, SENDE
 -- a peer whose program's clock shows this
 abbrev pub ticking : ℕ → Peered → Peered
 ticking now peer = record peer { clock = ticked now peer.clock }
+
+-- once it has met a session, it knows what that session's own players have given
+abbrev pub meeting : Seen → Peered → Peered
+meeting s peer = record peer { member = met s peer.member }
+
+-- a session that isn't this match's
+abbrev pub IsOther : Seen → Peered → Type 0
+IsOther s peer = IsOf s peer.member → ⊥
 
 -- the moment that its own clock shows
 abbrev pub moment_of : Peered → ℕ
@@ -139,6 +147,7 @@ is_refusal (NoDatagram fault) = true
 is_refusal InvalidMachine = false
 is_refusal OwnMachine = false
 is_refusal MachineGone = false
+is_refusal OtherSession = false
 is_refusal Outside = true
 is_refusal Overstated = true
 
@@ -165,14 +174,6 @@ after_words is_refused clocks frame now contact =
     if is_refused then refused (after_play clocks frame now contact)
     else after_play clocks frame now contact
 
--- a peer whose session and mesh are others, with news if words came
-abbrev pub with_news : Peered → Joined → Peered
-with_news peer member =
-    record peer {
-      member = member;
-      news = peer.news || nat_lt (length peer.member.session.log) (length member.session.log);
-    }
-
 -- a machine is known otherwise, and so is a settled state of it that this machine hadn't
 abbrev pub knowing : Turn → ℕ → Contact → Peered → Peered
 knowing t m contact peer = record peer {
@@ -181,20 +182,20 @@ knowing t m contact peer = record peer {
       (desync peer.digests m t.head.settled);
 }
 
--- once session and mesh have heard a turn
-abbrev pub after_turn : Peered → Joined → ℕ → Turn → Taken → Peered
-after_turn old member sender t taken =
-    let contact = after_words (is_some taken.refusal) t.head.clocks old.member.session.core.frame (moment_of old)
-    (contact_at old sender) in
-    let known = knowing t sender contact (with_news old member) in
+-- once session and mesh have heard a turn, at a frame of the session
+abbrev pub after_turn : Peered → Membership → ℕ → ℕ → Turn → Taken → Peered
+after_turn old member frame sender t taken =
+    let contact = after_words (is_some taken.refusal) t.head.clocks frame (moment_of old) (contact_at old sender) in
+    let known = knowing t sender contact (record old { member = member }) in
     record known { waiting = told known.waiting (dropped taken.heard) }
 
 -- a turn is heard: its words become remote words of the session, as far as it takes them, and what its sender tells is known.
 -- If the sender regards this machine as gone, that is told
-pub record HearsTurn (step : Step) (old new : Peered) (sender : ℕ) (t : Turn) (taken : Taken)
-    : Type 0 where
-  pub member : HearsPacket step old.member new.member (packet_of sender t) t.words taken
-  pub rest : new ≡ after_turn old new.member sender t taken
+pub record HearsTurn (step : Step) (before after : Seen) (old new : Peered) (sender : ℕ) (t : Turn)
+    (taken : Taken) : Type 0 where
+  pub member : HearsPacket step (beside before old) (beside after new) (packet_of sender t) t.words taken
+  pub limits : new.member.limits ≡ old.member.limits
+  pub rest : new ≡ after_turn old new.member before.core.frame sender t taken
 
 -- a hello is heard
 abbrev pub HearsHello : (old new : Peered) → ℕ → Hello → Type 0
@@ -211,18 +212,27 @@ HearsBye old new sender = new ≡ record old {
   contacts = slice_set old.contacts sender (heard (moment_of old) (contact_at old sender));
 }
 
-abbrev pub Hears : Step → (old new : Peered) → ℕ → Content → Received → Type 0
-Hears step old new sender (Greets hello) (HelloHeard from) =
-    (from ≡ sender) × HearsHello old new sender hello
-Hears step old new sender (Plays t) (PlayHeard from taken) =
-    (from ≡ sender) × HearsTurn step old new sender t taken
-Hears step old new sender Leaves (ByeHeard from) =
-    (from ≡ sender) × HearsBye old new sender
-Hears step old new sender content received = ⊥
+-- what was opened is heard, and the session, if it takes words
+abbrev pub Hears : Step → (before after : Seen) → (old new : Peered) → ℕ → Content → Received → Type 0
+Hears step before after old new sender (Greets hello) (HelloHeard from) =
+    (from ≡ sender) × (after ≡ before) × HearsHello old new sender hello
+Hears step before after old new sender (Plays t) (PlayHeard from taken) =
+    (from ≡ sender) × HearsTurn step before after old new sender t taken
+Hears step before after old new sender Leaves (ByeHeard from) =
+    (from ≡ sender) × (after ≡ before) × HearsBye old new sender
+Hears step before after old new sender content received = ⊥
 
 -- bytes are heard
-pub record Receives (step : Step) (old new : Peered) (bytes : List ℕ) (received : Received)
-    : Type 0 where
+pub record Receives (step : Step) (before after : Seen) (old new : Peered) (bytes : List ℕ)
+    (received : Received) : Type 0 where
   pub what : Content
   pub is_opened : opened old bytes ≡ Ok what
-  pub hears : Hears step old new (sender_of bytes) what received
+  pub hears : Hears step before after old new (sender_of bytes) what received
+
+-- why bytes that come for a session aren't heard, and what becomes of it: nothing, if the session is another; else what its sender
+-- sealed is counted and told
+abbrev pub IsIgnored : Seen → (old new : Peered) → List ℕ → Ignored → Type 0
+IsIgnored s old new bytes why =
+    (IsOther s old × (why ≡ OtherSession) × (new ≡ old))
+    ⊎ (IsOf s old.member × (ignored (meeting s old) bytes ≡ Some why)
+    × (new ≡ after_ignored (sender_of bytes) why (meeting s old)))

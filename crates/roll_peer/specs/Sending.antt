@@ -1,4 +1,4 @@
--- What a peer sends.
+-- What is sent.
 use Rattle.std.specs.Prelude.{◌≡◌, ℕ, List, ◌-◌, ◌%◌, Bool, true, false, ◌||◌, ◌==◌, nat_le, Option, Some, None, if◌then◌else◌, slice_set}
 use Rattle.roll_contact.specs.Contacts.{clocks_for, hello_echo, hello_sent, play_sent, says_hello, wants_clocks}
 use Rattle.roll_contact.specs.Keys.{greeting_key}
@@ -12,7 +12,8 @@ use Rattle.roll_mesh.specs.declared.packet.Packet.{Packet}
 use Rattle.roll_wire.specs.Spelling.{spelling, Content, Greets, Leaves, Plays, Turn}
 use Rattle.roll_wire.specs.declared.datagram.Clocks.{Clocks}
 use Rattle.roll_wire.specs.declared.datagram.Settled.{Settled}
-use Rattle.roll_peer.specs.Peered.{contact_at, Peered}
+use Rattle.roll_session.specs.Seen.{Seen}
+use Rattle.roll_peer.specs.Peered.{beside, contact_at, Peered}
 use Rattle.roll_peer.specs.Receiving.{moment_of}
 use Rattle.roll_peer.specs.Settings.{number_for, opening_of, terms_of}
 use Rattle.roll_peer.specs.declared.sending.TheConstants.{SETTLED_EVERY}
@@ -25,32 +26,32 @@ is_lost peer m =
     || ((m == peer.member.mesh.seat.me) || is_in peer.member.mesh.machine.gone m)
 
 -- in some packets a machine tells how far it is, and when it sent
-abbrev pub clocks_in : Peered → Contact → Option Clocks
-clocks_in peer contact =
+abbrev pub clocks_in : ℕ → Peered → Contact → Option Clocks
+clocks_in frame peer contact =
     if wants_clocks contact (moment_of peer)
-    then Some (clocks_for contact peer.member.session.core.frame (moment_of peer)) else None
+    then Some (clocks_for contact frame (moment_of peer)) else None
 
 -- in others the digest of a settled state
 abbrev pub settled_in : Peered → Contact → Option Settled
 settled_in peer contact = if contact.sent % SETTLED_EVERY == 1 then peer.digests.last else None
 
 -- a turn tells a machine what it hasn't said that it has, without offers of no words
-pub record IsPlayFor (peer : Peered) (m : ℕ) (t : Turn) : Type 0 where
+pub record IsPlayFor (s : Seen) (peer : Peered) (m : ℕ) (t : Turn) : Type 0 where
   pub packet : Packet
-  pub told : IsTold peer.member m packet t.words
+  pub told : IsTold (beside s peer) m packet t.words
   pub view : t.head.view ≡ packet.view
   pub offers : t.head.offers ≡ (shortened packet).offers
-  pub clocks : t.head.clocks ≡ clocks_in peer (contact_at peer m)
+  pub clocks : t.head.clocks ≡ clocks_in s.core.frame peer (contact_at peer m)
   pub settled : t.head.settled ≡ settled_in peer (contact_at peer m)
 
 -- a machine that plays with this one is told what it hasn't said that it has; any other is greeted
-abbrev pub IsContentFor : Peered → ℕ → Content → Type 0
-IsContentFor peer m (Plays t) =
-    (says_hello (contact_at peer m) ≡ false) × IsPlayFor peer m t
-IsContentFor peer m (Greets hello) =
+abbrev pub IsContentFor : Seen → Peered → ℕ → Content → Type 0
+IsContentFor s peer m (Plays t) =
+    (says_hello (contact_at peer m) ≡ false) × IsPlayFor s peer m t
+IsContentFor s peer m (Greets hello) =
     (says_hello (contact_at peer m) ≡ true)
     × (hello ≡ hello_of (terms_of peer.settings) (opening_of peer.settings) (hello_echo (contact_at peer m)))
-IsContentFor peer m Leaves = ⊥
+IsContentFor s peer m Leaves = ⊥
 
 -- by what a datagram for a machine is sealed
 abbrev pub with_draws : Peered → ℕ → Key
@@ -73,9 +74,9 @@ text_for peer m what = sealed (key_for peer m what) (spelling (record {
 }))
 
 -- the bytes are a datagram for a machine, sealed for its opening and this one
-pub record IsSent (peer : Peered) (m : ℕ) (bytes : List ℕ) : Type 0 where
+pub record IsSent (s : Seen) (peer : Peered) (m : ℕ) (bytes : List ℕ) : Type 0 where
   pub content : Content
-  pub fits : IsContentFor peer m content
+  pub fits : IsContentFor s peer m content
   pub text : bytes ≡ text_for peer m content
 
 -- what was counted and measured of a machine

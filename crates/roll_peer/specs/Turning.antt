@@ -1,9 +1,13 @@
--- A turn of a peer: silent machines are gone, players leave, and the session rolls.
-use Rattle.std.specs.Prelude.{◌≡◌, ◌⊎◌, ℕ, zero, suc, ℤ, ◌+◌, ◌-◌, length, Bool, true, false, not, ◌&&◌, ◌||◌, ◌==◌, nat_lt, Option, Some, None, is_none, Result, Ok, Err, if◌then◌else◌, slice_set}
+-- A turn: silent machines are gone, players leave, and the session rolls.
+use Rattle.std.specs.Prelude.{◌≡◌, ◌⊎◌, ℕ, zero, suc, ℤ, ◌+◌, ◌-◌, List, [], ◌∷◌, Bool, true, false, not, ◌&&◌, ◌||◌, ◌==◌, nat_lt, Option, Some, None, is_none, Result, Ok, Err, Unit, if◌then◌else◌, slice_set}
 use Rattle.std.specs.Option.{option_map}
 use Rattle.std.specs.List.{list_all, range_with_len}
+use Rattle.roll_frame.specs.Timeline.{timeline}
+use Rattle.roll_frame.specs.declared.entry.Entry.{Entry}
+use Rattle.roll_frame.specs.declared.entry.Entry.TheVariants.{Sync, Advance}
 use Rattle.roll_frame.specs.declared.refusal.Refusal.{Refusal}
 use Rattle.roll_frame.specs.declared.refusal.Refusal.TheVariants.{LocalInputMissing}
+use Rattle.roll_member.specs.Beside.{IsOf}
 use Rattle.roll_member.specs.Leaving.{Leaves}
 use Rattle.roll_member.specs.declared.leaving.Left.{Left as WhoLeft}
 use Rattle.roll_mesh.specs.declared.limits.TheConstants.{MACHINE_LIMIT, PLAYER_LIMIT}
@@ -19,12 +23,12 @@ use Rattle.roll_peer.specs.Events.{pushed}
 use Rattle.roll_peer.specs.Notices.{interrupted, only_if, player_left, told, told_of}
 use Rattle.roll_peer.specs.Paces.{paced, slowest, wait_of}
 use Rattle.roll_peer.specs.declared.event.PeerEvent.TheVariants.{Running, TimeSync, Left, Missing, Stalled}
-use Rattle.roll_peer.specs.Peered.{contact_at, stall_at, Peered}
-use Rattle.roll_peer.specs.Receiving.{moment_of}
+use Rattle.roll_peer.specs.Peered.{beside, contact_at, stall_at, Peered}
+use Rattle.roll_peer.specs.Receiving.{meeting, moment_of, IsOther}
 use Rattle.roll_peer.specs.Settings.{first_moment}
 use Rattle.roll_peer.specs.Stalls.{held_for, is_overdue, is_to_tell, watched}
 use Rattle.roll_peer.specs.declared.refusal.PeerRefusal.{PeerRefusal}
-use Rattle.roll_peer.specs.declared.refusal.PeerRefusal.TheVariants.{NotSynchronized, Session}
+use Rattle.roll_peer.specs.declared.refusal.PeerRefusal.TheVariants.{OtherSession, Session}
 
 -- a machine is gone, unless it is this one, or there is no such machine
 abbrev pub without : ℕ → Seated → Seated
@@ -55,7 +59,7 @@ silenced_until now (suc m) peer = silenced_at now m (silenced_until now m peer)
 abbrev pub held_up_by : Peered → ℕ → Option ℕ
 held_up_by peer m =
     if peer.running
-    then holds_up peer.member.mesh.seat peer.member.mesh.machine peer.member.session.settings.threshold m
+    then holds_up peer.member.mesh.seat peer.member.mesh.machine peer.member.limits.threshold m
     else None
 
 -- that is told, if it is due
@@ -144,13 +148,13 @@ farewell_until zero peer = peer
 farewell_until (suc m) peer = farewell_at m (farewell_until m peer)
 
 -- the players of who is gone leave, if they may
-pub record IsParted (old new : Peered) (refusal : Option Refusal) : Type 0 where
+pub record IsParted (before after : Seen) (old new : Peered) (refusal : Option Refusal) : Type 0 where
   pub who : WhoLeft
-  pub leaves : Leaves old.member new.member who
+  pub leaves : Leaves (beside before old) (beside after new) who
+  pub limits : new.member.limits ≡ old.member.limits
   pub why : refusal ≡ who.refusal
   pub rest : new ≡ record old {
     member = new.member;
-    news = old.news || nat_lt (length old.member.session.log) (length new.member.session.log);
     waiting = told_of (player_left who.players) PLAYER_LIMIT old.waiting;
   }
 
@@ -160,10 +164,6 @@ begun peer =
     if not peer.running && are_ready peer peer.member.mesh
     then record peer { running = true; waiting = pushed peer.waiting Running }
     else peer
-
--- a peer whose session is another
-abbrev pub with_session : Peered → Seen → Bool → Peered
-with_session peer s news = record peer { member = record peer.member { session = s }; news = news }
 
 -- how far the machine that this one is furthest ahead of is behind
 abbrev pub lead_in : Peered → Option (ℤ × ℤ)
@@ -176,26 +176,9 @@ over peer = record peer {
   waiting = told peer.waiting (option_map TimeSync (wait_of (lead_in peer) peer.pace));
 }
 
--- the session goes to the next frame, if its words are there; else it rolls back, if others' words came
-abbrev pub Plays : Peered → Peered → Result (Option Reached) Refusal → Type 0
-Plays old new (Ok (Some reached)) =
-    (advance_refusal old.member.session ≡ None)
-    × (reached ≡ reached_by old.member.session.core)
-    × (new ≡ over (with_session old (after_advance old.member.session) false))
-Plays old new (Ok None) =
-    (advance_refusal old.member.session ≡ Some LocalInputMissing)
-    × (new ≡ (if old.news then with_session old (after_sync old.member.session) false else old))
-Plays old new (Err why) =
-    (new ≡ with_session old new.member.session old.news)
-    × (IsRollRefused (advance_refusal old.member.session) old.member.session new.member.session
-    (old.member.session.core.frame + 1) why
-    ⊎ IsRollRefused (sync_refusal old.member.session) old.member.session new.member.session
-    old.member.session.core.frame why)
-
--- nothing is played before the match has begun
-abbrev pub PlaysIf : Bool → Peered → Peered → Result (Option Reached) Refusal → Type 0
-PlaysIf true old new result = Plays old new result
-PlaysIf false old new result = (new ≡ old) × (result ≡ Ok None)
+-- the session is at a frame: if it was at another when it was polled last, that one is over
+abbrev pub moved_to : ℕ → Peered → Peered
+moved_to frame peer = if frame == peer.frame then peer else over (record peer { frame = frame })
 
 -- machine by machine: who was silent for too long is gone, and so is who held up the match for too long; what is due is told
 abbrev pub looked_after : ℕ → ℕ → Peered → Peered
@@ -203,36 +186,65 @@ looked_after now machines peer =
     farewell_until machines (missed_until now machines (hushed_until now machines
     (watched_until now machines (silenced_until now machines peer))))
 
--- a poll, and why a player who is to leave is still there
-pub record Polls (old new : Peered) (refusal : Option Refusal) : Type 0 where
+-- a poll of a session that was met, and why a player who is to leave is still there
+pub record Polls (before after : Seen) (old new : Peered) (refusal : Option Refusal) : Type 0 where
   pub parted : Peered
-  pub parts : IsParted (looked_after (moment_of old) old.settings.machines old) parted refusal
+  pub parts : IsParted before after
+      (looked_after (moment_of old) old.settings.machines (moved_to before.core.frame old)) parted refusal
   pub begins : new ≡ begun parted
 
+-- a poll, or why there is none: the session is another, and nothing changes
+abbrev pub IsPolled : (before after : Seen) → (old new : Peered) → Result Unit PeerRefusal → Type 0
+IsPolled before after old new (Ok done) =
+    IsOf before old.member × Polls before after (meeting before old) new None
+IsPolled before after old new (Err OtherSession) =
+    IsOther before old × (new ≡ old) × (after ≡ before)
+IsPolled before after old new (Err (Session why)) =
+    IsOf before old.member × Polls before after (meeting before old) new (Some why)
+
+-- ---- the game
+
+-- whether nothing was accepted since the last roll that went to its end
+abbrev pub ends_in_roll : List Entry → Bool
+ends_in_roll [] = false
+ends_in_roll (Sync ∷ []) = true
+ends_in_roll (Advance ∷ []) = true
+ends_in_roll (entry ∷ []) = false
+ends_in_roll (entry ∷ next ∷ more) = ends_in_roll (next ∷ more)
+
+-- the state shown is that of what is known of the players, and of the predictions for the rest
+abbrev pub IsUpToDate : Seen → Type 0
+IsUpToDate s = s.core.shown ≡ Some (timeline s.core.players s.core.frame)
+
+-- the session goes to the next frame, if its words are there; else it rolls back, unless nothing was accepted since it did
+abbrev pub Plays : (before after : Seen) → Result (Option Reached) Refusal → Type 0
+Plays before after (Ok (Some reached)) =
+    (advance_refusal before ≡ None) × (reached ≡ reached_by before.core)
+    × (after ≡ after_advance before)
+Plays before after (Ok None) =
+    (advance_refusal before ≡ Some LocalInputMissing)
+    × (after ≡ (if ends_in_roll before.log then before else after_sync before))
+Plays before after (Err why) =
+    IsRollRefused (advance_refusal before) before after (before.core.frame + 1) why
+    ⊎ IsRollRefused (sync_refusal before) before after before.core.frame why
+
+-- nothing is played before the match has begun
+abbrev pub PlaysIf : Bool → (before after : Seen) → Result (Option Reached) Refusal → Type 0
+PlaysIf true before after result = Plays before after result
+PlaysIf false before after result = (after ≡ before) × (result ≡ Ok None)
+
 -- what follows a poll
-abbrev pub GoesOn : Option Refusal → Peered → Peered → Result (Option Reached) Refusal → Type 0
-GoesOn None polled new result = PlaysIf polled.running polled new result
-GoesOn (Some why) polled new result = (new ≡ polled) × (result ≡ Err why)
+abbrev pub GoesOn : Result Unit PeerRefusal → Bool → (before after : Seen)
+    → Result (Option Reached) PeerRefusal → Type 0
+GoesOn (Ok done) running before after (Ok reached) = PlaysIf running before after (Ok reached)
+GoesOn (Ok done) running before after (Err (Session why)) = PlaysIf running before after (Err why)
+GoesOn (Ok done) running before after (Err OtherSession) = ⊥
+GoesOn (Err why) running before after result = (after ≡ before) × (result ≡ Err why)
 
 -- a turn: a poll, and then the game
-pub record Turns (old new : Peered) (result : Result (Option Reached) Refusal) : Type 0 where
-  pub polled : Peered
-  pub refusal : Option Refusal
-  pub polls : Polls old polled refusal
-  pub plays : GoesOn refusal polled new result
-
--- why a roll isn't made, and what it leaves: the session as far as the roll came, and nothing else
-abbrev pub IsRollNotMade : Option Refusal → Peered → Peered → ℕ → PeerRefusal → Type 0
-IsRollNotMade refusal old new to NotSynchronized = (old.running ≡ false) × (new ≡ old)
-IsRollNotMade refusal old new to (Session why) =
-    (old.running ≡ true)
-    × (new ≡ with_session old new.member.session old.news)
-    × IsRollRefused refusal old.member.session new.member.session to why
-
-abbrev pub IsNotSynced : Peered → Peered → PeerRefusal → Type 0
-IsNotSynced old new why =
-    IsRollNotMade (sync_refusal old.member.session) old new old.member.session.core.frame why
-
-abbrev pub IsNotAdvanced : Peered → Peered → PeerRefusal → Type 0
-IsNotAdvanced old new why =
-    IsRollNotMade (advance_refusal old.member.session) old new (old.member.session.core.frame + 1) why
+pub record Turns (before after : Seen) (old new : Peered) (result : Result (Option Reached) PeerRefusal)
+    : Type 0 where
+  pub polled : Seen
+  pub poll : Result Unit PeerRefusal
+  pub polls : IsPolled before polled old new poll
+  pub plays : GoesOn poll new.running polled after result

@@ -1,4 +1,4 @@
-//! A peer of a match over a network.
+//! The network of a match at one machine, beside its session.
 #![tactic(auto)]
 
 mod digests;
@@ -21,7 +21,7 @@ pub use event::PeerEvent;
 pub use laws::{events_name_machines, nothing_else_is_heard};
 pub use peer::Peer;
 pub use received::{Ignored, Received};
-pub use refusal::{OpenFault, OpenRefusal, PeerRefusal};
+pub use refusal::{OpenRefusal, OtherSession, PeerRefusal};
 pub use roll_contact::{Field, Stage};
 pub use settings::MatchSettings;
 pub use stats::Stats;

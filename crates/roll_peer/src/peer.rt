@@ -1,56 +1,55 @@
-//! A peer: a session in its seat of a match, and the datagrams that it hears and sends.
-ghost use Rattle.std.specs.Prelude.{◌≡◌, ◌≢◌, max, true, Some, None, IfErr, IfOk, OnErr, OnOk, slice_get};
-ghost use Rattle.roll_member.specs.Joined.{join_refusal};
+//! The network of a match at one machine: the datagrams that it hears and sends, and what it knows by them.
+ghost use Rattle.std.specs.Prelude.{◌≡◌, ◌≢◌, true, false, None, Some, IfErr, IfOk, OnErr, OnOk, slice_get};
+ghost use Rattle.roll_member.specs.Beside.{IsOf};
+ghost use Rattle.roll_member.specs.Joined.{join_refusal, IsTied};
 ghost use Rattle.roll_mesh.specs.Machines.{leave};
 ghost use Rattle.roll_mesh.specs.Meshes.{leave_refusal, stepped};
 ghost use Rattle.roll_mesh.specs.declared.limits.TheConstants.{MACHINE_LIMIT};
 ghost use Rattle.roll_frame.specs.Core.{settled};
 ghost use Rattle.roll_peer.specs.Digests.{noted};
 ghost use Rattle.roll_peer.specs.Events.{popped};
-ghost use Rattle.roll_peer.specs.Peered.{contact_at, GivesWord, IsNotGiven, IsOpenedAs, IsWhyNot};
+ghost use Rattle.roll_peer.specs.Peered.{contact_at, IsOpenedAs, IsWhyNot};
+ghost use Rattle.roll_peer.specs.Receiving.{meeting, IsOther};
 ghost use Rattle.roll_peer.specs.Settings.{seat_of};
-ghost use Rattle.roll_session.specs.Changes.{after_graft, graft_refusal, local_refusal, reserve_refusal, IsRefused, IsWhy};
-ghost use Rattle.roll_session.specs.Guessing.{guess_job_of, guess_refusal_of};
 
 use crate::digests::Digests;
 use crate::event::{Events, PeerEvent};
 use crate::pace::Pace;
-use crate::refusal::{OpenFault, OpenRefusal, PeerRefusal};
+use crate::refusal::{OpenRefusal, OtherSession};
 use crate::settings::MatchSettings;
 use crate::stall::Stall;
-use roll_branch::{Branch, Job};
 use roll_contact::{Clock, Contact, Stage};
-use roll_frame::Refusal;
 use roll_game::Game;
 use roll_member::Member;
-use roll_mesh::{MACHINE_LIMIT, MeshRefusal};
-use roll_session::{Grafted, Session};
+use roll_mesh::{MACHINE_LIMIT, Mesh, MeshRefusal};
+use roll_session::Session;
 use std::alloc::Global;
 use std::marker::Model;
 
-/// A machine of a match: its session, what it knows of the other machines, and what it has to tell its program.
+/// The network of a match at one machine: what it knows of the other machines, and what it has to tell its program. The session
+/// stands beside it, and is lent to the calls that need it: give always the same one, and tell it of others by these calls alone.
 ///
-/// A program calls `receive` for each datagram that came, gives its players' words by `add_local_input`, makes a `turn`, and sends
-/// what `send` makes for each other machine: all this some 60 times a second. All moments are its own clock's, in milliseconds;
-/// the clock begins anew after 2^32. If it goes back, no time passes; if it jumps ahead, nobody is gone before clocks that are sent
-/// after that had the time to come back.
+/// A program calls `receive` for each datagram that came, gives its players' words to the session once `is_running` says that the
+/// match has begun, makes a `turn`, and sends what `send` makes for each other machine: all this some 60 times a second. All moments
+/// are its own clock's, in milliseconds; the clock begins anew after 2^32. If it goes back, no time passes; if it jumps ahead, nobody
+/// is gone before clocks that are sent after that had the time to come back.
 #[derive(Drop)]
-pub struct Peer<G: Game> {
-    pub(crate) member: Member<G>,
+pub struct Peer {
+    pub(crate) member: Member,
     pub(crate) settings: MatchSettings,
     pub(crate) clock: Clock,
     pub(crate) contacts: [Contact; MACHINE_LIMIT],
     pub(crate) stalls: [Stall; MACHINE_LIMIT],
     pub(crate) running: bool,
-    pub(crate) news: bool,
     pub(crate) known_gone: [bool; MACHINE_LIMIT],
     pub(crate) events: Events,
     pub(crate) digests: Digests,
     pub(crate) pace: Pace,
+    pub(crate) frame: u32,
 }
 
 /// A clause sees all of it.
-impl<G: Game> Model for Peer<G> {
+impl Model for Peer {
     ghost use Rattle.std.specs.Prelude.{◌≡◌, ◌≤◌};
     ghost use Rattle.roll_mesh.specs.declared.limits.TheConstants.{MACHINE_LIMIT};
     ghost use Rattle.roll_peer.specs.Peered.{Peered};
@@ -65,48 +64,40 @@ impl<G: Game> Model for Peer<G> {
       contacts = p.contacts;
       stalls = p.stalls;
       running = p.running;
-      news = p.news;
       waiting = p.events;
       known_gone = p.known_gone;
       digests = p.digests;
       pace = p.pace;
+      frame = p.frame;
     } };
 
     ghost invariant = { λ p. (p.member.mesh.seat ≡ seat_of p.settings)
         × (p.settings.machines ≤ MACHINE_LIMIT) };
 }
 
-impl<G: Game> Peer<G> {
-    /// A session joins a match. Its game isn't asked for anything.
+impl Peer {
+    /// Opens the network of a match beside a session, which takes its seat in it. Nothing of the session changes, and its game isn't
+    /// asked for anything.
     ///
     /// # Errors
     ///
-    /// If the settings have no draw, the session can't take its seat, or there is no memory. The session is handed back.
-    pub fn open(
+    /// If the settings have no draw, there is no memory, or the session can't take its seat.
+    pub fn open<G: Game>(
         alloc: Global,
-        session: Session<G>,
+        session: &Session<G>,
         settings: MatchSettings,
-    ) -> Result<Peer<G>, OpenFault<G>>
-        ensures opened { IfOk result (IsOpenedAs session settings) }
-        ensures accepted { OnOk result (join_refusal session (seat_of settings) ≡ None) }
+    ) -> Result<Peer, OpenRefusal>
+        ensures opened { IfOk result (IsOpenedAs session.now settings) }
+        ensures tied { IfOk result (λ peer. IsTied session.now peer.member.mesh) }
+        ensures accepted { OnOk result (join_refusal session.now (seat_of settings) ≡ None) }
         ensures drawn { OnOk result (settings.draw ≢ 0) }
-        ensures back { IfErr result (λ fault. fault.session ≡ session) }
-        ensures refused { IfErr result (λ fault. IsWhyNot session settings fault.why) }
+        ensures refused { IfErr result (IsWhyNot session.now settings) }
     {
         if settings.draw == 0 {
-            return Err(OpenFault {
-                why: OpenRefusal::NoDraw,
-                session,
-            });
+            return Err(OpenRefusal::NoDraw);
         }
-        let pace = match Pace::new(alloc) {
-            Ok(pace) => pace,
-            Err(_) => {
-                return Err(OpenFault {
-                    why: OpenRefusal::NoMemory,
-                    session,
-                });
-            }
+        let Ok(pace) = Pace::new(alloc) else {
+            return Err(OpenRefusal::NoMemory);
         };
         match Member::join(session, settings.seat()) {
             Ok(member) => Ok(Peer {
@@ -116,37 +107,13 @@ impl<G: Game> Peer<G> {
                 contacts: [Contact::new(); MACHINE_LIMIT],
                 stalls: [Stall::new(); MACHINE_LIMIT],
                 running: false,
-                news: false,
                 known_gone: [false; MACHINE_LIMIT],
                 events: Events::new(),
                 digests: Digests::new(),
                 pace,
+                frame: session.frame(),
             }),
-            Err(fault) => Err(OpenFault {
-                why: OpenRefusal::Join(fault.why),
-                session: fault.session,
-            }),
-        }
-    }
-
-    /// Gives a local player's word of this frame, from 1 on.
-    ///
-    /// # Errors
-    ///
-    /// `NotSynchronized` before the match has begun, else those of the session. Nothing is changed then.
-    pub fn add_local_input(&mut self, player: u8, word: u32) -> Result<(), PeerRefusal>
-        ensures begun { OnOk result (self.old.running ≡ true) }
-        ensures accepted { OnOk result (local_refusal self.old.member.session player ≡ None) }
-        ensures taken { OnOk result (GivesWord self.old self.new player word) }
-        ensures refused { IfErr result (IsNotGiven self.old player) }
-        ensures unchanged { OnErr result (self.new ≡ self.old) }
-    {
-        if !self.running {
-            return Err(PeerRefusal::NotSynchronized);
-        }
-        match self.member.add_local_input(player, word) {
-            Ok(()) => Ok(()),
-            Err(why) => Err(PeerRefusal::Session(why)),
+            Err(why) => Err(OpenRefusal::Join(why)),
         }
     }
 
@@ -169,14 +136,29 @@ impl<G: Game> Peer<G> {
         self.member.leave(machine)
     }
 
-    /// Notes the digest of the session's settled state, by which the machines see that they play the same game. It is kept until
-    /// one is noted of a frame that is 128 later, or 256, and so on.
-    pub fn note_settled(&mut self, digest: u64)
-        ensures { self.new ≡ record self.old {
-          digests = noted (settled self.old.member.session.core) digest self.old.digests;
-        } }
+    /// Notes the digest of the session's settled state, by which the machines see that they play the same game. It stays until
+    /// that of a frame is noted which is a multiple of 128 frames later.
+    ///
+    /// # Errors
+    ///
+    /// If the session isn't this match's. Nothing is changed then.
+    pub fn note_settled<G: Game>(
+        &mut self,
+        session: &Session<G>,
+        digest: u64,
+    ) -> Result<(), OtherSession>
+        ensures noted { OnOk result (self.new ≡ record (meeting session.now self.old) {
+          digests = noted (settled session.now.core) digest self.old.digests;
+        }) }
+        ensures accepted { OnOk result (IsOf session.now self.old.member) }
+        ensures other { OnErr result (IsOther session.now self.old) }
+        ensures unchanged { OnErr result (self.new ≡ self.old) }
     {
-        self.digests.note(self.member.session().settled(), digest);
+        if !self.member.meet(session) {
+            return Err(OtherSession);
+        }
+        self.digests.note(session.settled(), digest);
+        Ok(())
     }
 
     /// What happened, the oldest first. If 64 events wait, the oldest of them is dropped for a new one.
@@ -197,84 +179,11 @@ impl<G: Game> Peer<G> {
         }
     }
 
-    /// Whether words of others or leaves came since the last rollback. A turn that stands needs no `synchronize_input` otherwise.
-    pub fn has_news(&self) -> bool
-        ensures { result ≡ self.now.news }
-    {
-        self.news
-    }
-
-    /// Whether the match has begun: all machines that aren't gone had heard each other.
+    /// Whether the match has begun: all machines that aren't gone had heard each other. Before that the session gets no words.
     pub fn is_running(&self) -> bool
         ensures { result ≡ self.now.running }
     {
         self.running
-    }
-
-    /// A job for a guess, as the session's own `guess`: any thread may run it.
-    ///
-    /// # Errors
-    ///
-    /// Those of the session.
-    pub fn guess(
-        &mut self,
-        alloc: Global,
-        player: u8,
-        words: &[u32],
-        until: u32,
-    ) -> Result<Option<Job<G>>, Refusal>
-        ensures job { IfOk result
-            (λ job. job ≡ guess_job_of G.step self.old.member.session player words.now until) }
-        ensures refused { IfErr result
-            (IsWhy (guess_refusal_of self.old.member.session player words.now until)) }
-        ensures accepted { OnOk result
-            (guess_refusal_of self.old.member.session player words.now until ≡ None) }
-        ensures rest { self.new ≡ record self.old {
-          member = record self.old.member {
-            session = record self.old.member.session { counts = self.new.member.session.counts };
-          };
-        } }
-    {
-        self.member.guess(alloc, player, words, until)
-    }
-
-    /// Takes a branch in, as the session's own `graft`.
-    ///
-    /// # Errors
-    ///
-    /// Those of the session. Nothing is changed then.
-    pub fn graft(&mut self, branch: Branch<G>) -> Result<Grafted, Refusal>
-        ensures accepted { OnOk result
-            (graft_refusal G.step self.old.member.session branch ≡ None) }
-        ensures taken { OnOk result
-            (self.new.member.session ≡ after_graft self.old.member.session branch) }
-        ensures refused { IfErr result
-            (IsRefused (graft_refusal G.step self.old.member.session branch)
-            self.old.member.session self.new.member.session) }
-        ensures rest { self.new ≡ record self.old { member = self.new.member } }
-        ensures mesh { self.new.member.mesh ≡ self.old.member.mesh }
-    {
-        self.member.graft(branch)
-    }
-
-    /// The session's own `reserve_log`: so many events more take no memory.
-    ///
-    /// # Errors
-    ///
-    /// Those of the session. Nothing is changed then.
-    pub fn reserve_log(&mut self, events: u32) -> Result<(), Refusal>
-        ensures reserved { OnOk result (self.new ≡ record self.old {
-          member = record self.old.member {
-            session = record self.old.member.session {
-              reserved = max self.old.member.session.reserved events;
-            };
-          };
-        }) }
-        ensures refused { IfErr result
-            (IsWhy (reserve_refusal self.old.member.session events)) }
-        ensures unchanged { OnErr result (self.new ≡ self.old) }
-    {
-        self.member.reserve_log(events)
     }
 
     /// How many events were dropped, since 64 waited already.
@@ -284,24 +193,10 @@ impl<G: Game> Peer<G> {
         self.events.lost()
     }
 
-    /// The session and what this machine knows of the others.
-    pub fn member(&self) -> &Member<G>
-        ensures { result.now ≡ self.now.member }
+    /// What this machine knows of the others: who has how many words, and who is gone.
+    pub fn mesh(&self) -> &Mesh
+        ensures { result.now ≡ self.now.member.mesh }
     {
-        &self.member
-    }
-
-    /// The session.
-    pub fn session(&self) -> &Session<G>
-        ensures { result.now ≡ self.now.member.session }
-    {
-        self.member.session()
-    }
-
-    /// The session, which leaves the match.
-    pub fn into_session(self) -> Session<G>
-        ensures { result ≡ self.member.session }
-    {
-        self.member.into_session()
+        self.member.mesh()
     }
 }

@@ -43,6 +43,9 @@ pub enum Ignored {
     /// The sender is gone.
     #[error("the sender is gone")]
     MachineGone,
+    /// The session isn't this match's: [`OtherSession`](crate::OtherSession).
+    #[error("the session isn't this match's")]
+    OtherSession,
     /// A play speaks of machines or players that the match hasn't.
     #[error("it speaks of machines or players that the match hasn't")]
     Outside,

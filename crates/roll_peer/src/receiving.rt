@@ -1,11 +1,13 @@
-//! A peer hears bytes.
+//! Bytes that come are heard.
 ghost use Rattle.std.specs.Prelude.{◌≡◌, ◌<◌, is_some, None, Some, IfErr, IfOk, IfSome, IsNone, IsSome, OnErr, OnOk};
 ghost use Rattle.roll_contact.specs.Contacts.{refused};
 ghost use Rattle.roll_mesh.specs.declared.limits.TheConstants.{MACHINE_LIMIT};
+ghost use Rattle.roll_member.specs.Beside.{IsOf};
 ghost use Rattle.roll_member.specs.Hearing.{HearsPacket};
+ghost use Rattle.roll_member.specs.Joined.{IsTied};
 ghost use Rattle.roll_mesh.specs.Meshes.{is_had};
-ghost use Rattle.roll_peer.specs.Peered.{contact_at};
-ghost use Rattle.roll_peer.specs.Receiving.{after_ignored, after_words, byte_at, deaf_to, ignored, ignored_sized, is_refusal, is_sized, key_of, knowing, moment_of, open_by, opened, packet_of, refused_of, sender_of, ticking, unheard, unplayed, with_news, Hears, HearsBye, HearsHello, HearsTurn, IsOpened, Receives};
+ghost use Rattle.roll_peer.specs.Peered.{beside, contact_at};
+ghost use Rattle.roll_peer.specs.Receiving.{after_ignored, after_words, byte_at, deaf_to, ignored, ignored_sized, is_refusal, is_sized, key_of, knowing, meeting, moment_of, open_by, opened, packet_of, refused_of, sender_of, ticking, unheard, unplayed, Hears, HearsBye, HearsHello, HearsTurn, IsIgnored, IsOpened, Receives};
 ghost use Rattle.roll_wire.specs.Spelling.{content, turn, Plays};
 
 use crate::judging::{are_no_more, is_inside};
@@ -16,6 +18,7 @@ use roll_contact::{Contact, Key};
 use roll_game::Game;
 use roll_member::Taken;
 use roll_mesh::Packet;
+use roll_session::Session;
 use roll_wire::{Body, Clocks, DATAGRAM_LIMIT, Hello, Play, decode};
 
 /// Where a datagram has its sender's number, and its kind.
@@ -25,7 +28,7 @@ const KIND_AT: usize = 13;
 /// How many bytes each datagram has at least.
 const HEAD: usize = 14;
 
-impl<G: Game> Peer<G> {
+impl Peer {
     /// Hears bytes that came by the network, at a moment. Words that they hold become words of the session, and what its sender
     /// knows is known here; nothing else changes. What isn't of this match, or of another opening of its sender or of this machine,
     /// changes nothing. It takes memory for the log alone, and none for events that were reserved.
@@ -34,35 +37,55 @@ impl<G: Game> Peer<G> {
     ///
     /// Why they weren't heard. Then nothing changed but the clock; and of what its sender sealed it is counted and told that it was
     /// refused.
-    pub fn receive(&mut self, bytes: &[u8], now: u32) -> Result<Received, Ignored>
-        ensures received { IfOk result (Receives G.step (ticking now self.old) self.new bytes.now) }
-        ensures accepted { OnOk result (ignored (ticking now self.old) bytes.now ≡ None) }
-        ensures ignored { IfErr result (λ why. ignored (ticking now self.old) bytes.now ≡ Some why) }
+    pub fn receive<G: Game>(
+        &mut self,
+        session: &mut Session<G>,
+        bytes: &[u8],
+        now: u32,
+    ) -> Result<Received, Ignored>
+        ensures received { IfOk result (Receives G.step session.old session.new
+            (meeting session.old (ticking now self.old)) self.new bytes.now) }
+        ensures tied { OnOk result (IsTied session.new self.new.member.mesh) }
+        ensures accepted { OnOk result (IsOf session.old self.old.member) }
+        ensures fine { OnOk result
+            (ignored (meeting session.old (ticking now self.old)) bytes.now ≡ None) }
         ensures refused { IfErr result
-            (λ why. self.new ≡ after_ignored (sender_of bytes.now) why (ticking now self.old)) }
+            (IsIgnored session.old (ticking now self.old) self.new bytes.now) }
+        ensures session { OnErr result (session.new ≡ session.old) }
     {
         self.clock.tick(now);
+        if !self.member.meet(session) {
+            return Err(Ignored::OtherSession);
+        }
         if !is_sized(bytes) {
             return Err(Ignored::NotSealed);
         }
-        self.receive_sized(bytes)
+        self.receive_sized(session, bytes)
     }
 
     /// Hears bytes that are as many as a datagram has, at the moment that the clock shows.
     #[tactic(auto, using(crate::proofs::Said::ignored_is))]
-    fn receive_sized(&mut self, bytes: &[u8]) -> Result<Received, Ignored>
-        ensures received { IfOk result (Receives G.step self.old self.new bytes.now) }
+    fn receive_sized<G: Game>(
+        &mut self,
+        session: &mut Session<G>,
+        bytes: &[u8],
+    ) -> Result<Received, Ignored>
+        requires tied { IsTied session.old self.old.member.mesh }
+        ensures received { IfOk result
+            (Receives G.step session.old session.new self.old self.new bytes.now) }
+        ensures tied { OnOk result (IsTied session.new self.new.member.mesh) }
         ensures accepted { OnOk result (ignored_sized self.old bytes.now ≡ None) }
         ensures ignored { IfErr result (λ why. ignored_sized self.old bytes.now ≡ Some why) }
         ensures refused { IfErr result
             (λ why. self.new ≡ after_ignored (sender_of bytes.now) why self.old) }
+        ensures session { OnErr result (session.new ≡ session.old) }
     {
         let sender = byte_of(bytes, SENDER_AT);
         if let Some(why) = self.deaf_to(sender) {
             return Err(why);
         }
         match self.body_of(sender, bytes) {
-            Ok(body) => self.hear(sender, body),
+            Ok(body) => self.hear(session, sender, body),
             Err(why) => {
                 self.note_ignored(sender, why);
                 Err(why)
@@ -144,10 +167,19 @@ impl<G: Game> Peer<G> {
     }
 
     /// What was opened is heard, at the moment that the clock shows.
-    fn hear(&mut self, sender: u8, body: Body) -> Result<Received, Ignored>
+    fn hear<G: Game>(
+        &mut self,
+        session: &mut Session<G>,
+        sender: u8,
+        body: Body,
+    ) -> Result<Received, Ignored>
+        requires tied { IsTied session.old self.old.member.mesh }
         requires place { sender < MACHINE_LIMIT }
         requires listened { deaf_to self.old sender ≡ None }
-        ensures heard { IfOk result (Hears G.step self.old self.new sender (content body)) }
+        ensures heard { IfOk result
+            (Hears G.step session.old session.new self.old self.new sender (content body)) }
+        ensures tied { OnOk result (IsTied session.new self.new.member.mesh) }
+        ensures session { OnErr result (session.new ≡ session.old) }
         ensures accepted { OnOk result (unheard self.old sender (content body) ≡ None) }
         ensures refused { IfErr result (λ why. unheard self.old sender (content body) ≡ Some why) }
         ensures counted { IfErr result (λ why. self.new ≡ after_ignored sender why self.old) }
@@ -157,7 +189,7 @@ impl<G: Game> Peer<G> {
                 self.hear_hello(sender, &hello);
                 Ok(Received::Hello { sender })
             }
-            Body::Play(play) => self.hear_play(sender, &play),
+            Body::Play(play) => self.hear_play(session, sender, &play),
             Body::Bye => {
                 self.hear_bye(sender);
                 Ok(Received::Bye { sender })
@@ -180,10 +212,19 @@ impl<G: Game> Peer<G> {
     }
 
     /// A play is heard, unless it is refused.
-    fn hear_play(&mut self, sender: u8, play: &Play) -> Result<Received, Ignored>
+    fn hear_play<G: Game>(
+        &mut self,
+        session: &mut Session<G>,
+        sender: u8,
+        play: &Play,
+    ) -> Result<Received, Ignored>
+        requires tied { IsTied session.old self.old.member.mesh }
         requires place { sender < MACHINE_LIMIT }
         requires listened { deaf_to self.old sender ≡ None }
-        ensures heard { IfOk result (Hears G.step self.old self.new sender (Plays (turn play.now))) }
+        ensures heard { IfOk result
+            (Hears G.step session.old session.new self.old self.new sender (Plays (turn play.now))) }
+        ensures tied { OnOk result (IsTied session.new self.new.member.mesh) }
+        ensures session { OnErr result (session.new ≡ session.old) }
         ensures accepted { OnOk result (unheard self.old sender (Plays (turn play.now)) ≡ None) }
         ensures refused { IfErr result
             (λ why. unheard self.old sender (Plays (turn play.now)) ≡ Some why) }
@@ -194,7 +235,7 @@ impl<G: Game> Peer<G> {
             self.note_refused(sender);
             return Err(why);
         }
-        match self.hear_turn(sender, play, &packet) {
+        match self.hear_turn(session, sender, play, &packet) {
             Some(taken) => Ok(Received::Play { sender, taken }),
             None => {
                 self.note_refused(sender);
@@ -218,39 +259,52 @@ impl<G: Game> Peer<G> {
     }
 
     /// A turn is heard. None if it has words that its sender doesn't say that it has: nothing changed then.
-    fn hear_turn(&mut self, sender: u8, play: &Play, packet: &Packet) -> Option<Taken>
+    fn hear_turn<G: Game>(
+        &mut self,
+        session: &mut Session<G>,
+        sender: u8,
+        play: &Play,
+        packet: &Packet,
+    ) -> Option<Taken>
+        requires tied { IsTied session.old self.old.member.mesh }
         requires place { sender < MACHINE_LIMIT }
         requires listened { deaf_to self.old sender ≡ None }
         requires same { packet.now ≡ packet_of sender (turn play.now) }
-        ensures heard { IfSome result (HearsTurn G.step self.old self.new sender (turn play.now)) }
+        ensures heard { IfSome result
+            (HearsTurn G.step session.old session.new self.old self.new sender (turn play.now)) }
+        ensures tied { IsTied session.new self.new.member.mesh }
         ensures had { is_some result ≡ is_had (packet_of sender (turn play.now)) }
         ensures unchanged { IsNone result → self.new ≡ self.old }
+        ensures session { IsNone result → session.new ≡ session.old }
     {
-        let frame = self.member.session().frame();
-        let taken = self.take_turn(sender, play, packet)?;
+        let frame = session.frame();
+        let taken = self.take_turn(session, sender, play, packet)?;
         self.know_turn(sender, play, frame, taken.refusal.is_some());
         self.events.dropped(taken.heard);
         Some(taken)
     }
 
     /// Session and mesh hear a turn. None if it has words that its sender doesn't say that it has: nothing changed then.
-    fn take_turn(&mut self, sender: u8, play: &Play, packet: &Packet) -> Option<Taken>
+    fn take_turn<G: Game>(
+        &mut self,
+        session: &mut Session<G>,
+        sender: u8,
+        play: &Play,
+        packet: &Packet,
+    ) -> Option<Taken>
+        requires tied { IsTied session.old self.old.member.mesh }
         requires listened { deaf_to self.old sender ≡ None }
         requires same { packet.now ≡ packet_of sender (turn play.now) }
-        ensures heard { IfSome result (HearsPacket G.step self.old.member self.new.member
-            (packet_of sender (turn play.now)) play.now.words.items) }
-        ensures rest { IsSome result → self.new ≡ with_news self.old self.new.member }
+        ensures heard { IfSome result (HearsPacket G.step (beside session.old self.old)
+            (beside session.new self.new) (packet_of sender (turn play.now)) play.now.words.items) }
+        ensures tied { IsTied session.new self.new.member.mesh }
+        ensures rest { self.new ≡ record self.old { member = self.new.member } }
+        ensures limits { self.new.member.limits ≡ self.old.member.limits }
         ensures had { is_some result ≡ is_had (packet_of sender (turn play.now)) }
         ensures unchanged { IsNone result → self.new ≡ self.old }
+        ensures session { IsNone result → session.new ≡ session.old }
     {
-        let words = self.member.session().log().len();
-        match self.member.hear(packet, &play.words) {
-            Ok(taken) => {
-                self.news |= self.member.session().log().len() > words;
-                Some(taken)
-            }
-            Err(_) => None,
-        }
+        self.member.hear(session, packet, &play.words).ok()
     }
 
     /// What a turn tells of its sender is known, and told.

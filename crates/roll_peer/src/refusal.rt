@@ -1,8 +1,6 @@
-//! Why a call of a peer is refused.
+//! Why a call is refused.
 use roll_frame::Refusal;
-use roll_game::Game;
 use roll_member::JoinRefusal;
-use roll_session::Session;
 use thiserror::Error;
 
 /// Why a match can't be opened.
@@ -19,19 +17,19 @@ pub enum OpenRefusal {
     NoMemory,
 }
 
-/// A session that can't be opened as a peer, and why.
-#[derive(Drop)]
-pub struct OpenFault<G: Game> {
-    pub why: OpenRefusal,
-    pub session: Session<G>,
-}
+/// The session isn't this match's: its settings are others than those of the session with which the match was opened, it has of
+/// another machine's player other words than came, or somebody left it who hasn't left the match. A session that was told of
+/// others past the match is such a one from then on.
+#[derive(Clone, Copy, Debug, PartialEq, Eq, Error)]
+#[error("the session isn't this match's")]
+pub struct OtherSession;
 
-/// Why a call of a peer is refused.
+/// Why a turn isn't made whole.
 #[derive(Clone, Copy, Debug, PartialEq, Eq, Error)]
 pub enum PeerRefusal {
-    /// Not all machines that aren't gone have heard each other.
-    #[error("the match hasn't begun")]
-    NotSynchronized,
+    /// The session isn't this match's: [`OtherSession`].
+    #[error("the session isn't this match's")]
+    OtherSession,
     /// The session refuses it.
     #[error("{0}")]
     Session(Refusal),

@@ -1,14 +1,17 @@
-//! What a peer sends.
-ghost use Rattle.std.specs.Prelude.{◌≡◌, ◌<◌, ◌%◌, ◌==◌, ◌||◌, not, true, false, is_none, nat_lt, Some, None, IfSome, if◌then◌else◌};
+//! What is sent.
+ghost use Rattle.std.specs.Prelude.{◌≡◌, ◌<◌, ◌%◌, ◌==◌, ◌||◌, not, true, false, is_none, nat_lt, Some, None, IfOk, IfSome, OnErr, OnOk, if◌then◌else◌};
 ghost use Rattle.roll_contact.specs.Contacts.{clocks_for, is_playing};
 ghost use Rattle.roll_contact.specs.Seals.{sealed};
+ghost use Rattle.roll_member.specs.Beside.{IsOf};
+ghost use Rattle.roll_member.specs.Joined.{IsTied};
 ghost use Rattle.roll_mesh.specs.declared.limits.TheConstants.{MACHINE_LIMIT};
 ghost use Rattle.roll_peer.specs.Peered.{contact_at};
-ghost use Rattle.roll_peer.specs.Receiving.{moment_of, ticking};
+ghost use Rattle.roll_peer.specs.Receiving.{meeting, moment_of, ticking, IsOther};
 ghost use Rattle.roll_peer.specs.Sending.{after_send, clocks_in, is_lost, key_for, settled_in, stats_of, text_for, IsContentFor, IsPlayFor, IsSent};
 ghost use Rattle.roll_wire.specs.Spelling.{content, is_turn, is_whole, spelling, turn, Leaves};
 
 use crate::peer::Peer;
+use crate::refusal::OtherSession;
 use crate::stats::Stats;
 use arrayvec::ArrayVec;
 use roll_contact::seal::seal;
@@ -16,27 +19,45 @@ use roll_contact::{Contact, Key};
 use roll_game::Game;
 use roll_member::Told;
 use roll_mesh::Packet;
+use roll_session::Session;
 use roll_wire::{Body, Clocks, DATAGRAM_LIMIT, Datagram, Envelope, Head, Play, Settled, encode};
 
 /// In how many datagrams to a machine one tells the digest of a settled state.
 const SETTLED_EVERY: u32 = 64;
 
-impl<G: Game> Peer<G> {
+impl Peer {
     /// The bytes to send to a machine in this turn: until it has said this opening's draw who this machine takes the match's machines
     /// to be, and then what the machine hasn't said that it has. None if there is no such machine, it is this one, or it is gone.
+    ///
+    /// # Errors
+    ///
+    /// If the session isn't this match's. Nothing changed then but the clock.
     #[tactic(auto, using(crate::proofs::Said::after_send_is))]
-    pub fn send(&mut self, machine: u8, now: u32) -> Option<ArrayVec<u8, DATAGRAM_LIMIT>>
-        ensures sent { IfSome result (λ bytes. IsSent (ticking now self.old) machine bytes.items) }
-        ensures lost { is_none result ≡ is_lost self.old machine }
-        ensures counted { self.new ≡ after_send (ticking now self.old) machine }
+    pub fn send<G: Game>(
+        &mut self,
+        session: &Session<G>,
+        machine: u8,
+        now: u32,
+    ) -> Result<Option<ArrayVec<u8, DATAGRAM_LIMIT>>, OtherSession>
+        ensures sent { IfOk result (λ sent. IfSome sent (λ bytes.
+            IsSent session.now (meeting session.now (ticking now self.old)) machine bytes.items)) }
+        ensures lost { IfOk result (λ sent. is_none sent ≡ is_lost self.old machine) }
+        ensures counted { OnOk result
+            (self.new ≡ after_send (meeting session.now (ticking now self.old)) machine) }
+        ensures accepted { OnOk result (IsOf session.now self.old.member) }
+        ensures other { OnErr result (IsOther session.now self.old) }
+        ensures unchanged { OnErr result (self.new ≡ ticking now self.old) }
     {
         self.clock.tick(now);
-        if self.is_lost(machine) {
-            return None;
+        if !self.member.meet(session) {
+            return Err(OtherSession);
         }
-        let bytes = self.bytes_for(machine);
+        if self.is_lost(machine) {
+            return Ok(None);
+        }
+        let bytes = self.bytes_for(session, machine);
         self.count_sent(machine);
-        Some(bytes)
+        Ok(Some(bytes))
     }
 
     /// A datagram was sent to a machine.
@@ -55,9 +76,14 @@ impl<G: Game> Peer<G> {
     }
 
     /// The bytes for a machine.
-    fn bytes_for(&self, machine: u8) -> ArrayVec<u8, DATAGRAM_LIMIT>
-        requires { machine < MACHINE_LIMIT }
-        ensures { IsSent self.now machine result.items }
+    fn bytes_for<G: Game>(
+        &self,
+        session: &Session<G>,
+        machine: u8,
+    ) -> ArrayVec<u8, DATAGRAM_LIMIT>
+        requires tied { IsTied session.now self.now.member.mesh }
+        requires place { machine < MACHINE_LIMIT }
+        ensures { IsSent session.now self.now machine result.items }
     {
         let contact = self.contacts[usize::from(machine)];
         if contact.says_hello() {
@@ -67,7 +93,7 @@ impl<G: Game> Peer<G> {
                 .hello(&self.settings.opening(), contact.hello_echo());
             self.sealed_for(machine, Body::Hello(hello))
         } else {
-            self.sealed_for(machine, Body::Play(self.play_for(machine)))
+            self.sealed_for(machine, Body::Play(self.play_for(session, machine)))
         }
     }
 
@@ -116,11 +142,11 @@ impl<G: Game> Peer<G> {
     }
 
     /// How far this machine is, and when it sends, if that is due.
-    fn clocks_for(&self, contact: &Contact) -> Option<Clocks>
-        ensures { result ≡ clocks_in self.now contact.now }
+    fn clocks_for(&self, frame: u32, contact: &Contact) -> Option<Clocks>
+        ensures { result ≡ clocks_in frame self.now contact.now }
     {
         if contact.wants_clocks(self.clock.moment) {
-            Some(contact.mine(self.member.session().frame(), self.clock.moment))
+            Some(contact.mine(frame, self.clock.moment))
         } else {
             None
         }
@@ -138,16 +164,17 @@ impl<G: Game> Peer<G> {
     }
 
     /// A turn for a machine.
-    fn play_for(&self, machine: u8) -> Play
-        requires { machine < MACHINE_LIMIT }
-        ensures told { IsPlayFor self.now machine (turn result) }
+    fn play_for<G: Game>(&self, session: &Session<G>, machine: u8) -> Play
+        requires tied { IsTied session.now self.now.member.mesh }
+        requires place { machine < MACHINE_LIMIT }
+        ensures told { IsPlayFor session.now self.now machine (turn result) }
         ensures whole { is_turn (turn result) ≡ true }
     {
-        let Told { packet, words } = self.member.tell(machine);
+        let Told { packet, words } = self.member.tell(session, machine);
         let Packet { view, offers, .. } = packet.shortened();
         let contact = self.contacts[usize::from(machine)];
         let head = Head {
-            clocks: self.clocks_for(&contact),
+            clocks: self.clocks_for(session.frame(), &contact),
             view,
             settled: self.settled_for(&contact),
             offers,

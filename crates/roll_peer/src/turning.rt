@@ -1,115 +1,100 @@
-//! A turn of a peer: silent machines are gone, players leave, and the session goes on.
-ghost use Rattle.std.specs.Prelude.{◌≡◌, ◌<◌, ◌≤◌, ◌+◌, true, false, None, Some, IfErr, IfOk, OnOk, if◌then◌else◌};
+//! A turn: silent machines are gone, players leave, and the session goes on.
+ghost use Rattle.std.specs.Prelude.{◌≡◌, ◌<◌, ◌≤◌, true, false, None, Some, OnOk, if◌then◌else◌};
+ghost use Rattle.roll_member.specs.Joined.{IsTied};
 ghost use Rattle.roll_mesh.specs.declared.limits.TheConstants.{MACHINE_LIMIT};
-ghost use Rattle.roll_peer.specs.Receiving.{ticking};
-ghost use Rattle.roll_peer.specs.Turning.{are_ready, begun, farewell_at, farewell_until, has_waited, held_up_by, hushed_at, hushed_until, is_missed, is_ready_at, missed_at, missed_until, over, silenced_at, silenced_until, stall_told, watched_at, watched_until, with_session, IsNotAdvanced, IsNotSynced, IsParted, Plays, Polls, Turns};
-ghost use Rattle.roll_session.specs.Changes.{advance_refusal, after_advance, after_sync, reached_by, sync_refusal, IsRollRefused};
-ghost use Rattle.roll_frame.specs.Timeline.{row_at as row_of};
+ghost use Rattle.roll_peer.specs.Receiving.{meeting, moment_of, ticking};
+ghost use Rattle.roll_peer.specs.Turning.{are_ready, begun, ends_in_roll, farewell_at, farewell_until, has_waited, held_up_by, hushed_at, hushed_until, is_missed, is_ready_at, looked_after, missed_at, missed_until, moved_to, over, silenced_at, silenced_until, stall_told, watched_at, watched_until, IsParted, IsPolled, IsUpToDate, Plays, Polls, Turns};
 
 use crate::event::PeerEvent;
 use crate::peer::Peer;
 use crate::refusal::PeerRefusal;
 use roll_contact::since;
-use roll_frame::{Refusal, Row};
+use roll_frame::Refusal;
 use roll_game::Game;
-use roll_session::Reached;
+use roll_session::{Call, Log, Logged, Reached, Session};
 
-impl<G: Game> Peer<G> {
+impl Peer {
     /// A turn of the main loop, at a moment: a `poll`, and once the match has begun, the session goes to its next frame if its local
-    /// words are there, and says so; else it rolls back, if words of others came.
+    /// words are there, and says so; else it rolls back, if anything was accepted since it last did.
     ///
     /// # Errors
     ///
-    /// Those of the session. The turn was made as far as that, and the next one goes on from there.
-    pub fn turn(&mut self, now: u32) -> Result<Option<Reached>, Refusal>
-        ensures { Turns (ticking now self.old) self.new result }
+    /// `OtherSession` if the session isn't this match's: nothing changed then but the clock. Else those of the session: the turn was
+    /// made as far as that, and the next one goes on from there.
+    pub fn turn<G: Game>(
+        &mut self,
+        session: &mut Session<G>,
+        now: u32,
+    ) -> Result<Option<Reached>, PeerRefusal>
+        ensures turned { Turns session.old session.new (ticking now self.old) self.new result }
+        ensures shown { OnOk result (self.new.running ≡ true → IsUpToDate session.new) }
     {
-        self.poll(now)?;
+        self.poll(session, now)?;
         if !self.running {
             return Ok(None);
         }
-        self.play()
+        match play(session) {
+            Ok(reached) => Ok(reached),
+            Err(why) => Err(PeerRefusal::Session(why)),
+        }
     }
 
-    /// What a turn does before it plays, for a main loop that calls `synchronize_input` and `advance_frame` itself. Machines that were
-    /// silent for too long, or held up the match, are gone from now on, the players of who is gone leave if they may, and the match
-    /// begins once all machines have heard each other.
+    /// What a turn does before it plays, for a main loop that calls the session's `synchronize_input` and `advance_frame` itself.
+    /// Machines that were silent for too long, or held up the match, are gone from now on, the players of who is gone leave if they
+    /// may, and the match begins once all machines have heard each other. If the session has come to another frame since the last
+    /// poll, it is noted how far the machines are from one another. It changes nothing of a session but who has left.
     ///
     /// # Errors
     ///
-    /// `LogFull` or `NoMemory` if a player who is to leave is still in the session. All else is done, and the next poll tries it
-    /// again.
-    pub fn poll(&mut self, now: u32) -> Result<(), Refusal>
-        ensures polled { OnOk result (Polls (ticking now self.old) self.new None) }
-        ensures short { IfErr result (λ why. Polls (ticking now self.old) self.new (Some why)) }
+    /// `OtherSession` if the session isn't this match's: nothing changed then but the clock. `LogFull` or `NoMemory` if a player who
+    /// is to leave is still in the session: all else is done, and the next poll tries it again.
+    pub fn poll<G: Game>(&mut self, session: &mut Session<G>, now: u32) -> Result<(), PeerRefusal>
+        ensures { IsPolled session.old session.new (ticking now self.old) self.new result }
     {
         self.clock.tick(now);
-        self.poll_now()
+        if !self.member.meet(session) {
+            return Err(PeerRefusal::OtherSession);
+        }
+        match self.poll_now(session) {
+            None => Ok(()),
+            Some(why) => Err(PeerRefusal::Session(why)),
+        }
     }
 
-    /// A poll at the moment that the clock shows.
-    fn poll_now(&mut self) -> Result<(), Refusal>
-        ensures polled { OnOk result (Polls self.old self.new None) }
-        ensures short { IfErr result (λ why. Polls self.old self.new (Some why)) }
+    /// A poll at the moment that the clock shows. Why a player who is to leave is still there, if so.
+    fn poll_now<G: Game>(&mut self, session: &mut Session<G>) -> Option<Refusal>
+        requires { IsTied session.old self.old.member.mesh }
+        ensures polled { Polls session.old session.new self.old self.new result }
+        ensures tied { IsTied session.new self.new.member.mesh }
+    {
+        self.look_after(session.frame());
+        let refusal = self.part(session);
+        self.begin();
+        refusal
+    }
+
+    /// Who is silent, or holds up the match, or hasn't come; and how far the machines are from one another.
+    fn look_after(&mut self, frame: u32)
+        ensures { self.new ≡ looked_after (moment_of self.old) self.old.settings.machines
+            (moved_to frame self.old) }
     {
         let now = self.clock.moment;
         let machines = self.settings.machines;
+        self.move_to(frame);
         self.silence(machines, now);
         self.watch(machines, now);
         self.hush(machines, now);
         self.miss(machines, now);
         self.tell_who_is_gone(machines);
-        let refusal = self.part();
-        self.begin();
-        match refusal {
-            None => Ok(()),
-            Some(why) => Err(why),
-        }
     }
 
-    /// The session's own `synchronize_input`: the row of this frame, after a rollback if words of others came that weren't
-    /// predicted.
-    ///
-    /// # Errors
-    ///
-    /// `NotSynchronized` before the match has begun, else those of the session.
-    pub fn synchronize_input(&mut self) -> Result<Row, PeerRefusal>
-        ensures begun { OnOk result (self.old.running ≡ true) }
-        ensures accepted { OnOk result (sync_refusal self.old.member.session ≡ None) }
-        ensures row { IfOk result (λ row. row
-            ≡ row_of self.old.member.session.core.players self.old.member.session.core.frame) }
-        ensures rolled { OnOk result
-            (self.new ≡ with_session self.old (after_sync self.old.member.session) false) }
-        ensures refused { IfErr result (IsNotSynced self.old self.new) }
+    /// If the session has come to another frame, that is noted.
+    fn move_to(&mut self, frame: u32)
+        ensures { self.new ≡ moved_to frame self.old }
     {
-        if !self.running {
-            return Err(PeerRefusal::NotSynchronized);
-        }
-        match self.synchronize() {
-            Ok(row) => Ok(row),
-            Err(why) => Err(PeerRefusal::Session(why)),
-        }
-    }
-
-    /// The session's own `advance_frame`.
-    ///
-    /// # Errors
-    ///
-    /// `NotSynchronized` before the match has begun, else those of the session.
-    pub fn advance_frame(&mut self) -> Result<Reached, PeerRefusal>
-        ensures begun { OnOk result (self.old.running ≡ true) }
-        ensures accepted { OnOk result (advance_refusal self.old.member.session ≡ None) }
-        ensures reached { IfOk result (λ reached. reached ≡ reached_by self.old.member.session.core) }
-        ensures rolled { OnOk result
-            (self.new ≡ over (with_session self.old (after_advance self.old.member.session) false)) }
-        ensures refused { IfErr result (IsNotAdvanced self.old self.new) }
-    {
-        if !self.running {
-            return Err(PeerRefusal::NotSynchronized);
-        }
-        match self.advance() {
-            Ok(reached) => Ok(reached),
-            Err(why) => Err(PeerRefusal::Session(why)),
+        if frame != self.frame {
+            self.frame = frame;
+            self.note_pace();
         }
     }
 
@@ -184,7 +169,7 @@ impl<G: Game> Peer<G> {
         if !self.running {
             return None;
         }
-        let threshold = self.member.session().settings().threshold;
+        let threshold = self.member.limits().threshold;
         self.member.mesh().holds_up(machine, threshold)
     }
 
@@ -274,12 +259,12 @@ impl<G: Game> Peer<G> {
     }
 
     /// The players of who is gone leave, if they may. Why one who is to leave is still there, if so.
-    fn part(&mut self) -> Option<Refusal>
-        ensures { IsParted self.old self.new result }
+    fn part<G: Game>(&mut self, session: &mut Session<G>) -> Option<Refusal>
+        requires { IsTied session.old self.old.member.mesh }
+        ensures parted { IsParted session.old session.new self.old self.new result }
+        ensures tied { IsTied session.new self.new.member.mesh }
     {
-        let before = self.member.session().log().len();
-        let left = self.member.let_leave();
-        self.news |= self.member.session().log().len() > before;
+        let left = self.member.let_leave(session);
         self.events.left(&left);
         left.refusal
     }
@@ -316,57 +301,6 @@ impl<G: Game> Peer<G> {
         }
     }
 
-    /// Goes to the next frame, or rolls back.
-    fn play(&mut self) -> Result<Option<Reached>, Refusal>
-        ensures { Plays self.old self.new result }
-    {
-        match self.advance() {
-            Ok(reached) => Ok(Some(reached)),
-            Err(Refusal::LocalInputMissing) => {
-                if self.news {
-                    self.synchronize()?;
-                }
-                Ok(None)
-            }
-            Err(why) => Err(why),
-        }
-    }
-
-    /// The row of this frame, after a rollback.
-    fn synchronize(&mut self) -> Result<Row, Refusal>
-        ensures accepted { OnOk result (sync_refusal self.old.member.session ≡ None) }
-        ensures row { IfOk result (λ row. row
-            ≡ row_of self.old.member.session.core.players self.old.member.session.core.frame) }
-        ensures rolled { OnOk result
-            (self.new ≡ with_session self.old (after_sync self.old.member.session) false) }
-        ensures refused { IfErr result (IsRollRefused (sync_refusal self.old.member.session)
-            self.old.member.session self.new.member.session self.old.member.session.core.frame) }
-        ensures rest { self.new ≡ with_session self.old self.new.member.session self.new.news }
-        ensures news { IfErr result (λ why. self.new.news ≡ self.old.news) }
-    {
-        let row = self.member.synchronize_input()?;
-        self.news = false;
-        Ok(row)
-    }
-
-    /// The next frame.
-    fn advance(&mut self) -> Result<Reached, Refusal>
-        ensures accepted { OnOk result (advance_refusal self.old.member.session ≡ None) }
-        ensures reached { IfOk result (λ reached. reached ≡ reached_by self.old.member.session.core) }
-        ensures rolled { OnOk result
-            (self.new ≡ over (with_session self.old (after_advance self.old.member.session) false)) }
-        ensures refused { IfErr result (IsRollRefused (advance_refusal self.old.member.session)
-            self.old.member.session self.new.member.session
-            (self.old.member.session.core.frame + 1)) }
-        ensures rest { IfErr result
-            (λ why. self.new ≡ with_session self.old self.new.member.session self.old.news) }
-    {
-        let reached = self.member.advance_frame()?;
-        self.news = false;
-        self.note_pace();
-        Ok(reached)
-    }
-
     /// Notes how far the machines are from one another, and says how long to wait, if this machine is ahead.
     #[tactic(auto, using(crate::proofs::Said::over_is))]
     fn note_pace(&mut self)
@@ -376,4 +310,34 @@ impl<G: Game> Peer<G> {
             self.events.push(PeerEvent::TimeSync { frames_ahead });
         }
     }
+}
+
+/// Goes to the next frame, or rolls back unless nothing was accepted since it last did.
+fn play<G: Game>(session: &mut Session<G>) -> Result<Option<Reached>, Refusal>
+    ensures played { Plays session.old session.new result }
+    ensures shown { OnOk result (IsUpToDate session.new) }
+{
+    match session.advance_frame() {
+        Ok(reached) => Ok(Some(reached)),
+        Err(Refusal::LocalInputMissing) => {
+            if !ends_in_roll(session.log()) {
+                session.synchronize_input()?;
+            }
+            Ok(None)
+        }
+        Err(why) => Err(why),
+    }
+}
+
+/// Whether nothing was accepted since the last roll that went to its end.
+fn ends_in_roll(log: &Log) -> bool
+    ensures { result ≡ ends_in_roll log.now.entries }
+{
+    let Some(last) = log.len().checked_sub(1) else {
+        return false;
+    };
+    matches!(
+        log.get(last),
+        Some(Logged::Call(Call::Sync | Call::Advance))
+    )
 }

@@ -5,17 +5,19 @@ use Rattle.roll_session.specs.Headline.{words_of}
 use Rattle.roll_wire.specs.Spelling.{count_of}
 use Rattle.roll_wire.specs.declared.limits.TheConstants.{WORD_LIMIT}
 use Rattle.roll_mesh.specs.declared.limits.TheConstants.{PLAYER_LIMIT}
-use Rattle.roll_member.specs.Joined.{Joined}
+use Rattle.roll_member.specs.Beside.{Membership}
+use Rattle.roll_member.specs.Joined.{IsTied, Joined}
 use Rattle.roll_member.specs.Telling.{room_for, IsOfferOf}
 use Rattle.roll_member.proofs.Rooms.{is_told, told_fits, told_there}
 use Rattle.roll_member.proofs.member.Member.tell.Goals as goal
 
 pub words_of-words-requires-clause-there : goal.words_of-words-requires-clause-there
 words_of-words-requires-clause-there g c p l =
-    let m : Joined = record { session = c.self.inside.session; mesh = c.self.inside.mesh } in
+    let m : Joined = record { session = c.args.session.now; mesh = c.self.inside.mesh } in
     subst (λ (packet : Packet). IsOfferOf (words_of m.session (p + 1)) (offer_at packet p))
     (sym c.tell-packet.ensures.told)
-    (told_there m c.self.invariant c.args.machine c.room_for-room.result p l)
+    (told_there m
+    (subst (λ (m : Membership). IsTied c.args.session.now m.mesh) (sym c.self.view_is) c.requires) c.args.machine c.room_for-room.result p l)
 
 pub words_of-words-requires-clause-room : goal.words_of-words-requires-clause-room
 words_of-words-requires-clause-room g c =
@@ -26,9 +28,9 @@ words_of-words-requires-clause-room g c =
 
 pub returns : goal.returns
 returns g c =
-    let m : Joined = record { session = c.self.inside.session; mesh = c.self.inside.mesh } in
+    let m : Joined = record { session = c.args.session.now; mesh = c.self.inside.mesh } in
     let mesh = c.self.inside.mesh in
     let packet : c.tell-packet.result ≡ tell mesh.seat c.args.machine (room_for mesh c.args.machine) mesh.machine =
     c.tell-packet.ensures.told ∙ ap (λ room. tell mesh.seat c.args.machine room mesh.machine) c.room_for-room.ensures in
     let few : length c.tell-packet.result.offers ≤ PLAYER_LIMIT = omega arith in
-    rw (sym c.self.view_is) (is_told m c.self.invariant c.args.machine c.tell-packet.result c.words_of-words.result.items packet c.words_of-words.ensures few)
+    rw (← c.self.view_is) (is_told m (subst (λ (m : Membership). IsTied c.args.session.now m.mesh) (sym c.self.view_is) c.requires) c.args.machine c.tell-packet.result c.words_of-words.result.items packet c.words_of-words.ensures few)

@@ -1,0 +1,17 @@
+-- A law of a machine beside its session.
+use Rattle.std.specs.Prelude.{◌≡◌, ◌≤◌, ◌-◌, ℕ, length, None}
+use Rattle.roll_mesh.specs.declared.limits.TheConstants.{PLAYER_LIMIT}
+use Rattle.roll_mesh.specs.Meshes.{Seated}
+use Rattle.roll_mesh.specs.Words.{give_word}
+use Rattle.roll_session.specs.Changes.{after_local, local_refusal}
+use Rattle.roll_session.specs.Seen.{Seen}
+use Rattle.roll_member.specs.Beside.{caught_up}
+use Rattle.roll_member.specs.Joined.{held, IsTied}
+
+-- a word that a session takes of a local player is given once its machine meets the session again: a step of the laws over words.
+-- Of several words each is such a step, since to have caught up twice is to have caught up with the later
+abbrev pub OwnWordsAreGiven : Type 0
+OwnWordsAreGiven = (s : Seen) (mesh : Seated) (player word : ℕ) → local_refusal s player ≡ None
+    → IsTied s mesh → length s.core.players ≤ PLAYER_LIMIT
+    → held (record { session = after_local s player word; mesh = caught_up (after_local s player word) mesh })
+    ≡ give_word mesh.seat (player - 1) word (held (record { session = s; mesh = mesh }))
