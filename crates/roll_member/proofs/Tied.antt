@@ -263,6 +263,18 @@ leave_steady old new m (Ok done) left same steady = subst IsSteady (sym left) (r
       };
 })
 
+-- and a session stays tied to it
+pub leave_tied : (s : Seen) (mesh : Seated) (m : ℕ) → IsTied s mesh
+    → IsTied s (stepped (λ seat here. leave seat m here) mesh)
+leave_tied s mesh m tied =
+    tied_after s s mesh (stepped (λ seat here. leave seat m here) mesh) tied
+    (record { local = λ p. refl; gone = λ p. refl })
+    ((leave_changes (match_of mesh.seat) [] mesh.seat.me m mesh.machine).unfenced tied.here)
+    (ap (λ (ns : List ℕ). length ns) (leave_has mesh.seat m mesh.machine) ∙ tied.sized)
+    (λ p lt. ap (λ ns. slice_index ns p) (leave_has mesh.seat m mesh.machine) ∙ (tied.players p lt).count) refl
+    (leave_left mesh.seat m mesh.machine)
+    (λ p n lt h. ap (λ ns. slice_index ns p) (leave_has mesh.seat m mesh.machine))
+
 -- a player, once the players of who is gone have left
 left_tied : (old new : Seen) (mesh : Seated) (who : Left) → IsTied old mesh
     → DisconnectsAll old (left mesh.seat mesh.machine) new who → (p : ℕ) → p < PLAYER_LIMIT

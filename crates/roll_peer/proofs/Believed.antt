@@ -1,5 +1,5 @@
 -- What is heard was sealed for this opening.
-use Rattle.std.proofs.Common.{◌≡◌, ◌∙◌, ◌<◌, ◌≤◌, ◌⊎◌, ◌+◌, ◌-◌, ℕ, zero, suc, List, [], ◌∷◌, ◌++◌, length, get_or, take, drop, refl, sym, ap, subst, arith, Bool, true, false, Option, Some, None, Result, Ok, Err, inl, inr}
+use Rattle.std.proofs.Common.{◌≡◌, ◌∙◌, ◌<◌, ◌≤◌, ◌⊎◌, ◌-◌, ℕ, zero, suc, List, ◌++◌, length, get_or, take, drop, refl, sym, ap, subst, arith, Bool, true, false, Option, Some, None, Result, Ok, Err, inl, inr}
 use Rattle.std.specs.Int.{w64, to_be_bytes}
 use Rattle.std.specs.Prelude.{◌==◌, ◌&&◌, if◌then◌else◌, is_some, nat_le}
 use Rattle.std.specs.Str.{bytes_eq}
@@ -17,8 +17,8 @@ use Rattle.roll_wire.proofs.Fields.{IsBytes-drop, IsBytes-take}
 use Rattle.roll_wire.specs.Spelling.{Content, Greets, Leaves, Message, Plays, spelling}
 use Rattle.roll_wire.proofs.Messages.{all_takes}
 use Rattle.roll_peer.specs.Laws.{is_greeting, key_from, IsOfThisOpening, NothingElseIsHeard}
-use Rattle.roll_peer.specs.Peered.{contact_at, Peered}
-use Rattle.roll_peer.specs.Receiving.{byte_at, key_of, open_by, opened, read, read_sealed, sender_of}
+use Rattle.roll_peer.specs.Peered.{contact_at}
+use Rattle.roll_peer.specs.Receiving.{byte_at, open_by, read, read_sealed, sender_of}
 use Rattle.roll_peer.specs.Settings.{number_for}
 use Rattle.roll_peer.specs.declared.receiving.TheConstants.{KIND_AT}
 use Rattle.roll_peer.specs.declared.received.Ignored.{Ignored}

@@ -8,12 +8,12 @@ use Rattle.roll_mesh.specs.declared.packet.Packet.{Packet}
 use Rattle.roll_mesh.specs.declared.refusal.MeshRefusal.TheVariants.{InvalidMachine as NoMachine, OwnMachine as Own, MachineGone as IsGone, Overstated as HasMore}
 use Rattle.roll_member.specs.Hearing.{HearsPacket}
 use Rattle.roll_member.specs.declared.member.Taken.{Taken}
-use Rattle.roll_session.specs.Seen.{Step}
+use Rattle.roll_session.specs.Seen.{Seen, Step}
 use Rattle.roll_wire.specs.Spelling.{Turn}
 use Rattle.roll_peer.specs.Notices.{dropped, told}
-use Rattle.roll_peer.specs.Peered.{contact_at, Peered}
+use Rattle.roll_peer.specs.Peered.{beside, contact_at, Peered}
 use Rattle.roll_contact.specs.declared.contact.Contact.{Contact}
-use Rattle.roll_peer.specs.Receiving.{after_words, deaf_to, knowing, moment_of, packet_of, with_news, HearsTurn}
+use Rattle.roll_peer.specs.Receiving.{after_words, deaf_to, knowing, moment_of, packet_of, HearsTurn}
 use Rattle.roll_peer.specs.declared.received.Ignored.TheVariants.{InvalidMachine, OwnMachine, MachineGone}
 
 -- a packet of who is heard is refused only for words that its sender doesn't have
@@ -48,20 +48,21 @@ left_by peer sender h =
     go true b c e = absurd (none_some InvalidMachine (sym e))
 
 -- a turn that session and mesh heard, and of which is known what it tells, is heard
-pub turn_heard : (step : Step) (old mid known new : Peered) (sender : ℕ) (t : Turn) (taken : Taken)
-    → HearsPacket step old.member mid.member (packet_of sender t) t.words taken
-    → mid ≡ with_news old mid.member
+pub turn_heard : (step : Step) (before after : Seen) (old mid known new : Peered) (sender : ℕ) (t : Turn)
+    (taken : Taken) → HearsPacket step (beside before old) (beside after mid) (packet_of sender t) t.words taken
+    → mid ≡ record old { member = mid.member } → mid.member.limits ≡ old.member.limits
     → known ≡ knowing t sender
-    (after_words (is_some taken.refusal) t.head.clocks old.member.session.core.frame (moment_of mid) (contact_at mid sender)) mid
+    (after_words (is_some taken.refusal) t.head.clocks before.core.frame (moment_of mid) (contact_at mid sender)) mid
     → new ≡ record known { waiting = told known.waiting (dropped taken.heard) }
-    → HearsTurn step old new sender t taken
-turn_heard step old mid known new sender t taken hears news knows tells =
+    → HearsTurn step before after old new sender t taken
+turn_heard step before after old mid known new sender t taken hears rest limits knows tells =
     let contact : Peered → Contact =
-    λ p. after_words (is_some taken.refusal) t.head.clocks old.member.session.core.frame (moment_of p) (contact_at p sender) in
+    λ p. after_words (is_some taken.refusal) t.head.clocks before.core.frame (moment_of p) (contact_at p sender) in
     let last : Peered → Peered = λ p. record p { waiting = told p.waiting (dropped taken.heard) } in
     let whole : new ≡ last (knowing t sender (contact mid) mid) = tells ∙ ap last knows in
-    subst (λ (p : Peered). HearsTurn step old p sender t taken) (sym whole)
+    subst (λ (p : Peered). HearsTurn step before after old p sender t taken) (sym whole)
     (record {
       member = hears;
-      rest = ap (λ (p : Peered). last (knowing t sender (contact p) p)) news;
+      limits = limits;
+      rest = ap (λ (p : Peered). last (knowing t sender (contact p) p)) rest;
     })

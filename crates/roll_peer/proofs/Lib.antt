@@ -5,3 +5,5 @@ pub mod Sent
 pub mod Untils
 pub mod Believed
 pub mod Naming
+pub mod Current
+pub mod Ties

@@ -1,9 +1,9 @@
 -- Each event names a machine of the match.
-use Rattle.std.proofs.Common.{◌≡◌, ◌∙◌, ◌<◌, ◌≤◌, ◌+◌, ℕ, zero, suc, List, [], ◌∷◌, ◌++◌, length, drop, refl, sym, ap, subst, arith, Bool, true, false, Option, Some, None, Result, Ok, Err}
-use Rattle.std.specs.Prelude.{◌==◌, ◌&&◌, not, nat_le, nat_lt, is_some, if◌then◌else◌, slice_set, All, IfSome}
+use Rattle.std.proofs.Common.{◌≡◌, ◌∙◌, ◌≤◌, ℕ, zero, suc, List, [], ◌∷◌, length, drop, refl, sym, subst, arith, Bool, true, false, Option, Some, None}
+use Rattle.std.specs.Prelude.{◌==◌, ◌&&◌, not, nat_le, nat_lt, if◌then◌else◌, All, IfSome}
 use Rattle.std.specs.Option.{option_map}
 use Rattle.std.proofs.lemmas.Bool.{leb-false, lt-ltb}
-use Rattle.std.proofs.lemmas.List.Elements.{All-push, All-tail, All-nil}
+use Rattle.std.proofs.lemmas.List.Elements.{All-push, All-tail}
 use Rattle.roll_contact.specs.Contacts.{refused}
 use Rattle.roll_contact.specs.declared.contact.Contact.{Contact}
 use Rattle.roll_contact.specs.declared.contact.Stage.{Stage}
@@ -11,22 +11,20 @@ use Rattle.roll_contact.specs.declared.contact.Stage.TheVariants.{Silent, Greete
 use Rattle.roll_contact.specs.declared.terms.Field.{Field}
 use Rattle.roll_frame.specs.declared.refusal.Refusal.{Refusal}
 use Rattle.roll_mesh.proofs.Changes.{none_some}
-use Rattle.roll_mesh.specs.Machines.{is_in}
 use Rattle.roll_mesh.specs.declared.heard.Heard.{Heard}
 use Rattle.roll_mesh.specs.declared.heard.Heard.TheVariants.{Dropped as WasDropped, Taken as WasTaken}
 use Rattle.roll_mesh.specs.declared.limits.TheConstants.{PLAYER_LIMIT}
-use Rattle.roll_session.specs.Seen.{Step}
+use Rattle.roll_session.specs.Seen.{Seen, Step}
 use Rattle.roll_wire.specs.Spelling.{Content, Greets, Leaves, Plays}
 use Rattle.roll_wire.specs.declared.datagram.Settled.{Settled}
 use Rattle.roll_peer.specs.Events.{pushed}
-use Rattle.roll_peer.specs.Laws.{machine_in, AreNamed, EventsNameMachines, IsNamed, IsSeatedSo, NamesMachines}
-use Rattle.roll_peer.specs.Notices.{after_heard, came, desync, differs, dropped, found_out, interrupted, mismatched, newly, only_if, player_left, refusing, restarting, resumed, told, told_of}
+use Rattle.roll_peer.specs.Laws.{AreNamed, EventsNameMachines, IsNamed}
+use Rattle.roll_peer.specs.Notices.{after_heard, came, desync, differs, dropped, found_out, mismatched, newly, only_if, player_left, refusing, restarting, resumed, told, told_of}
 use Rattle.roll_peer.specs.Digests.{digest_at}
-use Rattle.roll_peer.specs.Paces.{paced, wait_of}
-use Rattle.roll_peer.specs.Peered.{contact_at, stall_at, Peered}
-use Rattle.roll_peer.specs.Receiving.{after_ignored, deaf_to, ignored, ignored_sized, is_refusal, is_sized, opened, refused_of, sender_of, unheard_in, Hears, Receives}
-use Rattle.roll_peer.specs.Stalls.{is_overdue, is_to_tell}
-use Rattle.roll_peer.specs.Turning.{are_ready, begun, farewell_at, farewell_until, hushed_until, is_missed, lead_in, looked_after, missed_at, missed_until, over, silenced_at, silenced_until, stall_ended, stall_told, timed, watched_at, watched_until, IsParted, Polls}
+use Rattle.roll_peer.specs.Paces.{wait_of}
+use Rattle.roll_peer.specs.Peered.{contact_at, Peered}
+use Rattle.roll_peer.specs.Receiving.{after_ignored, ignored, ignored_sized, is_refusal, is_sized, refused_of, sender_of, Hears}
+use Rattle.roll_peer.specs.Turning.{farewell_until, hushed_until, lead_in, looked_after, missed_until, moved_to, over, silenced_until, stall_ended, stall_told, timed, watched_until, Polls}
 use Rattle.roll_peer.specs.Waiting.{Waiting}
 use Rattle.roll_peer.specs.declared.digests.Digests.{Digests}
 use Rattle.roll_peer.specs.declared.event.PeerEvent.{PeerEvent}
@@ -171,26 +169,26 @@ module _ (n : ℕ) where
         go false i =
             subst (λ (w : Ignored). AreNamed n (after_ignored (sender_of bytes) w old).waiting) (same NotSealed why i) h
 
-    hearing_named : (step : Step) (new : Peered) (what : Content) (received : Received) → AreNamed n old.waiting
-        → nat_lt (sender_of bytes) n ≡ true → Hears step old new (sender_of bytes) what received
+    hearing_named : (step : Step) (before after : Seen) (new : Peered) (what : Content) (received : Received) → AreNamed n old.waiting
+        → nat_lt (sender_of bytes) n ≡ true → Hears step before after old new (sender_of bytes) what received
         → AreNamed n new.waiting
-    hearing_named step new (Greets hello) (HelloHeard from) h l hears =
-        subst (λ (p : Peered). AreNamed n p.waiting) (sym hears.1) (heard_named (sender_of bytes) l _ _ old.waiting h)
-    hearing_named step new (Plays t) (PlayHeard from taken) h l hears =
+    hearing_named step before after new (Greets hello) (HelloHeard from) h l hears =
+        subst (λ (p : Peered). AreNamed n p.waiting) (sym hears.2) (heard_named (sender_of bytes) l _ _ old.waiting h)
+    hearing_named step before after new (Plays t) (PlayHeard from taken) h l hears =
         subst (λ (p : Peered). AreNamed n p.waiting) (sym hears.1.rest)
         (told_named _ (dropped taken.heard)
         (told_named _ (desync old.digests (sender_of bytes) t.head.settled)
         (heard_named (sender_of bytes) l _ _ old.waiting h)
         (desync_named (sender_of bytes) l old.digests t.head.settled))
         (dropped_named taken.heard))
-    hearing_named step new Leaves (ByeHeard from) h l hears =
-        subst (λ (p : Peered). AreNamed n p.waiting) (sym hears.1) h
-    hearing_named step new (Greets hello) (PlayHeard from taken) h l hears = absurd hears
-    hearing_named step new (Greets hello) (ByeHeard from) h l hears = absurd hears
-    hearing_named step new (Plays t) (HelloHeard from) h l hears = absurd hears
-    hearing_named step new (Plays t) (ByeHeard from) h l hears = absurd hears
-    hearing_named step new Leaves (HelloHeard from) h l hears = absurd hears
-    hearing_named step new Leaves (PlayHeard from taken) h l hears = absurd hears
+    hearing_named step before after new Leaves (ByeHeard from) h l hears =
+        subst (λ (p : Peered). AreNamed n p.waiting) (sym hears.2) h
+    hearing_named step before after new (Greets hello) (PlayHeard from taken) h l hears = absurd hears
+    hearing_named step before after new (Greets hello) (ByeHeard from) h l hears = absurd hears
+    hearing_named step before after new (Plays t) (HelloHeard from) h l hears = absurd hears
+    hearing_named step before after new (Plays t) (ByeHeard from) h l hears = absurd hears
+    hearing_named step before after new Leaves (HelloHeard from) h l hears = absurd hears
+    hearing_named step before after new Leaves (PlayHeard from taken) h l hears = absurd hears
 
   -- ---- polls
 
@@ -268,11 +266,20 @@ module _ (n : ℕ) where
   time_named None = tt
   time_named (Some frames) = tt
 
-  polled_named : (old new : Peered) (refusal : Option Refusal) → old.settings.machines ≡ n
-      → AreNamed n old.waiting → Polls old new refusal → AreNamed n new.waiting
-  polled_named old new refusal same h p =
-      let seen = subst (λ (k : ℕ). AreNamed n (looked_after old.clock.moment k old).waiting) (sym same)
-      (looked_named old old.clock.moment h) in
+  over_named : (peer : Peered) → AreNamed n peer.waiting → AreNamed n (over peer).waiting
+  over_named peer h =
+      subst (λ (p : Peered). AreNamed n p.waiting) (sym (over_is peer))
+      (told_named _ _ h (time_named (wait_of (lead_in peer) peer.pace)))
+
+  moved_named : (frame : ℕ) (peer : Peered) → AreNamed n peer.waiting → AreNamed n (moved_to frame peer).waiting
+  moved_named frame peer h = either _ _ _ h (over_named (record peer { frame = frame }) h)
+
+  polled_named : (before after : Seen) (old new : Peered) (refusal : Option Refusal) → old.settings.machines ≡ n
+      → AreNamed n old.waiting → Polls before after old new refusal → AreNamed n new.waiting
+  polled_named before after old new refusal same h p =
+      let at : Peered = moved_to before.core.frame old in
+      let seen = subst (λ (k : ℕ). AreNamed n (looked_after old.clock.moment k at).waiting) (sym same)
+      (looked_named at old.clock.moment (moved_named before.core.frame old h)) in
       let parted = subst (λ (peer : Peered). AreNamed n peer.waiting) (sym p.parts.rest)
       (parted_named p.parts.who.players PLAYER_LIMIT _ seen) in
       subst (λ (peer : Peered). AreNamed n peer.waiting) (sym (p.begins ∙ begun_is p.parted))
@@ -280,13 +287,11 @@ module _ (n : ℕ) where
 
 pub events_name_machines : EventsNameMachines
 events_name_machines = record {
-  heard = λ step old new bytes received seated h i r.
-      hearing_named old.settings.machines old bytes seated step new r.what received h
+  heard = λ step before after old new bytes received seated h i r.
+      hearing_named old.settings.machines old bytes seated step before after new r.what received h
       (known old.settings.machines old bytes seated i) r.hears;
   refused = λ old bytes why seated h i.
       refusal_named old.settings.machines old bytes seated why h i;
-  polled = λ old new refusal h p. polled_named old.settings.machines old new refusal refl h p;
-  played = λ peer h.
-      subst (λ (p : Peered). AreNamed peer.settings.machines p.waiting) (sym (over_is peer))
-      (told_named peer.settings.machines _ _ h (time_named peer.settings.machines (wait_of (lead_in peer) peer.pace)));
+  polled = λ before after old new refusal h p.
+      polled_named old.settings.machines before after old new refusal refl h p;
 }

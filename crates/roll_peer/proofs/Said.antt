@@ -1,6 +1,6 @@
 -- What the definitions say that stand closed in the contracts of a peer.
-use Rattle.std.proofs.Common.{◌≡◌, ℕ, List, Option, Some, Ok, Err, Result, refl}
-use Rattle.std.specs.Prelude.{true, false, ◌-◌, ◌&&◌, ◌||◌, not, is_some, if◌then◌else◌, slice_set}
+use Rattle.std.proofs.Common.{◌≡◌, ℕ, List, refl}
+use Rattle.std.specs.Prelude.{true, false, ◌-◌, ◌&&◌, not, is_some, if◌then◌else◌, slice_set}
 use Rattle.std.specs.Option.{option_map}
 use Rattle.roll_member.specs.Telling.{queued}
 use Rattle.roll_peer.specs.Events.{pushed}

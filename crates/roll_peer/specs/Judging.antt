@@ -1,5 +1,5 @@
 -- What a play may speak of.
-use Rattle.std.specs.Prelude.{ℕ, List, Bool, not, ◌&&◌, ◌||◌, ◌==◌, nat_lt, nat_le, slice_index, slice_index_or}
+use Rattle.std.specs.Prelude.{ℕ, List, Bool, not, ◌&&◌, ◌||◌, ◌==◌, nat_lt, nat_le, slice_index}
 use Rattle.std.specs.List.{list_all, range_with_len}
 use Rattle.roll_mesh.specs.Machines.{is_in, offer_at}
 use Rattle.roll_mesh.specs.declared.limits.TheConstants.{MACHINE_LIMIT, PLAYER_LIMIT}

@@ -1,5 +1,5 @@
 -- Laws of the network of a match.
-use Rattle.std.specs.Prelude.{◌≡◌, ◌<◌, ℕ, List, length, get_or, Bool, true, false, nat_lt, Option, Some, None, Ok, All, IsSome, OnSome, IfSome}
+use Rattle.std.specs.Prelude.{◌≡◌, ◌<◌, ℕ, List, get_or, Bool, true, false, nat_lt, Option, Some, None, Ok, All, IsSome, IfSome}
 use Rattle.roll_contact.specs.Contacts.{is_playing}
 use Rattle.roll_contact.specs.Seals.{unsealed}
 use Rattle.roll_contact.specs.declared.key.Key.{Key}
@@ -8,7 +8,6 @@ use Rattle.roll_session.specs.Seen.{Seen, Step}
 use Rattle.roll_wire.specs.Spelling.{Content, Greets, Leaves, Plays}
 use Rattle.roll_peer.specs.Peered.{contact_at, Peered}
 use Rattle.roll_peer.specs.Receiving.{after_ignored, ignored, opened, sender_of, Receives}
-use Rattle.roll_peer.specs.Sending.{with_draws}
 use Rattle.roll_peer.specs.Settings.{number_for}
 use Rattle.roll_peer.specs.Turning.{Polls}
 use Rattle.roll_peer.specs.Waiting.{Waiting}

@@ -4,7 +4,7 @@ use Rattle.roll_mesh.specs.Machines.{is_in}
 use Rattle.roll_mesh.specs.declared.heard.Heard.{Heard}
 use Rattle.roll_mesh.specs.declared.heard.Heard.TheVariants.{Dropped as WasDropped, Taken as WasTaken}
 use Rattle.roll_wire.specs.declared.datagram.Settled.{Settled}
-use Rattle.roll_contact.specs.Contacts.{is_hushed, is_playing, unanswered_for}
+use Rattle.roll_contact.specs.Contacts.{is_hushed, unanswered_for}
 use Rattle.roll_peer.specs.Digests.{digest_at}
 use Rattle.roll_peer.specs.Events.{pushed}
 use Rattle.roll_peer.specs.Waiting.{Waiting}

@@ -1,10 +1,10 @@
 -- A turn: silent machines are gone, players leave, and the session rolls.
-use Rattle.std.specs.Prelude.{◌≡◌, ◌⊎◌, ℕ, zero, suc, ℤ, ◌+◌, ◌-◌, List, [], ◌∷◌, Bool, true, false, not, ◌&&◌, ◌||◌, ◌==◌, nat_lt, Option, Some, None, is_none, Result, Ok, Err, Unit, if◌then◌else◌, slice_set}
-use Rattle.std.specs.Option.{option_map}
+use Rattle.std.specs.Prelude.{◌≡◌, ◌⊎◌, ℕ, zero, suc, ℤ, ◌+◌, ◌-◌, List, length, slice_get, Bool, true, false, not, ◌&&◌, ◌||◌, ◌==◌, nat_lt, Option, Some, None, is_none, Result, Ok, Err, if◌then◌else◌, slice_set}
+use Rattle.std.specs.Option.{option_map, option_map_or}
 use Rattle.std.specs.List.{list_all, range_with_len}
 use Rattle.roll_frame.specs.Timeline.{timeline}
 use Rattle.roll_frame.specs.declared.entry.Entry.{Entry}
-use Rattle.roll_frame.specs.declared.entry.Entry.TheVariants.{Sync, Advance}
+use Rattle.roll_frame.specs.declared.entry.Entry.TheVariants.{Local, Remote, Disconnect, Sync, Advance, Graft, Partial}
 use Rattle.roll_frame.specs.declared.refusal.Refusal.{Refusal}
 use Rattle.roll_frame.specs.declared.refusal.Refusal.TheVariants.{LocalInputMissing}
 use Rattle.roll_member.specs.Beside.{IsOf}
@@ -17,10 +17,10 @@ use Rattle.roll_session.specs.Changes.{advance_refusal, after_advance, after_syn
 use Rattle.roll_session.specs.declared.event.Reached.{Reached}
 use Rattle.roll_session.specs.Seen.{Seen}
 use Rattle.roll_contact.specs.Clocks.{since}
-use Rattle.roll_contact.specs.Contacts.{hushed, is_silent, unanswered_for}
+use Rattle.roll_contact.specs.Contacts.{hushed, is_silent}
 use Rattle.roll_mesh.specs.HoldingUp.{holds_up}
 use Rattle.roll_peer.specs.Events.{pushed}
-use Rattle.roll_peer.specs.Notices.{interrupted, only_if, player_left, told, told_of}
+use Rattle.roll_peer.specs.Notices.{interrupted, player_left, told, told_of}
 use Rattle.roll_peer.specs.Paces.{paced, slowest, wait_of}
 use Rattle.roll_peer.specs.declared.event.PeerEvent.TheVariants.{Running, TimeSync, Left, Missing, Stalled}
 use Rattle.roll_peer.specs.Peered.{beside, contact_at, stall_at, Peered}
@@ -204,13 +204,19 @@ IsPolled before after old new (Err (Session why)) =
 
 -- ---- the game
 
--- whether nothing was accepted since the last roll that went to its end
+-- whether an entry is a roll that went to its end
+abbrev pub is_roll : Entry → Bool
+is_roll Sync = true
+is_roll Advance = true
+is_roll (Local player word) = false
+is_roll (Remote player frame word) = false
+is_roll (Disconnect player) = false
+is_roll (Graft ticket route) = false
+is_roll (Partial to made) = false
+
+-- whether nothing was accepted since one
 abbrev pub ends_in_roll : List Entry → Bool
-ends_in_roll [] = false
-ends_in_roll (Sync ∷ []) = true
-ends_in_roll (Advance ∷ []) = true
-ends_in_roll (entry ∷ []) = false
-ends_in_roll (entry ∷ next ∷ more) = ends_in_roll (next ∷ more)
+ends_in_roll log = option_map_or is_roll (slice_get log (length log - 1)) false
 
 -- the state shown is that of what is known of the players, and of the predictions for the rest
 abbrev pub IsUpToDate : Seen → Type 0

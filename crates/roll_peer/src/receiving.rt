@@ -304,7 +304,10 @@ impl Peer {
         ensures unchanged { IsNone result → self.new ≡ self.old }
         ensures session { IsNone result → session.new ≡ session.old }
     {
-        self.member.hear(session, packet, &play.words).ok()
+        match self.member.hear(session, packet, &play.words) {
+            Ok(taken) => Some(taken),
+            Err(_) => None,
+        }
     }
 
     /// What a turn tells of its sender is known, and told.

@@ -76,11 +76,7 @@ impl Peer {
     }
 
     /// The bytes for a machine.
-    fn bytes_for<G: Game>(
-        &self,
-        session: &Session<G>,
-        machine: u8,
-    ) -> ArrayVec<u8, DATAGRAM_LIMIT>
+    fn bytes_for<G: Game>(&self, session: &Session<G>, machine: u8) -> ArrayVec<u8, DATAGRAM_LIMIT>
         requires tied { IsTied session.now self.now.member.mesh }
         requires place { machine < MACHINE_LIMIT }
         ensures { IsSent session.now self.now machine result.items }

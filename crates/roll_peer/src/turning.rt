@@ -1,8 +1,9 @@
 //! A turn: silent machines are gone, players leave, and the session goes on.
-ghost use Rattle.std.specs.Prelude.{◌≡◌, ◌<◌, ◌≤◌, true, false, None, Some, OnOk, if◌then◌else◌};
+ghost use Rattle.std.specs.Prelude.{◌≡◌, ◌<◌, ◌≤◌, true, false, None, Some, IfErr, OnOk, if◌then◌else◌};
 ghost use Rattle.roll_member.specs.Joined.{IsTied};
 ghost use Rattle.roll_mesh.specs.declared.limits.TheConstants.{MACHINE_LIMIT};
 ghost use Rattle.roll_peer.specs.Receiving.{meeting, moment_of, ticking};
+ghost use Rattle.roll_session.specs.Changes.{after_sync, sync_refusal, IsRollRefused};
 ghost use Rattle.roll_peer.specs.Turning.{are_ready, begun, ends_in_roll, farewell_at, farewell_until, has_waited, held_up_by, hushed_at, hushed_until, is_missed, is_ready_at, looked_after, missed_at, missed_until, moved_to, over, silenced_at, silenced_until, stall_told, watched_at, watched_until, IsParted, IsPolled, IsUpToDate, Plays, Polls, Turns};
 
 use crate::event::PeerEvent;
@@ -320,13 +321,26 @@ fn play<G: Game>(session: &mut Session<G>) -> Result<Option<Reached>, Refusal>
     match session.advance_frame() {
         Ok(reached) => Ok(Some(reached)),
         Err(Refusal::LocalInputMissing) => {
-            if !ends_in_roll(session.log()) {
-                session.synchronize_input()?;
-            }
+            roll_back(session)?;
             Ok(None)
         }
         Err(why) => Err(why),
     }
+}
+
+/// Rolls back, unless nothing was accepted since the last roll.
+fn roll_back<G: Game>(session: &mut Session<G>) -> Result<(), Refusal>
+    ensures rolled { OnOk result (session.new
+        ≡ (if ends_in_roll session.old.log then session.old else after_sync session.old)) }
+    ensures shown { OnOk result (IsUpToDate session.new) }
+    ensures refused { IfErr result (IsRollRefused (sync_refusal session.old) session.old session.new
+        session.old.core.frame) }
+{
+    session.laws();
+    if !ends_in_roll(session.log()) {
+        session.synchronize_input()?;
+    }
+    Ok(())
 }
 
 /// Whether nothing was accepted since the last roll that went to its end.

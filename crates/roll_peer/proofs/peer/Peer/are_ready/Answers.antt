@@ -7,7 +7,7 @@ use Rattle.roll_peer.specs.Turning.{is_ready_at}
 use Rattle.roll_peer.proofs.peer.Peer.are_ready.Goals as goal
 
 pub returns-then-not-is_ready : goal.returns-then-not-is_ready
-returns-then-not-is_ready g c =
+returns-then-not-is_ready c =
     let peer : Peered = c.args.self.now in
     let count = ap (λ (seat : Seat). seat.machines) c.seat.ensures
     ∙ ap (λ (mesh : Seated). mesh.seat.machines) c.mesh.ensures
@@ -17,7 +17,7 @@ returns-then-not-is_ready g c =
     (sym c.is_ready.ensures ∙ c.if-not-is_ready.true))
 
 pub returns : goal.returns
-returns g c =
+returns c =
     let peer : Peered = c.args.self.now in
     let count = ap (λ (seat : Seat). seat.machines) c.seat.ensures
     ∙ ap (λ (mesh : Seated). mesh.seat.machines) c.mesh.ensures

@@ -2,5 +2,5 @@ use Rattle.std.proofs.Common.{refl}
 use Rattle.roll_peer.proofs.peer.Peer.know_turn.Goals as goal
 
 pub returns : goal.returns
-returns g c =
+returns c =
     rw (← c.self.view_is, c.compare.ensures, c.heard.ensures, c.after_words-contact.ensures, c.from-place.ensures) refl

@@ -5,16 +5,18 @@ use Rattle.roll_peer.proofs.peer.Peer.open.Goals as goal
 
 pub returns-in-Ok-join-clause-opened : goal.returns-in-Ok-join-clause-opened
 returns-in-Ok-join-clause-opened g c = record {
-  member = subst (λ (seat : Seat). IsJoinedAs c.args.session seat c.in-Ok-join.member)
+  member = subst (λ (seat : Seat). IsJoinedAs c.args.session.now seat
+      (record { session = c.args.session.now; mesh = c.in-Ok-join.member.mesh }))
       c.seat.ensures c.in-Ok-join.ensures.joined;
+  limits = c.in-Ok-join.ensures.limits;
   settings_are = refl;
   clock = rw (← c.first_moment.ensures) c.new-in-Ok-join.ensures;
   contacts = rw c.new-in-Ok-join-2.ensures refl;
   stalls = rw c.new-in-Ok-join-3.ensures refl;
   running = refl;
-  news = refl;
   waiting = c.new-in-Ok-join-4.ensures;
   known_gone = refl;
   digests = c.new-in-Ok-join-5.ensures;
   pace = c.in-Ok.ensures;
+  frame = c.frame.ensures;
 }

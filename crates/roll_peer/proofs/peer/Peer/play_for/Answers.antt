@@ -17,7 +17,8 @@ returns-clause-told g c =
       told = rw (← c.self.view_is) c.tell-words.ensures;
       view = ap (λ (p : Packet). p.view) c.shortened.ensures;
       offers = ap (λ (p : Packet). p.offers) c.shortened.ensures;
-      clocks = c.clocks_for.ensures ∙ ap (clocks_in peer) contact;
+      clocks = c.clocks_for.ensures ∙ ap (λ n. clocks_in n peer (slice_index_or c.self.inside.contacts c.from.result opened_contact)) c.frame.ensures
+          ∙ ap (clocks_in c.args.session.now.core.frame peer) contact;
       settled = c.settled_for.ensures ∙ ap (settled_in peer) contact;
     }
 

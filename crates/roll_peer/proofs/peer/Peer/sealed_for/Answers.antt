@@ -5,7 +5,7 @@ use Rattle.roll_peer.proofs.Sent.{sealed_as}
 use Rattle.roll_peer.proofs.peer.Peer.sealed_for.Goals as goal
 
 pub returns : goal.returns
-returns g c =
+returns c =
     let peer : Peered = c.args.self.now in
     c.seal.ensures.sealed
     ∙ sealed_as peer c.args.machine (content c.args.body) c.key_for-key.result c.in-Some.bytes.items
