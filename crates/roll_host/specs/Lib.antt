@@ -6,3 +6,4 @@ pub mod Requests
 pub mod Absorbs
 pub mod Guesses
 pub mod Headline
+pub mod Lending

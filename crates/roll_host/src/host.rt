@@ -1,29 +1,29 @@
 //! A session, its links and its workers.
 ghost use Rattle.std.specs.Prelude.{◌≡◌, ◌+◌, ◌<◌, ◌≤◌, [], ◌∷◌, ◌++◌, false, true, drop, length, map, max, nat_le, option_map, slice_get, None, Some, if◌then◌else◌, IfNone, IfSome, IfOk, IfErr, OnOk, OnErr};
 ghost use Rattle.roll_frame.specs.Timeline.{row_at};
-ghost use Rattle.roll_session.specs.Answered.{IsReplied, IsShort};
-ghost use Rattle.roll_session.specs.Calls.{asked};
 ghost use Rattle.roll_session.specs.Changes.{advance_refusal, after_advance, after_disconnect, after_local, after_sync, disconnect_refusal, local_refusal, reached_by, reserve_refusal, sync_refusal, FitsLog, IsRefused, IsRollRefused, IsWhy};
 ghost use Rattle.roll_session.specs.Seen.{IsLeast};
 ghost use Rattle.roll_host.specs.Absorbs.{IsAbsorbed};
 ghost use Rattle.roll_host.specs.Guesses.{IsAsBefore, IsLetGo, MakesPlace, Speculates, Withdraws, WithdrawsNone};
 ghost use Rattle.roll_host.specs.Hosted.{came_by, issued_of, jobs_out, new_link, places_of, rings_of, with_came, withdrawn_of, EndsLink};
+ghost use Rattle.roll_host.specs.Lending.{LendsSession};
 ghost use Rattle.roll_host.specs.Pumps.{IsPumped};
 ghost use Rattle.roll_host.specs.declared.limits.TheConstants.{LINK_LIMIT as LINKS};
 ghost use Rattle.roll_pool.specs.Owners.{collected, out_of};
 ghost use Rattle.roll_pool.specs.declared.owner.TheConstants.{JOBS_OUT as MOST};
 ghost use Rattle.roll_pool.specs.Rule.{SameItems};
 ghost use Rattle.roll_pool.specs.Settled.{Settles, tickets_of};
+ghost use Rattle.std.specs.Borrow.{sem};
 ghost use Rattle.std.specs.List.{range_with_len};
 
 use crate::absorb::{Absorbed, absorb_results};
 use crate::limits::LINK_LIMIT;
 use crate::pump::{Pumped, pump_links};
-use roll_frame::{Event, Refusal, Reply, Row};
-use roll_game::{Game, NoMemory};
+use roll_frame::{Event, Refusal, Row};
+use roll_game::Game;
 use roll_link::{Finished, Link, LinkSender};
 use roll_pool::{JOBS_OUT, Outcome, Owner, WorkerEnd};
-use roll_session::{Reached, Request, Session};
+use roll_session::{Reached, Session};
 use std::alloc::{AllocFailed, Global};
 use std::marker::Model;
 
@@ -313,22 +313,21 @@ impl<G: Game> Host<G> {
         self.session.reserve_log(events)
     }
 
-    /// Does what the session is asked for.
-    pub(crate) fn ask(&mut self, request: Request<G>) -> Result<Reply, NoMemory>
-        ensures replied { IfOk result
-            (λ said. IsReplied G.step self.old.session self.new.session (asked request) said) }
-        ensures short { OnErr result
-            (IsShort G.step self.old.session self.new.session (asked request)) }
-        ensures rest { self.new ≡ record self.old { session = self.new.session } }
-    {
-        self.session.perform(request)
-    }
-
     /// The session.
     pub fn session(&self) -> &Session<G>
         ensures { result.now ≡ self.now.session }
     {
         &self.session
+    }
+
+    /// The session, lent to what takes a `&mut Session`. After that the host has what was left there, be it another session.
+    /// It pumps and absorbs nothing, and withdraws no job: links and workers stay as they are.
+    pub fn session_mut(&mut self) -> &mut Session<G>
+        ensures* lends { sem 𝓛 (LendsSession G.row G.State.row G.Snapshot.row
+            G.Game.own G.RawGame.own self.entry result) }
+        ensures session { result.now ≡ self.old.session }
+    {
+        &mut self.session
     }
 
     /// Ends a host whose workers have come back, with all their ends in order of worker: the session, and what became of the

@@ -25,7 +25,7 @@ impl<G: Game> Host<G> {
     {
         match request {
             HostRequest::Session(request) => {
-                let said = self.ask(request)?;
+                let said = self.session_mut().perform(request)?;
                 Ok(HostReply::Session(said))
             }
             HostRequest::Pump => Ok(HostReply::Pumped(self.pump())),

@@ -10,8 +10,8 @@ use Rattle.roll_host.proofs.host.Host.perform.Goals as goal
 
 pub returns-in_ok-said-in-Session-clause-done : goal.returns-in_ok-said-in-Session-clause-done
 returns-in_ok-said-in-Session-clause-done g c =
-    let e = c.in_ok-said-in-Session.ensures in
-    rw c.in-Session.is (record { events = asked c.in-Session.request ∷ []; done = (refl, e.replied, e.rest) })
+    let replied = rw c.session_mut.ensures.session at c.in_ok-said-in-Session.ensures.replied in
+    rw c.in-Session.is (record { events = asked c.in-Session.request ∷ []; done = (refl, replied, refl) })
 
 pub returns-in-Pump-clause-done : goal.returns-in-Pump-clause-done
 returns-in-Pump-clause-done g c = rw c.in-Pump.is (record { events = events_of (items_of c.pump.ensures.pumped.turns); done = (c.pump.ensures.pumped, refl, c.pump.ensures.pool) })
