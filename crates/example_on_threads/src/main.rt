@@ -1,17 +1,21 @@
-//! A match on threads: the other side's words come on a thread of their own, workers run guesses ahead, and a viewer follows.
+//! A match on threads: the other machine plays on a thread of its own, datagrams go between the two, workers run this machine's
+//! guesses ahead, and a viewer follows.
 #![tactic(auto)]
 
 ghost use Rattle.std.specs.Prelude.{◌≡◌, IfOk, vec_len};
 ghost use Rattle.fazgrond.specs.Hosted.{places_of};
 ghost use Rattle.fazgrond.specs.Crews.{places_in};
 
-mod network;
+mod far;
+mod machine;
 mod side;
+mod wire;
 
-use fazgrond::{Crew, Host, Owner, Refusal, Session, Settings, start_all};
+use fazgrond::{Crew, Host, Owner, Refusal, start_all};
 use game_fighter::{Fight, Fighter, State};
-use network::Network;
-use side::{LAST_FRAME, Side};
+use machine::{Fault, LAST_FRAME, open};
+use side::{PLAYER, Side};
+use wire::Wire;
 use std::alloc::{AllocError, AllocGlobal, Global};
 use std::process::ExitCode;
 use std::rt::Runtime;
@@ -23,6 +27,16 @@ use std::{io, thread};
 /// How many workers run guesses.
 const WORKERS: u8 = 2;
 
+/// By how many frames this machine's words count later.
+const DELAY: u32 = 2;
+
+/// The states that the match ends in: as this machine, its viewer and the other machine have it.
+struct Ends {
+    here: State,
+    seen: State,
+    there: State,
+}
+
 fn main(rt: HostRuntime) -> ExitCode {
     match run(&rt) {
         Ok(true) => ExitCode::from(0),
@@ -30,16 +44,17 @@ fn main(rt: HostRuntime) -> ExitCode {
     }
 }
 
-/// Plays the match, prints how it went, and says whether the viewer saw the same end.
+/// Plays the match, prints how it went, and says whether the viewer and the other machine came to the same end.
 fn run<R>(rt: &R) -> io::Result<bool>
 where
     R: Runtime + AllocGlobal + Threads + Wait + Copy + Send + 'static,
 {
     match play(rt, rt.alloc()) {
-        Ok((shown, seen)) => {
-            print(rt, "match", shown)?;
-            print(rt, "viewer", seen)?;
-            Ok(shown == seen)
+        Ok(Ends { here, seen, there }) => {
+            print(rt, "this machine", here)?;
+            print(rt, "its viewer", seen)?;
+            print(rt, "the other machine", there)?;
+            Ok(here == seen && here == there)
         }
         Err(why) => {
             println!(rt; "{why}")?;
@@ -64,29 +79,27 @@ fn print<R: Runtime>(rt: &R, name: &str, state: State) -> io::Result<()> {
     )
 }
 
-/// Starts the workers, plays the match with them, and joins them, whatever came of it. What the match came to, and what its
-/// viewer saw.
-fn play<R>(rt: &R, alloc: Global) -> Result<(State, State), Refusal>
+/// Starts the workers, plays the match with them, and joins them, whatever came of it.
+fn play<R>(rt: &R, alloc: Global) -> Result<Ends, Fault>
 where
     R: Threads + Wait + Copy + Send + 'static,
 {
-    let settings = Settings::new(2, &[1])?.with_delay(1, 2)?;
     let games = fights(alloc)?;
     let (owner, ends) = Owner::open(alloc, usize::from(WORKERS))?;
-    let host = hosted(alloc, settings, owner)?;
+    let host = hosted(alloc, owner)?;
     match start_all(*rt, alloc, ends, games) {
         Ok(crew) => play_hosted(rt, alloc, host, crew),
-        Err(why) => Err(why),
+        Err(why) => Err(why.into()),
     }
 }
 
 /// A session of the match, and over it a host with a pool.
-fn hosted(alloc: Global, settings: Settings, owner: Owner<Fight>) -> Result<Host<Fight>, Refusal>
+fn hosted(alloc: Global, owner: Owner<Fight>) -> Result<Host<Fight>, Refusal>
     ensures { IfOk result (λ host. places_of host.pool ≡ owner.places) }
 {
-    let session = match Session::start(alloc, Fight::new(), Fight::opening(), settings) {
+    let session = match open(alloc, PLAYER, DELAY) {
         Ok(session) => session,
-        Err(fault) => return Err(fault.why),
+        Err(why) => return Err(why),
     };
     match Host::with_workers(alloc, session, owner) {
         Ok(host) => Ok(host),
@@ -110,7 +123,7 @@ fn play_hosted<R>(
     alloc: Global,
     host: Host<Fight>,
     crew: Crew<Fight>,
-) -> Result<(State, State), Refusal>
+) -> Result<Ends, Fault>
 where
     R: Threads + Wait + Copy + Send + 'static,
     requires { places_in crew ≡ places_of host.pool }
@@ -122,43 +135,39 @@ where
     played
 }
 
-/// Plays this side of the match.
-fn play_match<R>(rt: &R, alloc: Global, host: &mut Host<Fight>) -> Result<(State, State), Refusal>
+/// Plays the match: the other machine on a thread of its own, this one here.
+fn play_match<R>(rt: &R, alloc: Global, host: &mut Host<Fight>) -> Result<Ends, Fault>
 where
     R: Threads + Wait + Copy + Send + 'static,
     ensures { places_of host.new.pool ≡ places_of host.old.pool }
 {
-    let mut side = Side::new(alloc)?;
-    play_linked(rt, alloc, host, &mut side)
-}
-
-/// Starts the network, plays the match, and joins the network.
-fn play_linked<R>(
-    rt: &R,
-    alloc: Global,
-    host: &mut Host<Fight>,
-    side: &mut Side,
-) -> Result<(State, State), Refusal>
-where
-    R: Threads + Wait + Copy + Send + 'static,
-    ensures { places_of host.new.pool ≡ places_of host.old.pool }
-{
-    let over = Arc::new(alloc, AtomicBool::new(false))?;
-    let for_network = Arc::try_clone(&over)?;
-    let network = Network::new(host.add_link()?, for_network);
-    let handle = start(*rt, network)?;
+    let (near, far) = Wire::pair(alloc)?;
+    let over = Arc::new(alloc, AtomicBool::new(false)).map_err(Refusal::from)?;
+    let for_far = Arc::try_clone(&over)?;
+    let mut side = Side::new(alloc, host, near)?;
+    let handle = start(*rt, alloc, far, for_far)?;
     let played = side.play(rt, host);
-    // The network doesn't wait for a pump that will not come any more.
+    // The other machine plays on until then.
     over.store(true, Ordering::SeqCst);
-    handle.join(rt);
-    played
+    let there = handle.join(rt);
+    let (here, seen) = played?;
+    Ok(Ends {
+        here,
+        seen,
+        there: there?,
+    })
 }
 
-/// The network's thread.
-fn start<R>(rt: R, network: Network) -> Result<JoinHandle<()>, AllocError>
+/// The other machine's thread.
+fn start<R>(
+    rt: R,
+    alloc: Global,
+    wire: Wire,
+    over: Arc<AtomicBool, Global>,
+) -> Result<JoinHandle<Result<State, Fault>>, AllocError>
 where
     R: Threads + Wait + Copy + Send + 'static,
 {
-    let handle = thread::spawn(&rt, move || network.send_all(&rt))?;
+    let handle = thread::spawn(&rt, move || far::play(&rt, alloc, wire, over))?;
     Ok(handle)
 }

@@ -1,30 +1,36 @@
-//! This side of the match: its frame loop.
+//! This side of the match: its frame loop, over a host with workers and the network of the match beside the host's session.
 ghost use Rattle.std.specs.Prelude.{◌≡◌};
 ghost use Rattle.fazgrond.specs.Hosted.{places_of};
 
-use fazgrond::{Advice, Feed, Habits, Host, Refusal, Spectator};
+use crate::machine::{Fault, LAST_FRAME, MOST, buttons, digest, moment, the_match};
+use crate::wire::Wire;
+use fazgrond::{Feed, Habits, Host, Peer, PeerEvent, Refusal, Spectator};
 use game_fighter::{Fight, State};
 use std::alloc::Global;
 use std::sync::Wait;
 use std::thread;
 
-/// The last frame of the match.
-pub const LAST_FRAME: u32 = 300;
-
 /// This side's player, and the other.
-pub const ME: u8 = 1;
+pub const PLAYER: u8 = 1;
 
-pub const OTHER: u8 = 2;
+const OTHER_PLAYER: u8 = 2;
+
+/// This machine, and the other.
+const ME: u8 = 0;
+
+const OTHER: u8 = 1;
 
 /// How many guesses the workers are handed at most after a frame.
 const GUESSES: usize = 4;
 
-/// In how many frames this side asks once for advice to wait.
-const ADVISED_EVERY: u32 = 40;
-
 /// What the frame loop keeps beside the host.
 #[derive(Drop)]
 pub struct Side {
+    peer: Peer,
+    wire: Wire,
+    turn: u32,
+    /// How many turns more this side waits for the other.
+    wait: u32,
     feed: Feed,
     viewer: Spectator<Fight>,
     /// The frame that the viewer has seen.
@@ -33,44 +39,37 @@ pub struct Side {
     habits: Habits,
     /// How many of its words were noted.
     noted: u32,
-    advice: Advice,
-    /// The frame from which on this side asks for advice again.
-    ask_from: u32,
-    /// How many turns more this side waits for the other.
-    wait: u32,
 }
 
 impl Side {
-    pub fn new(alloc: Global) -> Result<Side, Refusal> {
-        let advice = Advice::new(alloc)?;
+    pub fn new(alloc: Global, host: &Host<Fight>, wire: Wire) -> Result<Side, Fault> {
+        let peer = Peer::open(alloc, host.session(), the_match(ME))?;
         let mut feed = Feed::new(alloc)?;
         let receiver = feed.add()?;
         match Spectator::new(Fight::new(), &Fight::opening(), receiver) {
             Ok(viewer) => Ok(Side {
+                peer,
+                wire,
+                turn: 0,
+                wait: 0,
                 feed,
                 viewer,
                 seen: 0,
                 habits: Habits::new(&[]),
                 noted: 0,
-                advice,
-                ask_from: ADVISED_EVERY,
-                wait: 0,
             }),
-            Err(fault) => Err(fault.why),
+            Err(fault) => Err(fault.why.into()),
         }
     }
 
-    /// Plays until the viewer has seen all frames: the state after them, and what the viewer saw.
-    pub fn play<R: Wait>(
-        &mut self,
-        rt: &R,
-        host: &mut Host<Fight>,
-    ) -> Result<(State, State), Refusal>
+    /// Plays until the viewer has seen all frames and the other machine has all words: the state after them, and what the viewer
+    /// saw.
+    pub fn play<R: Wait>(&mut self, rt: &R, host: &mut Host<Fight>) -> Result<(State, State), Fault>
         ensures { places_of host.new.pool ≡ places_of host.old.pool }
     {
         for _ in rt.forever() {
-            self.turn(host)?;
-            if self.seen == LAST_FRAME {
+            self.take_turn(host)?;
+            if self.seen == LAST_FRAME && self.has_told_all() {
                 let seen = self.viewer.state().copied();
                 return Ok((
                     *host.session().settled_state(),
@@ -83,22 +82,69 @@ impl Side {
     }
 
     /// A turn of the frame loop.
-    fn turn(&mut self, host: &mut Host<Fight>) -> Result<(), Refusal>
+    fn take_turn(&mut self, host: &mut Host<Fight>) -> Result<(), Fault>
         ensures { places_of host.new.pool ≡ places_of host.old.pool }
     {
-        // What the network heard, and what the workers ran.
-        let did = host.pump();
-        if did.held == Some(Refusal::NoMemory) || did.held == Some(Refusal::LogFull) {
-            return Err(Refusal::NoMemory);
-        }
+        self.turn = self.turn.wrapping_add(1);
+        let now = moment(self.turn);
+        self.hear(host, now);
+        self.note_events()?;
+        // What the workers ran.
         host.absorb();
-        if did.applied > 0 {
-            host.synchronize_input()?;
-        }
-        self.compare(host);
-        self.advance(host)?;
+        self.press(host)?;
+        self.peer.turn(host.session_mut(), now)?;
         self.guess(host);
-        self.show(host)
+        self.tell(host, now)?;
+        self.show(host)?;
+        Ok(())
+    }
+
+    /// Hears what has come: the words become the host's session's.
+    fn hear(&mut self, host: &mut Host<Fight>, now: u32)
+        ensures { places_of host.new.pool ≡ places_of host.old.pool }
+    {
+        for _ in 0..MOST {
+            let Some(bytes) = self.wire.receive() else {
+                return;
+            };
+            // What is ignored changed nothing of the match.
+            let _ = self.peer.receive(host.session_mut(), &bytes, now);
+        }
+    }
+
+    /// Takes what the network tells: for how many turns to wait, and that the machines differ.
+    fn note_events(&mut self) -> Result<(), Fault> {
+        for _ in 0..MOST {
+            match self.peer.next_event() {
+                Some(PeerEvent::TimeSync { frames_ahead }) => self.wait = frames_ahead,
+                Some(PeerEvent::Desync { .. }) => return Err(Fault::Desync),
+                Some(_) => {}
+                None => break,
+            }
+        }
+        Ok(())
+    }
+
+    /// Gives the word of the buttons, once the match has begun, unless this side has to wait.
+    fn press(&mut self, host: &mut Host<Fight>) -> Result<(), Refusal>
+        ensures { places_of host.new.pool ≡ places_of host.old.pool }
+    {
+        let frame = host.session().frame();
+        if frame == LAST_FRAME || !self.peer.is_running() || self.is_to_wait() {
+            return Ok(());
+        }
+        match host.add_local_input(PLAYER, buttons(PLAYER, frame)) {
+            // Too far ahead of what is confirmed.
+            Ok(()) | Err(Refusal::PredictionThreshold) => Ok(()),
+            Err(why) => Err(why),
+        }
+    }
+
+    /// Whether the other is to catch up first.
+    fn is_to_wait(&mut self) -> bool {
+        let waits = self.wait > 0;
+        self.wait = self.wait.saturating_sub(1);
+        waits
     }
 
     /// Has the workers run what comes of it if the other player goes on as it did, or changes as it often does. A guess that is
@@ -107,16 +153,35 @@ impl Side {
         ensures { places_of host.new.pool ≡ places_of host.old.pool }
     {
         let session = host.session();
-        let confirmed = session.confirmed(OTHER).unwrap_or(0);
+        let confirmed = session.confirmed(OTHER_PLAYER).unwrap_or(0);
         for frame in self.noted..confirmed {
-            if let Some(word) = session.confirmed_word(OTHER, frame) {
+            if let Some(word) = session.confirmed_word(OTHER_PLAYER, frame) {
                 self.habits.note(word);
             }
         }
         self.noted = confirmed;
-        let best = self.habits.choose(session, OTHER);
+        let best = self.habits.choose(session, OTHER_PLAYER);
         for guess in best.iter().take(GUESSES) {
-            let _ = host.speculate(OTHER, guess.words.as_slice(), guess.until);
+            let _ = host.speculate(OTHER_PLAYER, guess.words.as_slice(), guess.until);
+        }
+    }
+
+    /// Tells the other machine what it lacks, and the digest of what is settled.
+    fn tell(&mut self, host: &Host<Fight>, now: u32) -> Result<(), Fault> {
+        let session = host.session();
+        self.peer
+            .note_settled(session, digest(session.settled_state()))?;
+        if let Some(bytes) = self.peer.send(session, OTHER, now)? {
+            self.wire.send(self.turn, bytes);
+        }
+        Ok(())
+    }
+
+    /// Whether the other machine said that it has all words of this side.
+    fn has_told_all(&self) -> bool {
+        match self.peer.stats(OTHER) {
+            Some(stats) => stats.words_queued == 0,
+            None => false,
         }
     }
 
@@ -133,46 +198,4 @@ impl Side {
         }
         Ok(())
     }
-
-    /// Plays the next frame, unless this side has to wait.
-    fn advance(&mut self, host: &mut Host<Fight>) -> Result<(), Refusal>
-        ensures { places_of host.new.pool ≡ places_of host.old.pool }
-    {
-        let frame = host.session().frame();
-        if frame == LAST_FRAME || self.is_to_wait(frame) {
-            return Ok(());
-        }
-        match host.add_local_input(ME, buttons(ME, frame)) {
-            Ok(()) => {}
-            // Too far ahead of what is confirmed.
-            Err(Refusal::PredictionThreshold) => return Ok(()),
-            Err(why) => return Err(why),
-        }
-        host.advance_frame()?;
-        Ok(())
-    }
-
-    /// Notes how far this side is behind the other, which sees the same from its end.
-    fn compare(&mut self, host: &Host<Fight>) {
-        let session = host.session();
-        let (own, other) = (session.frame(), session.confirmed(OTHER).unwrap_or(0));
-        let behind = other.min(LAST_FRAME) as i32 - own.min(LAST_FRAME) as i32;
-        self.advice.note(behind, -behind);
-    }
-
-    /// Whether the other is to catch up first. It asks once in so many frames, since the advice is the same until more is heard.
-    fn is_to_wait(&mut self, frame: u32) -> bool {
-        if frame >= self.ask_from {
-            self.ask_from = frame.saturating_add(ADVISED_EVERY);
-            self.wait = self.advice.frames_ahead();
-        }
-        let waits = self.wait > 0;
-        self.wait = self.wait.saturating_sub(1);
-        waits
-    }
-}
-
-/// What a player presses in a frame: it stands for a controller.
-pub fn buttons(player: u8, frame: u32) -> u32 {
-    frame / (4 + u32::from(player)) % 8
 }
