@@ -2,6 +2,7 @@
 ghost use Rattle.std.specs.Prelude.{◌≡◌, ◌↔◌, IsTrue};
 ghost use Rattle.std.specs.List.{All};
 ghost use Rattle.prog_peers.specs.Agreement.{AreAlike, IfStays, IsLeftAlike};
+ghost use Rattle.roll_peer.specs.Peered.{beside};
 
 use crate::machine::Machine;
 use crate::options::PeersOptions;
@@ -12,18 +13,20 @@ use roll_mesh::PLAYER_LIMIT;
 /// Whether two machines have settled the same rows, which lead to the same state, and each player left both of them at the same
 /// frame, or neither.
 fn are_alike<G: Shown>(first: &Machine<G>, second: &Machine<G>) -> bool
-    ensures { IsTrue result → AreAlike G.step first.now.peer.member second.now.peer.member }
+    ensures { IsTrue result → AreAlike G.step (beside first.now.session first.now.peer)
+        (beside second.now.session second.now.peer) }
 {
-    let (one, other) = (first.peer.session(), second.peer.session());
+    let (one, other) = (&first.session, &second.session);
     let count = agreed(one, other);
     agrees(one, other, count) && is_left_alike(first, second)
 }
 
 /// Whether each player left both machines at the same frame, or neither.
 fn is_left_alike<G: Shown>(first: &Machine<G>, second: &Machine<G>) -> bool
-    ensures { IsTrue result → IsLeftAlike first.now.peer.member second.now.peer.member }
+    ensures { IsTrue result → IsLeftAlike (beside first.now.session first.now.peer)
+        (beside second.now.session second.now.peer) }
 {
-    let (one, other) = (first.peer.member().mesh(), second.peer.member().mesh());
+    let (one, other) = (first.peer.mesh(), second.peer.mesh());
     for player in 0..PLAYER_LIMIT as u8 {
         if one.left(player) != other.left(player) {
             return false;
@@ -38,8 +41,8 @@ fn agrees_if_it_stays<G: Shown>(
     first: &Machine<G>,
     machine: &Machine<G>,
 ) -> bool
-    ensures { IsTrue result → IfStays options.now (AreAlike G.step first.now.peer.member)
-        (record { me = machine.now.me; member = machine.now.peer.member }) }
+    ensures { IsTrue result → IfStays options.now (AreAlike G.step (beside first.now.session first.now.peer))
+        (record { me = machine.now.me; member = beside machine.now.session machine.now.peer }) }
 {
     !options.stays(machine.me) || are_alike(first, machine)
 }
@@ -51,8 +54,8 @@ pub fn all_agree<G: Shown>(
     first: &Machine<G>,
 ) -> bool
     ensures { IsTrue result → All (λ machine. IfStays options.now
-        (AreAlike G.step first.now.peer.member)
-        (record { me = machine.me; member = machine.peer.member })) machines.now }
+        (AreAlike G.step (beside first.now.session first.now.peer))
+        (record { me = machine.me; member = beside machine.session machine.peer })) machines.now }
 {
     for machine in machines {
         if !agrees_if_it_stays(options, first, machine) {

@@ -13,7 +13,7 @@ use prog_sides::{Draws, Engines, drawn, word_at};
 use roll_frame::{Refusal, Settings, SettingsFault};
 use roll_game::Shown;
 use roll_mesh::MACHINE_LIMIT;
-use roll_peer::{MatchSettings, OpenRefusal, Peer, PeerEvent, PeerRefusal};
+use roll_peer::{Ignored, MatchSettings, OpenRefusal, OtherSession, Peer, PeerEvent, PeerRefusal};
 use roll_session::Session;
 use std::alloc::Global;
 
@@ -42,10 +42,11 @@ pub struct Counts {
     pub desyncs: u64,
 }
 
-/// A machine.
+/// A machine: a session, and the network beside it.
 #[derive(Drop)]
 pub struct Machine<G: Shown> {
-    pub peer: Peer<G>,
+    pub session: Session<G>,
+    pub peer: Peer,
     /// A second engine of the game, which tells states as text.
     pub helper: G,
     pub me: u8,
@@ -86,7 +87,8 @@ impl<G: Shown + Drop> Machine<G> {
             helper,
         } = engines;
         match start(alloc, options, me, settings, game, opening) {
-            Ok(peer) => Ok(Machine {
+            Ok((session, peer)) => Ok(Machine {
+                session,
                 peer,
                 helper,
                 me,
@@ -107,11 +109,10 @@ impl<G: Shown + Drop> Machine<G> {
 
     /// Whether it has played its last frame, and all words up to it are known.
     pub fn is_over(&self) -> bool
-        ensures { IsTrue result ↔ IsOver self.now.peer.member.session }
+        ensures { IsTrue result ↔ IsOver self.now.session }
     {
-        let session = self.peer.session();
-        let last = session.settings().limit;
-        last <= session.frame() && last <= session.settled()
+        let last = self.session.settings().limit;
+        last <= self.session.frame() && last <= self.session.settled()
     }
 
     /// A tick: it hears what has come, plays on, and sends to each other machine. From the frame at which it stops it does
@@ -126,13 +127,13 @@ impl<G: Shown + Drop> Machine<G> {
         ensures { self.new.me ≡ self.old.me }
     {
         if let Some(frame) = options.stop(self.me) {
-            self.is_silent |= frame <= self.peer.session().frame();
+            self.is_silent |= frame <= self.session.frame();
         }
         if self.is_silent {
             return Ok(());
         }
         let now = clock(tick);
-        let before = self.peer.session().log().len();
+        let before = self.session.log().len();
         self.hear_all(alloc, options, network.letters(), tick)?;
         self.play(now)?;
         self.watch(alloc, before)?;
@@ -170,7 +171,7 @@ impl<G: Shown + Drop> Machine<G> {
     ) -> Result<(), Refusal>
         ensures { self.new.me ≡ self.old.me }
     {
-        if self.peer.receive(&letter.bytes, now).is_err() {
+        if !self.receive(&letter.bytes, now)? {
             self.counts.ignored = self.counts.ignored.saturating_add(1);
             return Ok(());
         }
@@ -178,6 +179,17 @@ impl<G: Shown + Drop> Machine<G> {
             enemy.see(alloc, options, letter)?;
         }
         Ok(())
+    }
+
+    /// Receives bytes, and says whether they were heard.
+    fn receive(&mut self, bytes: &[u8], now: u32) -> Result<bool, Refusal>
+        ensures { self.new.me ≡ self.old.me }
+    {
+        match self.peer.receive(&mut self.session, bytes, now) {
+            Ok(_) => Ok(true),
+            Err(Ignored::OtherSession) => Err(Refusal::InvalidRequest),
+            Err(_) => Ok(false),
+        }
     }
 
     /// Hears what its enemy makes, if it has one.
@@ -190,7 +202,10 @@ impl<G: Shown + Drop> Machine<G> {
         let gone = who_is_gone(&self.peer);
         for _ in 0..HOSTILE {
             let trick = enemy.make(&gone)?;
-            let heard = self.peer.receive(enemy.bytes(), now).is_ok();
+            let heard = self
+                .peer
+                .receive(&mut self.session, enemy.bytes(), now)
+                .is_ok();
             self.counts.note_hostile(trick, heard);
         }
         Ok(())
@@ -200,19 +215,28 @@ impl<G: Shown + Drop> Machine<G> {
     fn play(&mut self, now: u32) -> Result<(), Refusal>
         ensures { self.new.me ≡ self.old.me }
     {
-        let session = self.peer.session();
-        if session.frame() < session.settings().limit {
-            let player = self.me.saturating_add(1);
-            let word = word_at(&self.words, session.confirmed(player).unwrap_or(0));
-            match self.peer.add_local_input(player, word) {
-                Ok(()) => {}
-                Err(PeerRefusal::NotSynchronized) => {}
-                Err(PeerRefusal::Session(Refusal::PredictionThreshold)) => {}
-                Err(PeerRefusal::Session(why)) => return Err(why),
-            }
+        self.press()?;
+        match self.peer.turn(&mut self.session, now) {
+            Ok(_) => Ok(()),
+            Err(PeerRefusal::Session(why)) => Err(why),
+            Err(PeerRefusal::OtherSession) => Err(Refusal::InvalidRequest),
         }
-        self.peer.turn(now)?;
-        Ok(())
+    }
+
+    /// Gives its word once the match has begun, unless the session is too far ahead, or has played its last frame.
+    fn press(&mut self) -> Result<(), Refusal>
+        ensures { self.new.me ≡ self.old.me }
+    {
+        let last = self.session.settings().limit;
+        if !self.peer.is_running() || last <= self.session.frame() {
+            return Ok(());
+        }
+        let player = self.me.saturating_add(1);
+        let word = word_at(&self.words, self.session.confirmed(player).unwrap_or(0));
+        match self.session.add_local_input(player, word) {
+            Ok(()) | Err(Refusal::PredictionThreshold) => Ok(()),
+            Err(why) => Err(why),
+        }
     }
 
     /// Has its observer note what became of its session, whose log had so many entries at the beginning of the tick.
@@ -220,8 +244,8 @@ impl<G: Shown + Drop> Machine<G> {
         ensures { self.new.me ≡ self.old.me }
     {
         if let Some(observer) = &mut self.observer {
-            let session = self.peer.session();
-            observer.watch(alloc, session, has_rolled(session.log(), before))?;
+            let rolled = has_rolled(self.session.log(), before);
+            observer.watch(alloc, &self.session, rolled)?;
         }
         Ok(())
     }
@@ -230,21 +254,23 @@ impl<G: Shown + Drop> Machine<G> {
     fn note_settled(&mut self, alloc: Global) -> Result<(), Refusal>
         ensures { self.new.me ≡ self.old.me }
     {
-        let settled = self.peer.session().settled();
+        let settled = self.session.settled();
         if settled == self.noted {
             return Ok(());
         }
         let text = self.settled_text(alloc)?;
-        self.peer.note_settled(digest_of(&text));
         self.noted = settled;
-        Ok(())
+        match self.peer.note_settled(&self.session, digest_of(&text)) {
+            Ok(()) => Ok(()),
+            Err(OtherSession) => Err(Refusal::InvalidRequest),
+        }
     }
 
     /// The text of its settled state.
     pub fn settled_text(&mut self, alloc: Global) -> Result<Vec<u8>, Refusal>
         ensures { self.new.me ≡ self.old.me }
     {
-        let state = self.helper.load(self.peer.session().settled_state())?;
+        let state = self.helper.load(self.session.settled_state())?;
         let mut text = Vec::new(alloc);
         self.helper.text(&state, &mut text)?;
         Ok(text)
@@ -276,11 +302,29 @@ impl<G: Shown + Drop> Machine<G> {
         ensures { self.new.me ≡ self.old.me }
     {
         for to in 0..options.machines {
-            if let Some(bytes) = self.peer.send(to, clock(tick)) {
-                self.counts.note_sent(bytes.len() as u64);
-                let route = Route { from: self.me, to };
-                network.send(alloc, &options.common, route, tick, &bytes)?;
-            }
+            self.send(alloc, options, network, to, tick)?;
+        }
+        Ok(())
+    }
+
+    /// Sends to a machine.
+    fn send(
+        &mut self,
+        alloc: Global,
+        options: &PeersOptions,
+        network: &mut Network,
+        to: u8,
+        tick: u32,
+    ) -> Result<(), Refusal>
+        ensures { self.new.me ≡ self.old.me }
+    {
+        let Ok(sent) = self.peer.send(&self.session, to, clock(tick)) else {
+            return Err(Refusal::InvalidRequest);
+        };
+        if let Some(bytes) = sent {
+            self.counts.note_sent(bytes.len() as u64);
+            let route = Route { from: self.me, to };
+            network.send(alloc, &options.common, route, tick, &bytes)?;
         }
         Ok(())
     }
@@ -310,10 +354,10 @@ fn clock(tick: u32) -> u32 {
 }
 
 /// Which machines a peer regards as gone.
-fn who_is_gone<G: Shown>(peer: &Peer<G>) -> [bool; MACHINE_LIMIT] {
+fn who_is_gone(peer: &Peer) -> [bool; MACHINE_LIMIT] {
     let mut gone = [false; MACHINE_LIMIT];
     for machine in 0..MACHINE_LIMIT {
-        gone[machine] = peer.member().mesh().is_gone(machine as u8);
+        gone[machine] = peer.mesh().is_gone(machine as u8);
     }
     gone
 }
@@ -357,7 +401,7 @@ fn plain_settings(options: &PeersOptions, player: u8) -> Result<Settings, Settin
         .with_frame_limit(options.common.frames)
 }
 
-/// A session, and over it a peer that joins the match.
+/// A session, and beside it the network of the match.
 fn start<G: Shown + Drop>(
     alloc: Global,
     options: &PeersOptions,
@@ -365,24 +409,23 @@ fn start<G: Shown + Drop>(
     settings: Settings,
     game: G,
     opening: G::Snapshot,
-) -> Result<Peer<G>, Refusal> {
+) -> Result<(Session<G>, Peer), Refusal> {
     match Session::start(alloc, game, opening, settings) {
         Ok(session) => open(alloc, session, match_settings(options, me)),
         Err(fault) => Err(fault.why),
     }
 }
 
-/// A session joins the match.
+/// The network of the match is opened beside a session.
 fn open<G: Shown + Drop>(
     alloc: Global,
     session: Session<G>,
     settings: MatchSettings,
-) -> Result<Peer<G>, Refusal> {
-    match Peer::open(alloc, session, settings) {
-        Ok(peer) => Ok(peer),
-        Err(fault) => {
-            let why = fault.why;
-            drop(fault);
+) -> Result<(Session<G>, Peer), Refusal> {
+    match Peer::open(alloc, &session, settings) {
+        Ok(peer) => Ok((session, peer)),
+        Err(why) => {
+            drop(session);
             Err(refusal_of(why))
         }
     }

@@ -75,7 +75,7 @@ fn draw_seen<G: Shown>(
     ensures { IfOk result (λ picture. (scene : Scene) × HasRolls scene (string_bytes picture)) }
 {
     let scene = match title_of(alloc, options, machine.me) {
-        Ok(title) => observer.into_scene(alloc, machine.peer.session(), title)?,
+        Ok(title) => observer.into_scene(alloc, &machine.session, title)?,
         Err(why) => {
             drop(observer);
             return Err(why);

@@ -3,6 +3,7 @@ ghost use Rattle.std.specs.Prelude.{◌≡◌, [], IfOk, IsTrue, OnOk, map};
 ghost use Rattle.std.specs.List.{All};
 ghost use Rattle.prog_peers.specs.Agreement.{IfStays, IsOver};
 ghost use Rattle.prog_peers.specs.declared.playing.End.TheVariants.{Over as IsEnded};
+ghost use Rattle.roll_peer.specs.Peered.{beside};
 
 use crate::machine::Machine;
 use crate::network::Network;
@@ -49,7 +50,7 @@ impl<G: Shown + Drop> Table<G> {
             ≡ map (λ m. m.me) self.old.machines.items) }
         ensures over { IfOk result (λ end. end ≡ IsEnded → All (λ machine. IfStays options.now
             (λ member. IsOver member.session)
-            (record { me = machine.me; member = machine.peer.member })) self.new.machines.items) }
+            (record { me = machine.me; member = beside machine.session machine.peer })) self.new.machines.items) }
     {
         for tick in 0..most_ticks(options.common.frames) {
             if self.is_over(options) {
@@ -64,7 +65,7 @@ impl<G: Shown + Drop> Table<G> {
     fn is_over(&self, options: &PeersOptions) -> bool
         ensures { IsTrue result → All (λ machine. IfStays options.now
             (λ member. IsOver member.session)
-            (record { me = machine.me; member = machine.peer.member })) self.now.machines.items }
+            (record { me = machine.me; member = beside machine.session machine.peer })) self.now.machines.items }
     {
         for machine in &self.machines {
             if !is_over_if_it_stays(options, machine) {
@@ -90,7 +91,7 @@ impl<G: Shown + Drop> Table<G> {
 /// Whether a machine has played its last frame and knows all words up to it, or doesn't stay.
 fn is_over_if_it_stays<G: Shown + Drop>(options: &PeersOptions, machine: &Machine<G>) -> bool
     ensures { IsTrue result → IfStays options.now (λ member. IsOver member.session)
-        (record { me = machine.now.me; member = machine.now.peer.member }) }
+        (record { me = machine.now.me; member = beside machine.now.session machine.now.peer }) }
 {
     !options.stays(machine.me) || machine.is_over()
 }

@@ -4,6 +4,7 @@ ghost use Rattle.std.specs.List.{All};
 ghost use Rattle.prog_peers.specs.Agreement.{AreAlike, IfStays};
 ghost use Rattle.prog_peers.specs.declared.playing.End.TheVariants.{Over as IsEnded};
 ghost use Rattle.roll_member.specs.Joined.{Joined};
+ghost use Rattle.roll_peer.specs.Peered.{beside};
 
 use crate::agreement::all_agree;
 use crate::machine::{Counts, Machine};
@@ -84,7 +85,7 @@ pub fn sum_up<G: Shown + Drop>(
     ensures end { IfOk result (λ report. report.end ≡ end) }
     ensures alike { IfOk result (λ report. IsTrue report.agree → (first : Joined) × All
         (λ machine. IfStays options.now (AreAlike G.step first)
-        (record { me = machine.me; member = machine.peer.member })) table.old.machines.items) }
+        (record { me = machine.me; member = beside machine.session machine.peer })) table.old.machines.items) }
 {
     let Some(place) = first_that_stays(options, &table.machines) else {
         return Err(Refusal::InvalidRequest);
@@ -92,7 +93,7 @@ pub fn sum_up<G: Shown + Drop>(
     let first = &table.machines[place];
     let agree = all_agree(options, &table.machines, first);
     let outcomes = each_outcome(&table.machines, first);
-    let settled = first.peer.session().settled();
+    let settled = first.session.settled();
     let staying = options.count_staying();
     let state = table.machines[place].settled_text(alloc)?;
     Ok(Report {
@@ -131,7 +132,7 @@ fn each_outcome<G: Shown>(
 
 /// What came of a machine.
 fn outcome_of<G: Shown>(machine: &Machine<G>, first: &Machine<G>) -> Outcome {
-    let session = machine.peer.session();
+    let session = &machine.session;
     let frames = session.frame();
     Outcome {
         machine: machine.me,
@@ -142,7 +143,7 @@ fn outcome_of<G: Shown>(machine: &Machine<G>, first: &Machine<G>) -> Outcome {
             .counts()
             .turns
             .saturating_sub(u64::from(frames)),
-        left: first.peer.member().mesh().left(machine.me),
+        left: first.peer.mesh().left(machine.me),
         counts: machine.counts,
         measured: measure(machine),
     }

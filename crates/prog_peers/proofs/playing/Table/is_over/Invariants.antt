@@ -1,10 +1,11 @@
 use Rattle.std.proofs.Common.{take}
 use Rattle.std.specs.List.{All}
 use Rattle.prog_peers.specs.Agreement.{IfStays, IsOver}
+use Rattle.roll_peer.specs.Peered.{beside}
 use Rattle.prog_peers.proofs.playing.Table.is_over.Given as goal
 
 abbrev pub invariant-loop-machine : goal.invariant-loop-machine
 invariant-loop-machine g l = record {
   over : All (λ machine. IfStays l.options (λ member. IsOver member.session)
-      (record { me = machine.me; member = machine.peer.member })) (take l.machine-index l.self.machines.items);
+      (record { me = machine.me; member = beside machine.session machine.peer })) (take l.machine-index l.self.machines.items);
 }
