@@ -52,7 +52,7 @@ fn report<R: Runtime + AllocGlobal>(rt: &R, late: u32, duel: &Duel) -> io::Resul
         "{late} turns late: waited {} and {}",
         duel.first.waited, duel.second.waited
     )?;
-    let (first, second) = (duel.first.peer.session(), duel.second.peer.session());
+    let (first, second) = (&duel.first.session, &duel.second.session);
     print(rt, first)?;
     print(rt, second)?;
     Ok(agree(first, second) && is_replayed(rt.alloc(), first) == Ok(true))

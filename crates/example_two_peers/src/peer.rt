@@ -3,7 +3,8 @@ ghost use Rattle.std.specs.Prelude.{◌≤◌};
 
 use crate::line::{Bytes, Line};
 use fazgrond::{
-    MatchSettings, OpenRefusal, Peer, PeerEvent, PeerRefusal, Refusal, Session, Settings,
+    MatchSettings, OpenRefusal, OtherSession, Peer, PeerEvent, PeerRefusal, Refusal, Session,
+    Settings,
 };
 use game_fighter::{Fight, State};
 use std::alloc::Global;
@@ -30,15 +31,22 @@ pub enum Fault {
     /// The session refuses a call.
     #[error("{0}")]
     Session(#[from] Refusal),
+    /// A turn isn't made whole.
+    #[error("{0}")]
+    Turn(#[from] PeerRefusal),
+    /// The session isn't the match's.
+    #[error("{0}")]
+    Other(#[from] OtherSession),
     /// The other side has another state of a settled frame.
     #[error("the sides don't play the same game")]
     Desync,
 }
 
-/// One side: a peer, and its player.
+/// One side: a session, the network beside it, and its player.
 #[derive(Drop)]
 pub struct Side {
-    pub peer: Peer<Fight>,
+    pub session: Session<Fight>,
+    pub peer: Peer,
     player: u8,
     // The other machine.
     other: u8,
@@ -57,8 +65,9 @@ impl Side {
     {
         let player = me + 1;
         let session = open(alloc, settings(player, delay)?)?;
-        match Peer::open(alloc, session, the_match(me)) {
+        match Peer::open(alloc, &session, the_match(me)) {
             Ok(peer) => Ok(Side {
+                session,
                 peer,
                 player,
                 other: 1 - me,
@@ -66,7 +75,10 @@ impl Side {
                 waited: 0,
                 byes: BYES,
             }),
-            Err(fault) => Err(fault.why.into()),
+            Err(why) => {
+                drop(session);
+                Err(why.into())
+            }
         }
     }
 
@@ -76,10 +88,10 @@ impl Side {
         self.hear(turn, now, inbox);
         self.note_events()?;
         self.press()?;
-        self.peer.turn(now)?;
-        let digest = digest(self.peer.session().settled_state());
-        self.peer.note_settled(digest);
-        if let Some(bytes) = self.tell(now) {
+        self.peer.turn(&mut self.session, now)?;
+        let digest = digest(self.session.settled_state());
+        self.peer.note_settled(&self.session, digest)?;
+        if let Some(bytes) = self.tell(now)? {
             outbox.send(turn, bytes).map_err(Refusal::from)?;
         }
         Ok(())
@@ -92,7 +104,7 @@ impl Side {
                 return;
             };
             // What is ignored changed nothing of the match.
-            let _ = self.peer.receive(&bytes, now);
+            let _ = self.peer.receive(&mut self.session, &bytes, now);
         }
     }
 
@@ -109,22 +121,17 @@ impl Side {
         Ok(())
     }
 
-    /// Gives the word of the buttons, unless this side has to wait.
+    /// Gives the word of the buttons, once the match has begun, unless this side has to wait.
     fn press(&mut self) -> Result<(), Refusal> {
-        let frame = self.peer.session().frame();
-        if frame == LAST_FRAME || self.is_to_wait() {
+        let frame = self.session.frame();
+        if frame == LAST_FRAME || !self.peer.is_running() || self.is_to_wait() {
             return Ok(());
         }
-        match self
-            .peer
-            .add_local_input(self.player, buttons(self.player, frame))
-        {
-            Ok(()) => Ok(()),
-            // The match hasn't begun.
-            Err(PeerRefusal::NotSynchronized) => Ok(()),
+        let word = buttons(self.player, frame);
+        match self.session.add_local_input(self.player, word) {
             // Too far ahead of what is confirmed.
-            Err(PeerRefusal::Session(Refusal::PredictionThreshold)) => Ok(()),
-            Err(PeerRefusal::Session(why)) => Err(why),
+            Ok(()) | Err(Refusal::PredictionThreshold) => Ok(()),
+            Err(why) => Err(why),
         }
     }
 
@@ -139,30 +146,33 @@ impl Side {
     }
 
     /// What to tell the other; at the end, that this side leaves.
-    fn tell(&mut self, now: u32) -> Option<Bytes> {
+    fn tell(&mut self, now: u32) -> Result<Option<Bytes>, OtherSession> {
         if !self.is_over() {
-            return self.peer.send(self.other, now);
+            return self.peer.send(&self.session, self.other, now);
         }
         if self.byes == 0 {
-            return None;
+            return Ok(None);
         }
         self.byes -= 1;
-        self.peer.bye(self.other)
+        Ok(self.peer.bye(self.other))
     }
 
     /// Whether the last frame is settled here, and nothing is left to tell: the other said that it has all words of this side.
     fn is_over(&self) -> bool {
-        self.is_settled() && self.peer.member().tell(self.other).words.is_empty()
+        match self.peer.stats(self.other) {
+            Some(stats) => self.is_settled() && stats.words_queued == 0,
+            None => false,
+        }
     }
 
     /// Whether the last frame is settled here.
     fn is_settled(&self) -> bool {
-        self.peer.session().settled() == LAST_FRAME
+        self.session.settled() == LAST_FRAME
     }
 
     /// Whether this side has no more to do: it said that it leaves, or heard it of the other.
     pub fn is_done(&self) -> bool {
-        self.is_settled() && (self.byes == 0 || self.peer.member().mesh().is_gone(self.other))
+        self.is_settled() && (self.byes == 0 || self.peer.mesh().is_gone(self.other))
     }
 }
 

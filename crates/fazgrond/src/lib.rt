@@ -6,8 +6,8 @@
 //! - **A game** says what its states are and what a row of inputs makes of them: [`game::RawGame`] and [`game::Game`]; with
 //!   [`game::Shown`] its states have a text. [`SyncTest`] finds out whether it comes out the same each time.
 //! - **A session** plays it on one thread: [`Settings`] and [`Session`]. A call that is not taken answers a [`Refusal`].
-//! - **Over a network**: a [`Peer`] is a session in a match of several machines ([`MatchSettings`]). It makes and hears datagrams,
-//!   and says what happened ([`PeerEvent`]).
+//! - **Over a network**: a [`Peer`] stands beside a session in a match of several machines ([`MatchSettings`]). It makes and hears
+//!   datagrams, and says what happened ([`PeerEvent`]). The session stays the program's, and is lent to its calls.
 //! - **Beside other threads**: [`Host`] has a session, [`Link`]s that bring remote words from the network's thread, and the
 //!   workers of a [`Crew`], which run guesses ahead.
 //! - **Guesses** worth making: [`Habits`] has what was seen of a player, and chooses them.
@@ -15,11 +15,11 @@
 //!   them by datagrams: [`ViewerLine`] is the host's end, [`Viewer`] the viewer's.
 //! - **Claims** of rollbacks are checked, written and read by [`claims`].
 //!
-//! A peer's main loop, in each turn:
+//! The main loop of a match over a network, in each turn:
 //!
 //! 1. [`Peer::receive`] for each datagram that has come, and [`Peer::next_event`] until there is none.
-//! 2. [`Peer::add_local_input`] with the word of the buttons. If it answers [`Refusal::PredictionThreshold`], the peer is too
-//!    far ahead, and waits.
+//! 2. Once [`Peer::is_running`] says that the match has begun, [`Session::add_local_input`] with the word of the buttons. If it
+//!    answers [`Refusal::PredictionThreshold`], this machine is too far ahead, and waits.
 //! 3. [`Peer::turn`], which rolls back if a prediction was wrong. Then [`Session::current`] is the state to show.
 //! 4. [`Peer::send`] for each other machine.
 //!
@@ -38,8 +38,8 @@ pub use roll_host::{Absorbed, Host, HostReply, HostRequest, LINK_LIMIT, Pumped, 
 pub use roll_link::{Finished, LINK_ROOM, Link, LinkSender, Remote, SendFault};
 pub use roll_member::{JoinRefusal, Taken};
 pub use roll_peer::{
-    Field, Ignored, MatchSettings, OpenFault, OpenRefusal, Peer, PeerEvent, PeerRefusal, Received,
-    Stage, Stats,
+    Field, Ignored, MatchSettings, OpenRefusal, OtherSession, Peer, PeerEvent, PeerRefusal,
+    Received, Stage, Stats,
 };
 pub use roll_pool::{
     Crew, Gate, IssueFault, JOBS_OUT, OpenGate, Outcome, Owner, WORKER_LIMIT, WorkerEnd, start_all,
