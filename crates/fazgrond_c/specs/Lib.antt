@@ -3,7 +3,6 @@ pub mod Kinds
 pub mod Made
 pub mod Jobs
 pub mod PeerKinds
-pub mod PeerRefusals
 pub mod PeerHolds
 pub mod Peers
 pub mod LineKinds

@@ -10,11 +10,10 @@ use Rattle.roll_viewer.specs.declared.refusal.LineFault.{LineFault}
 use Rattle.roll_viewer.specs.declared.refusal.LineRefusal.{LineRefusal}
 use Rattle.roll_viewer.specs.declared.settings.LineSettings.{LineSettings}
 use Rattle.fazgrond_c.specs.LineKinds.{code_of_fault, code_of_line, AreTold, HasNoRoom}
-use Rattle.fazgrond_c.specs.Peers.{code_unless, AreWritten, FillsBy, IsNothing}
+use Rattle.fazgrond_c.specs.Peers.{code_unless, AreWritten}
 use Rattle.fazgrond_c.specs.declared.line_kinds.LineIn.{LineIn}
 use Rattle.fazgrond_c.specs.declared.line_kinds.LineState.{LineState}
 use Rattle.fazgrond_c.specs.declared.line_live.LineLive.{LineLive}
-use Rattle.fazgrond_c.specs.declared.peer_live.PeerLive.{PeerLive}
 
 -- whom a viewer names as the sender: no machine of a match has this number
 abbrev pub VIEWER : ℕ
@@ -71,13 +70,6 @@ pub record IsTelling (core : Core) (now : ℕ) (old new : LineLive) (before afte
   pub told : new ≡ record old { line = host_told old.line core now }
   pub rows : TellsRows core old.line.had
   pub written : AreWritten bytes before after had size code
-
--- the same through handles: the line is told of the peer's session
-pub record TellsBy (now : ℕ) (peer : Option PeerLive) (old new : Option LineLive) (before after : List ℕ)
-    (had size : ℕ) (code : ℤ) : Type 0 where
-  pub closed : peer ≡ None → IsNothing 201 old new before after had size code
-  pub made : IfSome peer (λ of_match. FillsBy (IsTelling of_match.peer.member.session.core now)
-      old new before after had size code)
 
 -- the bytes by which the host says that it leaves are written, if the viewer's draw is believed, and the line has ended
 pub record IsHostsBye (old new : LineLive) (before after : List ℕ) (had size : ℕ) (code : ℤ)

@@ -8,7 +8,7 @@ use Rattle.roll_frame.specs.Timeline.{row_at}
 use Rattle.roll_frame.specs.declared.row.Cell.{Cell}
 use Rattle.roll_frame.specs.declared.refusal.Refusal.{Refusal}
 use Rattle.roll_frame.specs.declared.reply.Reply.{Reply}
-use Rattle.roll_frame.specs.declared.reply.Reply.TheVariants.{Refused, Repeated, Taken, Reached}
+use Rattle.roll_frame.specs.declared.reply.Reply.TheVariants.{Refused, Repeated, Synchronized, Taken, Reached}
 use Rattle.roll_cert.specs.Texts.{claim_lines}
 use Rattle.roll_frame.specs.declared.settings.Settings.{Settings}
 use Rattle.roll_requests.specs.Leading.{opened}
@@ -20,9 +20,10 @@ use Rattle.roll_session.specs.Headline.{last_claim}
 use Rattle.roll_session.specs.Started.{first_seen}
 use Rattle.roll_session.specs.declared.event.Call.{Call}
 use Rattle.roll_text.specs.Lines.{text_of}
-use Rattle.fazgrond_c.specs.Kinds.{AreGiven, AreHanded, HaveNoRoom}
+use Rattle.fazgrond_c.specs.Kinds.{row_out, AreGiven, AreHanded, HaveNoRoom}
 use Rattle.fazgrond_c.specs.declared.kinds.ReachedOut.{ReachedOut}
 use Rattle.fazgrond_c.specs.declared.kinds.RequestOut.{RequestOut}
+use Rattle.fazgrond_c.specs.declared.kinds.RowOut.{RowOut}
 use Rattle.fazgrond_c.specs.declared.kinds.SettingsIn.{SettingsIn}
 use Rattle.fazgrond_c.specs.declared.live.Live.{Live}
 
@@ -84,6 +85,11 @@ abbrev pub flag_of : Reply → Option ℕ
 flag_of Repeated = Some 1
 flag_of Taken = Some 0
 flag_of said = None
+
+-- the row that a sync is answered
+abbrev pub row_in : Reply → Option RowOut
+row_in (Synchronized row) = Some (row_out row)
+row_in said = None
 
 -- where an advance led
 abbrev pub reached_in : Reply → Option ReachedOut

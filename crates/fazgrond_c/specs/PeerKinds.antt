@@ -10,11 +10,11 @@ use Rattle.roll_mesh.specs.declared.refusal.MeshRefusal.TheVariants.{CountFull, 
 use Rattle.roll_peer.specs.declared.event.PeerEvent.{PeerEvent}
 use Rattle.roll_peer.specs.declared.event.PeerEvent.TheVariants.{Synchronizing, Synchronized, Running, DisconnectedFromPeer, TimeSync, Interrupted, Resumed, Desync, Mismatch, Dropped, Left, Restarted, Stalled, Refused, Missing}
 use Rattle.roll_peer.specs.declared.received.Ignored.{Ignored}
-use Rattle.roll_peer.specs.declared.received.Ignored.TheVariants.{NotSealed, NoDatagram, InvalidMachine, OwnMachine, MachineGone, Outside, Overstated}
+use Rattle.roll_peer.specs.declared.received.Ignored.TheVariants.{NotSealed, NoDatagram, InvalidMachine, OwnMachine, MachineGone, OtherSession as IsOther, Outside, Overstated}
 use Rattle.roll_peer.specs.declared.refusal.OpenRefusal.{OpenRefusal}
 use Rattle.roll_peer.specs.declared.refusal.OpenRefusal.TheVariants.{Join, NoDraw, NoMemory}
 use Rattle.roll_peer.specs.declared.refusal.PeerRefusal.{PeerRefusal}
-use Rattle.roll_peer.specs.declared.refusal.PeerRefusal.TheVariants.{NotSynchronized, Session}
+use Rattle.roll_peer.specs.declared.refusal.PeerRefusal.TheVariants.{OtherSession, Session}
 use Rattle.roll_peer.specs.declared.settings.MatchSettings.{MatchSettings}
 use Rattle.roll_peer.specs.declared.stats.Stats.{Stats}
 use Rattle.fazgrond_c.specs.declared.peer_kinds.EventOut.{EventOut}
@@ -102,9 +102,10 @@ code_of_ignored OwnMachine = 304
 code_of_ignored MachineGone = 305
 code_of_ignored Overstated = 307
 code_of_ignored Outside = 312
+code_of_ignored IsOther = 313
 
 abbrev pub code_of_refusal : PeerRefusal → ℕ
-code_of_refusal NotSynchronized = 6
+code_of_refusal OtherSession = 313
 code_of_refusal (Session why) = code_of why
 
 abbrev pub code_of_mesh : MeshRefusal → ℕ

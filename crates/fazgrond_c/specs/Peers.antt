@@ -1,45 +1,35 @@
 -- What a call of a peer through a handle comes to.
-use Rattle.std.specs.Prelude.{◌≡◌, ◌≢◌, ◌⊎◌, ◌<◌, ◌≤◌, ℕ, ℤ, pos, List, ◌++◌, drop, length, slice_get, true, false, not, nat_lt, ◌&&◌, ◌||◌, is_none, Option, Some, None, IfNone, IfSome, IsSome, IsSomeAnd, MatchOption, Result, Ok, Err, IfErr, IfOk, OnErr, OnOk, if◌then◌else◌}
+use Rattle.std.specs.Prelude.{◌≡◌, ◌≢◌, ◌⊎◌, ◌<◌, ◌≤◌, ℕ, ℤ, pos, List, ◌++◌, drop, length, slice_get, not, nat_lt, ◌&&◌, ◌||◌, is_none, Option, Some, None, IfNone, IfSome, IsSome, IsSomeAnd, MatchOption, Result, Ok, Err, IfErr, IfOk, OnErr, OnOk, if◌then◌else◌}
 use Rattle.roll_contact.specs.Contacts.{is_playing}
-use Rattle.roll_frame.specs.Codes.{code_of}
 use Rattle.roll_frame.specs.Core.{settled}
-use Rattle.roll_frame.specs.Timeline.{row_at}
-use Rattle.roll_frame.specs.declared.refusal.Refusal.{Refusal}
-use Rattle.roll_frame.specs.declared.row.Cell.{Cell}
-use Rattle.roll_frame.specs.declared.settings.Settings.{Settings}
-use Rattle.roll_member.specs.Joined.{join_refusal}
+use Rattle.roll_member.specs.Beside.{IsOf}
+use Rattle.roll_member.specs.Joined.{join_refusal, IsTied}
 use Rattle.roll_mesh.specs.Machines.{leave}
 use Rattle.roll_mesh.specs.Meshes.{leave_refusal, stepped}
 use Rattle.roll_mesh.specs.declared.limits.TheConstants.{MACHINE_LIMIT}
 use Rattle.roll_mesh.specs.declared.refusal.MeshRefusal.{MeshRefusal}
 use Rattle.roll_peer.specs.Digests.{noted}
 use Rattle.roll_peer.specs.Events.{popped}
-use Rattle.roll_peer.specs.Peered.{contact_at, GivesWord, IsNotGiven, IsOpenedAs, Peered}
-use Rattle.roll_peer.specs.Receiving.{after_ignored, ignored, sender_of, ticking, Receives}
+use Rattle.roll_peer.specs.Peered.{contact_at, IsOpenedAs, IsWhyNot, Peered}
+use Rattle.roll_peer.specs.Receiving.{ignored, meeting, ticking, IsIgnored, IsOther, Receives}
 use Rattle.roll_peer.specs.Sending.{after_send, is_lost, stats_of, text_for, IsSent}
 use Rattle.roll_peer.specs.Settings.{seat_of}
-use Rattle.roll_peer.specs.Turning.{over, with_session, IsNotAdvanced, IsNotSynced, Polls}
+use Rattle.roll_peer.specs.Turning.{IsPolled}
 use Rattle.roll_peer.specs.declared.received.Ignored.{Ignored}
 use Rattle.roll_peer.specs.declared.received.Received.{Received}
+use Rattle.roll_peer.specs.declared.refusal.OpenRefusal.{OpenRefusal}
+use Rattle.roll_peer.specs.declared.refusal.OtherSession.{OtherSession}
 use Rattle.roll_peer.specs.declared.refusal.PeerRefusal.{PeerRefusal}
 use Rattle.roll_peer.specs.declared.settings.MatchSettings.{MatchSettings}
-use Rattle.roll_requests.specs.Leading.{opened}
-use Rattle.roll_requests.specs.Names.{opening_digest, step_of}
-use Rattle.roll_session.specs.Changes.{advance_refusal, after_advance, after_sync, local_refusal, reached_by, sync_refusal}
-use Rattle.roll_session.specs.Started.{first_seen}
-use Rattle.roll_session.specs.declared.event.Reached.{Reached}
+use Rattle.roll_requests.specs.Names.{step_of}
+use Rattle.roll_session.specs.Seen.{Seen}
 use Rattle.roll_wire.specs.Spelling.{Leaves}
 use Rattle.roll_wire.specs.declared.limits.TheConstants.{DATAGRAM_LIMIT}
-use Rattle.fazgrond_c.specs.Kinds.{row_out, where_led, AreGiven, AreHanded, HaveNoRoom}
-use Rattle.fazgrond_c.specs.PeerKinds.{code_of_ignored, code_of_mesh, code_of_refusal, event_out, stats_out, AreMatched, HasNoRoom}
-use Rattle.fazgrond_c.specs.PeerRefusals.{code_of_fault, IsWhyNotOpened}
-use Rattle.fazgrond_c.specs.declared.kinds.ReachedOut.{ReachedOut}
-use Rattle.fazgrond_c.specs.declared.kinds.RequestOut.{RequestOut}
-use Rattle.fazgrond_c.specs.declared.kinds.RowOut.{RowOut}
+use Rattle.fazgrond_c.specs.PeerKinds.{code_of_ignored, code_of_mesh, code_of_open, code_of_refusal, event_out, stats_out, AreMatched, HasNoRoom}
+use Rattle.fazgrond_c.specs.declared.live.Live.{Live}
 use Rattle.fazgrond_c.specs.declared.peer_kinds.EventOut.{EventOut}
 use Rattle.fazgrond_c.specs.declared.peer_kinds.MatchIn.{MatchIn}
 use Rattle.fazgrond_c.specs.declared.peer_kinds.StatsOut.{StatsOut}
-use Rattle.fazgrond_c.specs.declared.peer_refusal.NotOpened.{NotOpened}
 use Rattle.fazgrond_c.specs.declared.peer_live.PeerLive.{PeerLive}
 
 -- ---- through a handle, of a peer or of an end of a viewer's line
@@ -56,112 +46,92 @@ pub record Writes {L T : Type 0} (does : L → L → T → T → ℤ → Type 0)
   pub closed : old ≡ None → (code ≡ pos 201) × ((new ≡ None) × (after ≡ before))
   pub made : IfSome old (λ live. IsSomeAnd new (λ now. does live now before after code))
 
+-- a call of two things that handles hold; if either is closed, nothing is done
+pub record MakesBeside {P S : Type 0} (does : P → P → S → S → ℤ → Type 0) (old new : Option P)
+    (before after : Option S) (code : ℤ) : Type 0 where
+  pub closed : old ≡ None → (code ≡ pos 201) × ((new ≡ None) × (after ≡ before))
+  pub alone : before ≡ None → (code ≡ pos 201) × ((new ≡ old) × (after ≡ None))
+  pub made : IfSome old (λ peer. IfSome before (λ live. IsSomeAnd new (λ peer_now. IsSomeAnd after (λ live_now.
+      does peer peer_now live live_now code))))
+
+-- the same of a call that only reads the second
+pub record MakesFor {P S : Type 0} (does : S → P → P → ℤ → Type 0) (lent : Option S)
+    (old new : Option P) (code : ℤ) : Type 0 where
+  pub alone : lent ≡ None → (code ≡ pos 201) × (new ≡ old)
+  pub made : IfSome lent (λ live. Makes (does live) old new code)
+
 -- ---- opening
 
--- a peer of this match, whose session is at its start, that has heard nothing
-pub record IsOpened (given : MatchIn) (live : PeerLive) : Type 0 where
-  pub settings : Settings
+-- a peer of this match, opened beside a session, that has heard nothing
+pub record IsOpened (given : MatchIn) (s : Seen) (live : PeerLive) : Type 0 where
   pub matched : MatchSettings
-  pub are_given : AreGiven given.session settings
   pub are_matched : AreMatched given matched
-  pub accepted : join_refusal (first_seen settings opening_digest opened) (seat_of matched) ≡ None
+  pub accepted : join_refusal s (seat_of matched) ≡ None
   pub drawn : matched.draw ≢ 0
-  pub peer : IsOpenedAs (first_seen settings opening_digest opened) matched live.peer
+  pub peer : IsOpenedAs s matched live.peer
+  pub tied : IsTied s live.peer.member.mesh
 
--- there is no such session or no such match
-pub record IsFaulty (given : MatchIn) (code : ℤ) : Type 0 where
-  pub settings : Settings
+-- there is no such match, or the session can't take its seat in it
+pub record IsFaulty (given : MatchIn) (s : Seen) (code : ℤ) : Type 0 where
   pub matched : MatchSettings
-  pub are_given : AreGiven given.session settings
   pub are_matched : AreMatched given matched
-  pub fault : NotOpened
-  pub why : IsWhyNotOpened settings matched fault
-  pub code_is : code ≡ pos (code_of_fault fault)
+  pub fault : OpenRefusal
+  pub why : IsWhyNot s matched fault
+  pub code_is : code ≡ pos (code_of_open fault)
 
--- why no peer is opened: a number has no room where it belongs, or the numbers are no match, or memory ran out
-abbrev pub IsWhyClosed : MatchIn → ℤ → Type 0
-IsWhyClosed given code =
-    ((code ≡ pos 11) × (HaveNoRoom given.session ⊎ HasNoRoom given))
-    ⊎ (IsFaulty given code ⊎ (code ≡ pos 107))
+-- why no peer is opened beside a session: a number has no room where it belongs, or the numbers are no match for it, or memory
+-- ran out
+abbrev pub IsWhyClosed : MatchIn → Seen → ℤ → Type 0
+IsWhyClosed given s code =
+    ((code ≡ pos 11) × HasNoRoom given) ⊎ (IsFaulty given s code ⊎ (code ≡ pos 107))
 
--- a peer was opened in the place of the one before, or nothing is changed
-pub record IsOpenedBy (given : MatchIn) (old new : Option PeerLive) (code : ℤ) : Type 0 where
-  pub opened : code ≡ pos 0 → IsSomeAnd new (IsOpened given)
+-- a peer was opened beside a session in the place of the one before, or nothing is changed
+pub record OpensBeside (given : MatchIn) (s : Seen) (old new : Option PeerLive) (code : ℤ)
+    : Type 0 where
+  pub opened : code ≡ pos 0 → IsSomeAnd new (IsOpened given s)
   pub refused : code ≢ pos 0 → new ≡ old
+  pub why : code ≢ pos 0 → IsWhyClosed given s code
 
--- ---- hearing, sending, giving words
+-- the same beside what a handle holds
+pub record IsOpenedBy (given : MatchIn) (lent : Option Live) (old new : Option PeerLive) (code : ℤ)
+    : Type 0 where
+  pub alone : lent ≡ None → (code ≡ pos 201) × (new ≡ old)
+  pub beside : IfSome lent (λ live. OpensBeside given live.session old new code)
+
+-- ---- hearing and sending
 
 abbrev pub code_of_receipt : Result Received Ignored → ℤ
 code_of_receipt (Ok received) = pos 0
 code_of_receipt (Err why) = pos (code_of_ignored why)
 
--- bytes are heard, or they aren't, and nothing is changed but the clock; what their sender sealed is counted and told
-pub record IsReceived (bytes : List ℕ) (now : ℕ) (old new : PeerLive) (code : ℤ) : Type 0 where
+-- bytes are heard for a session, or they aren't, and nothing is changed but the clock; what their sender sealed is counted and told
+pub record IsReceived (bytes : List ℕ) (now : ℕ) (old new : PeerLive) (before after : Live) (code : ℤ)
+    : Type 0 where
   pub result : Result Received Ignored
-  pub received : IfOk result (Receives step_of (ticking now old.peer) new.peer bytes)
-  pub accepted : OnOk result (ignored (ticking now old.peer) bytes ≡ None)
-  pub refused : IfErr result (λ why. ignored (ticking now old.peer) bytes ≡ Some why)
-  pub left : IfErr result
-      (λ why. new.peer ≡ after_ignored (sender_of bytes) why (ticking now old.peer))
-  pub given : new.given ≡ old.given
+  pub received : IfOk result (Receives step_of before.session after.session
+      (meeting before.session (ticking now old.peer)) new.peer bytes)
+  pub accepted : OnOk result (IsOf before.session old.peer.member)
+  pub fine : OnOk result (ignored (meeting before.session (ticking now old.peer)) bytes ≡ None)
+  pub refused : IfErr result (IsIgnored before.session (ticking now old.peer) new.peer bytes)
+  pub unchanged : OnErr result (after ≡ before)
+  pub rest : after ≡ record before { session = after.session }
   pub code_is : code ≡ code_of_receipt result
 
 abbrev pub code_unless : {T : Type 0} → (T → ℕ) → Option T → ℤ
 code_unless number None = pos 0
 code_unless number (Some why) = pos (number why)
 
--- a local word is given, or it is refused, and nothing is changed
-pub record IsGiven (player word : ℕ) (old new : PeerLive) (code : ℤ) : Type 0 where
-  pub why : Option PeerRefusal
-  pub taken : IfNone why (GivesWord old.peer new.peer player word)
-  pub accepted : IfNone why (local_refusal old.peer.member.session player ≡ None)
-  pub refused : IfSome why (IsNotGiven old.peer player)
-  pub unchanged : IsSome why → new.peer ≡ old.peer
-  pub given : new.given ≡ old.given
-  pub code_is : code ≡ code_unless code_of_refusal why
+abbrev pub code_of_poll : Result Unit PeerRefusal → ℤ
+code_of_poll (Ok done) = pos 0
+code_of_poll (Err why) = pos (code_of_refusal why)
 
--- a poll is made, step by step; the code says why a player who is to leave is still there, if so
-pub record IsPolled (now : ℕ) (old new : PeerLive) (code : ℤ) : Type 0 where
-  pub refusal : Option Refusal
-  pub polls : Polls (ticking now old.peer) new.peer refusal
-  pub given : new.given ≡ old.given
-  pub code_is : code ≡ code_unless code_of refusal
-
-abbrev pub code_of_roll : {T : Type 0} → Result T PeerRefusal → ℤ
-code_of_roll (Ok it) = pos 0
-code_of_roll (Err why) = pos (code_of_refusal why)
-
--- the row of this frame is written, after a rollback; or the code says why not, and what the roll leaves
-pub record IsSynced (old new : PeerLive) (before after : RowOut) (code : ℤ) : Type 0 where
-  pub result : Result (List Cell) PeerRefusal
-  pub begun : OnOk result (old.peer.running ≡ true)
-  pub accepted : OnOk result (sync_refusal old.peer.member.session ≡ None)
-  pub row : IfOk result
-      (λ row. row ≡ row_at old.peer.member.session.core.players old.peer.member.session.core.frame)
-  pub rolled : OnOk result (new.peer ≡ with_session old.peer (after_sync old.peer.member.session) false)
-  pub refused : IfErr result (IsNotSynced old.peer new.peer)
-  pub written : IfOk result (λ row. after ≡ row_out row)
-  pub unwritten : OnErr result (after ≡ before)
-  pub code_is : code ≡ code_of_roll result
-
--- the next frame is reached, and it is written where that led; or the code says why not, and what the roll leaves
-pub record IsAdvanced (old new : PeerLive) (before after : ReachedOut) (code : ℤ) : Type 0 where
-  pub result : Result Reached PeerRefusal
-  pub begun : OnOk result (old.peer.running ≡ true)
-  pub accepted : OnOk result (advance_refusal old.peer.member.session ≡ None)
-  pub reached : IfOk result (λ reached. reached ≡ reached_by old.peer.member.session.core)
-  pub rolled : OnOk result
-      (new.peer ≡ over (with_session old.peer (after_advance old.peer.member.session) false))
-  pub refused : IfErr result (IsNotAdvanced old.peer new.peer)
-  pub written : IfOk result (λ reached. after ≡ where_led reached)
-  pub unwritten : OnErr result (after ≡ before)
-  pub code_is : code ≡ code_of_roll result
-
--- a roll is tried; or requests weren't taken yet, and nothing is changed
-abbrev pub Rolls : {T : Type 0} → (PeerLive → PeerLive → T → T → ℤ → Type 0)
-    → (old new : PeerLive) → (before after : T) → ℤ → Type 0
-Rolls does old new before after code =
-    ((code ≡ pos 202) × ((new ≡ old) × (after ≡ before))) ⊎ does old new before after code
+-- a poll of a session is made, step by step, or there is none; the code says why not, or why a player who is to leave is still there
+pub record IsPolledFor (now : ℕ) (old new : PeerLive) (before after : Live) (code : ℤ)
+    : Type 0 where
+  pub result : Result Unit PeerRefusal
+  pub polled : IsPolled before.session after.session (ticking now old.peer) new.peer result
+  pub rest : after ≡ record before { session = after.session }
+  pub code_is : code ≡ code_of_poll result
 
 -- a peer for which a machine is gone
 abbrev pub without : ℕ → Peered → Peered
@@ -177,7 +147,6 @@ pub record IsPutOut (machine : ℕ) (old new : PeerLive) (code : ℤ) : Type 0 w
   pub why_is : leave_refusal old.peer.member.mesh machine ≡ why
   pub left : IfNone why (new.peer ≡ without machine old.peer)
   pub unchanged : IsSome why → new.peer ≡ old.peer
-  pub given : new.given ≡ old.given
   pub code_is : code ≡ code_unless code_of_mesh why
 
 -- bytes are written to the front of a buffer, and how many they are; or there are none, and nothing is written
@@ -187,14 +156,25 @@ AreWritten None before after had size code =
 AreWritten (Some bytes) before after had size code =
     (code ≡ pos 0) × ((after ≡ bytes ++ drop (length bytes) before) × (size ≡ length bytes))
 
--- what is sent to a machine is written, and counted; nothing is sent to one that is gone, to this one, or where there is none
-pub record IsSentTo (machine now : ℕ) (old new : PeerLive) (before after : List ℕ) (had size : ℕ)
-    (code : ℤ) : Type 0 where
-  pub bytes : Option (List ℕ)
-  pub sent : IfSome bytes (IsSent (ticking now old.peer) machine)
-  pub lost : is_none bytes ≡ is_lost old.peer machine
-  pub counted : new ≡ record old { peer = after_send (ticking now old.peer) machine }
-  pub written : AreWritten bytes before after had size code
+-- what there is to send is written; or the session is another
+abbrev pub AreSent : Result (Option (List ℕ)) OtherSession → (before after : List ℕ) → (had size : ℕ)
+    → ℤ → Type 0
+AreSent (Ok bytes) before after had size code = AreWritten bytes before after had size code
+AreSent (Err other) before after had size code =
+    (code ≡ pos 313) × ((after ≡ before) × (size ≡ had))
+
+-- what is sent to a machine in a turn of a session is written, and counted; nothing is sent to one that is gone, to this one, or
+-- where there is none; or the session is another, and nothing is changed but the clock
+pub record IsSentTo (s : Seen) (machine now : ℕ) (old new : PeerLive) (before after : List ℕ)
+    (had size : ℕ) (code : ℤ) : Type 0 where
+  pub result : Result (Option (List ℕ)) OtherSession
+  pub sent : IfOk result (λ sent. IfSome sent (IsSent s (meeting s (ticking now old.peer)) machine))
+  pub lost : IfOk result (λ sent. is_none sent ≡ is_lost old.peer machine)
+  pub counted : OnOk result (new.peer ≡ after_send (meeting s (ticking now old.peer)) machine)
+  pub accepted : OnOk result (IsOf s old.peer.member)
+  pub other : OnErr result (IsOther s old.peer)
+  pub unchanged : OnErr result (new.peer ≡ ticking now old.peer)
+  pub written : AreSent result before after had size code
 
 -- the bytes by which this machine says to another that it leaves are written; there are none for one to which nothing is sent, or
 -- that hasn't said this opening's draw
@@ -227,14 +207,13 @@ pub record FillsBy {L : Type 0} (does : L → L → List ℕ → List ℕ → �
   pub closed : old ≡ None → IsNothing 201 old new before after had size code
   pub made : IfSome old (λ live. IsSomeAnd new (λ now. Fills does live now before after had size code))
 
--- ---- what waits, and what is read
+-- the same of a call that is lent what another handle holds, and only reads it
+pub record FillsFor {L S : Type 0} (does : S → L → L → List ℕ → List ℕ → ℕ → ℕ → ℤ → Type 0)
+    (lent : Option S) (old new : Option L) (before after : List ℕ) (had size : ℕ) (code : ℤ) : Type 0 where
+  pub alone : lent ≡ None → IsNothing 201 old new before after had size code
+  pub made : IfSome lent (λ live. FillsBy (does live) old new before after had size code)
 
--- requests of an open peer are handed out; a closed one has none
-pub record AreHandedBy (old new : Option PeerLive) (before after : List RequestOut) (count : ℕ)
-    : Type 0 where
-  pub closed : old ≡ None → (new ≡ None) × ((count ≡ 0) × (after ≡ before))
-  pub handed : IfSome old (λ live. IsSomeAnd new (λ now.
-      (now.peer ≡ live.peer) × AreHanded live.given now.given count before after))
+-- ---- what waits, and what is read
 
 -- the oldest event is told, if one waits
 pub record IsTold (old new : PeerLive) (before after : EventOut) (code : ℤ) : Type 0 where
@@ -243,14 +222,20 @@ pub record IsTold (old new : PeerLive) (before after : EventOut) (code : ℤ) : 
       ((code ≡ pos 203) × (after ≡ before))
       (λ event. (code ≡ pos 0) × (after ≡ event_out event))
 
--- the digest of the settled state is noted
-pub record IsNoted (digest : ℕ) (old new : PeerLive) (code : ℤ) : Type 0 where
-  pub peer : new ≡ record old {
-    peer = record old.peer {
-      digests = noted (settled old.peer.member.session.core) digest old.peer.digests;
-    };
-  }
-  pub code_is : code ≡ pos 0
+abbrev pub code_of_note : Result Unit OtherSession → ℤ
+code_of_note (Ok done) = pos 0
+code_of_note (Err other) = pos 313
+
+-- the digest of a session's settled state is noted; or the session is another, and nothing is changed
+pub record IsNoted (digest : ℕ) (s : Seen) (old new : PeerLive) (code : ℤ) : Type 0 where
+  pub result : Result Unit OtherSession
+  pub noted_is : OnOk result (new.peer ≡ record (meeting s old.peer) {
+    digests = noted (settled s.core) digest old.peer.digests;
+  })
+  pub accepted : OnOk result (IsOf s old.peer.member)
+  pub other : OnErr result (IsOther s old.peer)
+  pub unchanged : OnErr result (new.peer ≡ old.peer)
+  pub code_is : code ≡ code_of_note result
 
 -- what a peer counted of a machine of its match
 abbrev pub stats_at : ℕ → PeerLive → Option StatsOut

@@ -1,11 +1,11 @@
 //! Rollback sessions for games in other languages: the session says what the game is to do.
 #![tactic(auto)]
 
-ghost use Rattle.std.specs.Prelude.{◌≡◌, ◌≢◌, ◌++◌, drop, List, length, option_and_then, option_map, pos, slice_get, MatchOption, None, Some, if◌then◌else◌};
+ghost use Rattle.std.specs.Prelude.{◌≡◌, ◌≢◌, ◌++◌, drop, List, length, option_and_then, option_map, pos, slice_get, IfSome, MatchOption, None, Some, if◌then◌else◌};
 ghost use Rattle.roll_frame.specs.Core.{settled as settled_frame};
 ghost use Rattle.roll_frame.specs.Inputs.{player_at};
 ghost use Rattle.roll_inputs.specs.Boards.{confirmed_word};
-ghost use Rattle.roll_frame.specs.declared.row.Cell.{Cell};
+ghost use Rattle.roll_peer.specs.Turning.{ends_in_roll};
 
 mod calls;
 mod handle;
@@ -34,7 +34,7 @@ mod viewer_hold;
 mod viewer_live;
 mod viewers;
 
-ghost use Rattle.fazgrond_c.specs.Made.{code_in, flag_of, reached_in, settled_row, IsAnsweredBy, IsClaimed, IsHandedBy, IsNotedBy, IsOpenedBy, IsReserved, IsWhyClosed, IsWrittenBy, Reads, ReadsSome};
+ghost use Rattle.fazgrond_c.specs.Made.{code_in, flag_of, reached_in, row_in, settled_row, IsAnsweredBy, IsClaimed, IsHandedBy, IsNotedBy, IsOpenedBy, IsReserved, IsWhyClosed, IsWrittenBy, Reads, ReadsSome};
 ghost use Rattle.fazgrond_c.specs.Jobs.{added_in, code_of_graft, code_of_guess, number_in, IsForgottenBy, IsGraftedBy, IsGuessed, IsGuessedBy};
 ghost use Rattle.fazgrond_c.specs.Kinds.{entry_out, row_out};
 ghost use Rattle.roll_frame.specs.Advice.{advice_of};
@@ -50,8 +50,8 @@ pub use live::Live;
 pub use peer_handle::PeerHandle;
 pub use peer_kinds::{EventOut, MatchIn, StatsOut};
 pub use peer_live::PeerLive;
-use reads::{entry_at, written};
-use roll_frame::{Refusal, Reply, Row};
+use reads::{ends_in_roll, entry_at, written};
+use roll_frame::{Refusal, Reply};
 use roll_requests::limit_slots;
 use roll_session::Call;
 use std::alloc::Global;
@@ -152,13 +152,12 @@ pub extern "C" fn fazgrond_synchronize_input(
     handle: &mut Handle,
     row: &mut RowOut,
 ) -> i32
-    ensures { IsAnsweredBy handle.old.hold.value handle.new.hold.value Call.Sync result }
+    ensures { IsWrittenBy row_in handle.old.hold.value handle.new.hold.value Call.Sync row.old
+        row.new result }
 {
     match call(alloc, handle, Call::Sync) {
         Ok(said) => {
-            if let Some(now) = row_in(&said) {
-                *row = RowOut::of(&now);
-            }
+            write_row(row, &said);
             0
         }
         Err(code) => code,
@@ -446,6 +445,41 @@ pub extern "C" fn fazgrond_log_entry(
     }
 }
 
+/// The settled frame, and the slot in which its state lies.
+#[unsafe(no_mangle)]
+pub extern "C" fn fazgrond_settled_slot(
+    alloc: Global,
+    handle: &mut Handle,
+    frame: &mut u32,
+    slot: &mut u32,
+) -> i32
+    ensures frame { Reads (λ live. settled_frame live.session.core) handle.old.hold.value
+        handle.new.hold.value frame.old frame.new result }
+    ensures unwritten { handle.old.hold.value ≡ None → slot.new ≡ slot.old }
+{
+    let Some(live) = handle.take(alloc) else {
+        return CLOSED;
+    };
+    *frame = live.session.settled();
+    *slot = live.session.settled_state().slot();
+    handle.put(live);
+    0
+}
+
+/// Whether a call was accepted since the last roll, or none was so far. The state shown may not be that of the inputs then.
+#[unsafe(no_mangle)]
+pub extern "C" fn fazgrond_has_news(alloc: Global, handle: &mut Handle, flag: &mut u32) -> i32
+    ensures { Reads (λ live. if ends_in_roll live.session.log then 0 else 1) handle.old.hold.value
+        handle.new.hold.value flag.old flag.new result }
+{
+    let Some(live) = handle.take(alloc) else {
+        return CLOSED;
+    };
+    *flag = u32::from(!ends_in_roll(&live.session));
+    handle.put(live);
+    0
+}
+
 /// Notes by how many frames this machine is behind the other, and the other behind this one.
 #[unsafe(no_mangle)]
 pub extern "C" fn fazgrond_note_advantages(
@@ -515,13 +549,12 @@ fn copied(out: &mut [u8], bytes: &[u8]) -> i32
     0
 }
 
-/// The row that a sync was answered.
-fn row_in(said: &Reply) -> Option<Row>
-    ensures { (row : List Cell) → said.now ≡ Reply.Synchronized row → result ≡ Some row }
+/// Writes the row that a sync is answered.
+fn write_row(row: &mut RowOut, said: &Reply)
+    ensures { IfSome (row_in said.now) (λ there. row.new ≡ there) }
 {
-    match said {
-        Reply::Synchronized(row) => Some(*row),
-        _ => None,
+    if let Reply::Synchronized(there) = said {
+        *row = RowOut::of(there);
     }
 }
 

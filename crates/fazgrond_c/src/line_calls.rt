@@ -5,8 +5,8 @@ ghost use Rattle.fazgrond_c.specs.Peers.{Fills};
 use crate::calls::{NOTHING, TOO_SHORT};
 use crate::line_live::LineLive;
 use crate::line_refusal::code_of_line;
+use crate::live::Live;
 use crate::peer_calls::write;
-use crate::peer_live::PeerLive;
 use roll_wire::DATAGRAM_LIMIT;
 
 /// Hears bytes.
@@ -20,14 +20,14 @@ pub fn receive(live: &mut LineLive, bytes: &[u8], now: u32) -> i32
 }
 
 /// Writes what is to be sent to the viewer.
-pub fn send(live: &mut LineLive, peer: &PeerLive, now: u32, out: &mut [u8], size: &mut usize) -> i32
-    ensures { Fills (IsTelling peer.now.peer.member.session.core now) live.old live.new
-        out.old out.new size.old size.new result }
+pub fn send(line: &mut LineLive, live: &Live, now: u32, out: &mut [u8], size: &mut usize) -> i32
+    ensures { Fills (IsTelling live.now.session.core now) line.old line.new out.old out.new
+        size.old size.new result }
 {
     if out.len() < DATAGRAM_LIMIT {
         return TOO_SHORT;
     }
-    match live.line.send(peer.peer.session(), now) {
+    match line.line.send(&live.session, now) {
         Some(bytes) => {
             write(out, size, &bytes);
             0

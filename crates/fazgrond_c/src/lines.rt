@@ -1,17 +1,17 @@
 //! Lines to viewers, for games in other languages.
 ghost use Rattle.std.specs.Prelude.{◌≡◌, ◌≢◌, pos, None};
-ghost use Rattle.fazgrond_c.specs.Lines.{host_state, HostHearsBytes, IsHostsBye, IsOpened, IsTelling, IsWhyClosed, OpensBy, TellsBy};
+ghost use Rattle.fazgrond_c.specs.Lines.{host_state, HostHearsBytes, IsHostsBye, IsOpened, IsTelling, IsWhyClosed, OpensBy};
 ghost use Rattle.fazgrond_c.specs.Made.{Reads};
-ghost use Rattle.fazgrond_c.specs.Peers.{FillsBy, Makes};
+ghost use Rattle.fazgrond_c.specs.Peers.{FillsBy, FillsFor, Makes};
 
 use crate::calls::CLOSED;
+use crate::handle::Handle;
 use crate::line_calls;
 use crate::line_handle::LineHandle;
 use crate::line_kinds::{LineIn, LineState};
 use crate::line_live::LineLive;
 use crate::line_refusal::code_of_fault;
-use crate::peer_handle::PeerHandle;
-use crate::peer_live::PeerLive;
+use crate::live::Live;
 use roll_frame::Refusal;
 use std::alloc::Global;
 
@@ -64,46 +64,45 @@ pub extern "C" fn fazgrond_line_receive(
     code
 }
 
-/// What to send to the viewer of a peer that is open.
+/// What to send to the viewer of an open session.
 fn tell(
     alloc: Global,
     handle: &mut LineHandle,
-    peer: &PeerLive,
+    live: &Live,
     now: u32,
     out: &mut [u8],
     size: &mut usize,
 ) -> i32
-    ensures { FillsBy (IsTelling peer.now.peer.member.session.core now)
-        handle.old.hold.value handle.new.hold.value
-        out.old out.new size.old size.new result }
+    ensures { FillsBy (IsTelling live.now.session.core now) handle.old.hold.value
+        handle.new.hold.value out.old out.new size.old size.new result }
 {
-    let Some(mut live) = handle.take(alloc) else {
+    let Some(mut line) = handle.take(alloc) else {
         return CLOSED;
     };
-    let code = line_calls::send(&mut live, peer, now, out, size);
-    handle.put(live);
+    let code = line_calls::send(&mut line, live, now, out, size);
+    handle.put(line);
     code
 }
 
-/// What to send to the viewer: the settled rows of a peer's session that it lacks.
+/// What to send to the viewer: the settled rows of a session that it lacks.
 #[unsafe(no_mangle)]
 pub extern "C" fn fazgrond_line_send(
     alloc: Global,
     handle: &mut LineHandle,
-    peer: &mut PeerHandle,
+    session: &mut Handle,
     now: u32,
     out: &mut [u8],
     size: &mut usize,
 ) -> i32
-    ensures told { TellsBy now peer.old.hold.value handle.old.hold.value handle.new.hold.value
-        out.old out.new size.old size.new result }
-    ensures peer { peer.new.hold.value ≡ peer.old.hold.value }
+    ensures told { FillsFor (λ live. IsTelling live.session.core now) session.old.hold.value
+        handle.old.hold.value handle.new.hold.value out.old out.new size.old size.new result }
+    ensures session { session.new.hold.value ≡ session.old.hold.value }
 {
-    let Some(of_match) = peer.take(alloc) else {
+    let Some(live) = session.take(alloc) else {
         return CLOSED;
     };
-    let code = tell(alloc, handle, &of_match, now, out, size);
-    peer.put(of_match);
+    let code = tell(alloc, handle, &live, now, out, size);
+    session.put(live);
     code
 }
 

@@ -1,74 +1,43 @@
-//! Calls of an open peer.
+//! Calls of an open peer, some of them lent the session that it stands beside.
 ghost use Rattle.std.specs.Prelude.{◌≡◌, ◌≤◌, ◌++◌, drop, length};
-ghost use Rattle.fazgrond_c.specs.Peers.{Fills, IsFarewell, IsAdvanced, IsGiven, IsPolled, IsPutOut, IsReceived, IsSentTo, IsSynced, IsTold, Rolls, stats_at};
+ghost use Rattle.fazgrond_c.specs.Peers.{Fills, IsFarewell, IsNoted, IsPolledFor, IsPutOut, IsReceived, IsSentTo, IsTold, stats_at};
 
-use crate::calls::{NOTHING, PENDING, TOO_SHORT};
-use crate::kinds::{ReachedOut, RowOut};
+use crate::calls::{NOTHING, TOO_SHORT};
+use crate::live::Live;
 use crate::peer_kinds::{EventOut, StatsOut};
 use crate::peer_live::PeerLive;
-use crate::peer_refusal::{code_of_ignored, code_of_mesh, code_of_refusal};
+use crate::peer_refusal::{OTHER_SESSION, code_of_ignored, code_of_mesh, code_of_refusal};
 use arrayvec::ArrayVec;
+use roll_peer::OtherSession;
 use roll_wire::DATAGRAM_LIMIT;
 
 /// Hears bytes.
-pub fn receive(live: &mut PeerLive, bytes: &[u8], now: u32) -> i32
-    ensures { IsReceived bytes.now now live.old live.new result }
+pub fn receive(peer: &mut PeerLive, live: &mut Live, bytes: &[u8], now: u32) -> i32
+    ensures { IsReceived bytes.now now peer.old peer.new live.old live.new result }
 {
-    match live.peer.receive(bytes, now) {
+    match peer.peer.receive(&mut live.session, bytes, now) {
         Ok(_) => 0,
         Err(why) => code_of_ignored(why),
     }
 }
 
-/// Gives a local player's word.
-pub fn add_local_input(live: &mut PeerLive, player: u8, word: u32) -> i32
-    ensures { IsGiven player word live.old live.new result }
-{
-    match live.peer.add_local_input(player, word) {
-        Ok(()) => 0,
-        Err(why) => code_of_refusal(why),
-    }
-}
-
 /// What a turn does before it plays.
-pub fn poll(live: &mut PeerLive, now: u32) -> i32
-    ensures { IsPolled now live.old live.new result }
+pub fn poll(peer: &mut PeerLive, live: &mut Live, now: u32) -> i32
+    ensures { IsPolledFor now peer.old peer.new live.old live.new result }
 {
-    match live.peer.poll(now) {
+    match peer.peer.poll(&mut live.session, now) {
         Ok(()) => 0,
-        Err(why) => why.code(),
-    }
-}
-
-/// Writes the row of this frame, after a rollback where one is due.
-pub fn synchronize(live: &mut PeerLive, row: &mut RowOut) -> i32
-    ensures { Rolls IsSynced live.old live.new row.old row.new result }
-{
-    if !live.is_idle() {
-        return PENDING;
-    }
-    match live.synchronize() {
-        Ok(there) => {
-            *row = RowOut::of(&there);
-            0
-        }
         Err(why) => code_of_refusal(why),
     }
 }
 
-/// Goes on to the next frame, and writes where it led.
-pub fn advance(live: &mut PeerLive, reached: &mut ReachedOut) -> i32
-    ensures { Rolls IsAdvanced live.old live.new reached.old reached.new result }
+/// Notes the digest of the settled state.
+pub fn note_settled(peer: &mut PeerLive, live: &Live, digest: u64) -> i32
+    ensures { IsNoted digest live.now.session peer.old peer.new result }
 {
-    if !live.is_idle() {
-        return PENDING;
-    }
-    match live.advance() {
-        Ok(there) => {
-            *reached = ReachedOut::of(&there);
-            0
-        }
-        Err(why) => code_of_refusal(why),
+    match peer.peer.note_settled(&live.session, digest) {
+        Ok(()) => 0,
+        Err(OtherSession) => OTHER_SESSION,
     }
 }
 
@@ -83,18 +52,27 @@ pub fn disconnect(live: &mut PeerLive, machine: u8) -> i32
 }
 
 /// Writes what is to be sent to a machine.
-pub fn send(live: &mut PeerLive, machine: u8, now: u32, out: &mut [u8], size: &mut usize) -> i32
-    ensures { Fills (IsSentTo machine now) live.old live.new out.old out.new size.old size.new result }
+pub fn send(
+    peer: &mut PeerLive,
+    live: &Live,
+    machine: u8,
+    now: u32,
+    out: &mut [u8],
+    size: &mut usize,
+) -> i32
+    ensures { Fills (IsSentTo live.now.session machine now) peer.old peer.new out.old out.new
+        size.old size.new result }
 {
     if out.len() < DATAGRAM_LIMIT {
         return TOO_SHORT;
     }
-    match live.peer.send(machine, now) {
-        Some(bytes) => {
+    match peer.peer.send(&live.session, machine, now) {
+        Ok(Some(bytes)) => {
             write(out, size, &bytes);
             0
         }
-        None => NOTHING,
+        Ok(None) => NOTHING,
+        Err(OtherSession) => OTHER_SESSION,
     }
 }
 
@@ -142,7 +120,7 @@ pub fn tell(live: &mut PeerLive, event: &mut EventOut) -> i32
 pub fn stats(live: &PeerLive, machine: u8) -> Option<StatsOut>
     ensures { result ≡ stats_at machine live.now }
 {
-    if machine >= live.peer.member().mesh().seat().machines {
+    if machine >= live.peer.mesh().seat().machines {
         return None;
     }
     let stats = live.peer.stats(machine)?;

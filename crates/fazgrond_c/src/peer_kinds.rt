@@ -2,16 +2,14 @@
 ghost use Rattle.std.specs.Prelude.{◌≡◌, ◌≤◌, ℕ, IfNone, IfSome, slice_index};
 ghost use Rattle.fazgrond_c.specs.PeerKinds.{bare, event_out, field_out, stats_out, AreMatched, HasNoRoom};
 
-use crate::kinds::SettingsIn;
 use roll_frame::PLAYER_LIMIT;
 use roll_mesh::MACHINE_LIMIT;
 use roll_peer::{Field, MatchSettings, PeerEvent, Stats};
 
-/// How a peer is opened.
+/// How a peer is opened beside a session.
 #[repr(C)]
 #[derive(Drop)]
 pub struct MatchIn {
-    pub session: SettingsIn,
     pub numbers: [u64; MACHINE_LIMIT],
     pub draw: u64,
     pub digest: u64,

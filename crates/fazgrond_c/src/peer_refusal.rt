@@ -1,33 +1,14 @@
 //! Why a peer refuses a call, and the numbers of it.
 ghost use Rattle.std.specs.Prelude.{◌≡◌, pos};
 ghost use Rattle.fazgrond_c.specs.PeerKinds.{code_of_ignored, code_of_join, code_of_mesh, code_of_open, code_of_refusal};
-ghost use Rattle.fazgrond_c.specs.PeerRefusals.{code_of_fault};
 
 use roll_frame::Refusal;
 use roll_member::JoinRefusal;
 use roll_mesh::MeshRefusal;
 use roll_peer::{Ignored, OpenRefusal, PeerRefusal};
 
-/// Why a peer can't be opened.
-#[derive(Clone, Copy, Debug, PartialEq, Eq)]
-pub enum NotOpened {
-    /// Its session can't be started.
-    Session(Refusal),
-    /// The session can't take its seat in the match.
-    Match(OpenRefusal),
-}
-
-impl NotOpened {
-    /// Its number.
-    pub fn code(&self) -> i32
-        ensures { result ≡ pos (code_of_fault self.now) }
-    {
-        match self {
-            NotOpened::Session(why) => why.code(),
-            NotOpened::Match(why) => code_of_open(*why),
-        }
-    }
-}
+/// The session isn't the match's.
+pub const OTHER_SESSION: i32 = 313;
 
 /// The number of why bytes weren't heard.
 pub fn code_of_ignored(why: Ignored) -> i32
@@ -41,6 +22,7 @@ pub fn code_of_ignored(why: Ignored) -> i32
         Ignored::MachineGone => 305,
         Ignored::Overstated => 307,
         Ignored::Outside => 312,
+        Ignored::OtherSession => OTHER_SESSION,
     }
 }
 
@@ -49,7 +31,7 @@ pub fn code_of_refusal(why: PeerRefusal) -> i32
     ensures { result ≡ pos (code_of_refusal why) }
 {
     match why {
-        PeerRefusal::NotSynchronized => 6,
+        PeerRefusal::OtherSession => OTHER_SESSION,
         PeerRefusal::Session(why) => why.code(),
     }
 }
@@ -80,7 +62,7 @@ fn code_of_join(why: JoinRefusal) -> i32
 }
 
 /// The number of why a peer can't be opened.
-fn code_of_open(why: OpenRefusal) -> i32
+pub fn code_of_open(why: OpenRefusal) -> i32
     ensures { result ≡ pos (code_of_open why) }
 {
     match why {

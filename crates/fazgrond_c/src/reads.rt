@@ -1,11 +1,12 @@
 //! What is read of a session, and written.
 ghost use Rattle.std.specs.Prelude.{◌≡◌, option_map, pos, slice_get, MatchOption};
+ghost use Rattle.roll_peer.specs.Turning.{ends_in_roll};
 ghost use Rattle.fazgrond_c.specs.Kinds.{entry_out};
 
 use crate::calls::NOTHING;
 use crate::kinds::EntryOut;
 use roll_requests::Recorder;
-use roll_session::Session;
+use roll_session::{Call, Logged, Session};
 
 /// An entry of a session's log, if there is one at this place.
 pub fn entry_at(session: &Session<Recorder>, place: usize) -> Option<EntryOut>
@@ -13,6 +14,20 @@ pub fn entry_at(session: &Session<Recorder>, place: usize) -> Option<EntryOut>
 {
     let entry = session.log().get(place)?;
     Some(EntryOut::of(&entry))
+}
+
+/// Whether nothing was accepted since the last roll that went to its end.
+pub fn ends_in_roll(session: &Session<Recorder>) -> bool
+    ensures { result ≡ ends_in_roll session.now.log }
+{
+    let log = session.log();
+    let Some(last) = log.len().checked_sub(1) else {
+        return false;
+    };
+    matches!(
+        log.get(last),
+        Some(Logged::Call(Call::Sync | Call::Advance))
+    )
 }
 
 /// Writes a number, if there is one.
