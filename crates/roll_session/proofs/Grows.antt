@@ -84,30 +84,6 @@ grown settings game log is_log ps e m l j =
     let more : from_start T (prefixes R d j) ≡ rolled_paths core m j = prefixes_on T R d j ∙ ap (λ k. prefixes (T ++ R) k j) start ∙ ap (λ q. prefixes q (depth core m) j) time in
     map-append (λ r. T ++ r) ps (prefixes R d j) ∙ cc (e, more)
 
--- the next state of a roll is not yet held
-pub fresh : (players : List Player) (s m : ℕ) (ps : List Rows) (j : ℕ) → longest ps (rows_from players s (m - s)) + j < m - s
-    → contains (ps ++ prefixes (rows_from players s (m - s)) (longest ps (rows_from players s (m - s))) j) (rows_from players s (longest ps (rows_from players s (m - s)) + j + 1)) ≡ false
-fresh players s m ps j h = false_from_ne_true (contains (ps ++ prefixes R d j) q) (λ e. go (in_either q ps (prefixes R d j) (has_in (ps ++ prefixes R d j) q e)))
-  where
-    R : Rows
-    R = rows_from players s (m - s)
-
-    d : ℕ
-    d = longest ps R
-
-    q : Rows
-    q = rows_from players s (d + j + 1)
-
-    long : length q ≡ d + j + 1
-    long = length-rows_from players s (d + j + 1)
-
-    begun : begins_with R q ≡ true
-    begun = begins R q (sym (ap (λ k. take k R) long ∙ take-rows_from players s (m - s) (d + j + 1) (omega (arith, h))))
-
-    go : In q ps ⊎ In q (prefixes R d j) → ⊥
-    go (inl i) = omega (arith, long, longest_at_least ps R q i begun)
-    go (inr i) = let r = in_prefixes q R d j i in omega (arith, long, r.2, ap length r.3, length-take r.0 R)
-
 -- a test that all pass
 pub filter_whole : (f : Rows → Bool) (ps : List Rows) → ((q : Rows) → In q ps → f q ≡ true) → filter f ps ≡ ps
 filter_whole f [] h = refl

@@ -23,6 +23,7 @@ pub mod Rows
 pub mod Settles
 pub mod Steps
 pub mod Rolling
+pub mod Ways
 pub mod Rolled
 pub mod Words
 pub mod Turns

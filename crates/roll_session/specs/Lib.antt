@@ -1,5 +1,6 @@
 pub mod Standing
 pub mod Saves
+pub mod Ways
 pub mod Planned
 pub mod Seen
 pub mod Started

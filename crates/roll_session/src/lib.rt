@@ -10,6 +10,7 @@ mod room;
 mod run;
 mod saves;
 mod session;
+mod way;
 
 pub use event::{Call, Grafted, Reached, ReplayFault, Request};
 pub use log::{Log, Logged};
