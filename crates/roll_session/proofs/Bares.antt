@@ -1,6 +1,6 @@
 -- A session without a game.
 use Rattle.std.proofs.Common.{◌≡◌, ℕ, zero, suc, ◌+◌, ◌-◌, ◌<◌, ◌≤◌, List, [], ◌∷◌, ◌++◌, take, length, get_or, map, refl, ap, sym, subst, ◌∙◌, arith, Option, None, Some, Bool, false, true, Result, Ok, Err}
-use Rattle.std.specs.Prelude.{◌==◌, ◌&&◌, All, filter, if◌then◌else◌, is_none, max, nat_le, nat_lt, option_map, unwrap_or, IfErr, IsErrAnd}
+use Rattle.std.specs.Prelude.{◌==◌, ◌&&◌, All, filter, if◌then◌else◌, is_none, max, nat_le, nat_lt, option_map, unwrap_or, IfErr, IfSome, IsErrAnd, IsNone}
 use Rattle.std.proofs.lemmas.List.Elements.{All-filter}
 use Rattle.roll_frame.specs.Cells.{Rows}
 use Rattle.roll_frame.specs.Core.{Core}
@@ -24,7 +24,8 @@ use Rattle.roll_session.specs.Gameless.{bare_branch, route_refusal_of, seen_bare
 use Rattle.roll_branch.specs.Routed.{AreStates, Routed}
 use Rattle.roll_frame.specs.declared.route.Route.{Route}
 use Rattle.roll_session.specs.Grafting.{ahead_of, anchor_of, has_no_room, is_same_there, place_tests, start_of, there_tests, KeepsWorth}
-use Rattle.std.proofs.lemmas.Bool.{false≢true}
+use Rattle.std.proofs.lemmas.Bool.{false≢true, le-ltb, lt-ltb}
+use Rattle.roll_session.specs.Guessing.{job_along, kept_of, route_along}
 use Rattle.roll_frame.specs.Refusals.{first_refusal}
 use Rattle.roll_frame.specs.declared.refusal.Refusal.{Refusal}
 use Rattle.roll_frame.specs.declared.refusal.Refusal.TheVariants.{LogFull, NoMemory, Stranger, TreeFull}
@@ -236,3 +237,10 @@ graft_short old new branch refusal why none fine because short same =
 pub handed_on : {X : Type 0} (result : Result X Refusal) (why : Refusal) (P : Refusal → Type 0) → IsErrAnd result (λ error. error ≡ why) → P why → IfErr result P
 handed_on (Ok x) why P h p = absurd h
 handed_on (Err error) why P h p = subst P (sym h) p
+
+-- where a job of a game of which nothing is known starts
+pub bare_start : {N : Type 0} (s : Standing N) (rows : Rows) (start : Option (ℕ × Route)) → IfSome start (λ r. kept_of s rows < length rows) → IfSome start (λ r. r.1 ≡ route_along s rows) → (IsNone start → length rows ≤ kept_of s rows) → option_map (λ r. bare_branch 0 r.1) start ≡ job_along still [] s rows
+bare_start s rows None left route none = rw (le-ltb (kept_of s rows) (length rows) (none refl)) refl
+bare_start s rows (Some r) left route none =
+    let nothing : [] ≡ run still [] (timeline s.inputs.players s.inputs.settled ++ take (kept_of s rows) rows) = sym (no_run (timeline s.inputs.players s.inputs.settled ++ take (kept_of s rows) rows)) in
+    rw (lt-ltb (kept_of s rows) (length rows) left) (λ i. Some (record { ticket = 0; route = route i; from = nothing i }))

@@ -88,7 +88,7 @@ module _ {S : Type 0} where
       (value : S → Value) (step : Step) (opening : Value)
       → HaveValues value step opening (timeline old.inputs.players old.inputs.settled) old.tree.states
       → ((frame : ℕ) (d : S) → kept_to old route ≤ frame → frame < possible_to old.inputs route
-         → value (slice_index_or states (frame - start_of route) d) ≡ run step opening (timeline old.inputs.players old.inputs.settled ++ take (frame + 1 - old.inputs.settled) (ahead_of old.inputs route)))
+      → value (slice_index_or states (frame - start_of route) d) ≡ run step opening (timeline old.inputs.players old.inputs.settled ++ take (frame + 1 - old.inputs.settled) (ahead_of old.inputs route)))
       → HaveValues value step opening (timeline new.inputs.players new.inputs.settled) new.tree.states
 
   -- why a branch along a route is refused, if it is: by all tests where its state at its anchor is the saved one, else at the

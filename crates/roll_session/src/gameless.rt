@@ -1,5 +1,5 @@
 //! A session without a game.
-ghost use Rattle.std.specs.Prelude.{◌≡◌, ◌≤◌, ◌<◌, ◌-◌, ◌∷◌, [], length, max, IfOk, IfErr, IsSomeAnd, None, OnOk, OnErr};
+ghost use Rattle.std.specs.Prelude.{◌≡◌, ◌≤◌, ◌<◌, ◌-◌, ◌∷◌, [], length, max, IfOk, IfErr, IfSome, IsSomeAnd, None, OnOk, OnErr, option_map, Some};
 ghost use Rattle.roll_frame.specs.Core.{depth, kept};
 ghost use Rattle.roll_frame.specs.Events.{branch_of, is_repeat, tests_of};
 ghost use Rattle.roll_frame.specs.Grafts.{new_paths};
@@ -10,6 +10,7 @@ ghost use Rattle.roll_session.specs.Answered.{replied, with_entries, IsAnswered}
 ghost use Rattle.roll_session.specs.Calls.{entry_of, event_of, input_reply, judged, IsAdmitted, IsAllowed, IsInput, IsRoll, IsRollTo};
 ghost use Rattle.roll_session.specs.Changes.{after_graft, graft_refusal, reserve_refusal, FitsLog, IsRefused, IsWhy};
 ghost use Rattle.roll_session.specs.Gameless.{bare_branch, route_refusal_of, still, CanEnter, IsLooked, KeepsAll, KeepsGiven, KeepsGrafted};
+ghost use Rattle.roll_session.specs.Guessing.{guess_job_of, guess_refusal_of};
 ghost use Rattle.roll_session.specs.Held.{inputs_of};
 ghost use Rattle.roll_session.specs.Seen.{game_of, FollowsLog};
 ghost use Rattle.roll_session.specs.Standing.{from_start, settled_rows};
@@ -18,6 +19,7 @@ ghost use Rattle.roll_session.specs.Ways.{IsGoing};
 ghost use Rattle.roll_tree.specs.SavedStates.{paths_of, state_named};
 
 use crate::event::{Call, Grafted};
+use crate::guess::{guessed_rows, start_along};
 use crate::log::Log;
 use crate::place::{add_new_states, route_refusal};
 use crate::room::Room;
@@ -204,6 +206,36 @@ impl<S> Core<S> {
         }
         self.reserve_log(1)?;
         Ok(self.enter_branch(ticket, route, &along, states))
+    }
+
+    /// A guess: if this player gave these words next. Answers the state that its job starts from, by name, and the job's route.
+    /// None if all of it is kept.
+    ///
+    /// # Errors
+    ///
+    /// What the tests of a guess say, in their order.
+    pub fn guess(
+        &self,
+        player: u8,
+        words: &[u32],
+        until: u32,
+    ) -> Result<Option<(usize, Route)>, Refusal>
+        ensures job { IfOk result (λ start. option_map (λ s. bare_branch 0 s.1) start
+            ≡ guess_job_of still self.now.seen player words.now until) }
+        ensures node { IfOk result (λ start. IfSome start
+            (λ s. IsSomeAnd (state_named self.now.saves.tree s.0)
+            (λ u. u.path ≡ s.1.path.rows.items))) }
+        ensures accepted { OnOk result
+            (guess_refusal_of self.now.seen player words.now until ≡ None) }
+        ensures refused { IfErr result
+            (λ why. guess_refusal_of self.now.seen player words.now until ≡ Some why) }
+    {
+        let board = self.saves.board();
+        if let Some(why) = board.guess_refusal(player, words, until) {
+            return Err(why);
+        }
+        let rows = guessed_rows(board, player, words, until);
+        Ok(start_along(&self.saves, rows.as_slice()))
     }
 
     /// Makes room for so many more events, as a session's `reserve_log` does.

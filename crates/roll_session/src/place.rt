@@ -225,12 +225,7 @@ pub fn branch_refusal<G: Game>(
 }
 
 /// Why a branch along this route can't be grafted, if it can't. `same` is whether its state at its anchor is the saved one.
-pub fn route_refusal<S>(
-    saves: &Saves<S>,
-    route: &Route,
-    most: usize,
-    same: bool,
-) -> Option<Refusal>
+pub fn route_refusal<S>(saves: &Saves<S>, route: &Route, most: usize, same: bool) -> Option<Refusal>
     ensures { result ≡ first_refusal (place_tests saves.now route.now
         ++ there_tests most same saves.now route.now) }
 {
