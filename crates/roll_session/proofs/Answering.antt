@@ -1,5 +1,5 @@
 -- What is answered.
-use Rattle.std.proofs.Common.{◌≡◌, ◌∙◌, ℕ, ◌+◌, ◌-◌, [], ◌∷◌, length, Bool, cond, refl, sym, ap, subst, arith, false, true, inl, inr, Some, None, Ok, Err, Option, Result}
+use Rattle.std.proofs.Common.{◌≡◌, ◌∙◌, ℕ, ◌+◌, ◌-◌, [], ◌∷◌, Bool, cond, refl, sym, ap, subst, arith, false, true, inl, inr, Some, None, Ok, Err, Option, Result}
 use Rattle.std.specs.Prelude.{◌≢◌, max, nat_le, IfErr, IfOk, OnErr, OnOk, if◌then◌else◌}
 use Rattle.std.specs.Option.{option_map_or}
 use Rattle.roll_frame.specs.Events.{CoreEvent, answer, is_repeat, tests_of}

@@ -1,5 +1,5 @@
 -- A session without a game.
-use Rattle.std.proofs.Common.{◌≡◌, ℕ, zero, suc, ◌+◌, ◌-◌, ◌<◌, ◌≤◌, List, [], ◌∷◌, ◌++◌, take, length, get_or, map, refl, ap, sym, subst, ◌∙◌, arith, Option, None, Some, Bool, false, true, Result, Ok, Err}
+use Rattle.std.proofs.Common.{◌≡◌, ℕ, zero, ◌+◌, ◌-◌, ◌<◌, ◌≤◌, List, [], ◌∷◌, ◌++◌, take, length, get_or, map, refl, ap, sym, subst, ◌∙◌, arith, Option, None, Some, Bool, false, true, Result, Ok, Err}
 use Rattle.std.specs.Prelude.{◌==◌, ◌&&◌, All, filter, if◌then◌else◌, is_none, max, nat_le, nat_lt, option_map, unwrap_or, IfErr, IfSome, IsErrAnd, IsNone}
 use Rattle.std.proofs.lemmas.List.Elements.{All-filter}
 use Rattle.roll_frame.specs.Cells.{Rows}
@@ -10,7 +10,7 @@ use Rattle.roll_frame.specs.Paths.{begins_with, run}
 use Rattle.roll_frame.specs.Settings.{open_to_branches, start_refusal}
 use Rattle.roll_frame.specs.Timeline.{timeline}
 use Rattle.roll_frame.specs.declared.entry.Entry.{Entry}
-use Rattle.roll_frame.specs.declared.entry.Entry.TheVariants.{Local, Remote, Disconnect, Sync, Advance, Graft, Partial}
+use Rattle.roll_frame.specs.declared.entry.Entry.TheVariants.{Local, Remote, Disconnect, Advance, Graft}
 use Rattle.roll_frame.specs.declared.settings.Settings.{Settings}
 use Rattle.roll_frame.proofs.Timelines.{length_timeline, timeline_none_given}
 use Rattle.roll_inputs.specs.Boards.{Inputs, first_inputs}
@@ -38,7 +38,7 @@ use Rattle.roll_session.specs.Seen.{Seen, Step, game_of}
 use Rattle.roll_session.specs.Standing.{rows_from}
 use Rattle.roll_session.specs.Ways.{IsGoing}
 use Rattle.roll_session.specs.declared.event.Call.{Call}
-use Rattle.roll_session.specs.declared.event.Call.TheVariants.{Local as LocalCall, Remote as RemoteCall, Disconnect as DisconnectCall, Sync as SyncCall, Advance as AdvanceCall}
+use Rattle.roll_session.specs.declared.event.Call.TheVariants.{Sync as SyncCall, Advance as AdvanceCall}
 use Rattle.roll_session.specs.declared.way.Way.{Way}
 use Rattle.roll_session.proofs.Between.{values_settle}
 use Rattle.roll_session.proofs.Holding.{replay-nil, session_first}

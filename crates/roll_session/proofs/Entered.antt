@@ -1,9 +1,7 @@
 -- The states of a roll, taken in one at a time.
 use Rattle.std.proofs.Common.{◌≡◌, ℕ, ◌+◌, ◌-◌, ◌≤◌, List, get_or, drop, ap, sym, ◌∙◌, arith, refl}
-use Rattle.std.specs.Prelude.{All}
 use Rattle.std.proofs.lemmas.List.{get_or-drop, drop-drop}
 use Rattle.std.proofs.lemmas.List.Elements.{All-push}
-use Rattle.roll_frame.specs.Cells.{Rows}
 use Rattle.roll_tree.specs.SavedStates.{Saved, with_state}
 use Rattle.roll_session.specs.Gameless.{KeepsRolled}
 use Rattle.roll_session.specs.Saves.{Standing}

@@ -1,9 +1,6 @@
-use Rattle.std.proofs.Common.{◌≡◌, ◌∙◌, ◌-◌, ◌<◌, take, drop, length, arith}
-use Rattle.roll_frame.specs.declared.limits.TheConstants.{BRANCH_LIMIT}
-use Rattle.roll_frame.specs.Cells.{Rows}
+use Rattle.std.proofs.Common.{arith}
 use Rattle.roll_frame.proofs.Beginnings.{longest_within}
 use Rattle.roll_tree.specs.SavedStates.{paths_of}
-use Rattle.roll_session.specs.Guessing.{kept_of}
 use Rattle.roll_session.proofs.guess.start_along.Goals as goal
 
 pub route_at-requires-clause-within : goal.route_at-requires-clause-within

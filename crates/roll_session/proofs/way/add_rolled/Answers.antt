@@ -1,4 +1,4 @@
-use Rattle.std.proofs.Common.{◌≡◌, ◌+◌, ◌-◌, ◌∙◌, [], ap, arith, refl, sym, drop, get_or, subst, length}
+use Rattle.std.proofs.Common.{◌≡◌, ◌+◌, ◌-◌, ◌∙◌, ap, arith, refl, sym, get_or, subst, length}
 use Rattle.roll_session.specs.Gameless.{KeepsRolled}
 use Rattle.roll_session.proofs.Rolling.{if_some}
 use Rattle.roll_session.proofs.Ways.{longer_start, longer_more}

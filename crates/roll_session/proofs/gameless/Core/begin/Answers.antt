@@ -1,5 +1,4 @@
-use Rattle.std.proofs.Common.{◌∙◌, arith, refl, subst, sym}
-use Rattle.roll_session.specs.Calls.{IsRollTo}
+use Rattle.std.proofs.Common.{◌∙◌, arith}
 use Rattle.roll_session.proofs.Entering.{is_near, starts, states_fit}
 use Rattle.roll_session.proofs.Rolled.{frame_is}
 use Rattle.roll_session.proofs.Bares.{with_room}

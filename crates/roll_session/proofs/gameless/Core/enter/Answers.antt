@@ -1,4 +1,4 @@
-use Rattle.std.proofs.Common.{◌≡◌, ◌-◌, ◌∙◌, arith, length, refl, subst, sym}
+use Rattle.std.proofs.Common.{◌≡◌, ◌-◌, ◌∙◌, arith, length, refl, subst}
 use Rattle.roll_laws.proofs.Glue.{replay-push}
 use Rattle.roll_session.specs.Calls.{entry_of}
 use Rattle.roll_session.specs.Saves.{deepest_toward, GrowsBy}

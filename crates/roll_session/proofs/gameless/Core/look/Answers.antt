@@ -1,4 +1,4 @@
-use Rattle.std.proofs.Common.{◌∙◌, ap, refl, sym}
+use Rattle.std.proofs.Common.{◌∙◌}
 use Rattle.roll_session.proofs.Bares.{roll_allowed}
 use Rattle.roll_session.proofs.gameless.Core.look.Goals as goal
 
