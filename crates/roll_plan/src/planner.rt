@@ -103,8 +103,9 @@ impl Planner {
         (start, from)
     }
 
-    /// Takes down the plan of a roll to a frame from there.
-    fn plan_from<S>(&mut self, tree: &Tree<S>, start: usize, from: u32, to: u32)
+    /// Takes down the plan of a roll to a frame that a tree was told the timeline up to, from the deepest state on its way, and
+    /// the length of its path, from frame 0.
+    pub fn plan_from<S>(&mut self, tree: &Tree<S>, start: usize, from: u32, to: u32)
         requires can { CanPlan self.old.players tree.now to }
         requires start { IsSomeAnd (state_named tree.now start)
             (λ s. s.path ≡ take (longest (kept_paths tree.now) (time_to tree.now to)) (time_to tree.now to)) }

@@ -1,7 +1,6 @@
 -- What a roll adds to the paths that are held from the settled frame on.
-use Rattle.std.proofs.Common.{◌≡◌, ℕ, zero, suc, ◌+◌, ◌-◌, ◌<◌, ◌≤◌, List, [], ◌∷◌, ◌++◌, length, refl, ap, sym, ◌∙◌, Bool, true, false, arith, take, drop, subst, inl, inr, map, length-take}
+use Rattle.std.proofs.Common.{◌≡◌, ℕ, zero, suc, ◌+◌, ◌-◌, ◌≤◌, List, [], ◌∷◌, ◌++◌, length, refl, ap, sym, ◌∙◌, Bool, true, arith, take, drop, subst, inl, inr, map}
 use Rattle.std.specs.Prelude.{◌⊎◌, filter}
-use Rattle.std.proofs.lemmas.Bool.{false_from_ne_true}
 use Rattle.std.proofs.lemmas.List.{map-append}
 use Rattle.std.proofs.Math.Seq.{take-append-add}
 use Rattle.roll_frame.specs.Cells.{Rows}
@@ -9,7 +8,7 @@ use Rattle.roll_frame.specs.Core.{Core, row_possible, possible_from, is_possible
 use Rattle.roll_frame.specs.Events.{replay}
 use Rattle.roll_frame.specs.Games.{Game}
 use Rattle.roll_frame.specs.Inputs.{with_none_given}
-use Rattle.roll_frame.specs.Paths.{begins_with, contains, longest, prefixes}
+use Rattle.roll_frame.specs.Paths.{longest, prefixes}
 use Rattle.roll_frame.specs.Timeline.{Player, timeline}
 use Rattle.roll_frame.specs.declared.entry.Entry.{Entry}
 use Rattle.roll_frame.specs.declared.row.Cell.{Cell}
@@ -21,13 +20,11 @@ use Rattle.roll_laws.proofs.Glue.{always_holds}
 use Rattle.roll_laws.proofs.Known.{possible_from_fits, on_time_fits}
 use Rattle.roll_laws.proofs.KeptPaths.{live, settled_kept, rolled_on_time}
 use Rattle.roll_laws.proofs.Least.{pruning_loses_nothing}
-use Rattle.roll_laws.proofs.Prefixes.{in_prefixes}
-use Rattle.roll_laws.proofs.Saved.{In, in_either, has_in, in_has, longest_at_least}
+use Rattle.roll_laws.proofs.Saved.{In, in_either, has_in, in_has}
 use Rattle.roll_laws.proofs.Sound.{Sound, sound_played}
-use Rattle.roll_frame.proofs.Beginnings.{begins}
 use Rattle.roll_frame.proofs.Timelines.{length_timeline, timeline_none_given}
 use Rattle.roll_session.specs.Standing.{rows_from, settled_rows, from_start}
-use Rattle.roll_session.proofs.Rows.{longest_on, length-rows_from, settled-rows_from, take-rows_from}
+use Rattle.roll_session.proofs.Rows.{longest_on, settled-rows_from}
 use Rattle.roll_session.proofs.Settles.{start_root}
 
 -- the rows up to a later frame, from the settled rows
@@ -83,30 +80,6 @@ grown settings game log is_log ps e m l j =
     let time : T ++ R ≡ timeline core.players m = sym (settled_on core m (settled_low settings core m (always_holds Sound sound_played settings game log is_log) l)) in
     let more : from_start T (prefixes R d j) ≡ rolled_paths core m j = prefixes_on T R d j ∙ ap (λ k. prefixes (T ++ R) k j) start ∙ ap (λ q. prefixes q (depth core m) j) time in
     map-append (λ r. T ++ r) ps (prefixes R d j) ∙ cc (e, more)
-
--- the next state of a roll is not yet held
-pub fresh : (players : List Player) (s m : ℕ) (ps : List Rows) (j : ℕ) → longest ps (rows_from players s (m - s)) + j < m - s
-    → contains (ps ++ prefixes (rows_from players s (m - s)) (longest ps (rows_from players s (m - s))) j) (rows_from players s (longest ps (rows_from players s (m - s)) + j + 1)) ≡ false
-fresh players s m ps j h = false_from_ne_true (contains (ps ++ prefixes R d j) q) (λ e. go (in_either q ps (prefixes R d j) (has_in (ps ++ prefixes R d j) q e)))
-  where
-    R : Rows
-    R = rows_from players s (m - s)
-
-    d : ℕ
-    d = longest ps R
-
-    q : Rows
-    q = rows_from players s (d + j + 1)
-
-    long : length q ≡ d + j + 1
-    long = length-rows_from players s (d + j + 1)
-
-    begun : begins_with R q ≡ true
-    begun = begins R q (sym (ap (λ k. take k R) long ∙ take-rows_from players s (m - s) (d + j + 1) (omega (arith, h))))
-
-    go : In q ps ⊎ In q (prefixes R d j) → ⊥
-    go (inl i) = omega (arith, long, longest_at_least ps R q i begun)
-    go (inr i) = let r = in_prefixes q R d j i in omega (arith, long, r.2, ap length r.3, length-take r.0 R)
 
 -- a test that all pass
 pub filter_whole : (f : Rows → Bool) (ps : List Rows) → ((q : Rows) → In q ps → f q ≡ true) → filter f ps ≡ ps

@@ -1,29 +1,22 @@
 -- A roll, one frame at a time, and what is taken down of it.
-use Rattle.std.proofs.Common.{◌≡◌, ℕ, suc, ◌+◌, ◌-◌, ◌^◌, ◌<◌, ◌≤◌, List, [], ◌∷◌, ◌++◌, length, take, refl, ap, sym, subst, ◌∙◌, arith, inl, inr, slice_get, Bool, true, false, cond, Option, Some, None, add-one, append-nil, append_assoc}
+use Rattle.std.proofs.Common.{◌≡◌, ℕ, suc, ◌+◌, ◌-◌, ◌<◌, ◌≤◌, List, [], ◌∷◌, ◌++◌, length, take, refl, ap, sym, subst, ◌∙◌, arith, inl, inr, slice_get, Bool, true, false, cond, Option, Some, None}
 use Rattle.std.specs.Prelude.{◌⊎◌, option_map, ◌==◌, All, IfSome, IsSome, IsSomeAnd, nat_lt, if◌then◌else◌}
 use Rattle.std.specs.List.{find}
 use Rattle.std.proofs.lemmas.Bool.{cases_lt}
 use Rattle.std.proofs.lemmas.Bool.Decides.{nat_tests}
 use Rattle.std.proofs.lemmas.Option.{slice_get_past, slice_get-get_or}
-use Rattle.std.proofs.lemmas.List.{length-append, length-map, map-append}
-use Rattle.std.proofs.lemmas.List.Elements.{All-push, All-head, All-tail}
-use Rattle.std.proofs.lemmas.List.Sums.{fold_push}
-use Rattle.roll_frame.specs.declared.limits.TheConstants.{FRAME_LIMIT, PATH_LIMIT}
-use Rattle.roll_frame.specs.declared.row.Cell.{Cell}
+use Rattle.std.proofs.lemmas.List.Elements.{All-head, All-tail}
+use Rattle.roll_frame.specs.declared.limits.TheConstants.{FRAME_LIMIT}
 use Rattle.roll_frame.specs.Cells.{Rows}
 use Rattle.roll_frame.specs.Claims.{AreRowsOf}
-use Rattle.roll_frame.specs.Games.{Value}
-use Rattle.roll_frame.specs.Paths.{contains, prefixes, run}
+use Rattle.roll_frame.specs.Paths.{prefixes}
 use Rattle.roll_frame.specs.Timeline.{Player, row_at, timeline}
 use Rattle.roll_plan.specs.Plans.{CanPlan}
-use Rattle.roll_tree.specs.SavedStates.{CanGrow, SavedStates, Saved, state_named, paths_of, time_to, with_state}
+use Rattle.roll_tree.specs.SavedStates.{SavedStates, Saved, state_named, paths_of, time_to, with_state}
 use Rattle.roll_frame.proofs.Timelines.{timeline_row, length_timeline}
-use Rattle.roll_laws.proofs.Few.{length_prefixes}
-use Rattle.roll_session.specs.Saves.{HaveValues, Standing, rows_to, deepest_toward}
 use Rattle.roll_session.specs.Standing.{rows_from}
-use Rattle.roll_session.proofs.Grows.{fresh}
 use Rattle.roll_session.proofs.Steps.{time_is}
-use Rattle.roll_session.proofs.Rows.{length-rows_from, rows_from-more, settled-rows_from, take-rows_from}
+use Rattle.roll_session.proofs.Rows.{rows_from-more, settled-rows_from, take-rows_from}
 
 -- a settled row, where there is one
 pub settled_read : (players : List Player) (settled frame : ℕ) → slice_get (timeline players settled) frame ≡ (if nat_lt frame settled then Some (row_at players frame) else None)
@@ -53,7 +46,7 @@ module _ {S : Type 0} where
       }
 
   -- what holds of all states holds of one that is held
-  all_held : (P : Saved S → Type 0) (f : Saved S → Bool) (states : List (Saved S)) (u : Saved S) → All P states → find f states ≡ Some u → P u
+  pub all_held : (P : Saved S → Type 0) (f : Saved S → Bool) (states : List (Saved S)) (u : Saved S) → All P states → find f states ≡ Some u → P u
   all_held P f [] u all e = absurd cc
   all_held P f (v ∷ states) u all e = go (f v) e (All-head P v states all) (all_held P f states u (All-tail P v states all))
     where
@@ -75,7 +68,7 @@ module _ {S : Type 0} where
   held_last t u vacant = find_last (λ (s : Saved S). s.name == u.name) t.states u vacant (grind (arith, nat_tests))
 
 -- one more of the timeline's prefixes
-prefixes_more : (players : List Player) (settled to d from frame : ℕ) → from ≡ settled + d → from ≤ frame → frame < to
+pub prefixes_more : (players : List Player) (settled to d from frame : ℕ) → from ≡ settled + d → from ≤ frame → frame < to
     → prefixes (rows_from players settled (to - settled)) d (frame + 1 - from) ≡ prefixes (rows_from players settled (to - settled)) d (frame - from) ++ rows_from players settled (frame + 1 - settled) ∷ []
 prefixes_more players settled to d from frame start low high =
     let R : Rows = rows_from players settled (to - settled) in
@@ -85,28 +78,15 @@ prefixes_more players settled to d from frame start low high =
     ∙ ap (λ (q : Rows). prefixes R d (frame - from) ++ q ∷ []) (ap (λ k. take k R) place ∙ take-rows_from players settled (to - settled) (frame + 1 - settled) (omega arith))
 
 -- the rows of the next state
-next_rows : (players : List Player) (settled frame : ℕ) → settled ≤ frame → rows_from players settled (frame - settled) ++ row_at players frame ∷ [] ≡ rows_from players settled (frame + 1 - settled)
+pub next_rows : (players : List Player) (settled frame : ℕ) → settled ≤ frame → rows_from players settled (frame - settled) ++ row_at players frame ∷ [] ≡ rows_from players settled (frame + 1 - settled)
 next_rows players settled frame low =
     let here : settled + (frame - settled) ≡ frame = omega arith in
     let more : frame - settled + 1 ≡ frame + 1 - settled = omega arith in
     ap (λ k. rows_from players settled (frame - settled) ++ row_at players k ∷ []) (sym here) ∙ sym (rows_from-more players settled (frame - settled)) ∙ ap (rows_from players settled) more
 
 -- the timeline up to a frame past the settled rows
-whole : (players : List Player) (settled frame : ℕ) → settled ≤ frame → timeline players settled ++ rows_from players settled (frame - settled) ≡ timeline players frame
+pub whole : (players : List Player) (settled frame : ℕ) → settled ≤ frame → timeline players settled ++ rows_from players settled (frame - settled) ≡ timeline players frame
 whole players settled frame low = let here : settled + (frame - settled) ≡ frame = omega arith in settled-rows_from players settled (frame - settled) ∙ ap (timeline players) here
-
--- what is saved, and the state, when a roll has come to this frame
-pub record IsOnWay {S : Type 0} (value : S → Value) (step : Value → List Cell → Value) (old now : Standing S) (from to frame at : ℕ) (state : Value) : Type 0 where
-  pub inputs : now.inputs ≡ old.inputs
-  pub room : now.room ≡ old.room
-  pub base : now.tree.base ≡ old.inputs.settled
-  pub time : now.tree.time ≡ old.tree.time
-  pub low : from ≤ frame
-  pub high : frame ≤ to
-  pub paths : paths_of now.tree ≡ paths_of old.tree ++ prefixes (rows_to old.inputs to) (deepest_toward old to) (frame - from)
-  pub here : IsSomeAnd (state_named now.tree at) (λ u. u.path ≡ rows_from old.inputs.players old.inputs.settled (frame - old.inputs.settled))
-  pub values : (opening : Value) → HaveValues value step opening (timeline old.inputs.players old.inputs.settled) old.tree.states → HaveValues value step opening (timeline old.inputs.players old.inputs.settled) now.tree.states
-  pub reached : (opening : Value) → HaveValues value step opening (timeline old.inputs.players old.inputs.settled) old.tree.states → state ≡ run step opening (timeline old.inputs.players frame)
 
 pub some_is : {A : Type 0} (o : Option A) (P : A → Type 0) → IsSomeAnd o P → (u : A) × (o ≡ Some u) × P u
 some_is None P h = absurd h
@@ -123,68 +103,3 @@ if_some o u P e h = rw e at h
 
 pub snapshot_is : {S : Type 0} (o : Option (Saved S)) (u : Saved S) (snapshot : S) → option_map (λ (v : Saved S). v.snapshot) o ≡ Some snapshot → o ≡ Some u → u.snapshot ≡ snapshot
 snapshot_is o u snapshot h e = let same = rw e at h in cc same
-
-module _ {S : Type 0} (value : S → Value) (step : Value → List Cell → Value) (old : Standing S) (from to : ℕ) (start : from ≡ old.inputs.settled + deepest_toward old to) where
-  -- the state that the roll starts from
-  pub way_start : (at : ℕ) (snapshot : S) (state : Value) → from ≤ to → old.tree.base ≡ old.inputs.settled → IsSomeAnd (state_named old.tree at) (λ u. u.path ≡ rows_from old.inputs.players old.inputs.settled (deepest_toward old to))
-      → option_map (λ u. u.snapshot) (state_named old.tree at) ≡ Some snapshot → state ≡ value snapshot → IsOnWay value step old old from to from at state
-  way_start at snapshot state within base here found loaded =
-      let none : from - from ≡ 0 = omega arith in
-      let place : deepest_toward old to ≡ from - old.inputs.settled = omega (arith, start) in
-      let s = some_is (state_named old.tree at) (λ u. u.path ≡ rows_from old.inputs.players old.inputs.settled (deepest_toward old to)) here in
-      record {
-        inputs = refl;
-        room = refl;
-        base = base;
-        time = refl;
-        low = omega arith;
-        high = within;
-        paths = rw none (sym (append-nil (paths_of old.tree)));
-        here = rw (sym place) here;
-        values = λ opening h. h;
-        reached = λ opening h. loaded ∙ ap value (sym (snapshot_is (state_named old.tree at) s.0 snapshot found s.1)) ∙ (all_held (λ u. value u.snapshot ≡ run step opening (timeline old.inputs.players old.inputs.settled ++ u.path)) (λ u. u.name == at) old.tree.states s.0 h s.1 ∙ ap (run step opening) (ap (λ (q : Rows). timeline old.inputs.players old.inputs.settled ++ q) (s.2 ∙ ap (rows_from old.inputs.players old.inputs.settled) place) ∙ whole old.inputs.players old.inputs.settled from (omega (arith, start))));
-      }
-
-  -- the next state fits
-  pub can_grow : (now : Standing S) (frame at : ℕ) (state : Value) → IsOnWay value step old now from to frame at state → frame < to → to < 2 ^ 32 → to ≤ old.inputs.settled + PATH_LIMIT → CanGrow now.tree at (row_at now.inputs.players frame)
-  can_grow now frame at state w high wide near =
-      let s = some_is (state_named now.tree at) (λ u. u.path ≡ rows_from old.inputs.players old.inputs.settled (frame - old.inputs.settled)) w.here in
-      let place : deepest_toward old to + (frame - from) + 1 ≡ frame + 1 - old.inputs.settled = omega (arith, start, w.low) in
-      let path_is : (u : Saved S) → state_named now.tree at ≡ Some u → u.path ≡ rows_from old.inputs.players old.inputs.settled (frame - old.inputs.settled) = λ u e. ap (λ (v : Saved S). v.path) (held_same (state_named now.tree at) u s.0 e s.1) ∙ s.2 in
-      record {
-        kept = some_there (state_named now.tree at) s.0 s.1;
-        short = λ u e. omega (arith, ap length (path_is u e), length-rows_from old.inputs.players old.inputs.settled (frame - old.inputs.settled), near, start, w.low);
-        frames = λ u e. omega (arith, ap length (path_is u e), length-rows_from old.inputs.players old.inputs.settled (frame - old.inputs.settled), w.base, wide, start, w.low);
-        fresh = λ u e. rw (w.paths, w.inputs, path_is u e, next_rows old.inputs.players old.inputs.settled frame (omega (arith, start, w.low))) (subst (λ k. contains (paths_of old.tree ++ prefixes (rows_to old.inputs to) (deepest_toward old to) (frame - from)) (rows_from old.inputs.players old.inputs.settled k) ≡ false) place (fresh old.inputs.players old.inputs.settled to (paths_of old.tree) (frame - from) (omega (arith, start, high, w.low))));
-      }
-
-  -- there is room for the next state
-  pub still_few : (now : Standing S) (frame at limit : ℕ) (state : Value) → IsOnWay value step old now from to frame at state → frame < to → length old.tree.states + (to - from) ≤ limit → length now.tree.states < limit
-  still_few now frame at limit state w high fits =
-      let long = ap length w.paths ∙ length-append (paths_of old.tree) (prefixes (rows_to old.inputs to) (deepest_toward old to) (frame - from)) in
-      omega (arith, long, length-map now.tree.states (λ (u : Saved S). u.path), length-map old.tree.states (λ (u : Saved S). u.path), length_prefixes (rows_to old.inputs to) (deepest_toward old to) (frame - from), fits, w.low)
-
-  -- one frame more
-  pub way_more : (now new : Standing S) (frame at name : ℕ) (state state' : Value) (snapshot : S) (row : List Cell) → IsOnWay value step old now from to frame at state → frame < to → row ≡ row_at now.inputs.players frame → state' ≡ step state row → value snapshot ≡ step state row
-      → new.inputs ≡ now.inputs → new.room ≡ now.room → state_named now.tree name ≡ None → IfSome (state_named now.tree at) (λ u. new.tree ≡ with_state now.tree (record { name = name; path = u.path ++ row ∷ []; snapshot = snapshot }))
-      → IsOnWay value step old new from to (frame + 1) name state'
-  way_more now new frame at name state state' snapshot row w high row_is state_is snap inputs room vacant added =
-      let s = some_is (state_named now.tree at) (λ u. u.path ≡ rows_from old.inputs.players old.inputs.settled (frame - old.inputs.settled)) w.here in
-      let u : Saved S = record { name = name; path = s.0.path ++ row ∷ []; snapshot = snapshot } in
-      let tree : new.tree ≡ with_state now.tree u = if_some (state_named now.tree at) s.0 (λ v. new.tree ≡ with_state now.tree (record { name = name; path = v.path ++ row ∷ []; snapshot = snapshot })) s.1 added in
-      let low : old.inputs.settled ≤ frame = omega (arith, start, w.low) in
-      let path : u.path ≡ rows_from old.inputs.players old.inputs.settled (frame + 1 - old.inputs.settled) = rw (row_is, w.inputs, s.2) (next_rows old.inputs.players old.inputs.settled frame low) in
-      let led : (opening : Value) → HaveValues value step opening (timeline old.inputs.players old.inputs.settled) old.tree.states → step state row ≡ run step opening (timeline old.inputs.players (frame + 1)) =
-      λ opening h. rw (w.reached opening h, row_is, w.inputs, add-one) (sym (fold_push step opening (timeline old.inputs.players frame) (row_at old.inputs.players frame))) in
-      record {
-        inputs = inputs ∙ w.inputs;
-        room = room ∙ w.room;
-        base = ap (λ (t : SavedStates S). t.base) tree ∙ w.base;
-        time = ap (λ (t : SavedStates S). t.time) tree ∙ w.time;
-        low = omega (arith, w.low);
-        high = omega (arith, high);
-        paths = ap paths_of tree ∙ map-append (λ (v : Saved S). v.path) now.tree.states (u ∷ []) ∙ rw (w.paths, path, prefixes_more old.inputs.players old.inputs.settled to (deepest_toward old to) from frame start w.low high) (append_assoc (paths_of old.tree) (prefixes (rows_to old.inputs to) (deepest_toward old to) (frame - from)) (rows_from old.inputs.players old.inputs.settled (frame + 1 - old.inputs.settled) ∷ []));
-        here = rw (tree, held_last now.tree u vacant) path;
-        values = λ opening h. rw tree (All-push (λ v. value v.snapshot ≡ run step opening (timeline old.inputs.players old.inputs.settled ++ v.path)) now.tree.states u (w.values opening h) (snap ∙ led opening h ∙ ap (run step opening) (sym (ap (λ (q : Rows). timeline old.inputs.players old.inputs.settled ++ q) path ∙ whole old.inputs.players old.inputs.settled (frame + 1) (omega (arith, low))))));
-        reached = λ opening h. state_is ∙ led opening h;
-      }

@@ -78,6 +78,9 @@ module _ {S : Type 0} where
     pub deepest_is : (node : ℕ) → IsSomeAnd (state_named t node) (λ u. u.path ≡ take (longest (paths_of t) (time_to t to)) (time_to t to)) → IsSomeAnd (state_named t node) (λ u. u.path ≡ rows_from players s (longest (paths_of t) (rows_from players s (to - s))))
     deepest_is node h = some_and (state_named t node) (λ u. u.path ≡ take (longest (paths_of t) (time_to t to)) (time_to t to)) (λ u. u.path ≡ rows_from players s (longest (paths_of t) (rows_from players s (to - s)))) (λ u e. e ∙ first_rows) h
 
+    pub told_is : (node : ℕ) → IsSomeAnd (state_named t node) (λ u. u.path ≡ rows_from players s (longest (paths_of t) (rows_from players s (to - s)))) → IsSomeAnd (state_named t node) (λ u. u.path ≡ take (longest (paths_of t) (time_to t to)) (time_to t to))
+    told_is node h = some_and (state_named t node) (λ u. u.path ≡ rows_from players s (longest (paths_of t) (rows_from players s (to - s)))) (λ u. u.path ≡ take (longest (paths_of t) (time_to t to)) (time_to t to)) (λ u e. e ∙ sym first_rows) h
+
   -- the deepest state on the timeline's way to a frame: its frame, and its rows
   pub record IsDeepest (players : List Player) (s to : ℕ) (t : SavedStates S) (node end n : ℕ) : Type 0 where
     pub end_is : end ≡ s + n

@@ -1,11 +1,13 @@
 pub mod Standing
 pub mod Saves
+pub mod Ways
 pub mod Planned
 pub mod Seen
 pub mod Started
 pub mod Answered
 pub mod Held
 pub mod Calls
+pub mod Gameless
 pub mod Logs
 pub mod Requests
 pub mod Headline

@@ -1,59 +1,50 @@
 //! The roll: from the best saved state to a frame, saving each state on the way.
-ghost use Rattle.std.specs.Prelude.{◌≡◌, ◌≤◌, ◌+◌, ◌-◌, length, All, IfOk, IfErr, OnOk, OnErr, IsSomeAnd, Some, None};
+ghost use Rattle.std.specs.Prelude.{◌≡◌, ◌≤◌, ◌+◌, ◌-◌, length, All, IfOk, IfErr, OnOk, OnErr, Some, None};
 ghost use Rattle.roll_frame.specs.Claims.{AreRowsOf};
 ghost use Rattle.roll_game.specs.Counts.{IsRefusedAt, rolled};
 ghost use Rattle.roll_plan.specs.Plans.{planned_roll};
-ghost use Rattle.roll_tree.specs.SavedStates.{state_named, paths_of};
+ghost use Rattle.roll_tree.specs.SavedStates.{paths_of};
 ghost use Rattle.roll_session.specs.Saves.{rows_to, deepest_toward, GrowsBy, IsRunTo, KeepsValues};
-ghost use Rattle.roll_session.specs.Standing.{rows_from};
+ghost use Rattle.roll_session.specs.Ways.{IsGoing};
 
 use crate::saves::Saves;
-use roll_frame::{FRAME_LIMIT, PATH_LIMIT, Row, TREE_LIMIT};
+use crate::way::Way;
+use roll_frame::{PATH_LIMIT, TREE_LIMIT};
 use roll_game::{Game, advance_and_save};
 use roll_plan::Planner;
 
-/// Loads a saved state on the timeline's way to a frame, and advances to there, saving each state. Where the game
-/// refuses, it says how many states were saved.
+/// Loads the state that a roll stands at, and advances it to the roll's frame, saving each state. Where the game refuses,
+/// it says how many states were saved.
 fn run_on<G: Game>(
     game: &mut G,
     saves: &mut Saves<G::Snapshot>,
-    start: usize,
-    from: u32,
-    to: u32,
+    start: Way,
 ) -> Result<G::State, u32>
-    requires base { saves.old.tree.base ≡ saves.old.inputs.settled }
-    requires from { from ≡ saves.old.inputs.settled + deepest_toward saves.old to }
-    requires within { from ≤ to }
-    requires near { to ≤ saves.old.inputs.settled + PATH_LIMIT }
-    requires told { to ≤ saves.old.inputs.settled + length saves.old.tree.time }
-    requires start { IsSomeAnd (state_named saves.old.tree start)
-        (λ s. s.path ≡ rows_from saves.old.inputs.players saves.old.inputs.settled
-        (deepest_toward saves.old to)) }
-    requires fits { length saves.old.tree.states + (to - from) ≤ TREE_LIMIT }
+    requires { IsGoing saves.old start }
     ensures inputs { saves.new.inputs ≡ saves.old.inputs }
     ensures room { saves.new.room ≡ saves.old.room }
-    ensures paths { OnOk result (GrowsBy saves.old saves.new to (to - from)) }
+    ensures paths { OnOk result (GrowsBy saves.old saves.new start.to (start.to - start.frame)) }
     ensures values { KeepsValues G.snapshot_value G.step saves.old saves.new }
     ensures state { IfOk result
-        (λ state. IsRunTo G.snapshot_value G.step saves.old to (G.state_value state)) }
+        (λ state. IsRunTo G.snapshot_value G.step saves.old start.to (G.state_value state)) }
     ensures counts { OnOk result
-        (G.call_counts game.new ≡ rolled (to - from) (G.call_counts game.old)) }
-    ensures made { IfErr result (λ made. made ≤ to - from) }
-    ensures partial { IfErr result (GrowsBy saves.old saves.new to) }
+        (G.call_counts game.new ≡ rolled (start.to - start.frame) (G.call_counts game.old)) }
+    ensures made { IfErr result (λ made. made ≤ start.to - start.frame) }
+    ensures partial { IfErr result (GrowsBy saves.old saves.new start.to) }
     ensures refused { IfErr result
         (λ made. IsRefusedAt made (G.call_counts game.old) (G.call_counts game.new)) }
 {
-    let Ok(loaded) = game.load(saves.tree().get(start)) else {
+    let Ok(loaded) = game.load(saves.reached(&start)) else {
         return Err(0);
     };
     let mut state = loaded;
-    let mut at = start;
-    for frame in from..to {
-        let row = saves.told_row(frame);
+    let mut way = start;
+    for frame in start.frame..start.to {
+        let row = saves.next_row(&way);
         let Ok(snapshot) = advance_and_save(game, &mut state, &row) else {
-            return Err(frame - from);
+            return Err(frame - start.frame);
         };
-        at = saves.add_state(at, row, snapshot);
+        saves.go_on(&mut way, snapshot);
     }
     Ok(state)
 }
@@ -103,9 +94,13 @@ pub fn roll<G: Game>(
     ensures no_plan { OnErr result (planner.new ≡ record planner.old { last = None }) }
 {
     saves.laws();
-    let (start, from) = saves.plan(planner, to);
-    match run_on(game, saves, start, from, to) {
-        Ok(state) => Ok(Rolled { state, from }),
+    let start = saves.way_to(to);
+    saves.plan(planner, &start);
+    match run_on(game, saves, start) {
+        Ok(state) => Ok(Rolled {
+            state,
+            from: start.frame,
+        }),
         Err(made) => {
             planner.forget();
             Err(made)

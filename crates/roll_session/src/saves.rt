@@ -5,7 +5,6 @@ ghost use Rattle.roll_frame.specs.Claims.{AreRowsOf};
 ghost use Rattle.roll_frame.specs.Core.{row_possible};
 ghost use Rattle.roll_frame.specs.Events.{all_given};
 ghost use Rattle.roll_frame.specs.Inputs.{is_repeated, with_given, with_gone, with_none_given, with_words};
-ghost use Rattle.roll_frame.specs.Paths.{longest};
 ghost use Rattle.roll_frame.specs.Timeline.{front, row_at, timeline};
 ghost use Rattle.roll_frame.specs.declared.entry.Entry.TheVariants.{Advance as Advances};
 ghost use Rattle.roll_frame.specs.declared.row.Cell.TheVariants.{Gone};
@@ -14,11 +13,13 @@ ghost use Rattle.roll_laws.specs.Laws.{has_no_other};
 ghost use Rattle.roll_plan.specs.Plans.{planned_roll};
 ghost use Rattle.roll_tree.specs.SavedStates.{CanGrow, state_named, paths_of, with_state};
 ghost use Rattle.roll_tree.specs.Marks.{AreSameBut};
-ghost use Rattle.roll_session.specs.Calls.{entry_of};
+ghost use Rattle.roll_session.specs.Calls.{entry_of, judged};
 ghost use Rattle.roll_session.specs.Standing.{rows_from};
-ghost use Rattle.roll_session.specs.Saves.{has_word, rows_to, settled_by, settling, stepped_inputs, taken_inputs, taken_states, with_gone_only, without_other, IsFree};
+ghost use Rattle.roll_session.specs.Saves.{deepest_toward, has_word, refusal_in, repeats, rows_to, settled_by, settling, stepped_inputs, taken_inputs, taken_states, with_gone_only, without_other, IsFree};
+ghost use Rattle.roll_session.specs.Ways.{IsGoing};
 
 use crate::event::Call;
+use crate::way::Way;
 use arrayvec::ArrayVec;
 use roll_frame::{Cell, FRAME_LIMIT, PATH_LIMIT, Path, Refusal, Row, TREE_LIMIT};
 use roll_inputs::{Board, Heard, Record};
@@ -139,6 +140,26 @@ impl<S> Saves<S> {
         cut_words(&mut self.tree, player, count);
     }
 
+    /// What the rules say of a call, apart from a full log.
+    #[inline(always)]
+    pub fn judge(&self, call: Call) -> Result<Heard, Refusal>
+        ensures { result ≡ judged (repeats self.now.inputs (entry_of call))
+            (refusal_in self.now.inputs (entry_of call)) }
+    {
+        let refusal = match call {
+            Call::Local { player, .. } => self.board.local_refusal(player),
+            Call::Remote {
+                player,
+                frame,
+                word,
+            } => return self.remote_reply(player, frame, word),
+            Call::Disconnect { player } => self.board.disconnect_refusal(player),
+            Call::Advance if !self.board.ready() => Some(Refusal::LocalInputMissing),
+            Call::Sync | Call::Advance => None,
+        };
+        refusal.map_or(Ok(Heard::Taken), Err)
+    }
+
     /// Takes a player's input.
     pub fn take(&mut self, call: Call)
     where
@@ -216,33 +237,39 @@ impl<S> Saves<S> {
         self.board.settle(end);
     }
 
-    /// Plans a roll to a frame, and answers where it starts: the deepest saved state on the timeline's way there, and the
-    /// length of its path. The tree is told the timeline that far.
-    pub fn plan(&mut self, planner: &mut Planner, to: u32) -> (usize, u32)
+    /// Where a roll to a frame starts: at the deepest saved state on the timeline's way there. The tree is told the timeline that
+    /// far.
+    pub fn way_to(&mut self, to: u32) -> Way
         requires from { self.old.inputs.settled ≤ to }
         requires near { to ≤ self.old.inputs.settled + PATH_LIMIT }
-        requires time { AreRowsOf planner.old.players (rows_to self.old.inputs to) }
-        requires paths { All (AreRowsOf planner.old.players) (paths_of self.old.tree) }
-        ensures plan { planner.new
-            ≡ record planner.old {
-              last = Some
-                  (planned_roll self.old.tree (rows_to self.old.inputs to));
-            } }
+        requires fits { length self.old.tree.states +
+            (to - self.old.inputs.settled - deepest_toward self.old to) ≤ TREE_LIMIT }
+        ensures going { IsGoing self.new result }
+        ensures to { result.to ≡ to }
+        ensures from { result.frame ≡ self.old.inputs.settled + deepest_toward self.old to }
         ensures inputs { self.new.inputs ≡ self.old.inputs }
         ensures tree { self.new.tree ≡ record self.old.tree { time = self.new.tree.time } }
-        ensures told { to ≤ self.old.inputs.settled + length self.new.tree.time }
         ensures room { self.new.room ≡ self.old.room }
-        ensures node { IsSomeAnd (state_named self.old.tree result.0)
-            (λ s. s.path ≡ rows_from self.old.inputs.players self.old.inputs.settled
-            (longest (paths_of self.old.tree) (rows_to self.old.inputs to))) }
-        ensures length { result.1
-            ≡ self.old.inputs.settled + longest (paths_of self.old.tree)
-            (rows_to self.old.inputs to) }
-        ensures within { result.1 ≤ to }
     {
         self.board.laws();
         extend_time(&mut self.tree, &self.board, to);
-        planner.plan(&self.tree, to)
+        let (at, frame) = self.tree.deepest(to);
+        Way { at, frame, to }
+    }
+
+    /// Takes down the plan of a roll, before its first state is saved.
+    pub fn plan(&self, planner: &mut Planner, way: &Way)
+        requires going { IsGoing self.now way.now }
+        requires time { AreRowsOf planner.old.players (rows_to self.now.inputs way.now.to) }
+        requires paths { All (AreRowsOf planner.old.players) (paths_of self.now.tree) }
+        ensures { planner.new
+            ≡ record planner.old {
+              last = Some
+                  (planned_roll self.now.tree (rows_to self.now.inputs way.now.to));
+            } }
+    {
+        self.board.laws();
+        planner.plan_from(&self.tree, way.at, way.frame, way.to);
     }
 
     /// The timeline's row of a frame that the tree was told of.

@@ -1,36 +1,31 @@
-use Rattle.std.proofs.Common.{◌≡◌, suc, ◌+◌, ◌-◌, refl, arith, ◌∙◌}
-use Rattle.roll_frame.specs.Timeline.{row_at}
-use Rattle.roll_frame.specs.declared.limits.TheConstants.{TREE_LIMIT}
-use Rattle.roll_session.proofs.Rolling.{can_grow, still_few, way_more, way_start}
+use Rattle.std.proofs.Common.{◌≡◌, suc, ◌+◌, ◌-◌, refl, arith, ◌∙◌, ap}
+use Rattle.roll_session.proofs.Ways.{grown_more, grown_start}
 use Rattle.roll_session.proofs.roll.run_on.Goals as goal
 
 pub loop-frame-init : goal.loop-frame-init
 loop-frame-init g c =
-    let none : c.args.from - c.args.from ≡ 0 = omega arith in
+    let none : c.args.start.frame - c.args.start.frame ≡ 0 = omega arith in
     record {
-      way = way_start g.G.RawGame.snapshot_value g.G.Game.step c.args.saves.now c.args.from c.args.to c.requires.from c.args.start c.get.result.now (g.G.RawGame.state_value c.in-Ok.loaded) c.requires.within c.requires.base c.requires.start (rw c.tree.ensures at c.get.ensures) c.in-Ok.ensures.value;
+      grown = grown_start g.G.RawGame.snapshot_value g.G.Game.step c.args.saves.now c.args.start c.requires c.reached.result.now (g.G.RawGame.state_value c.in-Ok.loaded) c.reached.ensures c.in-Ok.ensures.value;
+      going = c.requires;
+      frame = refl;
+      to = refl;
       counts = rw none c.in-Ok.ensures.counts;
     }
-
-pub add_state-at-requires-clause-fits : goal.add_state-at-requires-clause-fits
-add_state-at-requires-clause-fits g c =
-    let row : c.told_row-row.result ≡ row_at c.loop-frame.saves.inputs.players c.loop-frame.frame = c.told_row-row.ensures in
-    rw row (
-    can_grow g.G.RawGame.snapshot_value g.G.Game.step c.args.saves.now c.args.from c.args.to c.requires.from c.loop-frame.saves c.loop-frame.frame c.loop-frame.at (g.G.RawGame.state_value c.loop-frame.state) c.loop-frame.invariant.way (omega (arith, c.loop-frame-test.true)) (omega (arith, c.ranges.to.fits)) c.requires.near)
-
-pub add_state-at-requires-clause-few : goal.add_state-at-requires-clause-few
-add_state-at-requires-clause-few g c =
-    still_few g.G.RawGame.snapshot_value g.G.Game.step c.args.saves.now c.args.from c.args.to c.requires.from c.loop-frame.saves c.loop-frame.frame c.loop-frame.at TREE_LIMIT (g.G.RawGame.state_value c.loop-frame.state) c.loop-frame.invariant.way (omega (arith, c.loop-frame-test.true)) c.requires.fits
 
 pub loop-frame-preserved : goal.loop-frame-preserved
 loop-frame-preserved g c =
     let now = c.loop-frame.invariant in
     let stepped = (g.met.G.Game.is_step _ _ _).0 c.in-Ok-advance_and_save.ensures.ran in
+    let saved = c.go_on.ensures in
     record {
-      way =
-          way_more g.G.RawGame.snapshot_value g.G.Game.step c.args.saves.now c.args.from c.args.to c.requires.from c.loop-frame.saves c.add_state-at.new.self c.loop-frame.frame c.loop-frame.at c.add_state-at.result (g.G.RawGame.state_value c.loop-frame.state) (g.G.RawGame.state_value c.advance_and_save.new.state)
-          c.in-Ok-advance_and_save.snapshot c.told_row-row.result now.way (omega (arith, c.loop-frame-test.true)) (c.told_row-row.ensures) stepped (c.in-Ok-advance_and_save.ensures.snapshot ∙ stepped) c.add_state-at.ensures.inputs c.add_state-at.ensures.room c.add_state-at.ensures.vacant c.add_state-at.ensures.added;
+      grown =
+          grown_more g.G.RawGame.snapshot_value g.G.Game.step c.args.saves.now c.args.start c.requires c.loop-frame.saves c.go_on.new.self c.loop-frame.frame c.go_on.new.way.at (g.G.RawGame.state_value c.loop-frame.state) (g.G.RawGame.state_value c.advance_and_save.new.state)
+          c.in-Ok-advance_and_save.snapshot c.next_row-row.result now.grown (omega (arith, c.loop-frame-test)) (omega (arith, c.loop-frame-test.true)) (rw (← now.frame) c.next_row-row.ensures) stepped (c.in-Ok-advance_and_save.ensures.snapshot ∙ stepped) saved.inputs saved.room (rw now.frame at saved.added);
+      going = saved.going;
+      frame = saved.frame ∙ ap (λ n. n + 1) now.frame;
+      to = saved.to ∙ now.to;
       counts =
-          let one : c.loop-frame.frame + 1 - c.args.from ≡ suc (c.loop-frame.frame - c.args.from) = omega (arith, now.way.low) in
+          let one : c.loop-frame.frame + 1 - c.args.start.frame ≡ suc (c.loop-frame.frame - c.args.start.frame) = omega arith in
           rw (one, c.in-Ok-advance_and_save.ensures.counts, now.counts) refl;
     }

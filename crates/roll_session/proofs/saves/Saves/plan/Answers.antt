@@ -1,42 +1,42 @@
-use Rattle.std.proofs.Common.{◌≡◌, ◌∙◌, Some, refl}
+use Rattle.std.proofs.Common.{◌≡◌, ◌∙◌, Some, subst}
+use Rattle.std.specs.Prelude.{IsSomeAnd}
 use Rattle.roll_plan.specs.Plans.{planned_roll}
+use Rattle.roll_tree.specs.SavedStates.{state_named}
+use Rattle.roll_session.specs.Standing.{rows_from}
 use Rattle.roll_session.proofs.Rolling.{plan_fits}
-use Rattle.roll_session.proofs.Steps.{deepest_is, time_is}
+use Rattle.roll_session.proofs.Steps.{time_is, told_is}
+use Rattle.roll_session.proofs.Ways.{is_past, place_is}
 use Rattle.roll_session.proofs.saves.Saves.plan.Goals as goal
 
-pub plan-requires : goal.plan-requires
-plan-requires g c =
+pub plan_from-requires-clause-can : goal.plan_from-requires-clause-can
+plan_from-requires-clause-can g c =
     let i = c.self.inside in
-    let t = c.extend_time.new.tree in
-    let from = rw (← c.self.view_is) at c.requires.from in
+    let way = c.args.way.now in
+    let going = rw (← c.self.view_is) at c.requires.going in
     let time = rw (← c.self.view_is) at c.requires.time in
     let paths = rw (← c.self.view_is) at c.requires.paths in
-    let base : t.base ≡ i.board.settled = (rw c.extend_time.ensures.same refl) ∙ c.self.invariant.base in
-    plan_fits t i.board.players i.board.settled c.args.to c.args.planner.now.players i.board.frame base c.extend_time.ensures.told from c.extend_time.ensures.far c.laws.ensures.reached c.laws.ensures.short time (rw c.extend_time.ensures.same paths)
+    plan_fits i.tree i.board.players i.board.settled way.to c.args.planner.now.players i.board.frame c.self.invariant.base c.self.invariant.told (is_past _ way going) going.told c.laws.ensures.reached c.laws.ensures.short time paths
 
-pub returns-clause-plan : goal.returns-clause-plan
-returns-clause-plan g c =
+pub plan_from-requires-clause-start : goal.plan_from-requires-clause-start
+plan_from-requires-clause-start g c =
     let i = c.self.inside in
-    let t = c.extend_time.new.tree in
-    let from = rw (← c.self.view_is) at c.requires.from in
-    let base : t.base ≡ i.board.settled = (rw c.extend_time.ensures.same refl) ∙ c.self.invariant.base in
-    let rows = time_is t i.board.players i.board.settled c.args.to base c.extend_time.ensures.told from c.extend_time.ensures.far in
-    rw (← c.self.view_is) (c.plan.ensures.plan ∙ (λ j. record c.args.planner.now { last = Some (planned_roll (c.extend_time.ensures.same j) (rows j)) }))
+    let way = c.args.way.now in
+    let going = rw (← c.self.view_is) at c.requires.going in
+    told_is i.tree i.board.players i.board.settled way.to c.self.invariant.base c.self.invariant.told (is_past _ way going) going.told way.at
+    (subst (λ n. IsSomeAnd (state_named i.tree way.at) (λ u. u.path ≡ rows_from i.board.players i.board.settled n)) (place_is _ way going) going.here)
 
-pub returns-clause-node : goal.returns-clause-node
-returns-clause-node g c =
+pub plan_from-requires-clause-starts : goal.plan_from-requires-clause-starts
+plan_from-requires-clause-starts g c =
     let i = c.self.inside in
-    let t = c.extend_time.new.tree in
-    let from = rw (← c.self.view_is) at c.requires.from in
-    let base : t.base ≡ i.board.settled = (rw c.extend_time.ensures.same refl) ∙ c.self.invariant.base in
-    let node = deepest_is t i.board.players i.board.settled c.args.to base c.extend_time.ensures.told from c.extend_time.ensures.far c.plan.result.0 c.plan.ensures.node in
-    rw (← c.self.view_is) (rw c.extend_time.ensures.same at node)
+    let way = c.args.way.now in
+    let going = rw (← c.self.view_is) at c.requires.going in
+    let rows = time_is i.tree i.board.players i.board.settled way.to c.self.invariant.base c.self.invariant.told (is_past _ way going) going.told in
+    rw (rows, c.self.invariant.base) going.deepest
 
-pub returns-clause-length : goal.returns-clause-length
-returns-clause-length g c =
+pub returns : goal.returns
+returns g c =
     let i = c.self.inside in
-    let t = c.extend_time.new.tree in
-    let from = rw (← c.self.view_is) at c.requires.from in
-    let base : t.base ≡ i.board.settled = (rw c.extend_time.ensures.same refl) ∙ c.self.invariant.base in
-    let rows = time_is t i.board.players i.board.settled c.args.to base c.extend_time.ensures.told from c.extend_time.ensures.far in
-    rw (← c.self.view_is) (c.plan.ensures.length ∙ (rw (rows, c.extend_time.ensures.same, c.self.invariant.base) refl))
+    let way = c.args.way.now in
+    let going = rw (← c.self.view_is) at c.requires.going in
+    let rows = time_is i.tree i.board.players i.board.settled way.to c.self.invariant.base c.self.invariant.told (is_past _ way going) going.told in
+    rw (← c.self.view_is) (c.plan_from.ensures ∙ (λ j. record c.args.planner.now { last = Some (planned_roll i.tree (rows j)) }))
