@@ -8,3 +8,4 @@ pub mod Peers
 pub mod LineKinds
 pub mod Lines
 pub mod Viewers
+pub mod Texts

@@ -26,6 +26,7 @@ use Rattle.fazgrond_c.specs.declared.kinds.ReachedOut.{ReachedOut}
 use Rattle.fazgrond_c.specs.declared.kinds.RequestOut.{RequestOut}
 use Rattle.fazgrond_c.specs.declared.kinds.RowOut.{RowOut}
 use Rattle.fazgrond_c.specs.declared.kinds.SettingsIn.{SettingsIn}
+use Rattle.fazgrond_c.specs.declared.kinds.TheConstants.{SETTINGS_SIZE}
 use Rattle.fazgrond_c.specs.declared.live.Live.{Live}
 use Rattle.fazgrond_c.specs.declared.open.Open.{Open}
 use Rattle.fazgrond_c.specs.declared.open.Open.TheVariants.{Session}
@@ -123,10 +124,12 @@ pub record IsUnfit (given : SettingsIn) (code : ℤ) : Type 0 where
   pub why : IsWhy (start_refusal settings) refusal
   pub code_is : code ≡ pos (code_of refusal)
 
--- why no session is opened: a number has no room where it belongs, or the settings aren't good, or memory ran out
+-- why no session is opened: the settings are another version's, a number has no room where it belongs, or they aren't good, or
+-- memory ran out
 abbrev pub IsWhyClosed : SettingsIn → ℤ → Type 0
 IsWhyClosed given code =
-    ((code ≡ pos 11) × HaveNoRoom given) ⊎ (IsUnfit given code ⊎ (code ≡ pos 107))
+    ((code ≡ pos 205) × (given.size ≢ SETTINGS_SIZE))
+    ⊎ (((code ≡ pos 11) × HaveNoRoom given) ⊎ (IsUnfit given code ⊎ (code ≡ pos 107)))
 
 -- the text of the last claim is written to the front of a buffer, if it has room
 pub record IsClaimed (old new : Option Open) (before after : List ℕ) (size : ℕ) (code : ℤ) : Type 0 where

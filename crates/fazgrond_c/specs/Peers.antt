@@ -32,6 +32,7 @@ use Rattle.fazgrond_c.specs.declared.open.Open.{Open}
 use Rattle.fazgrond_c.specs.declared.peer_kinds.EventOut.{EventOut}
 use Rattle.fazgrond_c.specs.declared.peer_kinds.MatchIn.{MatchIn}
 use Rattle.fazgrond_c.specs.declared.peer_kinds.StatsOut.{StatsOut}
+use Rattle.fazgrond_c.specs.declared.peer_kinds.TheConstants.{MATCH_SIZE}
 
 -- ---- opening
 
@@ -52,17 +53,19 @@ pub record IsFaulty (given : MatchIn) (s : Seen) (code : ℤ) : Type 0 where
   pub why : IsWhyNot s matched fault
   pub code_is : code ≡ pos (code_of_open fault)
 
--- why no peer is opened beside a session: a number has no room where it belongs, or the numbers are no match for it, or memory
--- ran out
+-- why no peer is opened beside a session: the match is another version's, a number has no room where it belongs, or the numbers
+-- are no match for it, or memory ran out
 abbrev pub IsWhyClosed : MatchIn → Seen → ℤ → Type 0
 IsWhyClosed given s code =
-    ((code ≡ pos 11) × HasNoRoom given) ⊎ (IsFaulty given s code ⊎ (code ≡ pos 107))
+    ((code ≡ pos 205) × (given.size ≢ MATCH_SIZE))
+    ⊎ (((code ≡ pos 11) × HasNoRoom given) ⊎ (IsFaulty given s code ⊎ (code ≡ pos 107)))
 
 -- a peer was opened beside a session in the place of what was open before, or nothing is changed
 pub record OpensBeside (given : MatchIn) (s : Seen) (old new : Option Open) (code : ℤ)
     : Type 0 where
   pub opens : Opens peer_in (IsOpened given s) old new code
   pub why : code ≢ pos 0 → IsWhyClosed given s code
+  pub version : given.size ≢ MATCH_SIZE → code ≡ pos 205
 
 -- the same beside what a handle has open
 pub record IsOpenedBy (given : MatchIn) (lent old new : Option Open) (code : ℤ) : Type 0 where

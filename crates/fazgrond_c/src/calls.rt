@@ -19,9 +19,10 @@ pub const CLOSED: i32 = 201;
 pub const PENDING: i32 = 202;
 /// There is no such thing.
 pub const NOTHING: i32 = 203;
-
 /// The buffer has less room than what is to be written.
 pub const TOO_SHORT: i32 = 204;
+/// A struct that was given has another size than this version's.
+pub const OTHER_VERSION: i32 = 205;
 /// The code of `Refusal::NoMemory`.
 const NO_MEMORY: i32 = 107;
 

@@ -1,7 +1,7 @@
 //! Rollback sessions for games in other languages: the session says what the game is to do.
 #![tactic(auto)]
 
-ghost use Rattle.std.specs.Prelude.{◌≡◌, ◌≢◌, ◌++◌, drop, List, length, option_and_then, option_map, pos, slice_get, IfSome, MatchOption, None, Some, if◌then◌else◌};
+ghost use Rattle.std.specs.Prelude.{◌≡◌, ◌≢◌, ◌++◌, drop, List, length, option_and_then, option_map, pos, slice_get, take, IfSome, MatchOption, None, Some, if◌then◌else◌};
 ghost use Rattle.roll_frame.specs.Core.{settled as settled_frame};
 ghost use Rattle.roll_frame.specs.Inputs.{player_at};
 ghost use Rattle.roll_inputs.specs.Boards.{confirmed_word};
@@ -23,6 +23,7 @@ mod peer_refusal;
 mod peers;
 mod reads;
 mod requests;
+mod texts;
 mod viewer_calls;
 mod viewer_live;
 mod viewers;
@@ -31,22 +32,44 @@ ghost use Rattle.fazgrond_c.specs.Handles.{session_in, Makes, Opens, Reads, Read
 ghost use Rattle.fazgrond_c.specs.Jobs.{added_in, code_of_graft, code_of_guess, number_in, IsForgotten, IsGrafted, IsGuessed};
 ghost use Rattle.fazgrond_c.specs.Kinds.{entry_out, row_out};
 ghost use Rattle.fazgrond_c.specs.Made.{code_in, flag_of, reached_in, row_in, settled_row, IsAnsweredBy, IsClaimed, IsHandedBy, IsNoted, IsOpened, IsReserved, IsWhyClosed, IsWrittenBy};
+ghost use Rattle.fazgrond_c.specs.Texts.{sentence_of, version_of};
+ghost use Rattle.fazgrond_c.specs.declared.kinds.TheConstants.{SETTINGS_SIZE};
 ghost use Rattle.roll_frame.specs.Advice.{advice_of};
 
 use calls::call;
-pub use calls::{CLOSED, NOTHING, PENDING, TOO_SHORT};
+pub use calls::{CLOSED, NOTHING, OTHER_VERSION, PENDING, TOO_SHORT};
 pub use handle::Handle;
-pub use kinds::{EntryOut, ReachedOut, RequestOut, RowOut, SettingsIn};
+pub use kinds::{EntryOut, ReachedOut, RequestOut, RowOut, SETTINGS_SIZE, SettingsIn};
 pub use line_kinds::{LineIn, LineState};
 pub use live::Live;
 pub use open::Open;
-pub use peer_kinds::{EventOut, MatchIn, StatsOut};
+pub use peer_kinds::{EventOut, MATCH_SIZE, MatchIn, StatsOut};
 use reads::{ends_in_roll, entry_at, written};
 use roll_frame::{Refusal, Reply};
 use roll_requests::limit_slots;
 use roll_session::Call;
 use std::alloc::Global;
+use texts::{sentence_of, write_front};
 pub use viewer_live::ViewerLive;
+
+/// The version of the library: its major, minor and patch numbers, the last two in 8 bits each.
+#[unsafe(no_mangle)]
+pub extern "C" fn fazgrond_version() -> u32
+    ensures { result ≡ version_of 0 1 0 }
+{
+    0x00_01_00
+}
+
+/// Writes the sentence for the number of an answer or of an event, as much as the buffer has room for, and says how long it is: 0 if
+/// there is no such number.
+#[unsafe(no_mangle)]
+pub extern "C" fn fazgrond_text(code: i32, out: &mut [u8]) -> usize
+    ensures written { out.new
+        ≡ take (length out.old) (sentence_of code) ++ drop (length (sentence_of code)) out.old }
+    ensures size { result ≡ length (sentence_of code) }
+{
+    write_front(out, sentence_of(code).as_bytes())
+}
 
 /// Opens a session.
 #[unsafe(no_mangle)]
@@ -54,7 +77,11 @@ pub extern "C" fn fazgrond_open(alloc: Global, handle: &mut Handle, settings: &S
     ensures opened { Opens session_in (IsOpened settings.now) handle.old.hold.value
         handle.new.hold.value result }
     ensures why { result ≢ pos 0 → IsWhyClosed settings.now result }
+    ensures version { settings.now.size ≢ SETTINGS_SIZE → result ≡ pos 205 }
 {
+    if settings.size != SETTINGS_SIZE {
+        return OTHER_VERSION;
+    }
     let Some(settings) = settings.settings() else {
         return Refusal::InvalidRequest.code();
     };

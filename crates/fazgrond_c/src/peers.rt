@@ -3,12 +3,12 @@ ghost use Rattle.std.specs.Prelude.{◌≡◌, if◌then◌else◌};
 ghost use Rattle.fazgrond_c.specs.Handles.{peer_in, FillsBy, FillsFor, Makes, MakesBeside, MakesFor, Reads, ReadsOr, Writes};
 ghost use Rattle.fazgrond_c.specs.Peers.{stats_at, IsFarewell, IsNoted, IsOpenedBy, IsPolledFor, IsPutOut, IsReceived, IsSentTo, IsTold, OpensBeside};
 
-use crate::calls::CLOSED;
+use crate::calls::{CLOSED, OTHER_VERSION};
 use crate::handle::Handle;
 use crate::live::Live;
 use crate::open::Open;
 use crate::peer_calls;
-use crate::peer_kinds::{EventOut, MatchIn, StatsOut};
+use crate::peer_kinds::{EventOut, MATCH_SIZE, MatchIn, StatsOut};
 use crate::peer_refusal::code_of_open;
 use roll_frame::Refusal;
 use roll_peer::Peer;
@@ -46,6 +46,9 @@ fn open(alloc: Global, handle: &mut Handle, live: &Live, given: &MatchIn) -> i32
     ensures { OpensBeside given.now live.now.session handle.old.hold.value handle.new.hold.value
         result }
 {
+    if given.size != MATCH_SIZE {
+        return OTHER_VERSION;
+    }
     let Some(settings) = given.settings() else {
         return Refusal::InvalidRequest.code();
     };
