@@ -1,6 +1,2 @@
 mod AsBox
-mod AsPeerBox
-mod AsLineBox
-mod AsViewerBox
-mod Made
 mod Handing

@@ -1,5 +1,5 @@
 -- What a guess and its job come to.
-use Rattle.std.specs.Prelude.{◌≡◌, ◌⊎◌, ◌≤◌, ◌^◌, ℕ, ℤ, List, Option, Some, None, Result, Ok, Err, IfErr, IfOk, IfSome, OnErr, IsSomeAnd, pos, MatchOption}
+use Rattle.std.specs.Prelude.{◌≡◌, ◌⊎◌, ◌≤◌, ◌^◌, ℕ, ℤ, List, Option, Some, None, Result, Ok, Err, IfErr, IfOk, OnErr, IsSomeAnd, pos, MatchOption}
 use Rattle.roll_branch.specs.Routed.{Routed}
 use Rattle.roll_frame.specs.Codes.{code_of}
 use Rattle.roll_frame.specs.declared.refusal.Refusal.{Refusal}
@@ -46,7 +46,7 @@ number_in (Ok None) before = before
 number_in (Err why) before = before
 
 -- a guess was made of an open session, or refused
-pub record IsGuessed (old new : Live) (player : ℕ) (words : List ℕ) (until before after : ℕ) (code : ℤ) : Type 0 where
+pub record IsGuessed (player : ℕ) (words : List ℕ) (until : ℕ) (old new : Live) (before after : ℕ) (code : ℤ) : Type 0 where
   pub result : Result (Option ℕ) Refusal
   pub session : new.session ≡ record old.session { counts = new.session.counts }
   pub given : new.given ≡ old.given
@@ -55,11 +55,6 @@ pub record IsGuessed (old new : Live) (player : ℕ) (words : List ℕ) (until b
   pub unchanged : OnErr result (SameValues old.jobs new.jobs)
   pub code_is : code ≡ code_of_guess result
   pub written : after ≡ number_in result before
-
--- the same through a handle, which may be closed
-pub record IsGuessedBy (old new : Option Live) (player : ℕ) (words : List ℕ) (until before after : ℕ) (code : ℤ) : Type 0 where
-  pub closed : old ≡ None → (code ≡ pos 201) × ((new ≡ None) × (after ≡ before))
-  pub guessed : IfSome old (λ live. IsSomeAnd new (λ now. IsGuessed live now player words until before after code))
 
 -- the code of a graft
 abbrev pub code_of_graft : Result Reply Refusal → ℤ
@@ -73,7 +68,7 @@ added_in (Ok (Grafted added)) before = added
 added_in result before = before
 
 -- a job's branch was handed in, and the job is gone
-pub record IsGrafted (old new : Live) (job before after : ℕ) (code : ℤ) : Type 0 where
+pub record IsHandedOver (job : ℕ) (old new : Live) (before after : ℕ) (code : ℤ) : Type 0 where
   pub result : Result Reply Refusal
   pub grafted : IsHandedIn old.session new.session (get old.jobs job) result
   pub jobs : Updates old.jobs new.jobs job None
@@ -81,17 +76,12 @@ pub record IsGrafted (old new : Live) (job before after : ℕ) (code : ℤ) : Ty
   pub code_is : code ≡ code_of_graft result
   pub written : after ≡ added_in result before
 
--- the same through a handle; nothing is done if it is closed, or if requests were not taken yet
-pub record IsGraftedBy (old new : Option Live) (job before after : ℕ) (code : ℤ) : Type 0 where
-  pub closed : old ≡ None → (code ≡ pos 201) × ((new ≡ None) × (after ≡ before))
-  pub grafted : IfSome old (λ live. IsSomeAnd new (λ now.
-      ((code ≡ pos 202) × ((now ≡ live) × (after ≡ before))) ⊎ IsGrafted live now job before after code))
+-- nothing is done, if requests were not taken yet
+abbrev pub IsGrafted : (job : ℕ) → (old new : Live) → (before after : ℕ) → (code : ℤ) → Type 0
+IsGrafted job old new before after code =
+    ((code ≡ pos 202) × ((new ≡ old) × (after ≡ before))) ⊎ IsHandedOver job old new before after code
 
 -- a job is given up, if there is one of this number
-pub record IsForgotten (old new : Live) (job : ℕ) (code : ℤ) : Type 0 where
+pub record IsForgotten (job : ℕ) (old new : Live) (code : ℤ) : Type 0 where
   pub new_is : (new.session ≡ old.session) × ((new.given ≡ old.given) × (Updates old.jobs new.jobs job None))
   pub code_is : MatchOption (get old.jobs job) (code ≡ pos 120) (λ branch. code ≡ pos 0)
-
-pub record IsForgottenBy (old new : Option Live) (job : ℕ) (code : ℤ) : Type 0 where
-  pub closed : old ≡ None → (code ≡ pos 201) × (new ≡ None)
-  pub forgotten : IfSome old (λ live. IsSomeAnd new (λ now. IsForgotten live now job code))

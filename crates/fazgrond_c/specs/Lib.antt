@@ -1,12 +1,11 @@
 pub mod Holds
 pub mod Kinds
+pub mod Handles
 pub mod Made
 pub mod Jobs
 pub mod PeerKinds
-pub mod PeerHolds
 pub mod Peers
 pub mod LineKinds
-pub mod LineHolds
 pub mod Lines
-pub mod ViewerHolds
 pub mod Viewers
+pub mod Texts

@@ -2,7 +2,7 @@
 use Rattle.std.specs.Prelude.{◌≡◌, ◌≢◌, ◌⊎◌, ℕ, ℤ, pos, List, Option, Some, None, IfNone, IfSome, IsSomeAnd, if◌then◌else◌}
 use Rattle.roll_frame.specs.Core.{Core}
 use Rattle.roll_contact.specs.Contacts.{is_playing}
-use Rattle.roll_viewer.specs.Ends.{host_sends, host_told, ignored_by_host, opened_host, HostHears}
+use Rattle.roll_viewer.specs.Ends.{Hosted, host_sends, host_told, ignored_by_host, opened_host, HostHears}
 use Rattle.roll_viewer.specs.Lines.{after_bye, after_refusal, farewell, fault_of, is_silent, opened as what_is_in, silence}
 use Rattle.roll_viewer.specs.Seeing.{TellsRows}
 use Rattle.roll_viewer.specs.declared.line.Line.{Line}
@@ -13,19 +13,12 @@ use Rattle.fazgrond_c.specs.LineKinds.{code_of_fault, code_of_line, AreTold, Has
 use Rattle.fazgrond_c.specs.Peers.{code_unless, AreWritten}
 use Rattle.fazgrond_c.specs.declared.line_kinds.LineIn.{LineIn}
 use Rattle.fazgrond_c.specs.declared.line_kinds.LineState.{LineState}
-use Rattle.fazgrond_c.specs.declared.line_live.LineLive.{LineLive}
 
 -- whom a viewer names as the sender: no machine of a match has this number
 abbrev pub VIEWER : ℕ
 VIEWER = 255
 
 -- ---- opening
-
--- such an end was opened in the place of the one before, or nothing is changed
-pub record OpensBy {L : Type 0} (is_open : L → Type 0) (old new : Option L) (code : ℤ)
-    : Type 0 where
-  pub opened : code ≡ pos 0 → IsSomeAnd new is_open
-  pub refused : code ≢ pos 0 → new ≡ old
 
 -- there is no such line
 pub record IsFaulty (given : LineIn) (code : ℤ) : Type 0 where
@@ -41,41 +34,40 @@ IsWhyClosed given code =
     ((code ≡ pos 11) × HasNoRoom given) ⊎ (IsFaulty given code ⊎ (code ≡ pos 107))
 
 -- a host that has heard nothing of its viewer
-pub record IsOpened (given : LineIn) (live : LineLive) : Type 0 where
+pub record IsOpened (given : LineIn) (host : Hosted) : Type 0 where
   pub settings : LineSettings
   pub are_told : AreTold given settings
   pub accepted : fault_of settings ≡ None
-  pub line : live.line ≡ opened_host settings
+  pub opened : host ≡ opened_host settings
 
 -- ---- hearing and sending
 
 -- bytes of the viewer are heard, or they aren't, and what a refusal changes is changed alone
-pub record HostHearsBytes (bytes : List ℕ) (now : ℕ) (old new : LineLive) (code : ℤ)
+pub record HostHearsBytes (bytes : List ℕ) (now : ℕ) (old new : Hosted) (code : ℤ)
     : Type 0 where
   pub why : Option LineRefusal
-  pub why_is : ignored_by_host old.line (what_is_in old.line.line VIEWER bytes) ≡ why
-  pub heard : IfNone why (HostHears old.line new.line bytes now)
+  pub why_is : ignored_by_host old (what_is_in old.line VIEWER bytes) ≡ why
+  pub heard : IfNone why (HostHears old new bytes now)
   pub refused : IfSome why
-      (λ why. new.line ≡ record old.line {
-        line = after_refusal old.line.line now why
-            (what_is_in old.line.line VIEWER bytes);
+      (λ why. new ≡ record old {
+        line = after_refusal old.line now why (what_is_in old.line VIEWER bytes);
       })
   pub code_is : code ≡ code_unless code_of_line why
 
 -- what is sent in a turn of a session is written, and told from now on: a hello, or settled rows of the session
-pub record IsTelling (core : Core) (now : ℕ) (old new : LineLive) (before after : List ℕ) (had size : ℕ)
+pub record IsTelling (core : Core) (now : ℕ) (old new : Hosted) (before after : List ℕ) (had size : ℕ)
     (code : ℤ) : Type 0 where
   pub bytes : Option (List ℕ)
-  pub sent : bytes ≡ host_sends old.line core now
-  pub told : new ≡ record old { line = host_told old.line core now }
-  pub rows : TellsRows core old.line.had
+  pub sent : bytes ≡ host_sends old core now
+  pub told : new ≡ host_told old core now
+  pub rows : TellsRows core old.had
   pub written : AreWritten bytes before after had size code
 
 -- the bytes by which the host says that it leaves are written, if the viewer's draw is believed, and the line has ended
-pub record IsHostsBye (old new : LineLive) (before after : List ℕ) (had size : ℕ) (code : ℤ)
+pub record IsHostsBye (old new : Hosted) (before after : List ℕ) (had size : ℕ) (code : ℤ)
     : Type 0 where
-  pub ended : new ≡ record old { line = record old.line { line = after_bye old.line.line } }
-  pub written : AreWritten (farewell old.line.line old.line.line.settings.host) before after had
+  pub ended : new ≡ record old { line = after_bye old.line }
+  pub written : AreWritten (farewell old.line old.line.settings.host) before after had
       size code
 
 -- ---- what is read
@@ -91,5 +83,5 @@ state_of line rows settled now = record {
   is_silent = if is_silent line now then 1 else 0;
 }
 
-abbrev pub host_state : ℕ → LineLive → LineState
-host_state now live = state_of live.line.line live.line.had live.line.told now
+abbrev pub host_state : ℕ → Hosted → LineState
+host_state now host = state_of host.line host.had host.told now

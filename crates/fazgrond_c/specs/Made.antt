@@ -1,5 +1,5 @@
 -- What a call through a handle comes to.
-use Rattle.std.specs.Prelude.{◌≡◌, ◌≢◌, ◌⊎◌, ℕ, ℤ, List, ◌++◌, drop, length, max, nat_lt, IsSomeAnd, if◌then◌else◌, pos, Result, Ok, Err, IfOk, IfErr, Option, Some, None, IfSome, MatchOption}
+use Rattle.std.specs.Prelude.{◌≡◌, ◌≢◌, ◌⊎◌, ℕ, ℤ, List, ◌++◌, drop, length, max, nat_lt, IsSomeAnd, if◌then◌else◌, pos, Result, Ok, Err, IfOk, IfErr, Option, Some, None, IfSome}
 use Rattle.roll_frame.specs.Advice.{noted}
 use Rattle.roll_frame.specs.Codes.{code_of}
 use Rattle.roll_frame.specs.Core.{Core, settled}
@@ -20,19 +20,23 @@ use Rattle.roll_session.specs.Headline.{last_claim}
 use Rattle.roll_session.specs.Started.{first_seen}
 use Rattle.roll_session.specs.declared.event.Call.{Call}
 use Rattle.roll_text.specs.Lines.{text_of}
+use Rattle.fazgrond_c.specs.Handles.{session_in}
 use Rattle.fazgrond_c.specs.Kinds.{row_out, AreGiven, AreHanded, HaveNoRoom}
 use Rattle.fazgrond_c.specs.declared.kinds.ReachedOut.{ReachedOut}
 use Rattle.fazgrond_c.specs.declared.kinds.RequestOut.{RequestOut}
 use Rattle.fazgrond_c.specs.declared.kinds.RowOut.{RowOut}
 use Rattle.fazgrond_c.specs.declared.kinds.SettingsIn.{SettingsIn}
+use Rattle.fazgrond_c.specs.declared.kinds.TheConstants.{SETTINGS_SIZE}
 use Rattle.fazgrond_c.specs.declared.live.Live.{Live}
+use Rattle.fazgrond_c.specs.declared.open.Open.{Open}
+use Rattle.fazgrond_c.specs.declared.open.Open.TheVariants.{Session}
 
 -- the session of an open handle answers a call by the rules
-pub record IsMade (old new : Option Live) (call : Call) (said : Reply) : Type 0 where
+pub record IsMade (old new : Option Open) (call : Call) (said : Reply) : Type 0 where
   pub before : Live
   pub after : Live
-  pub was : old ≡ Some before
-  pub is : new ≡ Some after
+  pub was : old ≡ Some (Session before)
+  pub is : new ≡ Some (Session after)
   pub replied : IsReplied step_of before.session after.session (event_of call) said
 
 -- a call isn't made, since the requests of the last roll were not taken yet, or it is refused, by the rules or for want of
@@ -44,16 +48,16 @@ IsDeclined before after call code =
     × IsAnswered step_of before.session after.session (event_of call) (Refused why))
 
 -- the same through a handle, which may be closed
-pub record IsDeclinedBy (old new : Option Live) (call : Call) (code : ℤ) : Type 0 where
+pub record IsDeclinedBy (old new : Option Open) (call : Call) (code : ℤ) : Type 0 where
   pub before : Live
   pub after : Live
-  pub was : old ≡ Some before
-  pub is : new ≡ Some after
+  pub was : old ≡ Some (Session before)
+  pub is : new ≡ Some (Session after)
   pub declined : IsDeclined before after call code
 
-abbrev pub IsNotMade : Option Live → Option Live → Call → ℤ → Type 0
+abbrev pub IsNotMade : Option Open → Option Open → Call → ℤ → Type 0
 IsNotMade old new call code =
-    ((code ≡ pos 201) × (old ≡ None) × (new ≡ None)) ⊎ IsDeclinedBy old new call code
+    ((code ≡ pos 201) × (session_in old ≡ None) × (new ≡ old)) ⊎ IsDeclinedBy old new call code
 
 -- the code of a call's result
 abbrev pub code_in : Result Reply ℤ → ℤ
@@ -61,18 +65,18 @@ code_in (Ok said) = pos 0
 code_in (Err code) = code
 
 -- a call of the session that a handle holds, made or not, has this result
-pub record HasResult (old new : Option Live) (call : Call) (result : Result Reply ℤ) : Type 0 where
+pub record HasResult (old new : Option Open) (call : Call) (result : Result Reply ℤ) : Type 0 where
   pub made : IfOk result (IsMade old new call)
   pub not_made : IfErr result (IsNotMade old new call)
 
 -- it is answered by this code
-pub record IsAnsweredBy (old new : Option Live) (call : Call) (code : ℤ) : Type 0 where
+pub record IsAnsweredBy (old new : Option Open) (call : Call) (code : ℤ) : Type 0 where
   pub result : Result Reply ℤ
   pub has : HasResult old new call result
   pub code_is : code ≡ code_in result
 
 -- and if it is made, this of its reply is written
-pub record IsWrittenBy {T : Type 0} (value : Reply → Option T) (old new : Option Live) (call : Call)
+pub record IsWrittenBy {T : Type 0} (value : Reply → Option T) (old new : Option Open) (call : Call)
     (before after : T) (code : ℤ) : Type 0 where
   pub result : Result Reply ℤ
   pub has : HasResult old new call result
@@ -96,35 +100,15 @@ abbrev pub reached_in : Reply → Option ReachedOut
 reached_in (Reached frame from rerun) = Some (record { frame = frame; from = from; rerun = rerun })
 reached_in said = None
 
-module _ {L T : Type 0} where
-  -- what is read of what a handle holds, and written; it stays as it is
-  pub record Reads (value : L → T) (old new : Option L) (before after : T) (code : ℤ)
-      : Type 0 where
-    pub kept : new ≡ old
-    pub read : IfSome old (λ live. (code ≡ pos 0) × (after ≡ value live))
-    pub closed : old ≡ None → (code ≡ pos 201) × (after ≡ before)
-
-  -- the same of what may not be there, which has a code
-  pub record ReadsOr (none : ℕ) (value : L → Option T) (old new : Option L) (before after : T)
-      (code : ℤ) : Type 0 where
-    pub kept : new ≡ old
-    pub read : IfSome old (λ live. MatchOption (value live)
-        ((code ≡ pos none) × (after ≡ before)) (λ there. (code ≡ pos 0) × (after ≡ there)))
-    pub closed : old ≡ None → (code ≡ pos 201) × (after ≡ before)
-
-  abbrev pub ReadsSome : (L → Option T) → (old new : Option L) → (before after : T) → ℤ → Type 0
-  ReadsSome = ReadsOr 203
-
 -- the settled row of a frame
 abbrev pub settled_row : Core → ℕ → Option (List Cell)
 settled_row core frame = if nat_lt frame (settled core) then Some (row_at core.players frame) else None
 
 -- room was made for so many more events, or nothing is changed
-pub record IsReserved (old new : Option Live) (events : ℕ) (code : ℤ) : Type 0 where
-  pub closed : old ≡ None → (code ≡ pos 201) × (new ≡ None)
-  pub made : IfSome old (λ live. IfSome new (λ after. code ≡ pos 0
-      → after.session ≡ record live.session { reserved = max live.session.reserved events }))
-  pub refused : IfSome old (λ live. IfSome new (λ after. code ≢ pos 0 → after ≡ live))
+pub record IsReserved (events : ℕ) (old new : Live) (code : ℤ) : Type 0 where
+  pub made : code ≡ pos 0
+      → new.session ≡ record old.session { reserved = max old.session.reserved events }
+  pub refused : code ≢ pos 0 → new ≡ old
 
 -- a session with these settings is open at its start
 pub record IsOpened (given : SettingsIn) (live : Live) : Type 0 where
@@ -140,33 +124,29 @@ pub record IsUnfit (given : SettingsIn) (code : ℤ) : Type 0 where
   pub why : IsWhy (start_refusal settings) refusal
   pub code_is : code ≡ pos (code_of refusal)
 
--- why no session is opened: a number has no room where it belongs, or the settings aren't good, or memory ran out
+-- why no session is opened: the settings are another version's, a number has no room where it belongs, or they aren't good, or
+-- memory ran out
 abbrev pub IsWhyClosed : SettingsIn → ℤ → Type 0
 IsWhyClosed given code =
-    ((code ≡ pos 11) × HaveNoRoom given) ⊎ (IsUnfit given code ⊎ (code ≡ pos 107))
-
--- a session was opened in the place of the one before, or nothing is changed
-pub record IsOpenedBy (given : SettingsIn) (old new : Option Live) (code : ℤ) : Type 0 where
-  pub opened : code ≡ pos 0 → IsSomeAnd new (IsOpened given)
-  pub refused : code ≢ pos 0 → new ≡ old
+    ((code ≡ pos 205) × (given.size ≢ SETTINGS_SIZE))
+    ⊎ (((code ≡ pos 11) × HaveNoRoom given) ⊎ (IsUnfit given code ⊎ (code ≡ pos 107)))
 
 -- the text of the last claim is written to the front of a buffer, if it has room
-pub record IsClaimed (old new : Option Live) (before after : List ℕ) (size : ℕ) (code : ℤ) : Type 0 where
+pub record IsClaimed (old new : Option Open) (before after : List ℕ) (size : ℕ) (code : ℤ) : Type 0 where
   pub kept : new ≡ old
-  pub closed : old ≡ None → code ≡ pos 201
-  pub written : code ≡ pos 0 → IfSome old (λ live. IfSome (last_claim live.session) (λ claim.
+  pub closed : session_in old ≡ None → code ≡ pos 201
+  pub written : code ≡ pos 0 → IfSome (session_in old) (λ live. IfSome (last_claim live.session) (λ claim.
       (after ≡ text_of (claim_lines claim) ++ drop size before)
       × (size ≡ length (text_of (claim_lines claim)))))
   pub unwritten : code ≢ pos 0 → after ≡ before
 
 -- requests of an open session are handed out; a closed one has none
-pub record IsHandedBy (old new : Option Live) (before after : List RequestOut) (count : ℕ) : Type 0 where
-  pub closed : old ≡ None → (new ≡ None) × ((count ≡ 0) × (after ≡ before))
-  pub handed : IfSome old (λ live. IsSomeAnd new (λ now.
+pub record IsHandedBy (old new : Option Open) (before after : List RequestOut) (count : ℕ) : Type 0 where
+  pub closed : session_in old ≡ None → (new ≡ old) × ((count ≡ 0) × (after ≡ before))
+  pub handed : IfSome (session_in old) (λ live. IsSomeAnd (session_in new) (λ now.
       (now.session ≡ live.session) × AreHanded live.given now.given count before after))
 
 -- the advantages of both sides are noted
-pub record IsNotedBy (old new : Option Live) (local remote : ℤ) (code : ℤ) : Type 0 where
-  pub closed : old ≡ None → (code ≡ pos 201) × (new ≡ None)
-  pub noted : IfSome old (λ live. (code ≡ pos 0)
-      × (new ≡ Some (record live { advice = noted live.advice local remote })))
+pub record IsNoted (local remote : ℤ) (old new : Live) (code : ℤ) : Type 0 where
+  pub code_is : code ≡ pos 0
+  pub noted_is : new ≡ record old { advice = noted old.advice local remote }

@@ -25,51 +25,25 @@ use Rattle.roll_requests.specs.Names.{step_of}
 use Rattle.roll_session.specs.Seen.{Seen}
 use Rattle.roll_wire.specs.Spelling.{Leaves}
 use Rattle.roll_wire.specs.declared.limits.TheConstants.{DATAGRAM_LIMIT}
+use Rattle.fazgrond_c.specs.Handles.{peer_in, session_in, Opens}
 use Rattle.fazgrond_c.specs.PeerKinds.{code_of_ignored, code_of_mesh, code_of_open, code_of_refusal, event_out, stats_out, AreMatched, HasNoRoom}
 use Rattle.fazgrond_c.specs.declared.live.Live.{Live}
+use Rattle.fazgrond_c.specs.declared.open.Open.{Open}
 use Rattle.fazgrond_c.specs.declared.peer_kinds.EventOut.{EventOut}
 use Rattle.fazgrond_c.specs.declared.peer_kinds.MatchIn.{MatchIn}
 use Rattle.fazgrond_c.specs.declared.peer_kinds.StatsOut.{StatsOut}
-use Rattle.fazgrond_c.specs.declared.peer_live.PeerLive.{PeerLive}
-
--- ---- through a handle, of a peer or of an end of a viewer's line
-
--- a call of what a handle holds; if it is closed, nothing is done
-pub record Makes {L : Type 0} (does : L → L → ℤ → Type 0) (old new : Option L) (code : ℤ)
-    : Type 0 where
-  pub closed : old ≡ None → (code ≡ pos 201) × (new ≡ None)
-  pub made : IfSome old (λ live. IsSomeAnd new (λ now. does live now code))
-
--- the same of a call that may write something
-pub record Writes {L T : Type 0} (does : L → L → T → T → ℤ → Type 0)
-    (old new : Option L) (before after : T) (code : ℤ) : Type 0 where
-  pub closed : old ≡ None → (code ≡ pos 201) × ((new ≡ None) × (after ≡ before))
-  pub made : IfSome old (λ live. IsSomeAnd new (λ now. does live now before after code))
-
--- a call of two things that handles hold; if either is closed, nothing is done
-pub record MakesBeside {P S : Type 0} (does : P → P → S → S → ℤ → Type 0) (old new : Option P)
-    (before after : Option S) (code : ℤ) : Type 0 where
-  pub closed : old ≡ None → (code ≡ pos 201) × ((new ≡ None) × (after ≡ before))
-  pub alone : before ≡ None → (code ≡ pos 201) × ((new ≡ old) × (after ≡ None))
-  pub made : IfSome old (λ peer. IfSome before (λ live. IsSomeAnd new (λ peer_now. IsSomeAnd after (λ live_now.
-      does peer peer_now live live_now code))))
-
--- the same of a call that only reads the second
-pub record MakesFor {P S : Type 0} (does : S → P → P → ℤ → Type 0) (lent : Option S)
-    (old new : Option P) (code : ℤ) : Type 0 where
-  pub alone : lent ≡ None → (code ≡ pos 201) × (new ≡ old)
-  pub made : IfSome lent (λ live. Makes (does live) old new code)
+use Rattle.fazgrond_c.specs.declared.peer_kinds.TheConstants.{MATCH_SIZE}
 
 -- ---- opening
 
 -- a peer of this match, opened beside a session, that has heard nothing
-pub record IsOpened (given : MatchIn) (s : Seen) (live : PeerLive) : Type 0 where
+pub record IsOpened (given : MatchIn) (s : Seen) (peer : Peered) : Type 0 where
   pub matched : MatchSettings
   pub are_matched : AreMatched given matched
   pub accepted : join_refusal s (seat_of matched) ≡ None
   pub drawn : matched.draw ≢ 0
-  pub peer : IsOpenedAs s matched live.peer
-  pub tied : IsTied s live.peer.member.mesh
+  pub opened : IsOpenedAs s matched peer
+  pub tied : IsTied s peer.member.mesh
 
 -- there is no such match, or the session can't take its seat in it
 pub record IsFaulty (given : MatchIn) (s : Seen) (code : ℤ) : Type 0 where
@@ -79,24 +53,24 @@ pub record IsFaulty (given : MatchIn) (s : Seen) (code : ℤ) : Type 0 where
   pub why : IsWhyNot s matched fault
   pub code_is : code ≡ pos (code_of_open fault)
 
--- why no peer is opened beside a session: a number has no room where it belongs, or the numbers are no match for it, or memory
--- ran out
+-- why no peer is opened beside a session: the match is another version's, a number has no room where it belongs, or the numbers
+-- are no match for it, or memory ran out
 abbrev pub IsWhyClosed : MatchIn → Seen → ℤ → Type 0
 IsWhyClosed given s code =
-    ((code ≡ pos 11) × HasNoRoom given) ⊎ (IsFaulty given s code ⊎ (code ≡ pos 107))
+    ((code ≡ pos 205) × (given.size ≢ MATCH_SIZE))
+    ⊎ (((code ≡ pos 11) × HasNoRoom given) ⊎ (IsFaulty given s code ⊎ (code ≡ pos 107)))
 
--- a peer was opened beside a session in the place of the one before, or nothing is changed
-pub record OpensBeside (given : MatchIn) (s : Seen) (old new : Option PeerLive) (code : ℤ)
+-- a peer was opened beside a session in the place of what was open before, or nothing is changed
+pub record OpensBeside (given : MatchIn) (s : Seen) (old new : Option Open) (code : ℤ)
     : Type 0 where
-  pub opened : code ≡ pos 0 → IsSomeAnd new (IsOpened given s)
-  pub refused : code ≢ pos 0 → new ≡ old
+  pub opens : Opens peer_in (IsOpened given s) old new code
   pub why : code ≢ pos 0 → IsWhyClosed given s code
+  pub version : given.size ≢ MATCH_SIZE → code ≡ pos 205
 
--- the same beside what a handle holds
-pub record IsOpenedBy (given : MatchIn) (lent : Option Live) (old new : Option PeerLive) (code : ℤ)
-    : Type 0 where
-  pub alone : lent ≡ None → (code ≡ pos 201) × (new ≡ old)
-  pub beside : IfSome lent (λ live. OpensBeside given live.session old new code)
+-- the same beside what a handle has open
+pub record IsOpenedBy (given : MatchIn) (lent old new : Option Open) (code : ℤ) : Type 0 where
+  pub alone : session_in lent ≡ None → (code ≡ pos 201) × (new ≡ old)
+  pub beside : IfSome (session_in lent) (λ live. OpensBeside given live.session old new code)
 
 -- ---- hearing and sending
 
@@ -105,14 +79,14 @@ code_of_receipt (Ok received) = pos 0
 code_of_receipt (Err why) = pos (code_of_ignored why)
 
 -- bytes are heard for a session, or they aren't, and nothing is changed but the clock; what their sender sealed is counted and told
-pub record IsReceived (bytes : List ℕ) (now : ℕ) (old new : PeerLive) (before after : Live) (code : ℤ)
+pub record IsReceived (bytes : List ℕ) (now : ℕ) (old new : Peered) (before after : Live) (code : ℤ)
     : Type 0 where
   pub result : Result Received Ignored
   pub received : IfOk result (Receives step_of before.session after.session
-      (meeting before.session (ticking now old.peer)) new.peer bytes)
-  pub accepted : OnOk result (IsOf before.session old.peer.member)
-  pub fine : OnOk result (ignored (meeting before.session (ticking now old.peer)) bytes ≡ None)
-  pub refused : IfErr result (IsIgnored before.session (ticking now old.peer) new.peer bytes)
+      (meeting before.session (ticking now old)) new bytes)
+  pub accepted : OnOk result (IsOf before.session old.member)
+  pub fine : OnOk result (ignored (meeting before.session (ticking now old)) bytes ≡ None)
+  pub refused : IfErr result (IsIgnored before.session (ticking now old) new bytes)
   pub unchanged : OnErr result (after ≡ before)
   pub rest : after ≡ record before { session = after.session }
   pub code_is : code ≡ code_of_receipt result
@@ -126,10 +100,10 @@ code_of_poll (Ok done) = pos 0
 code_of_poll (Err why) = pos (code_of_refusal why)
 
 -- a poll of a session is made, step by step, or there is none; the code says why not, or why a player who is to leave is still there
-pub record IsPolledFor (now : ℕ) (old new : PeerLive) (before after : Live) (code : ℤ)
+pub record IsPolledFor (now : ℕ) (old new : Peered) (before after : Live) (code : ℤ)
     : Type 0 where
   pub result : Result Unit PeerRefusal
-  pub polled : IsPolled before.session after.session (ticking now old.peer) new.peer result
+  pub polled : IsPolled before.session after.session (ticking now old) new result
   pub rest : after ≡ record before { session = after.session }
   pub code_is : code ≡ code_of_poll result
 
@@ -142,11 +116,11 @@ without machine peer = record peer {
 }
 
 -- a machine is gone from now on, or there is no such machine, and nothing is changed
-pub record IsPutOut (machine : ℕ) (old new : PeerLive) (code : ℤ) : Type 0 where
+pub record IsPutOut (machine : ℕ) (old new : Peered) (code : ℤ) : Type 0 where
   pub why : Option MeshRefusal
-  pub why_is : leave_refusal old.peer.member.mesh machine ≡ why
-  pub left : IfNone why (new.peer ≡ without machine old.peer)
-  pub unchanged : IsSome why → new.peer ≡ old.peer
+  pub why_is : leave_refusal old.member.mesh machine ≡ why
+  pub left : IfNone why (new ≡ without machine old)
+  pub unchanged : IsSome why → new ≡ old
   pub code_is : code ≡ code_unless code_of_mesh why
 
 -- bytes are written to the front of a buffer, and how many they are; or there are none, and nothing is written
@@ -165,60 +139,34 @@ AreSent (Err other) before after had size code =
 
 -- what is sent to a machine in a turn of a session is written, and counted; nothing is sent to one that is gone, to this one, or
 -- where there is none; or the session is another, and nothing is changed but the clock
-pub record IsSentTo (s : Seen) (machine now : ℕ) (old new : PeerLive) (before after : List ℕ)
+pub record IsSentTo (s : Seen) (machine now : ℕ) (old new : Peered) (before after : List ℕ)
     (had size : ℕ) (code : ℤ) : Type 0 where
   pub result : Result (Option (List ℕ)) OtherSession
-  pub sent : IfOk result (λ sent. IfSome sent (IsSent s (meeting s (ticking now old.peer)) machine))
-  pub lost : IfOk result (λ sent. is_none sent ≡ is_lost old.peer machine)
-  pub counted : OnOk result (new.peer ≡ after_send (meeting s (ticking now old.peer)) machine)
-  pub accepted : OnOk result (IsOf s old.peer.member)
-  pub other : OnErr result (IsOther s old.peer)
-  pub unchanged : OnErr result (new.peer ≡ ticking now old.peer)
+  pub sent : IfOk result (λ sent. IfSome sent (IsSent s (meeting s (ticking now old)) machine))
+  pub lost : IfOk result (λ sent. is_none sent ≡ is_lost old machine)
+  pub counted : OnOk result (new ≡ after_send (meeting s (ticking now old)) machine)
+  pub accepted : OnOk result (IsOf s old.member)
+  pub other : OnErr result (IsOther s old)
+  pub unchanged : OnErr result (new ≡ ticking now old)
   pub written : AreSent result before after had size code
 
 -- the bytes by which this machine says to another that it leaves are written; there are none for one to which nothing is sent, or
 -- that hasn't said this opening's draw
-pub record IsFarewell (machine : ℕ) (old new : PeerLive) (before after : List ℕ) (had size : ℕ)
+pub record IsFarewell (machine : ℕ) (old new : Peered) (before after : List ℕ) (had size : ℕ)
     (code : ℤ) : Type 0 where
   pub kept : new ≡ old
   pub bytes : Option (List ℕ)
-  pub said : IfSome bytes (λ text. text ≡ text_for old.peer machine Leaves)
+  pub said : IfSome bytes (λ text. text ≡ text_for old machine Leaves)
   pub none : is_none bytes
-      ≡ (is_lost old.peer machine || not (is_playing (contact_at old.peer machine).stage))
+      ≡ (is_lost old machine || not (is_playing (contact_at old machine).stage))
   pub written : AreWritten bytes before after had size code
-
--- nothing is done, for this reason
-pub record IsNothing {P : Type 0} (reason : ℕ) (old new : P) (before after : List ℕ) (had size : ℕ)
-    (code : ℤ) : Type 0 where
-  pub code_is : code ≡ pos reason
-  pub kept : new ≡ old
-  pub unwritten : after ≡ before
-  pub same : size ≡ had
-
--- a buffer has room for any datagram, and a call writes into it; or nothing is done
-pub record Fills {L : Type 0} (does : L → L → List ℕ → List ℕ → ℕ → ℕ → ℤ → Type 0)
-    (old new : L) (before after : List ℕ) (had size : ℕ) (code : ℤ) : Type 0 where
-  pub short : length before < DATAGRAM_LIMIT → IsNothing 204 old new before after had size code
-  pub filled : DATAGRAM_LIMIT ≤ length before → does old new before after had size code
-
--- the same through a handle, which may be closed
-pub record FillsBy {L : Type 0} (does : L → L → List ℕ → List ℕ → ℕ → ℕ → ℤ → Type 0)
-    (old new : Option L) (before after : List ℕ) (had size : ℕ) (code : ℤ) : Type 0 where
-  pub closed : old ≡ None → IsNothing 201 old new before after had size code
-  pub made : IfSome old (λ live. IsSomeAnd new (λ now. Fills does live now before after had size code))
-
--- the same of a call that is lent what another handle holds, and only reads it
-pub record FillsFor {L S : Type 0} (does : S → L → L → List ℕ → List ℕ → ℕ → ℕ → ℤ → Type 0)
-    (lent : Option S) (old new : Option L) (before after : List ℕ) (had size : ℕ) (code : ℤ) : Type 0 where
-  pub alone : lent ≡ None → IsNothing 201 old new before after had size code
-  pub made : IfSome lent (λ live. FillsBy (does live) old new before after had size code)
 
 -- ---- what waits, and what is read
 
 -- the oldest event is told, if one waits
-pub record IsTold (old new : PeerLive) (before after : EventOut) (code : ℤ) : Type 0 where
-  pub rest : new ≡ record old { peer = record old.peer { waiting = popped old.peer.waiting } }
-  pub written : MatchOption (slice_get old.peer.waiting.events 0)
+pub record IsTold (old new : Peered) (before after : EventOut) (code : ℤ) : Type 0 where
+  pub rest : new ≡ record old { waiting = popped old.waiting }
+  pub written : MatchOption (slice_get old.waiting.events 0)
       ((code ≡ pos 203) × (after ≡ before))
       (λ event. (code ≡ pos 0) × (after ≡ event_out event))
 
@@ -227,18 +175,18 @@ code_of_note (Ok done) = pos 0
 code_of_note (Err other) = pos 313
 
 -- the digest of a session's settled state is noted; or the session is another, and nothing is changed
-pub record IsNoted (digest : ℕ) (s : Seen) (old new : PeerLive) (code : ℤ) : Type 0 where
+pub record IsNoted (digest : ℕ) (s : Seen) (old new : Peered) (code : ℤ) : Type 0 where
   pub result : Result Unit OtherSession
-  pub noted_is : OnOk result (new.peer ≡ record (meeting s old.peer) {
-    digests = noted (settled s.core) digest old.peer.digests;
+  pub noted_is : OnOk result (new ≡ record (meeting s old) {
+    digests = noted (settled s.core) digest old.digests;
   })
-  pub accepted : OnOk result (IsOf s old.peer.member)
-  pub other : OnErr result (IsOther s old.peer)
-  pub unchanged : OnErr result (new.peer ≡ old.peer)
+  pub accepted : OnOk result (IsOf s old.member)
+  pub other : OnErr result (IsOther s old)
+  pub unchanged : OnErr result (new ≡ old)
   pub code_is : code ≡ code_of_note result
 
 -- what a peer counted of a machine of its match
-abbrev pub stats_at : ℕ → PeerLive → Option StatsOut
-stats_at machine live =
-    if nat_lt machine live.peer.member.mesh.seat.machines && nat_lt machine MACHINE_LIMIT
-    then Some (stats_out (stats_of live.peer machine)) else None
+abbrev pub stats_at : ℕ → Peered → Option StatsOut
+stats_at machine peer =
+    if nat_lt machine peer.member.mesh.seat.machines && nat_lt machine MACHINE_LIMIT
+    then Some (stats_out (stats_of peer machine)) else None

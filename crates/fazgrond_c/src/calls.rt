@@ -7,24 +7,26 @@ ghost use Rattle.fazgrond_c.specs.Made.{IsDeclined, IsMade, IsNotMade};
 
 use crate::handle::Handle;
 use crate::live::Live;
+use crate::open::Open;
 use roll_frame::Reply;
 use roll_game::NoMemory;
 use roll_session::Call;
 use std::alloc::Global;
 
-/// The handle is closed.
+/// The handle is closed, or has something of another kind open.
 pub const CLOSED: i32 = 201;
 /// Requests were not taken yet.
 pub const PENDING: i32 = 202;
 /// There is no such thing.
 pub const NOTHING: i32 = 203;
-
 /// The buffer has less room than what is to be written.
 pub const TOO_SHORT: i32 = 204;
+/// A struct that was given has another size than this version's.
+pub const OTHER_VERSION: i32 = 205;
 /// The code of `Refusal::NoMemory`.
 const NO_MEMORY: i32 = 107;
 
-/// Makes a call of the session that a handle holds.
+/// Makes a call of the session that a handle has open.
 ///
 /// # Errors
 ///
@@ -33,11 +35,15 @@ pub fn call(alloc: Global, handle: &mut Handle, call: Call) -> Result<Reply, i32
     ensures made { IfOk result (IsMade handle.old.hold.value handle.new.hold.value call) }
     ensures refused { IfErr result (IsNotMade handle.old.hold.value handle.new.hold.value call) }
 {
-    let Some(mut live) = handle.take(alloc) else {
+    let Some(mut held) = handle.take(alloc) else {
         return Err(CLOSED);
     };
-    let outcome = make(&mut live, call);
-    handle.put(live);
+    let Open::Session(live) = &mut *held else {
+        handle.put(held);
+        return Err(CLOSED);
+    };
+    let outcome = make(live, call);
+    handle.put(held);
     outcome
 }
 

@@ -8,10 +8,17 @@ use roll_frame::{PLAYER_LIMIT, Profile, Row, Settings};
 use roll_requests::Request;
 use roll_session::{Call, Logged, Reached};
 
+/// How many bytes `SettingsIn` takes.
+pub const SETTINGS_SIZE: u32 = 92;
+
+const _: () = prove!(size_of::<SettingsIn>() == 92);
+
 /// How a session is opened.
 #[repr(C)]
 #[derive(Drop)]
 pub struct SettingsIn {
+    /// That of this struct.
+    pub size: u32,
     /// 0 is GGPO's profile, 1 the wide one.
     pub profile: u32,
     pub players: u32,

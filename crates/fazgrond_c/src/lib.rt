@@ -1,7 +1,7 @@
 //! Rollback sessions for games in other languages: the session says what the game is to do.
 #![tactic(auto)]
 
-ghost use Rattle.std.specs.Prelude.{◌≡◌, ◌≢◌, ◌++◌, drop, List, length, option_and_then, option_map, pos, slice_get, IfSome, MatchOption, None, Some, if◌then◌else◌};
+ghost use Rattle.std.specs.Prelude.{◌≡◌, ◌≢◌, ◌++◌, drop, List, length, option_and_then, option_map, pos, slice_get, take, IfSome, MatchOption, None, Some, if◌then◌else◌};
 ghost use Rattle.roll_frame.specs.Core.{settled as settled_frame};
 ghost use Rattle.roll_frame.specs.Inputs.{player_at};
 ghost use Rattle.roll_inputs.specs.Boards.{confirmed_word};
@@ -12,58 +12,76 @@ mod handle;
 mod hold;
 mod kinds;
 mod line_calls;
-mod line_handle;
-mod line_hold;
 mod line_kinds;
-mod line_live;
 mod line_refusal;
 mod lines;
 mod live;
+mod open;
 mod peer_calls;
-mod peer_handle;
-mod peer_hold;
 mod peer_kinds;
-mod peer_live;
 mod peer_refusal;
 mod peers;
 mod reads;
 mod requests;
+mod texts;
 mod viewer_calls;
-mod viewer_handle;
-mod viewer_hold;
 mod viewer_live;
 mod viewers;
 
-ghost use Rattle.fazgrond_c.specs.Made.{code_in, flag_of, reached_in, row_in, settled_row, IsAnsweredBy, IsClaimed, IsHandedBy, IsNotedBy, IsOpenedBy, IsReserved, IsWhyClosed, IsWrittenBy, Reads, ReadsSome};
-ghost use Rattle.fazgrond_c.specs.Jobs.{added_in, code_of_graft, code_of_guess, number_in, IsForgottenBy, IsGraftedBy, IsGuessed, IsGuessedBy};
+ghost use Rattle.fazgrond_c.specs.Handles.{session_in, Makes, Opens, Reads, ReadsSome, Writes};
+ghost use Rattle.fazgrond_c.specs.Jobs.{added_in, code_of_graft, code_of_guess, number_in, IsForgotten, IsGrafted, IsGuessed};
 ghost use Rattle.fazgrond_c.specs.Kinds.{entry_out, row_out};
+ghost use Rattle.fazgrond_c.specs.Made.{code_in, flag_of, reached_in, row_in, settled_row, IsAnsweredBy, IsClaimed, IsHandedBy, IsNoted, IsOpened, IsReserved, IsWhyClosed, IsWrittenBy};
+ghost use Rattle.fazgrond_c.specs.Texts.{sentence_of, version_of};
+ghost use Rattle.fazgrond_c.specs.declared.kinds.TheConstants.{SETTINGS_SIZE};
 ghost use Rattle.roll_frame.specs.Advice.{advice_of};
 
 use calls::call;
-pub use calls::{CLOSED, NOTHING, PENDING, TOO_SHORT};
+pub use calls::{CLOSED, NOTHING, OTHER_VERSION, PENDING, TOO_SHORT};
 pub use handle::Handle;
-pub use kinds::{EntryOut, ReachedOut, RequestOut, RowOut, SettingsIn};
-pub use line_handle::LineHandle;
+pub use kinds::{EntryOut, ReachedOut, RequestOut, RowOut, SETTINGS_SIZE, SettingsIn};
 pub use line_kinds::{LineIn, LineState};
-pub use line_live::LineLive;
 pub use live::Live;
-pub use peer_handle::PeerHandle;
-pub use peer_kinds::{EventOut, MatchIn, StatsOut};
-pub use peer_live::PeerLive;
+pub use open::Open;
+pub use peer_kinds::{EventOut, MATCH_SIZE, MatchIn, StatsOut};
 use reads::{ends_in_roll, entry_at, written};
 use roll_frame::{Refusal, Reply};
 use roll_requests::limit_slots;
 use roll_session::Call;
 use std::alloc::Global;
-pub use viewer_handle::ViewerHandle;
+use texts::{sentence_of, write_front};
 pub use viewer_live::ViewerLive;
+
+/// The version of the library: its major, minor and patch numbers, the last two in 8 bits each.
+#[unsafe(no_mangle)]
+pub extern "C" fn fazgrond_version() -> u32
+    ensures { result ≡ version_of 0 1 0 }
+{
+    0x00_01_00
+}
+
+/// Writes the sentence for the number of an answer or of an event, as much as the buffer has room for, and says how long it is: 0 if
+/// there is no such number.
+#[unsafe(no_mangle)]
+pub extern "C" fn fazgrond_text(code: i32, out: &mut [u8]) -> usize
+    ensures written { out.new
+        ≡ take (length out.old) (sentence_of code) ++ drop (length (sentence_of code)) out.old }
+    ensures size { result ≡ length (sentence_of code) }
+{
+    write_front(out, sentence_of(code).as_bytes())
+}
 
 /// Opens a session.
 #[unsafe(no_mangle)]
 pub extern "C" fn fazgrond_open(alloc: Global, handle: &mut Handle, settings: &SettingsIn) -> i32
-    ensures opened { IsOpenedBy settings.now handle.old.hold.value handle.new.hold.value result }
+    ensures opened { Opens session_in (IsOpened settings.now) handle.old.hold.value
+        handle.new.hold.value result }
     ensures why { result ≢ pos 0 → IsWhyClosed settings.now result }
+    ensures version { settings.now.size ≢ SETTINGS_SIZE → result ≡ pos 205 }
 {
+    if settings.size != SETTINGS_SIZE {
+        return OTHER_VERSION;
+    }
     let Some(settings) = settings.settings() else {
         return Refusal::InvalidRequest.code();
     };
@@ -71,20 +89,20 @@ pub extern "C" fn fazgrond_open(alloc: Global, handle: &mut Handle, settings: &S
         Ok(live) => live,
         Err(why) => return why.code(),
     };
-    let Ok(live) = Box::new(alloc, live) else {
+    let Ok(held) = Box::new(alloc, Open::Session(live)) else {
         return Refusal::NoMemory.code();
     };
     let _old = handle.take(alloc);
-    handle.put(live);
+    handle.put(held);
     0
 }
 
-/// Closes it.
+/// Closes a handle, whatever it has open.
 #[unsafe(no_mangle)]
 pub extern "C" fn fazgrond_close(alloc: Global, handle: &mut Handle)
     ensures { handle.new.hold.value ≡ None }
 {
-    let _old = handle.take(alloc);
+    let _closed = handle.take(alloc);
 }
 
 /// Gives a local player's word of this frame.
@@ -193,11 +211,15 @@ pub extern "C" fn fazgrond_take_requests(
 ) -> usize
     ensures { IsHandedBy handle.old.hold.value handle.new.hold.value out.old out.new result }
 {
-    let Some(mut live) = handle.take(alloc) else {
+    let Some(mut held) = handle.take(alloc) else {
+        return 0;
+    };
+    let Open::Session(live) = &mut *held else {
+        handle.put(held);
         return 0;
     };
     let count = live.take_requests(out);
-    handle.put(live);
+    handle.put(held);
     count
 }
 
@@ -211,14 +233,18 @@ pub extern "C" fn fazgrond_guess(
     until: u32,
     job: &mut u32,
 ) -> i32
-    ensures { IsGuessedBy handle.old.hold.value handle.new.hold.value player words.now until
-        job.old job.new result }
+    ensures { Writes session_in (IsGuessed player words.now until) handle.old.hold.value
+        handle.new.hold.value job.old job.new result }
 {
-    let Some(mut live) = handle.take(alloc) else {
+    let Some(mut held) = handle.take(alloc) else {
         return CLOSED;
     };
-    let code = guess(alloc, &mut live, player, words, until, job);
-    handle.put(live);
+    let Open::Session(live) = &mut *held else {
+        handle.put(held);
+        return CLOSED;
+    };
+    let code = guess(alloc, live, player, words, until, job);
+    handle.put(held);
     code
 }
 
@@ -230,31 +256,39 @@ pub extern "C" fn fazgrond_graft(
     job: u32,
     added: &mut u32,
 ) -> i32
-    ensures { IsGraftedBy handle.old.hold.value handle.new.hold.value job added.old added.new
-        result }
+    ensures { Writes session_in (IsGrafted job) handle.old.hold.value handle.new.hold.value
+        added.old added.new result }
 {
-    let Some(mut live) = handle.take(alloc) else {
+    let Some(mut held) = handle.take(alloc) else {
+        return CLOSED;
+    };
+    let Open::Session(live) = &mut *held else {
+        handle.put(held);
         return CLOSED;
     };
     if !live.is_idle() {
-        handle.put(live);
+        handle.put(held);
         return PENDING;
     }
     let outcome = live.graft(job);
-    handle.put(live);
+    handle.put(held);
     grafted(added, outcome)
 }
 
 /// Gives a job up.
 #[unsafe(no_mangle)]
 pub extern "C" fn fazgrond_forget(alloc: Global, handle: &mut Handle, job: u32) -> i32
-    ensures { IsForgottenBy handle.old.hold.value handle.new.hold.value job result }
+    ensures { Makes session_in (IsForgotten job) handle.old.hold.value handle.new.hold.value result }
 {
-    let Some(mut live) = handle.take(alloc) else {
+    let Some(mut held) = handle.take(alloc) else {
+        return CLOSED;
+    };
+    let Open::Session(live) = &mut *held else {
+        handle.put(held);
         return CLOSED;
     };
     let there = live.forget(job);
-    handle.put(live);
+    handle.put(held);
     if there { 0 } else { Refusal::NoJob.code() }
 }
 
@@ -262,57 +296,70 @@ pub extern "C" fn fazgrond_forget(alloc: Global, handle: &mut Handle, job: u32) 
 #[unsafe(no_mangle)]
 pub extern "C" fn fazgrond_limit_slots(alloc: Global, handle: &mut Handle, slots: u32) -> i32
     ensures kept { handle.new.hold.value ≡ handle.old.hold.value }
-    ensures code { MatchOption handle.old.hold.value (result ≡ pos 201) (λ live. result ≡ pos 0) }
+    ensures code { MatchOption (session_in handle.old.hold.value) (result ≡ pos 201) (λ live. result ≡ pos 0) }
 {
-    let Some(mut live) = handle.take(alloc) else {
+    let Some(mut held) = handle.take(alloc) else {
         return CLOSED;
     };
-    limit_slots(alloc, &mut live.session, slots);
-    handle.put(live);
+    let Open::Session(live) = &mut *held else {
+        handle.put(held);
+        return CLOSED;
+    };
+    limit(alloc, live, slots);
+    handle.put(held);
     0
 }
 
 /// Makes room for so many more events.
 #[unsafe(no_mangle)]
 pub extern "C" fn fazgrond_reserve_log(alloc: Global, handle: &mut Handle, events: u32) -> i32
-    ensures { IsReserved handle.old.hold.value handle.new.hold.value events result }
+    ensures { Makes session_in (IsReserved events) handle.old.hold.value handle.new.hold.value result }
 {
-    let Some(mut live) = handle.take(alloc) else {
+    let Some(mut held) = handle.take(alloc) else {
         return CLOSED;
     };
-    let outcome = live.session.reserve_log(events);
-    handle.put(live);
-    match outcome {
-        Ok(()) => 0,
-        Err(why) => why.code(),
-    }
+    let Open::Session(live) = &mut *held else {
+        handle.put(held);
+        return CLOSED;
+    };
+    let code = reserve(live, events);
+    handle.put(held);
+    code
 }
 
 /// The current frame.
 #[unsafe(no_mangle)]
 pub extern "C" fn fazgrond_frame(alloc: Global, handle: &mut Handle, frame: &mut u32) -> i32
-    ensures { Reads (λ live. live.session.core.frame) handle.old.hold.value
+    ensures { Reads session_in (λ live. live.session.core.frame) handle.old.hold.value
         handle.new.hold.value frame.old frame.new result }
 {
-    let Some(live) = handle.take(alloc) else {
+    let Some(held) = handle.take(alloc) else {
+        return CLOSED;
+    };
+    let Open::Session(live) = &*held else {
+        handle.put(held);
         return CLOSED;
     };
     *frame = live.session.frame();
-    handle.put(live);
+    handle.put(held);
     0
 }
 
 /// How many rows are settled.
 #[unsafe(no_mangle)]
 pub extern "C" fn fazgrond_settled(alloc: Global, handle: &mut Handle, rows: &mut u32) -> i32
-    ensures { Reads (λ live. settled_frame live.session.core) handle.old.hold.value
+    ensures { Reads session_in (λ live. settled_frame live.session.core) handle.old.hold.value
         handle.new.hold.value rows.old rows.new result }
 {
-    let Some(live) = handle.take(alloc) else {
+    let Some(held) = handle.take(alloc) else {
+        return CLOSED;
+    };
+    let Open::Session(live) = &*held else {
+        handle.put(held);
         return CLOSED;
     };
     *rows = live.session.settled();
-    handle.put(live);
+    handle.put(held);
     0
 }
 
@@ -324,14 +371,18 @@ pub extern "C" fn fazgrond_settled_row(
     frame: u32,
     row: &mut RowOut,
 ) -> i32
-    ensures { ReadsSome (λ live. option_map row_out (settled_row live.session.core frame))
+    ensures { ReadsSome session_in (λ live. option_map row_out (settled_row live.session.core frame))
         handle.old.hold.value handle.new.hold.value row.old row.new result }
 {
-    let Some(live) = handle.take(alloc) else {
+    let Some(held) = handle.take(alloc) else {
+        return CLOSED;
+    };
+    let Open::Session(live) = &*held else {
+        handle.put(held);
         return CLOSED;
     };
     let settled = live.session.settled_row(frame);
-    handle.put(live);
+    handle.put(held);
     match settled {
         Some(there) => {
             *row = RowOut::of(&there);
@@ -349,15 +400,19 @@ pub extern "C" fn fazgrond_confirmed(
     player: u8,
     words: &mut u32,
 ) -> i32
-    ensures { ReadsSome
+    ensures { ReadsSome session_in
         (λ live. option_map (λ p. length p.words) (player_at live.session.core.players player))
         handle.old.hold.value handle.new.hold.value words.old words.new result }
 {
-    let Some(live) = handle.take(alloc) else {
+    let Some(held) = handle.take(alloc) else {
+        return CLOSED;
+    };
+    let Open::Session(live) = &*held else {
+        handle.put(held);
         return CLOSED;
     };
     let there = live.session.confirmed(player);
-    handle.put(live);
+    handle.put(held);
     written(words, there)
 }
 
@@ -370,14 +425,18 @@ pub extern "C" fn fazgrond_confirmed_word(
     frame: u32,
     word: &mut u32,
 ) -> i32
-    ensures { ReadsSome (λ live. confirmed_word live.session.core.players player frame)
+    ensures { ReadsSome session_in (λ live. confirmed_word live.session.core.players player frame)
         handle.old.hold.value handle.new.hold.value word.old word.new result }
 {
-    let Some(live) = handle.take(alloc) else {
+    let Some(held) = handle.take(alloc) else {
+        return CLOSED;
+    };
+    let Open::Session(live) = &*held else {
+        handle.put(held);
         return CLOSED;
     };
     let there = live.session.confirmed_word(player, frame);
-    handle.put(live);
+    handle.put(held);
     written(word, there)
 }
 
@@ -389,16 +448,20 @@ pub extern "C" fn fazgrond_input_frame(
     player: u8,
     frame: &mut u32,
 ) -> i32
-    ensures { ReadsSome (λ live. option_and_then
+    ensures { ReadsSome session_in (λ live. option_and_then
         (λ p. if p.local then Some (length p.words) else None)
         (player_at live.session.core.players player))
         handle.old.hold.value handle.new.hold.value frame.old frame.new result }
 {
-    let Some(live) = handle.take(alloc) else {
+    let Some(held) = handle.take(alloc) else {
+        return CLOSED;
+    };
+    let Open::Session(live) = &*held else {
+        handle.put(held);
         return CLOSED;
     };
     let there = live.session.input_frame(player);
-    handle.put(live);
+    handle.put(held);
     written(frame, there)
 }
 
@@ -409,14 +472,18 @@ pub extern "C" fn fazgrond_log_length(
     handle: &mut Handle,
     entries: &mut usize,
 ) -> i32
-    ensures { Reads (λ live. length live.session.log) handle.old.hold.value
+    ensures { Reads session_in (λ live. length live.session.log) handle.old.hold.value
         handle.new.hold.value entries.old entries.new result }
 {
-    let Some(live) = handle.take(alloc) else {
+    let Some(held) = handle.take(alloc) else {
+        return CLOSED;
+    };
+    let Open::Session(live) = &*held else {
+        handle.put(held);
         return CLOSED;
     };
     *entries = live.session.log().len();
-    handle.put(live);
+    handle.put(held);
     0
 }
 
@@ -428,14 +495,18 @@ pub extern "C" fn fazgrond_log_entry(
     place: usize,
     entry: &mut EntryOut,
 ) -> i32
-    ensures { ReadsSome (λ live. option_map entry_out (slice_get live.session.log place))
+    ensures { ReadsSome session_in (λ live. option_map entry_out (slice_get live.session.log place))
         handle.old.hold.value handle.new.hold.value entry.old entry.new result }
 {
-    let Some(live) = handle.take(alloc) else {
+    let Some(held) = handle.take(alloc) else {
+        return CLOSED;
+    };
+    let Open::Session(live) = &*held else {
+        handle.put(held);
         return CLOSED;
     };
     let there = entry_at(&live.session, place);
-    handle.put(live);
+    handle.put(held);
     match there {
         Some(there) => {
             *entry = there;
@@ -453,30 +524,38 @@ pub extern "C" fn fazgrond_settled_slot(
     frame: &mut u32,
     slot: &mut u32,
 ) -> i32
-    ensures frame { Reads (λ live. settled_frame live.session.core) handle.old.hold.value
+    ensures frame { Reads session_in (λ live. settled_frame live.session.core) handle.old.hold.value
         handle.new.hold.value frame.old frame.new result }
-    ensures unwritten { handle.old.hold.value ≡ None → slot.new ≡ slot.old }
+    ensures unwritten { session_in handle.old.hold.value ≡ None → slot.new ≡ slot.old }
 {
-    let Some(live) = handle.take(alloc) else {
+    let Some(held) = handle.take(alloc) else {
+        return CLOSED;
+    };
+    let Open::Session(live) = &*held else {
+        handle.put(held);
         return CLOSED;
     };
     *frame = live.session.settled();
     *slot = live.session.settled_state().slot();
-    handle.put(live);
+    handle.put(held);
     0
 }
 
 /// Whether a call was accepted since the last roll, or none was so far. The state shown may not be that of the inputs then.
 #[unsafe(no_mangle)]
 pub extern "C" fn fazgrond_has_news(alloc: Global, handle: &mut Handle, flag: &mut u32) -> i32
-    ensures { Reads (λ live. if ends_in_roll live.session.log then 0 else 1) handle.old.hold.value
+    ensures { Reads session_in (λ live. if ends_in_roll live.session.log then 0 else 1) handle.old.hold.value
         handle.new.hold.value flag.old flag.new result }
 {
-    let Some(live) = handle.take(alloc) else {
+    let Some(held) = handle.take(alloc) else {
+        return CLOSED;
+    };
+    let Open::Session(live) = &*held else {
+        handle.put(held);
         return CLOSED;
     };
     *flag = u32::from(!ends_in_roll(&live.session));
-    handle.put(live);
+    handle.put(held);
     0
 }
 
@@ -488,27 +567,36 @@ pub extern "C" fn fazgrond_note_advantages(
     local: i32,
     remote: i32,
 ) -> i32
-    ensures { IsNotedBy handle.old.hold.value handle.new.hold.value local remote result }
+    ensures { Makes session_in (IsNoted local remote) handle.old.hold.value handle.new.hold.value
+        result }
 {
-    let Some(mut live) = handle.take(alloc) else {
+    let Some(mut held) = handle.take(alloc) else {
         return CLOSED;
     };
-    live.advice.note(local, remote);
-    handle.put(live);
-    0
+    let Open::Session(live) = &mut *held else {
+        handle.put(held);
+        return CLOSED;
+    };
+    let code = note(live, local, remote);
+    handle.put(held);
+    code
 }
 
 /// How many frames this machine should wait.
 #[unsafe(no_mangle)]
 pub extern "C" fn fazgrond_frames_ahead(alloc: Global, handle: &mut Handle, frames: &mut u32) -> i32
-    ensures { Reads (λ live. advice_of live.advice) handle.old.hold.value
+    ensures { Reads session_in (λ live. advice_of live.advice) handle.old.hold.value
         handle.new.hold.value frames.old frames.new result }
 {
-    let Some(live) = handle.take(alloc) else {
+    let Some(held) = handle.take(alloc) else {
+        return CLOSED;
+    };
+    let Open::Session(live) = &*held else {
+        handle.put(held);
         return CLOSED;
     };
     *frames = live.advice.frames_ahead();
-    handle.put(live);
+    handle.put(held);
     0
 }
 
@@ -523,11 +611,15 @@ pub extern "C" fn fazgrond_claim(
     ensures { IsClaimed handle.old.hold.value handle.new.hold.value out.old out.new size.new
         result }
 {
-    let Some(live) = handle.take(alloc) else {
+    let Some(held) = handle.take(alloc) else {
+        return CLOSED;
+    };
+    let Open::Session(live) = &*held else {
+        handle.put(held);
         return CLOSED;
     };
     let text = live.claim(alloc);
-    handle.put(live);
+    handle.put(held);
     match text {
         Ok(text) => {
             *size = text.len();
@@ -558,6 +650,31 @@ fn write_row(row: &mut RowOut, said: &Reply)
     }
 }
 
+/// No state of a session is saved in a slot from this one on.
+fn limit(alloc: Global, live: &mut Live, slots: u32)
+    ensures { live.new ≡ live.old }
+{
+    limit_slots(alloc, &mut live.session, slots);
+}
+
+/// Makes room for so many more events of a session.
+fn reserve(live: &mut Live, events: u32) -> i32
+    ensures { IsReserved events live.old live.new result }
+{
+    match live.session.reserve_log(events) {
+        Ok(()) => 0,
+        Err(why) => why.code(),
+    }
+}
+
+/// Notes the advantages of both sides.
+fn note(live: &mut Live, local: i32, remote: i32) -> i32
+    ensures { IsNoted local remote live.old live.new result }
+{
+    live.advice.note(local, remote);
+    0
+}
+
 /// Makes a guess, and writes the number of its job, if there is a job.
 fn guess(
     alloc: Global,
@@ -567,7 +684,7 @@ fn guess(
     until: u32,
     job: &mut u32,
 ) -> i32
-    ensures { IsGuessed live.old live.new player words.now until job.old job.new result }
+    ensures { IsGuessed player words.now until live.old live.new job.old job.new result }
 {
     let outcome = live.guess(alloc, player, words, until);
     numbered(job, outcome)

@@ -1,86 +1,85 @@
 //! Lines to viewers, for games in other languages.
-ghost use Rattle.std.specs.Prelude.{◌≡◌, ◌≢◌, pos, None};
-ghost use Rattle.fazgrond_c.specs.Lines.{host_state, HostHearsBytes, IsHostsBye, IsOpened, IsTelling, IsWhyClosed, OpensBy};
-ghost use Rattle.fazgrond_c.specs.Made.{Reads};
-ghost use Rattle.fazgrond_c.specs.Peers.{FillsBy, FillsFor, Makes};
+ghost use Rattle.std.specs.Prelude.{◌≡◌, ◌≢◌, pos};
+ghost use Rattle.fazgrond_c.specs.Handles.{line_in, FillsBy, FillsFor, Makes, Opens, Reads};
+ghost use Rattle.fazgrond_c.specs.Lines.{host_state, HostHearsBytes, IsHostsBye, IsOpened, IsTelling, IsWhyClosed};
 
 use crate::calls::CLOSED;
 use crate::handle::Handle;
 use crate::line_calls;
-use crate::line_handle::LineHandle;
 use crate::line_kinds::{LineIn, LineState};
-use crate::line_live::LineLive;
 use crate::line_refusal::code_of_fault;
 use crate::live::Live;
+use crate::open::Open;
 use roll_frame::Refusal;
+use roll_viewer::ViewerLine;
 use std::alloc::Global;
 
 /// Opens a line at its host.
 #[unsafe(no_mangle)]
-pub extern "C" fn fazgrond_line_open(alloc: Global, handle: &mut LineHandle, given: &LineIn) -> i32
-    ensures opened { OpensBy (IsOpened given.now) handle.old.hold.value handle.new.hold.value
+pub extern "C" fn fazgrond_line_open(alloc: Global, handle: &mut Handle, given: &LineIn) -> i32
+    ensures opened { Opens line_in (IsOpened given.now) handle.old.hold.value handle.new.hold.value
         result }
     ensures why { result ≢ pos 0 → IsWhyClosed given.now result }
 {
     let Some(settings) = given.settings() else {
         return Refusal::InvalidRequest.code();
     };
-    let live = match LineLive::open(settings) {
-        Ok(live) => live,
+    let line = match ViewerLine::open(settings) {
+        Ok(line) => line,
         Err(why) => return code_of_fault(why),
     };
-    let Ok(live) = Box::new(alloc, live) else {
+    let Ok(held) = Box::new(alloc, Open::Line(line)) else {
         return Refusal::NoMemory.code();
     };
     let _old = handle.take(alloc);
-    handle.put(live);
+    handle.put(held);
     0
-}
-
-/// Closes it.
-#[unsafe(no_mangle)]
-pub extern "C" fn fazgrond_line_close(alloc: Global, handle: &mut LineHandle)
-    ensures { handle.new.hold.value ≡ None }
-{
-    let _old = handle.take(alloc);
 }
 
 /// Hears a datagram that came of the viewer.
 #[unsafe(no_mangle)]
 pub extern "C" fn fazgrond_line_receive(
     alloc: Global,
-    handle: &mut LineHandle,
+    handle: &mut Handle,
     bytes: &[u8],
     now: u32,
 ) -> i32
-    ensures { Makes (HostHearsBytes bytes.now now) handle.old.hold.value handle.new.hold.value
+    ensures { Makes line_in (HostHearsBytes bytes.now now) handle.old.hold.value handle.new.hold.value
         result }
 {
-    let Some(mut live) = handle.take(alloc) else {
+    let Some(mut held) = handle.take(alloc) else {
         return CLOSED;
     };
-    let code = line_calls::receive(&mut live, bytes, now);
-    handle.put(live);
+    let Open::Line(line) = &mut *held else {
+        handle.put(held);
+        return CLOSED;
+    };
+    let code = line_calls::receive(line, bytes, now);
+    handle.put(held);
     code
 }
 
 /// What to send to the viewer of an open session.
 fn tell(
     alloc: Global,
-    handle: &mut LineHandle,
+    handle: &mut Handle,
     live: &Live,
     now: u32,
     out: &mut [u8],
     size: &mut usize,
 ) -> i32
-    ensures { FillsBy (IsTelling live.now.session.core now) handle.old.hold.value
+    ensures { FillsBy line_in (IsTelling live.now.session.core now) handle.old.hold.value
         handle.new.hold.value out.old out.new size.old size.new result }
 {
-    let Some(mut line) = handle.take(alloc) else {
+    let Some(mut held) = handle.take(alloc) else {
         return CLOSED;
     };
-    let code = line_calls::send(&mut line, live, now, out, size);
-    handle.put(line);
+    let Open::Line(line) = &mut *held else {
+        handle.put(held);
+        return CLOSED;
+    };
+    let code = line_calls::send(line, live, now, out, size);
+    handle.put(held);
     code
 }
 
@@ -88,21 +87,25 @@ fn tell(
 #[unsafe(no_mangle)]
 pub extern "C" fn fazgrond_line_send(
     alloc: Global,
-    handle: &mut LineHandle,
+    handle: &mut Handle,
     session: &mut Handle,
     now: u32,
     out: &mut [u8],
     size: &mut usize,
 ) -> i32
-    ensures told { FillsFor (λ live. IsTelling live.session.core now) session.old.hold.value
+    ensures told { FillsFor line_in (λ live. IsTelling live.session.core now) session.old.hold.value
         handle.old.hold.value handle.new.hold.value out.old out.new size.old size.new result }
     ensures session { session.new.hold.value ≡ session.old.hold.value }
 {
-    let Some(live) = session.take(alloc) else {
+    let Some(lent) = session.take(alloc) else {
         return CLOSED;
     };
-    let code = tell(alloc, handle, &live, now, out, size);
-    session.put(live);
+    let Open::Session(live) = &*lent else {
+        session.put(lent);
+        return CLOSED;
+    };
+    let code = tell(alloc, handle, live, now, out, size);
+    session.put(lent);
     code
 }
 
@@ -110,18 +113,22 @@ pub extern "C" fn fazgrond_line_send(
 #[unsafe(no_mangle)]
 pub extern "C" fn fazgrond_line_bye(
     alloc: Global,
-    handle: &mut LineHandle,
+    handle: &mut Handle,
     out: &mut [u8],
     size: &mut usize,
 ) -> i32
-    ensures { FillsBy IsHostsBye handle.old.hold.value handle.new.hold.value
+    ensures { FillsBy line_in IsHostsBye handle.old.hold.value handle.new.hold.value
         out.old out.new size.old size.new result }
 {
-    let Some(mut live) = handle.take(alloc) else {
+    let Some(mut held) = handle.take(alloc) else {
         return CLOSED;
     };
-    let code = line_calls::bye(&mut live, out, size);
-    handle.put(live);
+    let Open::Line(line) = &mut *held else {
+        handle.put(held);
+        return CLOSED;
+    };
+    let code = line_calls::bye(line, out, size);
+    handle.put(held);
     code
 }
 
@@ -129,17 +136,21 @@ pub extern "C" fn fazgrond_line_bye(
 #[unsafe(no_mangle)]
 pub extern "C" fn fazgrond_line_look(
     alloc: Global,
-    handle: &mut LineHandle,
+    handle: &mut Handle,
     now: u32,
     state: &mut LineState,
 ) -> i32
-    ensures { Reads (host_state now) handle.old.hold.value handle.new.hold.value
+    ensures { Reads line_in (host_state now) handle.old.hold.value handle.new.hold.value
         state.old state.new result }
 {
-    let Some(live) = handle.take(alloc) else {
+    let Some(held) = handle.take(alloc) else {
         return CLOSED;
     };
-    *state = live.state(now);
-    handle.put(live);
+    let Open::Line(line) = &*held else {
+        handle.put(held);
+        return CLOSED;
+    };
+    *state = line_calls::state(line, now);
+    handle.put(held);
     0
 }

@@ -1,51 +1,51 @@
 //! Calls of an open peer, some of them lent the session that it stands beside.
 ghost use Rattle.std.specs.Prelude.{◌≡◌, ◌≤◌, ◌++◌, drop, length};
-ghost use Rattle.fazgrond_c.specs.Peers.{Fills, IsFarewell, IsNoted, IsPolledFor, IsPutOut, IsReceived, IsSentTo, IsTold, stats_at};
+ghost use Rattle.fazgrond_c.specs.Handles.{Fills};
+ghost use Rattle.fazgrond_c.specs.Peers.{IsFarewell, IsNoted, IsPolledFor, IsPutOut, IsReceived, IsSentTo, IsTold, stats_at};
 
 use crate::calls::{NOTHING, TOO_SHORT};
 use crate::live::Live;
 use crate::peer_kinds::{EventOut, StatsOut};
-use crate::peer_live::PeerLive;
 use crate::peer_refusal::{OTHER_SESSION, code_of_ignored, code_of_mesh, code_of_refusal};
 use arrayvec::ArrayVec;
-use roll_peer::OtherSession;
+use roll_peer::{OtherSession, Peer};
 use roll_wire::DATAGRAM_LIMIT;
 
 /// Hears bytes.
-pub fn receive(peer: &mut PeerLive, live: &mut Live, bytes: &[u8], now: u32) -> i32
+pub fn receive(peer: &mut Peer, live: &mut Live, bytes: &[u8], now: u32) -> i32
     ensures { IsReceived bytes.now now peer.old peer.new live.old live.new result }
 {
-    match peer.peer.receive(&mut live.session, bytes, now) {
+    match peer.receive(&mut live.session, bytes, now) {
         Ok(_) => 0,
         Err(why) => code_of_ignored(why),
     }
 }
 
 /// What a turn does before it plays.
-pub fn poll(peer: &mut PeerLive, live: &mut Live, now: u32) -> i32
+pub fn poll(peer: &mut Peer, live: &mut Live, now: u32) -> i32
     ensures { IsPolledFor now peer.old peer.new live.old live.new result }
 {
-    match peer.peer.poll(&mut live.session, now) {
+    match peer.poll(&mut live.session, now) {
         Ok(()) => 0,
         Err(why) => code_of_refusal(why),
     }
 }
 
 /// Notes the digest of the settled state.
-pub fn note_settled(peer: &mut PeerLive, live: &Live, digest: u64) -> i32
+pub fn note_settled(peer: &mut Peer, live: &Live, digest: u64) -> i32
     ensures { IsNoted digest live.now.session peer.old peer.new result }
 {
-    match peer.peer.note_settled(&live.session, digest) {
+    match peer.note_settled(&live.session, digest) {
         Ok(()) => 0,
         Err(OtherSession) => OTHER_SESSION,
     }
 }
 
 /// Regards a machine as gone.
-pub fn disconnect(live: &mut PeerLive, machine: u8) -> i32
-    ensures { IsPutOut machine live.old live.new result }
+pub fn disconnect(peer: &mut Peer, machine: u8) -> i32
+    ensures { IsPutOut machine peer.old peer.new result }
 {
-    match live.peer.disconnect(machine) {
+    match peer.disconnect(machine) {
         Ok(()) => 0,
         Err(why) => code_of_mesh(why),
     }
@@ -53,7 +53,7 @@ pub fn disconnect(live: &mut PeerLive, machine: u8) -> i32
 
 /// Writes what is to be sent to a machine.
 pub fn send(
-    peer: &mut PeerLive,
+    peer: &mut Peer,
     live: &Live,
     machine: u8,
     now: u32,
@@ -66,7 +66,7 @@ pub fn send(
     if out.len() < DATAGRAM_LIMIT {
         return TOO_SHORT;
     }
-    match peer.peer.send(&live.session, machine, now) {
+    match peer.send(&live.session, machine, now) {
         Ok(Some(bytes)) => {
             write(out, size, &bytes);
             0
@@ -77,14 +77,14 @@ pub fn send(
 }
 
 /// Writes what says to a machine that this one leaves.
-pub fn bye(live: &PeerLive, machine: u8, out: &mut [u8], size: &mut usize) -> i32
-    ensures { Fills (IsFarewell machine) live.now live.now out.old out.new size.old size.new
+pub fn bye(peer: &Peer, machine: u8, out: &mut [u8], size: &mut usize) -> i32
+    ensures { Fills (IsFarewell machine) peer.now peer.now out.old out.new size.old size.new
         result }
 {
     if out.len() < DATAGRAM_LIMIT {
         return TOO_SHORT;
     }
-    match live.peer.bye(machine) {
+    match peer.bye(machine) {
         Some(bytes) => {
             write(out, size, &bytes);
             0
@@ -104,10 +104,10 @@ pub fn write(out: &mut [u8], size: &mut usize, bytes: &ArrayVec<u8, DATAGRAM_LIM
 }
 
 /// Tells the next event.
-pub fn tell(live: &mut PeerLive, event: &mut EventOut) -> i32
-    ensures { IsTold live.old live.new event.old event.new result }
+pub fn tell(peer: &mut Peer, event: &mut EventOut) -> i32
+    ensures { IsTold peer.old peer.new event.old event.new result }
 {
-    match live.peer.next_event() {
+    match peer.next_event() {
         Some(next) => {
             *event = EventOut::of(&next);
             0
@@ -117,12 +117,12 @@ pub fn tell(live: &mut PeerLive, event: &mut EventOut) -> i32
 }
 
 /// What was counted of a machine, if there is one of this number.
-pub fn stats(live: &PeerLive, machine: u8) -> Option<StatsOut>
-    ensures { result ≡ stats_at machine live.now }
+pub fn stats(peer: &Peer, machine: u8) -> Option<StatsOut>
+    ensures { result ≡ stats_at machine peer.now }
 {
-    if machine >= live.peer.mesh().seat().machines {
+    if machine >= peer.mesh().seat().machines {
         return None;
     }
-    let stats = live.peer.stats(machine)?;
+    let stats = peer.stats(machine)?;
     Some(StatsOut::of(&stats))
 }

@@ -6,10 +6,17 @@ use roll_frame::PLAYER_LIMIT;
 use roll_mesh::MACHINE_LIMIT;
 use roll_peer::{Field, MatchSettings, PeerEvent, Stats};
 
+/// How many bytes `MatchIn` takes.
+pub const MATCH_SIZE: u32 = 144;
+
+const _: () = prove!(size_of::<MatchIn>() == 144);
+
 /// How a peer is opened beside a session.
 #[repr(C)]
 #[derive(Drop)]
 pub struct MatchIn {
+    /// That of this struct.
+    pub size: u32,
     pub numbers: [u64; MACHINE_LIMIT],
     pub draw: u64,
     pub digest: u64,

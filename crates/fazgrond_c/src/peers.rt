@@ -1,17 +1,17 @@
 //! Peers for games in other languages. The session stands beside its peer, under a handle of its own.
-ghost use Rattle.std.specs.Prelude.{◌≡◌, if◌then◌else◌, None};
-ghost use Rattle.fazgrond_c.specs.Made.{Reads, ReadsOr};
-ghost use Rattle.fazgrond_c.specs.Peers.{stats_at, FillsBy, FillsFor, IsFarewell, IsNoted, IsOpenedBy, IsPolledFor, IsPutOut, IsReceived, IsSentTo, IsTold, Makes, MakesBeside, MakesFor, OpensBeside, Writes};
+ghost use Rattle.std.specs.Prelude.{◌≡◌, if◌then◌else◌};
+ghost use Rattle.fazgrond_c.specs.Handles.{peer_in, FillsBy, FillsFor, Makes, MakesBeside, MakesFor, Reads, ReadsOr, Writes};
+ghost use Rattle.fazgrond_c.specs.Peers.{stats_at, IsFarewell, IsNoted, IsOpenedBy, IsPolledFor, IsPutOut, IsReceived, IsSentTo, IsTold, OpensBeside};
 
-use crate::calls::CLOSED;
+use crate::calls::{CLOSED, OTHER_VERSION};
 use crate::handle::Handle;
 use crate::live::Live;
+use crate::open::Open;
 use crate::peer_calls;
-use crate::peer_handle::PeerHandle;
-use crate::peer_kinds::{EventOut, MatchIn, StatsOut};
-use crate::peer_live::PeerLive;
+use crate::peer_kinds::{EventOut, MATCH_SIZE, MatchIn, StatsOut};
 use crate::peer_refusal::code_of_open;
 use roll_frame::Refusal;
+use roll_peer::Peer;
 use std::alloc::Global;
 
 /// There is no such machine in the match.
@@ -21,7 +21,7 @@ const INVALID_MACHINE: i32 = 303;
 #[unsafe(no_mangle)]
 pub extern "C" fn fazgrond_peer_open(
     alloc: Global,
-    handle: &mut PeerHandle,
+    handle: &mut Handle,
     session: &mut Handle,
     given: &MatchIn,
 ) -> i32
@@ -29,64 +29,73 @@ pub extern "C" fn fazgrond_peer_open(
         handle.new.hold.value result }
     ensures session { session.new.hold.value ≡ session.old.hold.value }
 {
-    let Some(live) = session.take(alloc) else {
+    let Some(lent) = session.take(alloc) else {
         return CLOSED;
     };
-    let code = open(alloc, handle, &live, given);
-    session.put(live);
+    let Open::Session(live) = &*lent else {
+        session.put(lent);
+        return CLOSED;
+    };
+    let code = open(alloc, handle, live, given);
+    session.put(lent);
     code
 }
 
 /// Opens a peer beside an open session.
-fn open(alloc: Global, handle: &mut PeerHandle, live: &Live, given: &MatchIn) -> i32
+fn open(alloc: Global, handle: &mut Handle, live: &Live, given: &MatchIn) -> i32
     ensures { OpensBeside given.now live.now.session handle.old.hold.value handle.new.hold.value
         result }
 {
+    if given.size != MATCH_SIZE {
+        return OTHER_VERSION;
+    }
     let Some(settings) = given.settings() else {
         return Refusal::InvalidRequest.code();
     };
-    let peer = match PeerLive::open(alloc, &live.session, settings) {
+    let peer = match Peer::open(alloc, &live.session, settings) {
         Ok(peer) => peer,
         Err(why) => return code_of_open(why),
     };
-    let Ok(peer) = Box::new(alloc, peer) else {
+    let Ok(held) = Box::new(alloc, Open::Peer(peer)) else {
         return Refusal::NoMemory.code();
     };
     let _old = handle.take(alloc);
-    handle.put(peer);
+    handle.put(held);
     0
-}
-
-/// Closes it.
-#[unsafe(no_mangle)]
-pub extern "C" fn fazgrond_peer_close(alloc: Global, handle: &mut PeerHandle)
-    ensures { handle.new.hold.value ≡ None }
-{
-    let _old = handle.take(alloc);
 }
 
 /// Hears a datagram that came: words that it holds become words of the session.
 #[unsafe(no_mangle)]
 pub extern "C" fn fazgrond_peer_receive(
     alloc: Global,
-    handle: &mut PeerHandle,
+    handle: &mut Handle,
     session: &mut Handle,
     bytes: &[u8],
     now: u32,
 ) -> i32
-    ensures { MakesBeside (IsReceived bytes.now now) handle.old.hold.value handle.new.hold.value
+    ensures { MakesBeside peer_in (IsReceived bytes.now now) handle.old.hold.value handle.new.hold.value
         session.old.hold.value session.new.hold.value result }
 {
-    let Some(mut peer) = handle.take(alloc) else {
+    let Some(mut held) = handle.take(alloc) else {
         return CLOSED;
     };
-    let Some(mut live) = session.take(alloc) else {
-        handle.put(peer);
+    let Some(mut lent) = session.take(alloc) else {
+        handle.put(held);
         return CLOSED;
     };
-    let code = peer_calls::receive(&mut peer, &mut live, bytes, now);
-    session.put(live);
-    handle.put(peer);
+    let Open::Peer(peer) = &mut *held else {
+        session.put(lent);
+        handle.put(held);
+        return CLOSED;
+    };
+    let Open::Session(live) = &mut *lent else {
+        session.put(lent);
+        handle.put(held);
+        return CLOSED;
+    };
+    let code = peer_calls::receive(peer, live, bytes, now);
+    session.put(lent);
+    handle.put(held);
     code
 }
 
@@ -95,23 +104,33 @@ pub extern "C" fn fazgrond_peer_receive(
 #[unsafe(no_mangle)]
 pub extern "C" fn fazgrond_peer_poll(
     alloc: Global,
-    handle: &mut PeerHandle,
+    handle: &mut Handle,
     session: &mut Handle,
     now: u32,
 ) -> i32
-    ensures { MakesBeside (IsPolledFor now) handle.old.hold.value handle.new.hold.value
+    ensures { MakesBeside peer_in (IsPolledFor now) handle.old.hold.value handle.new.hold.value
         session.old.hold.value session.new.hold.value result }
 {
-    let Some(mut peer) = handle.take(alloc) else {
+    let Some(mut held) = handle.take(alloc) else {
         return CLOSED;
     };
-    let Some(mut live) = session.take(alloc) else {
-        handle.put(peer);
+    let Some(mut lent) = session.take(alloc) else {
+        handle.put(held);
         return CLOSED;
     };
-    let code = peer_calls::poll(&mut peer, &mut live, now);
-    session.put(live);
-    handle.put(peer);
+    let Open::Peer(peer) = &mut *held else {
+        session.put(lent);
+        handle.put(held);
+        return CLOSED;
+    };
+    let Open::Session(live) = &mut *lent else {
+        session.put(lent);
+        handle.put(held);
+        return CLOSED;
+    };
+    let code = peer_calls::poll(peer, live, now);
+    session.put(lent);
+    handle.put(held);
     code
 }
 
@@ -119,17 +138,21 @@ pub extern "C" fn fazgrond_peer_poll(
 #[unsafe(no_mangle)]
 pub extern "C" fn fazgrond_peer_is_running(
     alloc: Global,
-    handle: &mut PeerHandle,
+    handle: &mut Handle,
     flag: &mut u32,
 ) -> i32
-    ensures { Reads (λ live. if live.peer.running then 1 else 0) handle.old.hold.value
+    ensures { Reads peer_in (λ peer. if peer.running then 1 else 0) handle.old.hold.value
         handle.new.hold.value flag.old flag.new result }
 {
-    let Some(live) = handle.take(alloc) else {
+    let Some(held) = handle.take(alloc) else {
         return CLOSED;
     };
-    *flag = u32::from(live.peer.is_running());
-    handle.put(live);
+    let Open::Peer(peer) = &*held else {
+        handle.put(held);
+        return CLOSED;
+    };
+    *flag = u32::from(peer.is_running());
+    handle.put(held);
     0
 }
 
@@ -137,43 +160,51 @@ pub extern "C" fn fazgrond_peer_is_running(
 #[unsafe(no_mangle)]
 pub extern "C" fn fazgrond_peer_send(
     alloc: Global,
-    handle: &mut PeerHandle,
+    handle: &mut Handle,
     session: &mut Handle,
     machine: u8,
     now: u32,
     out: &mut [u8],
     size: &mut usize,
 ) -> i32
-    ensures sent { FillsFor (λ live. IsSentTo live.session machine now) session.old.hold.value
+    ensures sent { FillsFor peer_in (λ live. IsSentTo live.session machine now) session.old.hold.value
         handle.old.hold.value handle.new.hold.value out.old out.new size.old size.new result }
     ensures session { session.new.hold.value ≡ session.old.hold.value }
 {
-    let Some(live) = session.take(alloc) else {
+    let Some(lent) = session.take(alloc) else {
         return CLOSED;
     };
-    let code = send(alloc, handle, &live, machine, now, out, size);
-    session.put(live);
+    let Open::Session(live) = &*lent else {
+        session.put(lent);
+        return CLOSED;
+    };
+    let code = send(alloc, handle, live, machine, now, out, size);
+    session.put(lent);
     code
 }
 
 /// What to send to a machine beside an open session.
 fn send(
     alloc: Global,
-    handle: &mut PeerHandle,
+    handle: &mut Handle,
     live: &Live,
     machine: u8,
     now: u32,
     out: &mut [u8],
     size: &mut usize,
 ) -> i32
-    ensures { FillsBy (IsSentTo live.now.session machine now) handle.old.hold.value
+    ensures { FillsBy peer_in (IsSentTo live.now.session machine now) handle.old.hold.value
         handle.new.hold.value out.old out.new size.old size.new result }
 {
-    let Some(mut peer) = handle.take(alloc) else {
+    let Some(mut held) = handle.take(alloc) else {
         return CLOSED;
     };
-    let code = peer_calls::send(&mut peer, live, machine, now, out, size);
-    handle.put(peer);
+    let Open::Peer(peer) = &mut *held else {
+        handle.put(held);
+        return CLOSED;
+    };
+    let code = peer_calls::send(peer, live, machine, now, out, size);
+    handle.put(held);
     code
 }
 
@@ -181,32 +212,40 @@ fn send(
 #[unsafe(no_mangle)]
 pub extern "C" fn fazgrond_peer_note_settled(
     alloc: Global,
-    handle: &mut PeerHandle,
+    handle: &mut Handle,
     session: &mut Handle,
     digest: u64,
 ) -> i32
-    ensures noted { MakesFor (λ live. IsNoted digest live.session) session.old.hold.value
+    ensures noted { MakesFor peer_in (λ live. IsNoted digest live.session) session.old.hold.value
         handle.old.hold.value handle.new.hold.value result }
     ensures session { session.new.hold.value ≡ session.old.hold.value }
 {
-    let Some(live) = session.take(alloc) else {
+    let Some(lent) = session.take(alloc) else {
         return CLOSED;
     };
-    let code = note_settled(alloc, handle, &live, digest);
-    session.put(live);
+    let Open::Session(live) = &*lent else {
+        session.put(lent);
+        return CLOSED;
+    };
+    let code = note_settled(alloc, handle, live, digest);
+    session.put(lent);
     code
 }
 
 /// Notes the digest of an open session's settled state.
-fn note_settled(alloc: Global, handle: &mut PeerHandle, live: &Live, digest: u64) -> i32
-    ensures { Makes (IsNoted digest live.now.session) handle.old.hold.value handle.new.hold.value
+fn note_settled(alloc: Global, handle: &mut Handle, live: &Live, digest: u64) -> i32
+    ensures { Makes peer_in (IsNoted digest live.now.session) handle.old.hold.value handle.new.hold.value
         result }
 {
-    let Some(mut peer) = handle.take(alloc) else {
+    let Some(mut held) = handle.take(alloc) else {
         return CLOSED;
     };
-    let code = peer_calls::note_settled(&mut peer, live, digest);
-    handle.put(peer);
+    let Open::Peer(peer) = &mut *held else {
+        handle.put(held);
+        return CLOSED;
+    };
+    let code = peer_calls::note_settled(peer, live, digest);
+    handle.put(held);
     code
 }
 
@@ -214,36 +253,40 @@ fn note_settled(alloc: Global, handle: &mut PeerHandle, live: &Live, digest: u64
 #[unsafe(no_mangle)]
 pub extern "C" fn fazgrond_peer_bye(
     alloc: Global,
-    handle: &mut PeerHandle,
+    handle: &mut Handle,
     machine: u8,
     out: &mut [u8],
     size: &mut usize,
 ) -> i32
-    ensures { FillsBy (IsFarewell machine) handle.old.hold.value handle.new.hold.value
+    ensures { FillsBy peer_in (IsFarewell machine) handle.old.hold.value handle.new.hold.value
         out.old out.new size.old size.new result }
 {
-    let Some(live) = handle.take(alloc) else {
+    let Some(held) = handle.take(alloc) else {
         return CLOSED;
     };
-    let code = peer_calls::bye(&live, machine, out, size);
-    handle.put(live);
+    let Open::Peer(peer) = &*held else {
+        handle.put(held);
+        return CLOSED;
+    };
+    let code = peer_calls::bye(peer, machine, out, size);
+    handle.put(held);
     code
 }
 
 /// Regards a machine as gone.
 #[unsafe(no_mangle)]
-pub extern "C" fn fazgrond_peer_disconnect(
-    alloc: Global,
-    handle: &mut PeerHandle,
-    machine: u8,
-) -> i32
-    ensures { Makes (IsPutOut machine) handle.old.hold.value handle.new.hold.value result }
+pub extern "C" fn fazgrond_peer_disconnect(alloc: Global, handle: &mut Handle, machine: u8) -> i32
+    ensures { Makes peer_in (IsPutOut machine) handle.old.hold.value handle.new.hold.value result }
 {
-    let Some(mut live) = handle.take(alloc) else {
+    let Some(mut held) = handle.take(alloc) else {
         return CLOSED;
     };
-    let code = peer_calls::disconnect(&mut live, machine);
-    handle.put(live);
+    let Open::Peer(peer) = &mut *held else {
+        handle.put(held);
+        return CLOSED;
+    };
+    let code = peer_calls::disconnect(peer, machine);
+    handle.put(held);
     code
 }
 
@@ -251,17 +294,21 @@ pub extern "C" fn fazgrond_peer_disconnect(
 #[unsafe(no_mangle)]
 pub extern "C" fn fazgrond_peer_event(
     alloc: Global,
-    handle: &mut PeerHandle,
+    handle: &mut Handle,
     event: &mut EventOut,
 ) -> i32
-    ensures { Writes IsTold handle.old.hold.value handle.new.hold.value event.old event.new
+    ensures { Writes peer_in IsTold handle.old.hold.value handle.new.hold.value event.old event.new
         result }
 {
-    let Some(mut live) = handle.take(alloc) else {
+    let Some(mut held) = handle.take(alloc) else {
         return CLOSED;
     };
-    let code = peer_calls::tell(&mut live, event);
-    handle.put(live);
+    let Open::Peer(peer) = &mut *held else {
+        handle.put(held);
+        return CLOSED;
+    };
+    let code = peer_calls::tell(peer, event);
+    handle.put(held);
     code
 }
 
@@ -269,18 +316,22 @@ pub extern "C" fn fazgrond_peer_event(
 #[unsafe(no_mangle)]
 pub extern "C" fn fazgrond_peer_stats(
     alloc: Global,
-    handle: &mut PeerHandle,
+    handle: &mut Handle,
     machine: u8,
     stats: &mut StatsOut,
 ) -> i32
-    ensures { ReadsOr 303 (stats_at machine) handle.old.hold.value handle.new.hold.value
+    ensures { ReadsOr peer_in 303 (stats_at machine) handle.old.hold.value handle.new.hold.value
         stats.old stats.new result }
 {
-    let Some(live) = handle.take(alloc) else {
+    let Some(held) = handle.take(alloc) else {
         return CLOSED;
     };
-    let there = peer_calls::stats(&live, machine);
-    handle.put(live);
+    let Open::Peer(peer) = &*held else {
+        handle.put(held);
+        return CLOSED;
+    };
+    let there = peer_calls::stats(peer, machine);
+    handle.put(held);
     match there {
         Some(there) => {
             *stats = there;

@@ -1,5 +1,5 @@
 //! Calls of an open viewer.
-ghost use Rattle.fazgrond_c.specs.Peers.{Fills};
+ghost use Rattle.fazgrond_c.specs.Handles.{Fills};
 ghost use Rattle.fazgrond_c.specs.Viewers.{IsSeen, IsViewersBye, IsViewersWord, ViewerHearsBytes};
 
 use crate::calls::{NOTHING, TOO_SHORT};

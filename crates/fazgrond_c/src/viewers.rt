@@ -1,28 +1,24 @@
 //! Viewers, for games in other languages.
-ghost use Rattle.std.specs.Prelude.{◌≡◌, ◌≢◌, pos, None};
-ghost use Rattle.fazgrond_c.specs.Lines.{IsWhyClosed, OpensBy};
-ghost use Rattle.fazgrond_c.specs.Made.{Reads};
-ghost use Rattle.fazgrond_c.specs.Peers.{FillsBy, Writes};
+ghost use Rattle.std.specs.Prelude.{◌≡◌, ◌≢◌, pos};
+ghost use Rattle.fazgrond_c.specs.Handles.{viewer_in, FillsBy, Opens, Reads, Writes};
+ghost use Rattle.fazgrond_c.specs.Lines.{IsWhyClosed};
 ghost use Rattle.fazgrond_c.specs.Viewers.{viewer_state, IsOpened, IsSeen, IsViewersBye, IsViewersWord, ViewerHearsBytes};
 
 use crate::calls::CLOSED;
+use crate::handle::Handle;
 use crate::kinds::RowOut;
 use crate::line_kinds::{LineIn, LineState};
 use crate::line_refusal::code_of_fault;
+use crate::open::Open;
 use crate::viewer_calls;
-use crate::viewer_handle::ViewerHandle;
 use crate::viewer_live::ViewerLive;
 use roll_frame::Refusal;
 use std::alloc::Global;
 
 /// Opens a viewer.
 #[unsafe(no_mangle)]
-pub extern "C" fn fazgrond_viewer_open(
-    alloc: Global,
-    handle: &mut ViewerHandle,
-    given: &LineIn,
-) -> i32
-    ensures opened { OpensBy (IsOpened given.now) handle.old.hold.value handle.new.hold.value
+pub extern "C" fn fazgrond_viewer_open(alloc: Global, handle: &mut Handle, given: &LineIn) -> i32
+    ensures opened { Opens viewer_in (IsOpened given.now) handle.old.hold.value handle.new.hold.value
         result }
     ensures why { result ≢ pos 0 → IsWhyClosed given.now result }
 {
@@ -33,39 +29,35 @@ pub extern "C" fn fazgrond_viewer_open(
         Ok(live) => live,
         Err(why) => return code_of_fault(why),
     };
-    let Ok(live) = Box::new(alloc, live) else {
+    let Ok(held) = Box::new(alloc, Open::Viewer(live)) else {
         return Refusal::NoMemory.code();
     };
     let _old = handle.take(alloc);
-    handle.put(live);
+    handle.put(held);
     0
-}
-
-/// Closes it.
-#[unsafe(no_mangle)]
-pub extern "C" fn fazgrond_viewer_close(alloc: Global, handle: &mut ViewerHandle)
-    ensures { handle.new.hold.value ≡ None }
-{
-    let _old = handle.take(alloc);
 }
 
 /// Hears a datagram that came of the host, and says how many rows were taken.
 #[unsafe(no_mangle)]
 pub extern "C" fn fazgrond_viewer_receive(
     alloc: Global,
-    handle: &mut ViewerHandle,
+    handle: &mut Handle,
     bytes: &[u8],
     now: u32,
     rows: &mut u32,
 ) -> i32
-    ensures { Writes (ViewerHearsBytes bytes.now now) handle.old.hold.value
+    ensures { Writes viewer_in (ViewerHearsBytes bytes.now now) handle.old.hold.value
         handle.new.hold.value rows.old rows.new result }
 {
-    let Some(mut live) = handle.take(alloc) else {
+    let Some(mut held) = handle.take(alloc) else {
         return CLOSED;
     };
-    let code = viewer_calls::receive(&mut live, bytes, now, rows);
-    handle.put(live);
+    let Open::Viewer(live) = &mut *held else {
+        handle.put(held);
+        return CLOSED;
+    };
+    let code = viewer_calls::receive(live, bytes, now, rows);
+    handle.put(held);
     code
 }
 
@@ -73,19 +65,23 @@ pub extern "C" fn fazgrond_viewer_receive(
 #[unsafe(no_mangle)]
 pub extern "C" fn fazgrond_viewer_send(
     alloc: Global,
-    handle: &mut ViewerHandle,
+    handle: &mut Handle,
     now: u32,
     out: &mut [u8],
     size: &mut usize,
 ) -> i32
-    ensures { FillsBy (IsViewersWord now) handle.old.hold.value handle.new.hold.value
+    ensures { FillsBy viewer_in (IsViewersWord now) handle.old.hold.value handle.new.hold.value
         out.old out.new size.old size.new result }
 {
-    let Some(mut live) = handle.take(alloc) else {
+    let Some(mut held) = handle.take(alloc) else {
         return CLOSED;
     };
-    let code = viewer_calls::send(&mut live, now, out, size);
-    handle.put(live);
+    let Open::Viewer(live) = &mut *held else {
+        handle.put(held);
+        return CLOSED;
+    };
+    let code = viewer_calls::send(live, now, out, size);
+    handle.put(held);
     code
 }
 
@@ -93,35 +89,39 @@ pub extern "C" fn fazgrond_viewer_send(
 #[unsafe(no_mangle)]
 pub extern "C" fn fazgrond_viewer_bye(
     alloc: Global,
-    handle: &mut ViewerHandle,
+    handle: &mut Handle,
     out: &mut [u8],
     size: &mut usize,
 ) -> i32
-    ensures { FillsBy IsViewersBye handle.old.hold.value handle.new.hold.value
+    ensures { FillsBy viewer_in IsViewersBye handle.old.hold.value handle.new.hold.value
         out.old out.new size.old size.new result }
 {
-    let Some(mut live) = handle.take(alloc) else {
+    let Some(mut held) = handle.take(alloc) else {
         return CLOSED;
     };
-    let code = viewer_calls::bye(&mut live, out, size);
-    handle.put(live);
+    let Open::Viewer(live) = &mut *held else {
+        handle.put(held);
+        return CLOSED;
+    };
+    let code = viewer_calls::bye(live, out, size);
+    handle.put(held);
     code
 }
 
 /// The next row.
 #[unsafe(no_mangle)]
-pub extern "C" fn fazgrond_viewer_row(
-    alloc: Global,
-    handle: &mut ViewerHandle,
-    row: &mut RowOut,
-) -> i32
-    ensures { Writes IsSeen handle.old.hold.value handle.new.hold.value row.old row.new result }
+pub extern "C" fn fazgrond_viewer_row(alloc: Global, handle: &mut Handle, row: &mut RowOut) -> i32
+    ensures { Writes viewer_in IsSeen handle.old.hold.value handle.new.hold.value row.old row.new result }
 {
-    let Some(mut live) = handle.take(alloc) else {
+    let Some(mut held) = handle.take(alloc) else {
         return CLOSED;
     };
-    let code = viewer_calls::next_row(&mut live, row);
-    handle.put(live);
+    let Open::Viewer(live) = &mut *held else {
+        handle.put(held);
+        return CLOSED;
+    };
+    let code = viewer_calls::next_row(live, row);
+    handle.put(held);
     code
 }
 
@@ -129,17 +129,21 @@ pub extern "C" fn fazgrond_viewer_row(
 #[unsafe(no_mangle)]
 pub extern "C" fn fazgrond_viewer_look(
     alloc: Global,
-    handle: &mut ViewerHandle,
+    handle: &mut Handle,
     now: u32,
     state: &mut LineState,
 ) -> i32
-    ensures { Reads (viewer_state now) handle.old.hold.value handle.new.hold.value
+    ensures { Reads viewer_in (viewer_state now) handle.old.hold.value handle.new.hold.value
         state.old state.new result }
 {
-    let Some(live) = handle.take(alloc) else {
+    let Some(held) = handle.take(alloc) else {
+        return CLOSED;
+    };
+    let Open::Viewer(live) = &*held else {
+        handle.put(held);
         return CLOSED;
     };
     *state = live.state(now);
-    handle.put(live);
+    handle.put(held);
     0
 }

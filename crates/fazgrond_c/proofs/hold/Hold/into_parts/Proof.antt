@@ -26,7 +26,7 @@ use denote.Triple.Table.{entered}
 use denote.Triple.Walked.{says, needs, Stays, stay_dropped, walk_of, ends_at, Goes-dropped, walk_Meets}
 use Rattle.std.proofs.BoxSteps.Form.{D, B, word, box_typed}
 use Rattle.std.proofs.BoxSteps.Steps.{box_out, box_in}
-use Rattle.fazgrond_c.specs.contracts.live.Live as Live
+use Rattle.fazgrond_c.specs.contracts.open.Open as Open
 use Rattle.fazgrond_c.specs.contracts.hold.Hold as Hold
 use Rattle.fazgrond_c.proofs.AsBox.{E, FromHold as From}
 use Rattle.fazgrond_c.specs.contracts.hold.Hold.into_parts as F
@@ -35,7 +35,7 @@ use Rattle.fazgrond_c.proofs.hold.Hold.into_parts.Statement as stated
 use Rattle.fazgrond_c.proofs.hold.Hold.into_parts.Code as code
 
 abbrev Value : Type 0
-Value = (Live.the_row).Denot
+Value = (Open.the_row).Denot
 
 held : (o : Option Value) → IsSome o → Value
 held (Some x) full = x
