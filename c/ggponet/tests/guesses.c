@@ -1,5 +1,5 @@
-/* Two sessions in one process, of which the first guesses what the second's player does. Its helper is asked in the same thread,
- * after each turn. Each settled state must be that of a plain run, with fewer frames played again than without guesses. A helper
+/* Two sessions in one process, which guess what each other's player does. Their helper is asked in the same thread, after each
+ * turn. Each settled state must be that of a plain run, with fewer frames played again than without guesses. A helper
  * that can't run its jobs must change nothing. It prints nothing if all is right. guesses PORT */
 #include <ggponet.h>
 #include <stdio.h>
@@ -38,9 +38,9 @@ static struct {
     int calls, fails_each;
 } helped;
 
-/* Player 1 does something else in most frames; player 2 presses a button and lets it go. */
+/* Each player presses a button and lets it go, each in its own time. */
 static unsigned char input_of(int player, int frame) {
-    return player == 0 ? (unsigned char)(frame * 2654435761u >> 24) : (unsigned char)(frame % 12 < 7 ? 3 : 8);
+    return player == 0 ? frame % 10 < 4 ? 5 : 6 : frame % 12 < 7 ? 3 : 8;
 }
 
 static void step(state *of, const unsigned char *inputs) {
@@ -138,12 +138,12 @@ static void turn(int me) {
     MUST(ggpo_idle(game->session, TURN) == GGPO_OK);
 }
 
-/* The first one's helper runs all jobs that are there. A session isn't closed while it is at work. */
-static void help(void) {
+/* The helper runs all jobs of a session that are there. A session isn't closed while it is at work. */
+static void help(int me) {
     const FazggpoHelper helper = { .helper = &helped, .load_state = helper_load, .advance_state = helper_advance,
                                    .save_state = helper_save };
     FazggpoJob *job;
-    game = &games[0];
+    game = &games[me];
     while ((job = fazggpo_fetch_job(game->session, 0)) != NULL) {
         MUST(ggpo_close_session(game->session) == GGPO_ERRORCODE_INVALID_REQUEST);
         fazggpo_run_job(job, &helper);
@@ -172,24 +172,34 @@ static void play_plain(void) {
     }
 }
 
+/* Adds what became of a session's guesses, and of its frames, and ends it. */
+static void end(int me, FazggpoGuesses *sum, int *again) {
+    FazggpoGuesses guesses;
+    game = &games[me];
+    MUST(fazggpo_get_guesses(game->session, &guesses) == GGPO_OK);
+    sum->made += guesses.made;
+    sum->run += guesses.run;
+    sum->grafted += guesses.grafted;
+    sum->used += guesses.used;
+    *again += game->again;
+    MUST(ggpo_close_session(game->session) == GGPO_OK && game->buffers == 0);
+}
+
 /* Plays a match with so many jobs after each frame, and says what became of them and how many frames were played again. */
 static FazggpoGuesses play(int port, int jobs, int *again) {
-    FazggpoGuesses guesses;
-    for (int me = 0; me < 2; me++)
+    FazggpoGuesses guesses = { 0, 0, 0, 0 };
+    *again = 0;
+    for (int me = 0; me < 2; me++) {
         begin(me, port);
-    MUST(fazggpo_get_guesses(games[0].session, &guesses) == GGPO_OK && guesses.made == 0);
-    MUST(jobs == 0 || fazggpo_guess(games[0].session, jobs) == GGPO_OK);
+        MUST(jobs == 0 || fazggpo_guess(game->session, jobs) == GGPO_OK);
+    }
     for (int turns = 0; settled(0) < FRAMES || settled(1) < FRAMES; turns++) {
         MUST(turns < 20 * FRAMES);
         turn(turns % 2);
-        help();
+        help(turns % 2);
     }
-    *again = games[0].again;
-    MUST(fazggpo_get_guesses(games[0].session, &guesses) == GGPO_OK);
-    for (int me = 0; me < 2; me++) {
-        game = &games[me];
-        MUST(ggpo_close_session(game->session) == GGPO_OK && game->buffers == 0);
-    }
+    for (int me = 0; me < 2; me++)
+        end(me, &guesses, again);
     return guesses;
 }
 
