@@ -13,14 +13,13 @@ static int players;
 
 bool casting_open(const casting *settings, const duel *opening) {
     const char *why;
-    fazgrond_settings session = { .players = (uint32_t)settings->players, .threshold = 8 };
+    fazgrond_settings session = fazgrond_settings_for((uint32_t)settings->players);
     faz_cast_settings made = { .servers = settings->broker, .match = settings->match, .me = settings->me, .game = &duel_game,
                                .opening = opening, .session = &session, .rate = (uint32_t)settings->rate,
                                .limit = (uint32_t)settings->frames };
     if (settings->match == NULL)
         return true;
     players = settings->players;
-    memset(session.masks, 0xff, sizeof session.masks);
     cast = faz_cast_open(&made, &why);
     if (cast == NULL)
         fprintf(stderr, "duel: it can't publish: %s\n", why);
@@ -28,12 +27,12 @@ bool casting_open(const casting *settings, const duel *opening) {
 }
 
 void casting_turn(GGPOSession *session, field_in *field) {
-    fazgrond_peer *peer = cast != NULL ? fazggpo_get_peer(session) : NULL;
+    fazgrond_session *match = cast != NULL ? fazggpo_get_session(session) : NULL;
     unsigned char *buffer;
     int frame, length;
-    if (peer != NULL && GGPO_SUCCEEDED(fazggpo_get_settled_state(session, &frame, &buffer, &length))
+    if (match != NULL && GGPO_SUCCEEDED(fazggpo_get_settled_state(session, &frame, &buffer, &length))
         && field(buffer, length) != NULL)
-        faz_cast_turn(cast, peer, (uint32_t)frame, field(buffer, length));
+        faz_cast_turn(cast, match, (uint32_t)frame, field(buffer, length));
 }
 
 void casting_frame(const uint32_t *words, uint32_t gone, int frame, const duel *field) {

@@ -29,9 +29,15 @@ has() {
 
 # A machine of a match, by its name, in the background: its words are after it. It ends after a minute at the latest.
 machine() {
-    name=$1
-    shift
-    timeout 60 "$work/duel" --headless --speed 10 "$@" > "$work/$name.out" 2> "$work/$name.err" &
+    machine_of duel "$@"
+}
+
+# The same, of a program in the folder.
+machine_of() {
+    program=$1
+    name=$2
+    shift 2
+    timeout 60 "$work/$program" --headless --speed 10 "$@" > "$work/$name.out" 2> "$work/$name.err" &
     pids="$pids $!"
     eval "pid_$name=$!"
 }

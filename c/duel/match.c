@@ -2,7 +2,9 @@
 #define _POSIX_C_SOURCE 200809L
 #include "bot.h"
 #include "casting.h"
+#include "helpers.h"
 #include "options.h"
+#include "state.h"
 #include "window.h"
 
 #include <ggponet.h>
@@ -24,19 +26,14 @@ static const char usage[] =
     "  --lag MS --loss PERCENT --junk PERCENT    makes the line worse for what this machine sends\n"
     "  --speed N     a clock that runs N times as fast\n"
     "  --synctest N  no network: all players are local, and each N frames are played twice\n"
+    "  --helpers N   so many threads play what may come ahead, up to 8\n"
     "  --cast MATCH --broker URL    publishes the match with this name, on a broker (nats://127.0.0.1:4222)\n";
 
 enum { TURN = 16667, PAST_LAST = 32, LINES = 6, MOST_BEHIND = 6, CATCH_UP = 8 };
 
-/* The state, as it is saved: the frame and the field. */
-typedef struct state {
-    int frame;
-    duel field;
-} state;
-
 /* All that there is: GGPO's callbacks are told nothing but what they are to do. */
 static struct {
-    state now;
+    duel_state now;
     GGPOSession *session;
     int players, locals, viewers;
     GGPOPlayerHandle local[DUEL_SHIPS], viewer[GGPO_MAX_SPECTATORS];
@@ -48,7 +45,7 @@ static struct {
     char at_last[512]; /* the state at the frame of --frames */
     char told[DUEL_SHIPS][64];
     /* What the command line says. */
-    long frames, lag, loss, junk, speed, delay, timeout, sync_frames, bot, match, watch;
+    long frames, lag, loss, junk, speed, delay, timeout, sync_frames, bot, match, watch, helpers;
     bool is_headless;
     casting cast;
 } self = { .speed = 1, .delay = 1, .timeout = 5000, .cast = { .broker = "nats://127.0.0.1:4222", .rate = 60 } };
@@ -78,16 +75,12 @@ static bool on_advance(int flags) {
 
 static bool on_save(unsigned char **buffer, int *length, int *checksum, int frame) {
     (void)frame;
-    *buffer = malloc(sizeof self.now);
-    *length = sizeof self.now;
-    *checksum = (int)duel_checksum(&self.now.field);
-    return *buffer != NULL && memcpy(*buffer, &self.now, sizeof self.now) != NULL;
+    return duel_save(&self.now, buffer, length, checksum);
 }
 
 static bool on_load(unsigned char *buffer, int length) {
-    if (length != (int)sizeof self.now)
+    if (!duel_load(&self.now, buffer, length))
         return false;
-    memcpy(&self.now, buffer, sizeof self.now);
     note_last();
     return true;
 }
@@ -213,7 +206,7 @@ static bool is_done(void) {
 
 /* Where the field is in a state that was saved. */
 static const duel *field_of(const unsigned char *buffer, int length) {
-    return length == (int)sizeof(state) ? &((const state *)(const void *)buffer)->field : NULL;
+    return length == (int)sizeof(duel_state) ? &((const duel_state *)(const void *)buffer)->field : NULL;
 }
 
 static int play(void) {
@@ -251,9 +244,9 @@ static const option options[] = {
     { "--junk", &self.junk, NULL, NULL },       { "--speed", &self.speed, NULL, NULL },
     { "--delay", &self.delay, NULL, NULL },     { "--match", &self.match, NULL, NULL },
     { "--timeout", &self.timeout, NULL, NULL }, { "--synctest", &self.sync_frames, NULL, NULL },
-    { "--watch", &self.watch, NULL, NULL },     { "--cast", NULL, &self.cast.match, NULL },
-    { "--headless", NULL, NULL, &self.is_headless }, { "--broker", NULL, &self.cast.broker, NULL },
-    { NULL, NULL, NULL, NULL },
+    { "--watch", &self.watch, NULL, NULL },     { "--helpers", &self.helpers, NULL, NULL },
+    { "--cast", NULL, &self.cast.match, NULL }, { "--broker", NULL, &self.cast.broker, NULL },
+    { "--headless", NULL, NULL, &self.is_headless }, { NULL, NULL, NULL, NULL },
 };
 
 static bool is_viewer(const char *word) { return strncmp(word, "viewer:", 7) == 0; }
@@ -342,8 +335,11 @@ int main(int count, char **words) {
         fail(is_ready ? "no player is local" : ggpo_last_error(self.session));
     else if (!self.is_headless && !window_open(self.local[0]))
         fail("no window can be opened: --headless plays without");
+    else if (!helpers_begin(self.session, self.helpers))
+        fail("no helpers for this");
     else if (start_casting((int)port))
         status = play();
+    helpers_end(self.session);
     ggpo_close_session(self.session);
     if (status != 2 && !casting_close(self.is_over ? "the match can't go on" : "the match was closed"))
         status = 1;

@@ -1,6 +1,7 @@
 /* ggponet.h: the calls of the GGPO SDK over fazgrond.h, for a game that is written against GGPO.
  *
- * Names, types and numbers are GGPO's, so such a game compiles with this header as it is; it links ggponet.c and libfazgrond.a.
+ * Names, types and numbers are GGPO's, so such a game compiles with this header as it is; it links the C files of this folder and
+ * libfazgrond.a.
  * docs/C.md, "A game that is written against GGPO", has a table of what is the same and what differs. What can't be had here is
  * refused, and ggpo_last_error says why: inputs of more than 4 bytes, and what has to be set before the match.
  * What GGPO hasn't got stands at the end.
@@ -200,7 +201,8 @@ GGPO_API GGPOErrorCode __cdecl ggpo_start_spectating(GGPOSession **session, GGPO
                                                      int num_players, int input_size, unsigned short local_port, char *host_ip,
                                                      unsigned short host_port);
 
-/* Says to the others that this machine leaves, and gives all back. A spectator who hasn't all frames by then never gets them:
+/* Says to the others that this machine leaves, and gives all back. Helpers have to have ended: it is refused with
+ * GGPO_ERRORCODE_INVALID_REQUEST while one is at work. A spectator who hasn't all frames by then never gets them:
  * fazggpo_get_watched says how many it has. */
 GGPO_API GGPOErrorCode __cdecl ggpo_close_session(GGPOSession *session);
 
@@ -269,19 +271,72 @@ GGPO_API GGPOErrorCode __cdecl fazggpo_get_settled(GGPOSession *session, int *fr
  * with GGPO_ERRORCODE_NOT_SYNCHRONIZED if the spectator wasn't heard yet, GGPO_ERRORCODE_PLAYER_DISCONNECTED if it is gone. */
 GGPO_API GGPOErrorCode __cdecl fazggpo_get_watched(GGPOSession *session, GGPOPlayerHandle spectator, int *frame);
 
-/* The peer that plays this match, for calls of fazgrond.h that only ask; null before the match opens, and of a session that
- * watches or is a sync test. */
+/* The session that plays this match, and the peer beside it, for calls of fazgrond.h that only ask: any other would end the match.
+ * Null before the first input, and of a session that watches or is a sync test. */
+GGPO_API struct fazgrond_session *__cdecl fazggpo_get_session(GGPOSession *session);
 GGPO_API struct fazgrond_peer *__cdecl fazggpo_get_peer(GGPOSession *session);
 
 /* The state after all settled frames, as save_game_state made it, and how many these are. It stays until the next call. It is
  * refused with GGPO_ERRORCODE_NOT_SYNCHRONIZED if there is none yet. */
 GGPO_API GGPOErrorCode __cdecl fazggpo_get_settled_state(GGPOSession *session, int *frame, unsigned char **buffer, int *length);
 
-/* A bad line, for tests. What this session sends goes out so much later, and so many in a hundred are lost. Of so many in a
+/* ---- Guesses: where a processor is idle, it can play frames before the inputs come that would need them. A guess is that a remote
+ * player goes on with its last input for some frames, and then goes back to the one before. If it comes true, a rollback loads a
+ * state that is there, and plays fewer frames again or none. What is shown is the same as without.
+ *
+ * A guess is a job for a helper: a thread that the game makes, with a state of its own. It fetches a job, runs it by functions of
+ * its own, and fetches the next:
+ *
+ *     while (!is_over) {
+ *         FazggpoJob *job = fazggpo_fetch_job(session, 5);
+ *         if (job != NULL)
+ *             fazggpo_run_job(job, &helper);
+ *     }
+ *
+ * None of the session's callbacks is called on that thread. What is done is taken in by the next call that rolls back or advances.
+ * These calls need C11's <stdatomic.h>. */
+
+/* What a helper does, each with `helper`, on its own thread: makes the state of a buffer its own, plays a frame of it with all
+ * players' inputs as ggpo_synchronize_input gives them, makes a buffer with a copy of it and its checksum. The buffer to load is
+ * one of save_game_state or of another helper, and isn't the helper's. A buffer that it makes becomes the session's, which gives it
+ * back by free_buffer, so make it as save_game_state does. Each answers whether it could; if not, the job is given up. */
+typedef struct FazggpoHelper {
+    void *helper;
+    bool(__cdecl *load_state)(void *helper, const unsigned char *buffer, int len);
+    bool(__cdecl *advance_state)(void *helper, const void *inputs, int size, int disconnect_flags);
+    bool(__cdecl *save_state)(void *helper, unsigned char **buffer, int *len, int *checksum, int frame);
+} FazggpoHelper;
+
+typedef struct FazggpoJob FazggpoJob;
+
+/* What became of guesses so far. */
+typedef struct FazggpoGuesses {
+    int made;    /* jobs */
+    int run;     /* jobs that a helper has run */
+    int grafted; /* states of them that were kept */
+    int used;    /* and that a rollback or an advance went on from */
+} FazggpoGuesses;
+
+/* How many jobs are made after each frame, 0 to 64, from now on: at first 0. Two for each helper are enough: jobs that nobody has
+ * fetched by the next frame are made anew. Call it once before the first helper begins. It is for matches alone. */
+GGPO_API GGPOErrorCode __cdecl fazggpo_guess(GGPOSession *session, int jobs);
+
+/* On a helper's thread: a job, which is waited for so many milliseconds; null if there is none. A job that was fetched has to be
+ * run, and before the session is closed. */
+GGPO_API FazggpoJob *__cdecl fazggpo_fetch_job(GGPOSession *session, int timeout);
+
+/* On the thread that fetched it: runs a job, up to 8 frames, and hands it back. Whether the helper could. */
+GGPO_API bool __cdecl fazggpo_run_job(FazggpoJob *job, const FazggpoHelper *helper);
+
+GGPO_API GGPOErrorCode __cdecl fazggpo_get_guesses(GGPOSession *session, FazggpoGuesses *guesses);
+
+/* ---- For tests. */
+
+/* A bad line. What this session sends goes out so much later, and so many in a hundred are lost. Of so many in a
  * hundred a copy with a changed byte goes out too. */
 GGPO_API GGPOErrorCode __cdecl fazggpo_set_line(GGPOSession *session, int lag, int loss, int junk);
 
-/* A clock that runs so many times as fast, 1 to 100, for tests: all times of the session are by this clock. Before the match
+/* A clock that runs so many times as fast, 1 to 100: all times of the session are by this clock. Before the match
  * opens. */
 GGPO_API GGPOErrorCode __cdecl fazggpo_set_speed(GGPOSession *session, int speed);
 

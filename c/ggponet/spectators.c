@@ -1,273 +1,254 @@
-/* Spectators in one process with the two players of their match. They must step by the inputs of a plain run, and be told the
- * events that they should; whatever they do, the players must play on. It prints nothing if all is right. spectators PORT */
-#include <ggponet.h>
-#include <stdio.h>
-#include <stdlib.h>
-#include <string.h>
+/* The two ends of a spectator's line. */
+#include "inside.h"
 
-#define MUST(what) \
-    do { \
-        if (!(what)) { \
-            fprintf(stderr, "line %d: %s\n", __LINE__, #what); \
-            exit(1); \
-        } \
-    } while (0)
-
-enum { FRAMES = 400, PLAYERS = 2, VIEWERS = 3, ALL = PLAYERS + VIEWERS, TIMEOUT = 5000, HOST = 0 };
-
-/* A player, or from PLAYERS on a viewer. All watch the machine of player 1. */
-static struct game {
-    int frame;
-    unsigned number;
-    unsigned at[FRAMES + 100]; /* the number at each frame, as it was played last */
-    int buffers;
-    char events[400]; /* what it was told of lines */
-    GGPOSession *session;
-} games[ALL];
-
-/* The one of whom a call is being made: GGPO's callbacks aren't told. */
-static struct game *game;
-static int port, speed, timeout; /* the clock's speed, and the time after which who is silent is gone */
-
-static unsigned short input_of(int player, int frame) {
-    return (unsigned short)((unsigned)(frame / (player + 1) * 7 + player) * 2654435761u >> 16);
+int ggponet_spectator_at(const GGPOSession *session, const struct sockaddr_in *address) {
+    for (int at = 0; at < session->spectators; at++)
+        if (ggponet_is_address(&session->machine[MACHINES + at].address, address))
+            return at;
+    return -1;
 }
 
-static void step(const unsigned short *inputs) {
-    game->number = game->number * 31 + inputs[0] + 2u * inputs[1];
-    game->frame++;
-    if (game->frame < FRAMES + 100)
-        game->at[game->frame] = game->number;
+GGPOErrorCode ggponet_add_spectator(GGPOSession *session, const GGPOPlayer *added, GGPOPlayerHandle *handle) {
+    struct sockaddr_in address;
+    if (session->spectators == GGPO_MAX_SPECTATORS)
+        return ggponet_refuse(session, GGPO_ERRORCODE_TOO_MANY_SPECTATORS, "there are %d spectators already",
+                              GGPO_MAX_SPECTATORS);
+    if (session->is_open)
+        return ggponet_refuse(session, GGPO_ERRORCODE_INVALID_REQUEST, "a spectator has to be added before the match opens");
+    GGPOErrorCode code = ggponet_read_address_of(session, added, &address);
+    if (code != GGPO_OK)
+        return code;
+    if (ggponet_spectator_at(session, &address) >= 0)
+        return ggponet_refuse(session, GGPO_ERRORCODE_INVALID_REQUEST, "another spectator has this address");
+    machine *made = &session->machine[MACHINES + session->spectators];
+    made->address = address;
+    made->handle = SPECTATOR_HANDLE + session->spectators++;
+    made->heard = 1;
+    *handle = made->handle;
+    return GGPO_OK;
 }
 
-static bool on_save(unsigned char **buffer, int *len, int *checksum, int frame) {
-    MUST(frame == game->frame && game < games + PLAYERS);
-    *len = 2 * sizeof(int);
-    *buffer = malloc((size_t)*len);
-    MUST(*buffer != NULL);
-    memcpy(*buffer, game, (size_t)*len);
-    *checksum = (int)game->number;
-    game->buffers++;
-    return true;
+/* A spectator's line: both ends have to have the same settings but for the draw, so they are made of what both know. Who owns
+ * which player, which a spectator isn't told, is the same for all matches of so many players. The number is another one for each
+ * port. */
+static fazgrond_line_settings line_settings(const GGPOSession *session, unsigned short port) {
+    fazgrond_line_settings settings;
+    char text[32];
+    int count = snprintf(text, sizeof text, " spectator %d", (int)port);
+    memset(&settings, 0, sizeof settings);
+    settings.number =
+        ggponet_hash_bytes(session->has_line_number ? session->line_number : session->number, text, (size_t)count);
+    settings.digest = session->digest;
+    settings.silent_after = session->silent_after;
+    settings.machines = 2;
+    for (int at = 0; at < FAZGROND_PLAYERS; at++)
+        settings.owners[at] = at < session->players ? (uint32_t)at % 2 : FAZGROND_NO_PLAYER;
+    return settings;
 }
 
-static bool on_load(unsigned char *buffer, int len) {
-    MUST(game < games + PLAYERS);
-    memcpy(game, buffer, (size_t)len);
-    return true;
+GGPOErrorCode ggponet_open_lines(GGPOSession *session) {
+    for (int at = 0; at < session->spectators; at++) {
+        fazgrond_line_settings settings = line_settings(session, ntohs(session->machine[MACHINES + at].address.sin_port));
+        if (!ggponet_new_draw(&settings.draw))
+            return ggponet_no_draw(session);
+        int32_t code = fazgrond_line_open(&session->line[at], &settings);
+        if (code != FAZGROND_OK)
+            return ggponet_refused(session, code);
+    }
+    return GGPO_OK;
 }
 
-static void on_free(void *buffer) {
-    free(buffer);
-    game->buffers--;
+GGPOErrorCode ggponet_open_viewer(GGPOSession *session) {
+    if (session->is_open)
+        return GGPO_OK;
+    fazgrond_line_settings settings = line_settings(session, session->port);
+    if (!ggponet_new_draw(&settings.draw))
+        return ggponet_no_draw(session);
+    int32_t code = fazgrond_viewer_open(&session->viewer, &settings);
+    session->is_open = code == FAZGROND_OK;
+    return ggponet_refused(session, code);
 }
 
-static bool on_advance(int flags) {
-    unsigned short inputs[2];
-    MUST(flags == 0 && game < games + PLAYERS);
-    MUST(ggpo_synchronize_input(game->session, inputs, sizeof inputs, NULL) == GGPO_OK);
-    step(inputs);
-    return ggpo_advance_frame(game->session) == GGPO_OK;
+/* Notes what the library answered to a datagram of the other end of a line. One that wasn't taken says nothing, but for one
+ * that ends the line: the other end means another match. */
+static void note_answer(const GGPOSession *session, machine *other, int32_t code) {
+    if (code == FAZGROND_OK)
+        other->heard_at = ggponet_millis(session);
+    if (code == FAZGROND_MISMATCHED || (code == FAZGROND_OK && other->heard != FAZGROND_MISMATCHED))
+        other->heard = code;
 }
 
-/* Notes an event of a line by its number, and at a host the viewer's. */
-static bool on_event(GGPOEvent *info) {
-    char text[40];
-    int handle = info->u.connected.player;
-    if (info->code == GGPO_EVENTCODE_TIMESYNC || (game < games + PLAYERS && handle < 1000))
-        return true;
-    MUST(game < games + PLAYERS || handle == 0);
-    if (info->code == GGPO_EVENTCODE_SYNCHRONIZING_WITH_PEER)
-        MUST(info->u.synchronizing.count == 1 && info->u.synchronizing.total == 2);
-    int left = info->u.connection_interrupted.disconnect_timeout;
-    if (info->code == GGPO_EVENTCODE_CONNECTION_INTERRUPTED)
-        MUST(left >= 0 && left < TIMEOUT); /* 0 if this process stood still meanwhile */
-    snprintf(text, sizeof text, handle == 0 ? "%d " : "%d:%d ", info->code, handle);
-    MUST(strlen(game->events) + strlen(text) < sizeof game->events);
-    strcat(game->events, text);
-    return true;
+void ggponet_hear_spectator(GGPOSession *session, int at, const uint8_t *bytes, size_t length) {
+    machine *other = &session->machine[MACHINES + at];
+    if (other->stage != GONE)
+        note_answer(session, other, fazgrond_line_receive(&session->line[at], bytes, length, ggponet_millis(session)));
 }
 
-static GGPOSessionCallbacks calls = { .save_game_state = on_save, .load_game_state = on_load, .free_buffer = on_free,
-                                      .advance_frame = on_advance, .on_event = on_event };
-
-static void set_up(void) {
-    MUST(fazggpo_set_speed(game->session, speed) == GGPO_OK);
-    MUST(ggpo_set_disconnect_timeout(game->session, timeout) == GGPO_OK);
-    MUST(timeout != 0 || ggpo_set_disconnect_notify_start(game->session, 1000000) == GGPO_OK);
+void ggponet_hear_host(GGPOSession *session, const uint8_t *bytes, size_t length) {
+    machine *other = &session->machine[HOST];
+    uint32_t rows;
+    if (other->stage != GONE)
+        note_answer(session, other, fazgrond_viewer_receive(&session->viewer, bytes, length, ggponet_millis(session), &rows));
 }
 
-static GGPOErrorCode add(GGPOPlayerType type, int number, int at) {
-    GGPOPlayer added = { .size = sizeof added, .type = type, .player_num = number };
-    GGPOPlayerHandle handle;
-    memcpy(added.u.remote.ip_address, "127.0.0.1", 10);
-    added.u.remote.port = (unsigned short)at;
-    GGPOErrorCode code = ggpo_add_player(game->session, &added, &handle);
-    MUST(code != GGPO_OK || type != GGPO_PLAYERTYPE_SPECTATOR || handle == 1000 + at - port - PLAYERS);
-    return code;
+void ggponet_send_to_host(GGPOSession *session) {
+    uint8_t bytes[FAZGROND_DATAGRAM];
+    size_t length;
+    if (session->machine[HOST].stage != GONE
+        && fazgrond_viewer_send(&session->viewer, ggponet_millis(session), bytes, sizeof bytes, &length) == FAZGROND_OK)
+        ggponet_send_to(session, HOST, bytes, length);
 }
 
-static void begin_player(int me, uint64_t number) {
-    game = &games[me];
-    MUST(ggpo_start_session(&game->session, &calls, "spectators", 2, sizeof(short), (unsigned short)(port + me)) == GGPO_OK);
-    set_up();
-    MUST(fazggpo_set_match(game->session, 77) == GGPO_OK);
-    if (number != 0)
-        MUST(fazggpo_set_spectators(game->session, number) == GGPO_OK);
-    for (int player = 0; player < PLAYERS; player++)
-        MUST(add(player == me ? GGPO_PLAYERTYPE_LOCAL : GGPO_PLAYERTYPE_REMOTE, player + 1, port + player) == GGPO_OK);
-    for (int viewer = PLAYERS; viewer < ALL && me == HOST; viewer++)
-        MUST(add(GGPO_PLAYERTYPE_SPECTATOR, 0, port + viewer) == GGPO_OK);
+void ggponet_send_to_spectators(GGPOSession *session) {
+    uint8_t bytes[FAZGROND_DATAGRAM];
+    size_t length;
+    for (int at = 0; at < session->spectators; at++)
+        if (session->machine[MACHINES + at].stage != GONE
+            && fazgrond_line_send(&session->line[at], &session->rollback, ggponet_millis(session), bytes, sizeof bytes,
+                                  &length)
+                == FAZGROND_OK)
+            ggponet_send_to(session, MACHINES + at, bytes, length);
 }
 
-static void begin_viewer(int me, uint64_t number, int input_size) {
-    char host[] = "127.0.0.1";
-    game = &games[me];
-    MUST(ggpo_start_spectating(&game->session, &calls, "spectators", 2, input_size, (unsigned short)(port + me), host,
-                               (unsigned short)(port + HOST)) == GGPO_OK);
-    set_up();
-    MUST(fazggpo_set_spectators(game->session, number) == GGPO_OK);
+static void say_bye_to_spectator(GGPOSession *session, int at) {
+    uint8_t bytes[FAZGROND_DATAGRAM];
+    size_t length;
+    if (fazgrond_line_bye(&session->line[at], bytes, sizeof bytes, &length) == FAZGROND_OK)
+        ggponet_send_bye(session, MACHINES + at, bytes, length);
 }
 
-static void begin(uint64_t number, bool is_timed) {
-    memset(games, 0, sizeof games);
-    speed = is_timed ? 10 : 100;
-    timeout = is_timed ? TIMEOUT : 0;
-    for (int me = 0; me < PLAYERS; me++)
-        begin_player(me, number);
+static void say_bye_to_host(GGPOSession *session) {
+    uint8_t bytes[FAZGROND_DATAGRAM];
+    size_t length;
+    if (fazgrond_viewer_bye(&session->viewer, bytes, sizeof bytes, &length) == FAZGROND_OK)
+        ggponet_send_bye(session, HOST, bytes, length);
 }
 
-/* A turn of each one whose bit is set. */
-static void turn(unsigned who) {
-    for (int me = 0; me < ALL; me++) {
-        unsigned short input = input_of(me, games[me].frame), inputs[2];
-        int flags = 5;
-        game = &games[me];
-        if ((who >> me & 1) == 0)
-            continue;
-        GGPOErrorCode code = ggpo_add_local_input(game->session, me + 1, &input, sizeof input);
-        MUST(me < PLAYERS || code == GGPO_OK);
-        if (code == GGPO_OK)
-            code = ggpo_synchronize_input(game->session, inputs, sizeof inputs, &flags);
-        if (code == GGPO_OK && me >= PLAYERS) /* the same again, as it wasn't played */
-            MUST(ggpo_synchronize_input(game->session, inputs, sizeof inputs, &flags) == GGPO_OK && flags == 0);
-        if (code == GGPO_OK) {
-            step(inputs);
-            MUST(ggpo_advance_frame(game->session) == GGPO_OK);
+/* Tells an event of the other end of a line. The handle has one place in all of them. */
+static void tell_of(GGPOSession *session, GGPOEventCode code, const machine *other, int count, int total) {
+    GGPOEvent told;
+    memset(&told, 0, sizeof told);
+    told.code = code;
+    told.u.synchronizing.player = other->handle;
+    told.u.synchronizing.count = count;
+    told.u.synchronizing.total = total;
+    ggpo_log(session, "event %d: %d", (int)code, other->handle);
+    session->call.on_event(&told);
+}
+
+/* The other end is there. */
+static void tell_stage(GGPOSession *session, machine *other, const fazgrond_line_state *state) {
+    if (other->stage == UNHEARD && other->heard == FAZGROND_OK) {
+        other->stage = HEARD;
+        other->greeted_at = ggponet_millis(session);
+        tell_of(session, GGPO_EVENTCODE_CONNECTED_TO_PEER, other, 0, 0);
+        tell_of(session, GGPO_EVENTCODE_SYNCHRONIZING_WITH_PEER, other, 1, 2);
+    }
+    if (other->stage == HEARD && state->is_playing != 0) {
+        other->stage = PLAYING;
+        tell_of(session, GGPO_EVENTCODE_SYNCHRONIZED_WITH_PEER, other, 0, 0);
+        if (session->is_spectating) {
+            session->is_running = true;
+            tell_of(session, GGPO_EVENTCODE_RUNNING, other, 0, 0);
         }
-        MUST(ggpo_idle(game->session, 16) == GGPO_OK);
     }
 }
 
-/* Turns, until one was told an event. */
-static void until(unsigned who, int me, const char *event) {
-    for (int turns = 0; strstr(games[me].events, event) == NULL; turns++) {
-        MUST(turns < 3000);
-        turn(who);
-    }
-}
-
-static void close_one(int me) {
-    game = &games[me];
-    MUST(ggpo_close_session(game->session) == GGPO_OK && game->buffers == 0);
-}
-
-static void is_told(int me, const char *events) {
-    if (strcmp(games[me].events, events) == 0)
+/* The other end is silent, or was heard again. */
+static void tell_silence(GGPOSession *session, machine *other, const fazgrond_line_state *state) {
+    uint32_t time = ggponet_millis(session) - other->heard_at, left = session->silent_after - state->silence;
+    bool is_silent = other->stage == PLAYING && session->notify_after > 0 && time > session->notify_after;
+    if (is_silent == other->is_silent)
         return;
-    fprintf(stderr, "%d was told %s\nand not %s\n", me, games[me].events, events);
-    exit(1);
+    other->is_silent = is_silent;
+    if (is_silent)
+        tell_of(session, GGPO_EVENTCODE_CONNECTION_INTERRUPTED, other,
+                ggponet_disconnect_in(session, state->silence < session->silent_after ? left : 0), 0);
+    else
+        tell_of(session, GGPO_EVENTCODE_CONNECTION_RESUMED, other, 0, 0);
 }
 
-static void is_right(int me, int frames) {
-    unsigned number = 0;
-    MUST(games[me].frame >= frames);
-    for (int frame = 0; frame < frames; frame++) {
-        number = number * 31 + input_of(0, frame) + 2u * input_of(1, frame);
-        MUST(games[me].at[frame + 1] == number);
+/* Whether the host is there for another spectator: for the one before, who was at this port, since this one was begun anew. */
+static bool is_for_another(const GGPOSession *session, const machine *other) {
+    return session->is_spectating && other->stage == HEARD && session->silent_after > 0
+        && ggponet_millis(session) - other->greeted_at > session->silent_after;
+}
+
+/* Tells what is new of the other end of a line, and whether the line is over. That a spectator means another match is no matter
+ * of the host's game: to it that one has left. */
+static bool tell_of_line(GGPOSession *session, machine *other, const fazgrond_line_state *state) {
+    bool is_other = other->heard == FAZGROND_MISMATCHED;
+    tell_stage(session, other, state);
+    if (is_other || state->has_ended != 0 || state->is_silent != 0 || is_for_another(session, other)) {
+        other->stage = GONE;
+        GGPOEventCode code = GGPO_EVENTCODE_DISCONNECTED_FROM_PEER;
+        tell_of(session, is_other && session->is_spectating ? FAZGGPO_EVENTCODE_MISMATCH : code, other, 0, 0);
+        return true;
+    }
+    tell_silence(session, other, state);
+    return false;
+}
+
+void ggponet_tell_of_spectators(GGPOSession *session) {
+    fazgrond_line_state state;
+    for (int at = 0; at < session->spectators; at++) {
+        machine *other = &session->machine[MACHINES + at];
+        if (other->stage != GONE && fazgrond_line_look(&session->line[at], ggponet_millis(session), &state) == FAZGROND_OK
+            && tell_of_line(session, other, &state)) {
+            say_bye_to_spectator(session, at);
+            fazgrond_line_close(&session->line[at]);
+        }
     }
 }
 
-static int watched(int viewer) {
-    int frame = -1;
-    return fazggpo_get_watched(games[HOST].session, 1000 + viewer, &frame) == GGPO_OK ? frame : -1;
+/* What has come of the rows stays, so that they can be played. */
+void ggponet_tell_of_host(GGPOSession *session) {
+    fazgrond_line_state state;
+    machine *other = &session->machine[HOST];
+    if (other->stage != GONE && fazgrond_viewer_look(&session->viewer, ggponet_millis(session), &state) == FAZGROND_OK
+        && tell_of_line(session, other, &state))
+        say_bye_to_host(session);
 }
 
-/* Viewer 0 is there from the beginning, viewer 1 comes late, viewer 2 never. Then the host leaves. */
-static void right(void) {
-    int settled;
-    unsigned short inputs[2];
-    begin(99, false);
-    begin_viewer(2, 99, sizeof(short));
-    MUST(fazggpo_get_settled(games[2].session, &settled) == GGPO_ERRORCODE_NOT_SYNCHRONIZED);
-    MUST(ggpo_synchronize_input(games[2].session, inputs, sizeof inputs, NULL) == GGPO_ERRORCODE_NOT_SYNCHRONIZED);
-    while (games[0].frame < 150)
-        turn(7);
-    MUST(watched(0) > 100 && watched(1) == -1);
-    begin_viewer(3, 99, sizeof(short));
-    while (games[0].frame < 350 || games[1].frame < 350)
-        turn(15);
-    MUST(fazggpo_get_settled(games[3].session, &settled) == GGPO_OK && settled > 300 && games[3].frame < settled - 50);
-    while (watched(0) < 340 || watched(1) < 340)
-        turn(15);
-    close_one(1);
-    close_one(HOST);
-    for (int me = 2; me < 4; me++) {
-        until(1u << me, me, "1004 ");
-        for (int turns = 0; turns < 100; turns++)
-            turn(1u << me);
-        is_right(me, 340);
-        is_told(me, "1000 1001 1002 1003 1004 ");
-        game = &games[me];
-        MUST(ggpo_synchronize_input(game->session, inputs, sizeof inputs, NULL) == GGPO_ERRORCODE_PLAYER_DISCONNECTED);
-        close_one(me);
+GGPOErrorCode ggponet_next_row(GGPOSession *session) {
+    if (session->is_row_given)
+        return GGPO_OK;
+    int32_t code = session->is_open ? fazgrond_viewer_row(&session->viewer, &session->row) : FAZGROND_NOTHING;
+    session->is_row_given = code == FAZGROND_OK;
+    if (code != FAZGROND_NOTHING)
+        return ggponet_refused(session, code);
+    if (session->machine[HOST].stage == GONE)
+        return ggponet_refuse(session, GGPO_ERRORCODE_PLAYER_DISCONNECTED, "the host is gone, and all that it told is played");
+    if (!session->is_running)
+        return ggponet_refuse(session, GGPO_ERRORCODE_NOT_SYNCHRONIZED, "the host was not heard yet");
+    return ggponet_refuse(session, GGPO_ERRORCODE_PREDICTION_THRESHOLD, "no settled frame is there yet");
+}
+
+void ggponet_close_lines(GGPOSession *session) {
+    if (session->is_spectating)
+        say_bye_to_host(session);
+    for (int at = 0; at < session->spectators; at++) {
+        say_bye_to_spectator(session, at);
+        fazgrond_line_close(&session->line[at]);
     }
-    is_told(HOST, "1000:1000 1001:1000 1002:1000 1000:1001 1001:1001 1002:1001 ");
+    fazgrond_viewer_close(&session->viewer);
 }
 
-/* Viewer 0 is silent, for a while and then for good, and hears of that; viewer 1 has a wrong number; viewer 2 leaves. */
-static void silent(void) {
-    begin(0, true);
-    begin_viewer(2, 77, sizeof(short));
-    begin_viewer(3, 99, sizeof(short));
-    begin_viewer(4, 77, sizeof(short));
-    while (games[0].frame < 30 || games[4].frame < 10)
-        turn(31);
-    close_one(4);
-    until(7, HOST, "1004:1002 ");
-    until(3, HOST, "1006:1000 ");
-    until(7, HOST, "1007:1000 ");
-    until(3, HOST, "1004:1000 ");
-    MUST(watched(0) == -1 && games[0].frame > 100);
-    is_told(3, "");
-    is_right(HOST, games[0].frame - 20 < FRAMES ? games[0].frame - 20 : FRAMES);
-    until(4, 2, "1004 ");
-    for (int me = 0; me < 4; me++)
-        close_one(me);
-}
-
-/* Viewer 1 means another game by its size of inputs. */
-static void other_game(void) {
-    unsigned char inputs[2];
-    begin(99, false);
-    begin_viewer(2, 99, sizeof(short));
-    begin_viewer(3, 99, 1);
-    until(15, 3, "1103 ");
-    until(15, HOST, "1004:1001 ");
-    while (watched(0) < 60)
-        turn(15);
-    is_told(3, strncmp(games[3].events, "1000 ", 5) == 0 ? "1000 1001 1103 " : "1103 "); /* by which of the two was heard first */
-    MUST(ggpo_synchronize_input(games[3].session, inputs, sizeof inputs, NULL) == GGPO_ERRORCODE_PLAYER_DISCONNECTED);
-    MUST(watched(1) == -1);
-    for (int me = 0; me < 4; me++)
-        close_one(me);
-}
-
-int main(int count, char **words) {
-    MUST(count == 2);
-    port = atoi(words[1]);
-    right();
-    silent();
-    other_game();
-    return 0;
+GGPOErrorCode fazggpo_get_watched(GGPOSession *session, GGPOPlayerHandle handle, int *frame) {
+    fazgrond_line_state state;
+    int at = handle - SPECTATOR_HANDLE;
+    if (session == NULL)
+        return GGPO_ERRORCODE_INVALID_SESSION;
+    if (at < 0 || at >= session->spectators)
+        return ggponet_refuse(session, GGPO_ERRORCODE_INVALID_PLAYER_HANDLE, "%d is no spectator of the session", handle);
+    if (frame == NULL)
+        return ggponet_refuse(session, GGPO_ERRORCODE_INVALID_REQUEST, "no place for the frame");
+    if (session->machine[MACHINES + at].stage == GONE)
+        return ggponet_refuse(session, GGPO_ERRORCODE_PLAYER_DISCONNECTED, "the spectator has left");
+    if (session->machine[MACHINES + at].stage != PLAYING)
+        return ggponet_refuse(session, GGPO_ERRORCODE_NOT_SYNCHRONIZED, "the spectator was not heard yet");
+    int32_t code = fazgrond_line_look(&session->line[at], ggponet_millis(session), &state);
+    if (code == FAZGROND_OK)
+        *frame = (int)state.rows;
+    return ggponet_refused(session, code);
 }

@@ -129,9 +129,9 @@ void faz_cast_settled(faz_cast *self, uint32_t frame, const void *state) {
     self->is_near = true;
 }
 
-void faz_cast_turn(faz_cast *self, fazgrond_peer *peer, uint32_t frame, const void *state) {
+void faz_cast_turn(faz_cast *self, fazgrond_session *session, uint32_t frame, const void *state) {
     fazgrond_row row;
-    while (self->frame < self->settings.limit && fazgrond_peer_settled_row(peer, self->frame, &row) == FAZGROND_OK)
+    while (self->frame < self->settings.limit && fazgrond_settled_row(session, self->frame, &row) == FAZGROND_OK)
         faz_cast_row(self, &row);
     faz_cast_settled(self, frame, state);
 }

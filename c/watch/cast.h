@@ -40,8 +40,8 @@ void faz_cast_row(faz_cast *cast, const fazgrond_row *row);
 /* The state after so many settled rows, all of which were given. Give it whenever there is one: some are kept for a snapshot. */
 void faz_cast_settled(faz_cast *cast, uint32_t frame, const void *state);
 
-/* After each turn of a peer's match: both, with the peer's settled state (fazgrond_peer_settled_slot). */
-void faz_cast_turn(faz_cast *cast, fazgrond_peer *peer, uint32_t frame, const void *state);
+/* After each turn of a session: both, with its settled state (fazgrond_settled_slot). */
+void faz_cast_turn(faz_cast *cast, fazgrond_session *session, uint32_t frame, const void *state);
 
 /* The match has ended after the rows that were given. */
 void faz_cast_end(faz_cast *cast, const char *reason);

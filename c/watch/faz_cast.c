@@ -73,8 +73,7 @@ static int publish(const char *match, long players) {
     faz_cast_state seen;
     if (!duel_open(&field, (uint32_t)players))
         return fail("a duel has 2 to 4 players");
-    fazgrond_settings session = { .players = (uint32_t)players, .threshold = 8 };
-    memset(session.masks, 0xff, sizeof session.masks);
+    fazgrond_settings session = fazgrond_settings_for((uint32_t)players);
     faz_cast *cast = faz_cast_open(&(faz_cast_settings){ .servers = self.broker, .match = match, .me = self.me, .game = &duel_game,
                                                          .opening = &field, .session = &session, .rate = 60 }, &why);
     if (cast == NULL)

@@ -192,7 +192,7 @@ static void other_match(int port) {
 
 static size_t log_length(int me) {
     size_t entries = 0;
-    MUST(fazgrond_peer_log_length(fazggpo_get_peer(games[me].session), &entries) == FAZGROND_OK);
+    MUST(fazgrond_log_length(fazggpo_get_session(games[me].session), &entries) == FAZGROND_OK);
     return entries;
 }
 

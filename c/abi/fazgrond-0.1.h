@@ -1,0 +1,562 @@
+/* The header that is to be released first, as 0.1. Nothing is released yet, so until then it is made anew from ../fazgrond.h. */
+/* fazgrond.h: rollback sessions for games in C, C++, Rust and any language that can call C.
+ *
+ * The library never calls the game. A call that may roll back (fazgrond_synchronize_input, fazgrond_advance_frame) or that makes
+ * a job (fazgrond_guess) leaves a list of requests, which the game takes by fazgrond_take_requests and carries out in order:
+ * load a state, save one, advance by a frame, free one. docs/C.md shows a whole game.
+ *
+ * A match over a network has two handles side by side: the session, which plays, and a peer, which is the network. The game
+ * gives its own players' words to the session, the datagrams that it hears to the peer, and lends the session to the peer's calls.
+ *
+ * Players are numbered from 1, frames, slots and machines from 0. An int32_t that comes back is FAZGROND_OK or says why the call
+ * was refused. A refused call writes nothing through its pointers, except that fazgrond_claim says how much room it needs. No
+ * pointer may be null, and a buffer must have the room that is said of it.
+ */
+#ifndef FAZGROND_H
+#define FAZGROND_H
+
+#include <stddef.h>
+#include <stdint.h>
+
+#ifdef __cplusplus
+extern "C" {
+#endif
+
+/* The version of this header: major << 16 | minor << 8 | patch. docs/VERSIONS.md says what raises which of them. */
+#define FAZGROND_VERSION 0x000100
+
+/* The version of the library that the program runs with. While the major number is 0, a library fits a header with the same major
+ * and minor number. If a library knows another size of fazgrond_settings or fazgrond_match than the header, it opens nothing and
+ * answers FAZGROND_OTHER_VERSION. */
+uint32_t fazgrond_version(void);
+
+/* What an answer or the code of an event means, in an English sentence for a log: as much of it as `out` has room for, without a
+ * 0 at its end. Comes back with the length of the whole sentence; 0 if there is no such number. */
+size_t fazgrond_text(int32_t code, uint8_t *out, size_t room);
+
+/* The most players of a session. */
+#define FAZGROND_PLAYERS 8
+
+/* A session, in the game's memory. Begin with FAZGROND_CLOSED. Never copy it, move it or write into it while it is open. Make one
+ * call at a time, even those that only ask: from any thread, but not from two at once. A call with two handles is a call of
+ * both. */
+typedef struct fazgrond_session {
+    uint8_t full;
+    void *at;
+} fazgrond_session;
+
+#define FAZGROND_CLOSED { 0, 0 }
+
+/* The limits of a session: GGPO's are 4 players and 8 frames ahead, the wide ones 8 players and 15 frames. */
+enum { FAZGROND_GGPO = 0, FAZGROND_WIDE = 1 };
+
+/* Begin with fazgrond_settings_for, so that members which a later version adds have a value too. */
+typedef struct fazgrond_settings {
+    uint32_t size;                     /* sizeof(fazgrond_settings) */
+    uint32_t profile;                  /* FAZGROND_GGPO or FAZGROND_WIDE */
+    uint32_t players;                  /* how many there are */
+    uint32_t local;                    /* bit p - 1 for each player p of this machine */
+    uint32_t threshold;                /* how many frames the session may run ahead of the confirmed inputs */
+    uint32_t limit;                    /* the last frame, at most 1048576 */
+    uint32_t log;                      /* the most accepted calls, at most 16777216 */
+    uint32_t delays[FAZGROND_PLAYERS]; /* by how many frames a local player's words count later; 0 for a remote one */
+    uint32_t masks[FAZGROND_PLAYERS];  /* which bits of a player's last word are predicted as held: all by 0xffffffff; with
+                                        * 0 the prediction is always 0 */
+} fazgrond_settings;
+
+/* Settings for so many players: as far ahead as GGPO goes, as long as can be, without delays, and every word predicted as held.
+ * `local` has still to be set. */
+static inline fazgrond_settings fazgrond_settings_for(uint32_t players) {
+    fazgrond_settings settings;
+    int at;
+    settings.size = (uint32_t)sizeof settings;
+    settings.profile = players <= 4 ? FAZGROND_GGPO : FAZGROND_WIDE;
+    settings.players = players;
+    settings.local = 0;
+    settings.threshold = 8;
+    settings.limit = 1048576;
+    settings.log = 16777216;
+    for (at = 0; at < FAZGROND_PLAYERS; at++) {
+        settings.delays[at] = 0;
+        settings.masks[at] = 0xffffffff;
+    }
+    return settings;
+}
+
+/* The words of all players for a frame, player 1's first. Bit p - 1 of `gone` is set for a player p who has left; its word
+ * is 0. */
+typedef struct fazgrond_row {
+    uint32_t count;
+    uint32_t gone;
+    uint32_t words[FAZGROND_PLAYERS];
+} fazgrond_row;
+
+/* LOAD: make the state of this slot the current one; the slot keeps it.
+ * SAVE: put a copy of the current state into this slot, which is free.
+ * STEP: advance the current state by a frame with this row.
+ * FREE: nothing needs the state of this slot any more.
+ * JOB_LOAD, JOB_SAVE, JOB_STEP: the same as the first three, for a state that is not the current one: a job's. A guess's job is
+ * one JOB_LOAD, and a JOB_STEP and a JOB_SAVE for each row, one after another.
+ * A call that is refused for want of memory may leave requests too: carry them out, and make the call again. Those of a refused
+ * guess are to be dropped: its slots are given away again.
+ * The least free slot is always taken, so the slots are as many as states are saved at once: at most 257, and those of jobs. */
+enum {
+    FAZGROND_LOAD = 1, FAZGROND_SAVE = 2, FAZGROND_STEP = 3, FAZGROND_FREE = 4,
+    FAZGROND_JOB_LOAD = 5, FAZGROND_JOB_SAVE = 6, FAZGROND_JOB_STEP = 7
+};
+
+typedef struct fazgrond_request {
+    uint32_t kind;
+    uint32_t slot;    /* of LOAD, SAVE and FREE, and of a job's */
+    fazgrond_row row; /* of STEP, and of a job's */
+} fazgrond_request;
+
+/* Where an advance led: the new frame, the frame that it started from, and how many frames are run. */
+typedef struct fazgrond_reached {
+    uint32_t frame;
+    uint32_t from;
+    uint32_t rerun;
+} fazgrond_reached;
+
+/* An entry of the log, which has all accepted calls in their order. `player` is that of LOCAL, REMOTE and DISCONNECT, `word`
+ * that of LOCAL and REMOTE, `frame` that of REMOTE. PARTIAL is a roll to `frame` that was refused after `word` new states were
+ * saved. What isn't said is 0; a GRAFT says nothing more. */
+enum {
+    FAZGROND_LOCAL = 1, FAZGROND_REMOTE = 2, FAZGROND_DISCONNECT = 3, FAZGROND_SYNC = 4, FAZGROND_ADVANCE = 5,
+    FAZGROND_GRAFT = 6, FAZGROND_PARTIAL = 7
+};
+
+typedef struct fazgrond_entry {
+    uint32_t kind;
+    uint32_t player;
+    uint32_t frame;
+    uint32_t word;
+} fazgrond_entry;
+
+enum {
+    FAZGROND_OK = 0,
+    FAZGROND_INVALID_PLAYER = 2,
+    FAZGROND_PLAYER_OUT_OF_RANGE = 3,       /* the settings: the number of players */
+    FAZGROND_PREDICTION_THRESHOLD = 4,      /* too far ahead: wait for the others' words */
+    FAZGROND_PLAYER_DISCONNECTED = 9,
+    FAZGROND_INVALID_REQUEST = 11,          /* the settings: a limit, a delay, no local player .. Or a guess that goes over 24
+                                             * frames past the settled one, or has no word, or over 24 */
+    FAZGROND_LOCAL_INPUT_MISSING = 101,
+    FAZGROND_INPUT_TWICE = 102,
+    FAZGROND_GAP = 103,                     /* a word before this one has not come yet */
+    FAZGROND_CONFLICT = 104,                /* another word was taken for this frame */
+    FAZGROND_QUEUE_FULL = 105,              /* 128 words past the settled frame */
+    FAZGROND_FRAME_LIMIT = 106,
+    FAZGROND_NO_MEMORY = 107,
+    FAZGROND_STRANGER = 108,                /* a job's states are not of this session */
+    FAZGROND_TOO_FAR = 109,                 /* a job goes over 24 frames past the settled one: a guess's never does */
+    FAZGROND_LATE = 110,                    /* a job has nothing past the settled frame */
+    FAZGROND_ORPHAN = 111,                  /* the state that a job was run from is not kept any more */
+    FAZGROND_DEAD = 112,                    /* a word has come that is not the guessed one */
+    FAZGROND_TREE_FULL = 113,               /* as many states are kept as jobs may fill */
+    FAZGROND_LOG_FULL = 114,
+    FAZGROND_NO_PLAN = 117,                 /* there was no rollback yet */
+    FAZGROND_FULL = 119,                    /* 64 jobs are out */
+    FAZGROND_NO_JOB = 120,                  /* there is no such job */
+    FAZGROND_IS_CLOSED = 201,               /* the handle, or one of the two. Also a handle of another kind */
+    FAZGROND_PENDING = 202,                 /* requests were not taken yet */
+    FAZGROND_NOTHING = 203,                 /* there is no such thing: no such player, row or word */
+    FAZGROND_TOO_SHORT = 204,               /* the buffer has less room than what is to be written */
+    FAZGROND_OTHER_VERSION = 205,           /* `size` isn't the one that this library knows: another version's header */
+    /* From here on, of peers, lines and viewers alone. */
+    FAZGROND_NOT_SEALED = 301,              /* bytes that are not of this opening of the match or line, were changed on their
+                                             * way, or are too few or too many */
+    FAZGROND_NO_DATAGRAM = 302,             /* they are sealed as they have to be, and no datagram of this version */
+    FAZGROND_INVALID_MACHINE = 303,         /* there is no such machine in the match */
+    FAZGROND_OWN_MACHINE = 304,             /* the machine is this one */
+    FAZGROND_MACHINE_GONE = 305,            /* the sender is gone */
+    FAZGROND_MISMATCHED = 306,              /* a line: a hello of the other end that means another match */
+    FAZGROND_OVERSTATED = 307,              /* the sender sends words that it does not say that it has, or says that it has words
+                                             * of this machine that it was never given */
+    FAZGROND_ENDED = 308,                   /* a viewer's line has ended: one of its ends said bye */
+    FAZGROND_OTHER_SENDER = 309,            /* the other end of the line didn't send them */
+    FAZGROND_NO_ROWS = 310,                 /* what the host sends are no rows of this match's players */
+    FAZGROND_ROWS_MISSING = 311,            /* rows before those that the host sends have not come yet */
+    FAZGROND_OUTSIDE = 312,                 /* the sender tells of machines or players that the match hasn't */
+    FAZGROND_OTHER_SESSION = 313            /* the session isn't the one that this peer plays: give it that one. Or it was told of
+                                             * others past the peer: then the match is over for this machine */
+};
+
+/* Opens a session. Before the first request the game has its opening state as the current one and in slot 0. If the handle is
+ * open, its session is closed once the new one is there; if the new one is refused, the old one stays. */
+int32_t fazgrond_open(fazgrond_session *session, const fazgrond_settings *settings);
+
+/* Closes it. Nothing happens if it is closed. */
+void fazgrond_close(fazgrond_session *session);
+
+/* Gives a local player's word of this frame. FAZGROND_INPUT_TWICE if it was given already: the first one counts. */
+int32_t fazgrond_add_local_input(fazgrond_session *session, uint8_t player, uint32_t word);
+
+/* Takes a remote player's next word. `repeated` is 1 if it was taken before, else 0. For a game with a network of its own: beside
+ * a peer, the peer alone makes this call. */
+int32_t fazgrond_remote_input(fazgrond_session *session, uint8_t player, uint32_t frame, uint32_t word,
+                              uint32_t *repeated);
+
+/* A remote player leaves. Beside a peer, the peer alone makes this call: see fazgrond_peer_disconnect. */
+int32_t fazgrond_disconnect_player(fazgrond_session *session, uint8_t player);
+
+/* The row of this frame, after a rollback if a prediction was wrong. Leaves requests. FAZGROND_PENDING if those of the last call
+ * weren't taken yet. */
+int32_t fazgrond_synchronize_input(fazgrond_session *session, fazgrond_row *row);
+
+/* Goes on to the next frame, after a rollback if a prediction was wrong. Leaves requests. FAZGROND_LOCAL_INPUT_MISSING if a local
+ * player gave no word for this frame. FAZGROND_PENDING as above. */
+int32_t fazgrond_advance_frame(fazgrond_session *session, fazgrond_reached *reached);
+
+/* Whether the state that is shown may be out of date: `flag` is 0 if the last entry of the log is SYNC or ADVANCE, else 1. A turn
+ * that plays no frame asks this, and calls fazgrond_synchronize_input if it is 1. If it is 0, that call would change nothing but
+ * the log, by one entry more. */
+int32_t fazgrond_has_news(fazgrond_session *session, uint32_t *flag);
+
+/* The requests that were not taken yet, in order: fills `out`, which has room for so many, and says how many it wrote. After each
+ * call that leaves requests, take until 0 comes back, whatever the call answered: then all are taken, or the session is
+ * closed. */
+size_t fazgrond_take_requests(fazgrond_session *session, fazgrond_request *out, size_t room);
+
+/* A guess: if this player gave these words next, the first of them for the first frame whose word isn't known. Leaves the
+ * requests of a job, which is to run the frames that this would make up to frame `until`, 8 at most, and gives the job a
+ * number. FAZGROND_NOTHING if all of them are kept already. A job's requests may be carried out on another thread, beside all
+ * others, since nothing else writes to their slots. When they are done, the number is handed to fazgrond_graft; if the guess
+ * is right, the next rollback then starts behind these frames. */
+int32_t fazgrond_guess(fazgrond_session *session, uint8_t player, const uint32_t *words, size_t count, uint32_t until,
+                       uint32_t *job);
+
+/* Takes in the states of a job all of whose requests are carried out; `added` is how many of them are kept. Whatever the answer
+ * but FAZGROND_PENDING, the number is free again. */
+int32_t fazgrond_graft(fazgrond_session *session, uint32_t job, uint32_t *added);
+
+/* Gives a job up. None of its requests may be carried out any more, and its number is free again. */
+int32_t fazgrond_forget(fazgrond_session *session, uint32_t job);
+
+/* For a game with room for so many states: from now on nothing is saved in a slot from this one on. A call that would need one is
+ * refused with FAZGROND_NO_MEMORY. Without jobs, the settings' threshold and three are enough. */
+int32_t fazgrond_limit_slots(fazgrond_session *session, uint32_t slots);
+
+/* Makes room for so many more events: none of them is then refused for want of memory by the log. */
+int32_t fazgrond_reserve_log(fazgrond_session *session, uint32_t events);
+
+/* The current frame. */
+int32_t fazgrond_frame(fazgrond_session *session, uint32_t *frame);
+
+/* How many rows are settled: they never change. */
+int32_t fazgrond_settled(fazgrond_session *session, uint32_t *rows);
+
+/* A settled row. */
+int32_t fazgrond_settled_row(fazgrond_session *session, uint32_t frame, fazgrond_row *row);
+
+/* The settled frame, and the slot in which the state after all settled rows lies once the requests are carried out. It stays
+ * there until the next call that leaves requests. */
+int32_t fazgrond_settled_slot(fazgrond_session *session, uint32_t *frame, uint32_t *slot);
+
+/* How many words of a player are confirmed: the frame whose word must come next. */
+int32_t fazgrond_confirmed(fazgrond_session *session, uint8_t player, uint32_t *words);
+
+/* The confirmed word of a player at a frame. */
+int32_t fazgrond_confirmed_word(fazgrond_session *session, uint8_t player, uint32_t frame, uint32_t *word);
+
+/* The frame in which a local player's next word counts. */
+int32_t fazgrond_input_frame(fazgrond_session *session, uint8_t player, uint32_t *frame);
+
+/* How many entries the log has. */
+int32_t fazgrond_log_length(fazgrond_session *session, size_t *entries);
+
+/* The entry at a place of the log, counted from 0. A log without GRAFT and PARTIAL is a replay: a new session with the same
+ * settings, of which these calls are made in turn, accepts each of them and comes to the same. */
+int32_t fazgrond_log_entry(fazgrond_session *session, size_t place, fazgrond_entry *entry);
+
+/* Notes by how many frames this machine is behind the other one, and the other behind this one, as it told last; a machine that
+ * is ahead is behind by a negative number. Once a frame is often enough: the last 40 pairs count. Beside a peer this isn't
+ * needed: FAZGROND_TIME_SYNC tells. */
+int32_t fazgrond_note_advantages(fazgrond_session *session, int32_t local, int32_t remote);
+
+/* How many frames this machine should wait, so that the other comes up to it: 0, or 3 to 9. */
+int32_t fazgrond_frames_ahead(fazgrond_session *session, uint32_t *frames);
+
+/* The text of the last rollback's claim: a certificate that it couldn't start from a later state, which `rollduel certify`
+ * checks. It is written if `out` has room for it; `length` is how long it is, also if the answer is FAZGROND_TOO_SHORT. */
+int32_t fazgrond_claim(fazgrond_session *session, uint8_t *out, size_t room, size_t *length);
+
+/* ---- A match over a network.
+ *
+ * A peer is the network of a match at one machine: who has which words, who is gone, what to send. It has no socket, no clock and
+ * no game: it makes and takes datagrams, and stands beside the session that plays. Each call that needs the session is lent it.
+ *
+ * A turn, some 60 times a second:
+ *   fazgrond_peer_receive for each datagram that came, then fazgrond_peer_poll;
+ *   fazgrond_peer_is_running: until it says 1, give no words, and skip the next two lines;
+ *   fazgrond_add_local_input for each player of this machine; if all are accepted, fazgrond_advance_frame, and else, if
+ *   fazgrond_has_news says 1, fazgrond_synchronize_input. Then carry out the requests;
+ *   fazgrond_peer_event until there is none, and fazgrond_peer_send for each other machine.
+ *
+ * Always give a peer the session that it was opened with. The peer alone tells that session of the other machines: a program that
+ * calls fazgrond_remote_input or fazgrond_disconnect_player itself ends the match for this machine, since from then on each call
+ * that takes both answers FAZGROND_OTHER_SESSION. So does a session with other settings, with other numbers of words, or from
+ * which somebody has left who hasn't left the match. Two sessions of which all this is the same aren't told apart.
+ * Everything else is the session's own and works beside a peer as without one: guesses and grafts, claims, limits of slots, the
+ * log.
+ *
+ * `now` is this machine's clock in milliseconds, from a moment of its own choice. It may wrap, and it may jump: time that goes
+ * back counts as none, and a leap forwards alone makes nobody silent, since whoever is gone for its silence has left ten of this
+ * machine's clocks unanswered. Give the same clock to all calls of a peer. */
+
+/* A peer, in the game's memory, as a fazgrond_session. Begin with FAZGROND_CLOSED. */
+typedef struct fazgrond_peer {
+    uint8_t full;
+    void *at;
+} fazgrond_peer;
+
+/* The owner of a player whom there isn't. */
+#define FAZGROND_NO_PLAYER 255
+
+/* The most machines of a match. */
+#define FAZGROND_MACHINES 8
+
+/* The players, limits and masks of the session are the same at each machine, and its local players are those that `me` owns; so
+ * are `digest`, `machines` and `owners`, and the number of each two machines at both of them. Begin with
+ * fazgrond_match_for, so that members which a later version adds have a value too.
+ *
+ * The draw: 64 bits of the system's source of random bits (getrandom, BCryptGenRandom or the like), drawn anew for each opening
+ * of a peer, and never 0. Nothing has to be agreed on for it: machines tell each other theirs, and by them what was sent in an
+ * earlier opening of the same match isn't heard in this one. It has to be a new one each time. If a draw comes again, whoever
+ * recorded the earlier opening can play it into this one; and to the other machines two openings with one draw are one, which
+ * has forgotten what it had told them. */
+typedef struct fazgrond_match {
+    uint32_t size;                       /* sizeof(fazgrond_match) */
+    uint32_t me;                         /* which machine this is */
+    uint64_t numbers[FAZGROND_MACHINES]; /* with each machine a number that only these two know, 64 random bits; that of `me` is
+                                          * not read. The same in all places: the match's number */
+    uint64_t draw;                       /* drawn for this opening: not 0 */
+    uint64_t digest;                     /* of all else that has to be alike at all machines */
+    uint32_t machines;                   /* how many there are, 2 to 8 */
+    uint32_t owners[FAZGROND_PLAYERS];   /* the machine of each player, player 1 first; FAZGROND_NO_PLAYER if there is none */
+    uint32_t silent_after;               /* milliseconds after which a machine is gone that answers nothing; 0: it never is */
+    uint32_t notify_after;               /* milliseconds after which FAZGROND_INTERRUPTED tells of a machine of which nothing
+                                          * comes, and FAZGROND_STALLED of one that holds this one up; 0: neither is told */
+    uint32_t stalled_after;              /* milliseconds after which a machine is gone that answers, and holds this one up since
+                                          * it gives no words; 0: it never is, and the match may stand for good */
+} fazgrond_match;
+
+/* A match of so many machines, of which this one is `me`. Nobody is ever silent for too long, no player has an owner, and there
+ * are no numbers and no draw yet: set these. */
+static inline fazgrond_match fazgrond_match_for(uint32_t machines, uint32_t me) {
+    fazgrond_match match;
+    int at;
+    match.size = (uint32_t)sizeof match;
+    match.me = me;
+    match.draw = 0;
+    match.digest = 0;
+    match.machines = machines;
+    for (at = 0; at < FAZGROND_MACHINES; at++)
+        match.numbers[at] = 0;
+    for (at = 0; at < FAZGROND_PLAYERS; at++)
+        match.owners[at] = FAZGROND_NO_PLAYER;
+    match.silent_after = 0;
+    match.notify_after = 0;
+    match.stalled_after = 0;
+    return match;
+}
+
+/* A match that has one number, which all its machines know: each of them could speak in the name of another. */
+static inline void fazgrond_one_number(fazgrond_match *match, uint64_t number) {
+    int at;
+    for (at = 0; at < FAZGROND_MACHINES; at++)
+        match->numbers[at] = number;
+}
+
+/* SYNCHRONIZING: `machine` was heard; `count` of `total` steps are done. SYNCHRONIZED: it and this one have heard each other.
+ * RUNNING: a play of each has come, and the match begins. DISCONNECTED: `player` has left.
+ * TIME_SYNC: this machine is ahead: give no word for `frames_ahead` turns.
+ * INTERRUPTED: `machine` is silent, and gone in `disconnect_in` milliseconds. RESUMED: it was heard again.
+ * LEFT: `machine` is gone for good. DESYNC: it has another state at the settled frame `frame`.
+ * MISMATCH: `machine` means another match: `field` is 1 if it has another number of machines, 2 if other owners, 3 if another
+ * digest. It may come in the middle of a match too. DROPPED: another machine regards this one as gone.
+ * RESTARTED: `machine` was opened anew. It can't come back into this match: its old opening is silent from now on, and gone by
+ * that, and its new one waits until you open a match anew too. Told once for each opening.
+ * STALLED: `machine` is heard, and holds this one up, since it gives no words. If it is to be gone for that, it is in
+ * `disconnect_in` milliseconds, else that is 0. Told once, until it gives a word.
+ * REFUSED: what `machine` sealed was refused, or a word of it was: its program is broken, or it lies. Told at the first of a run.
+ * MISSING: `silent_after` has passed since this peer was opened, and `machine` isn't there yet. Told once. It is waited for, until
+ * you disconnect it. */
+enum {
+    FAZGROND_SYNCHRONIZING = 1001, FAZGROND_SYNCHRONIZED = 1002, FAZGROND_RUNNING = 1003, FAZGROND_DISCONNECTED = 1004,
+    FAZGROND_TIME_SYNC = 1005, FAZGROND_INTERRUPTED = 1006, FAZGROND_RESUMED = 1007, FAZGROND_LEFT = 1101,
+    FAZGROND_DESYNC = 1102, FAZGROND_MISMATCH = 1103, FAZGROND_DROPPED = 1104, FAZGROND_RESTARTED = 1105,
+    FAZGROND_STALLED = 1106, FAZGROND_REFUSED = 1107, FAZGROND_MISSING = 1108
+};
+
+/* What an event doesn't say is 0. */
+typedef struct fazgrond_event {
+    uint32_t code;
+    uint32_t machine;
+    uint32_t player;
+    uint32_t count;
+    uint32_t total;
+    uint32_t frames_ahead;
+    uint32_t disconnect_in;
+    uint32_t frame;
+    uint32_t field;
+} fazgrond_event;
+
+/* What was counted and measured of the datagrams between this machine and another. */
+typedef struct fazgrond_stats {
+    uint32_t is_measured;        /* whether the round trip was measured */
+    uint32_t round_trip;         /* in milliseconds */
+    uint32_t sent;
+    uint32_t received;
+    uint32_t lost;               /* or late */
+    uint32_t words_queued;       /* words that it hasn't said that it has, at most 160 of each player; 0 if nothing is sent to it */
+    int32_t frames_behind;       /* by how many frames this machine is behind the other: negative if it is ahead */
+    int32_t their_frames_behind; /* and the other, as it says, behind this one */
+    uint32_t refused;            /* how many datagrams that it sealed were refused, or had words that were */
+} fazgrond_stats;
+
+/* The most bytes of a datagram. */
+#define FAZGROND_DATAGRAM 1200
+
+/* Opens a peer beside an open session, which stays the game's: close each of the two when you need it no more. Of the session
+ * nothing changes. If the peer's handle is open, its peer is closed once the new one is there; if the new one is refused, the old
+ * one stays. One session can get a new peer only while it has no word of another machine's player.
+ * FAZGROND_INVALID_MACHINE: too few or too many machines, or `me` is none of them.
+ * FAZGROND_INVALID_PLAYER: the session's players are not those that machines own, or its local ones not those of `me`.
+ * FAZGROND_INVALID_REQUEST: the draw is 0; or `me`, `machines` or an owner is over 255; or the session has words of another
+ * machine's player already, or a player has left it. */
+int32_t fazgrond_peer_open(fazgrond_peer *peer, fazgrond_session *session, const fazgrond_match *match);
+
+/* Closes it. Nothing happens if it is closed. The session stays open. */
+static inline void fazgrond_peer_close(fazgrond_peer *peer) {
+    fazgrond_close((fazgrond_session *)(void *)peer);
+}
+
+/* Takes a datagram that came, and gives the session the words in it. What is refused, by a code from 301 on, has changed nothing
+ * but what is counted and told of its sender. May be called before the session's requests are taken. */
+int32_t fazgrond_peer_receive(fazgrond_peer *peer, fazgrond_session *session, const uint8_t *bytes, size_t length,
+                              uint32_t now);
+
+/* Once a turn, before the session's own calls: machines that were silent too long are gone, players of who is gone leave the
+ * session, and the match begins once a play of each machine has come. FAZGROND_LOG_FULL or FAZGROND_NO_MEMORY if a player who is
+ * to leave is still there: all else is done, and the next poll tries again. May be called before the session's requests are
+ * taken. */
+int32_t fazgrond_peer_poll(fazgrond_peer *peer, fazgrond_session *session, uint32_t now);
+
+/* Whether the match has begun: `flag` is 1 if so, else 0. Ask after fazgrond_peer_poll, and give the session no words before it is
+ * 1: the session itself would take them, and run ahead of machines that aren't there yet. It never becomes 0 again. */
+int32_t fazgrond_peer_is_running(fazgrond_peer *peer, uint32_t *flag);
+
+/* The datagram to send to a machine in this turn, in `out`, which has room for FAZGROND_DATAGRAM bytes, and how long it is. If
+ * there is less room, FAZGROND_TOO_SHORT, and nothing was sent. FAZGROND_NOTHING: the machine is gone, or this one, or none. */
+int32_t fazgrond_peer_send(fazgrond_peer *peer, fazgrond_session *session, uint8_t machine, uint32_t now, uint8_t *out,
+                           size_t room, size_t *length);
+
+/* The datagram that says to a machine that this one leaves the match: another one for each machine. Send each a few times.
+ * FAZGROND_NOTHING: the machine is gone, or this one, or none, or it and this one haven't heard each other. */
+int32_t fazgrond_peer_bye(fazgrond_peer *peer, uint8_t machine, uint8_t *out, size_t room, size_t *length);
+
+/* Regards a machine as gone, for good. Its players leave the session at a later fazgrond_peer_poll, once it is known which words
+ * of them the remaining machines have. */
+int32_t fazgrond_peer_disconnect(fazgrond_peer *peer, uint8_t machine);
+
+/* Notes the game's own digest of the session's settled state, by which the machines see that they play alike:
+ * fazgrond_settled_slot says where that state lies. */
+int32_t fazgrond_peer_note_settled(fazgrond_peer *peer, fazgrond_session *session, uint64_t digest);
+
+/* What happened, the oldest first; FAZGROND_NOTHING if no event waits. The oldest is dropped if more than 64 wait. */
+int32_t fazgrond_peer_event(fazgrond_peer *peer, fazgrond_event *event);
+
+/* What was counted and measured of a machine. */
+int32_t fazgrond_peer_stats(fazgrond_peer *peer, uint8_t machine, fazgrond_stats *stats);
+
+/* ---- Spectators over a network: a viewer on another machine is sent the settled rows of a match by one of its machines, the
+ * host. Each viewer has a line of its own with its host. `now` is each end's own clock, as a peer's. */
+
+/* A host's end of a viewer's line, and the viewer's end, in the game's memory, as a fazgrond_session. Begin with
+ * FAZGROND_CLOSED. */
+typedef struct fazgrond_line {
+    uint8_t full;
+    void *at;
+} fazgrond_line;
+
+typedef struct fazgrond_viewer {
+    uint8_t full;
+    void *at;
+} fazgrond_viewer;
+
+/* The same at both ends, but for the draw and the time. */
+typedef struct fazgrond_line_settings {
+    uint64_t number;                   /* the line's own number: 64 random bits that only these two know. Not the match's */
+    uint64_t draw;                     /* drawn for this opening of this end, as in the match: not 0 */
+    uint64_t digest;                   /* as in the match */
+    uint32_t host;                     /* which machine of the match is watched, from 0 */
+    uint32_t machines;                 /* as in the match */
+    uint32_t owners[FAZGROND_PLAYERS]; /* as in the match */
+    uint32_t silent_after;             /* milliseconds after which the other end is silent, which answers nothing; 0: it never is */
+} fazgrond_line_settings;
+
+typedef struct fazgrond_line_state {
+    uint32_t rows;       /* that the viewer has: at the host's end, that it said that it has */
+    uint32_t settled;    /* the most rows that the host said to be settled: at the host's end, that the viewer was told */
+    uint32_t silence;    /* milliseconds since the other end answered last, if both have heard each other; else 0 */
+    uint32_t is_playing; /* whether both have heard each other */
+    uint32_t has_ended;  /* whether one of the two has said bye */
+    uint32_t is_silent;  /* whether the other end has answered nothing for longer than `silent_after`: close the line then. If it
+                          * was opened anew, it waits until this one is too */
+} fazgrond_line_state;
+
+/* Opens a line at its host, as fazgrond_open a session. FAZGROND_INVALID_MACHINE: too few or too many machines, or `host` is none
+ * of them. FAZGROND_INVALID_REQUEST: the draw is 0, or `host`, `machines` or an owner is over 255. */
+int32_t fazgrond_line_open(fazgrond_line *line, const fazgrond_line_settings *settings);
+
+/* Closes it. Nothing happens if it is closed. */
+static inline void fazgrond_line_close(fazgrond_line *line) {
+    fazgrond_close((fazgrond_session *)(void *)line);
+}
+
+/* Takes a datagram that came of the viewer. What is refused, by a code from 301 on, has changed nothing, but that after
+ * FAZGROND_MISMATCHED no rows are sent: until a hello of the viewer means this match. */
+int32_t fazgrond_line_receive(fazgrond_line *line, const uint8_t *bytes, size_t length, uint32_t now);
+
+/* The datagram to send to the viewer in this turn, as fazgrond_peer_send: settled rows of the session from those on that the
+ * viewer has, as many as fit. Always give it the same session. FAZGROND_NOTHING once the line has ended. */
+int32_t fazgrond_line_send(fazgrond_line *line, fazgrond_session *session, uint32_t now, uint8_t *out, size_t room,
+                           size_t *length);
+
+/* The datagram that says that the host leaves the viewer: the line has ended. Send it a few times. FAZGROND_NOTHING: the two
+ * haven't heard each other, so that nobody is to be told; the line has ended all the same. */
+int32_t fazgrond_line_bye(fazgrond_line *line, uint8_t *out, size_t room, size_t *length);
+
+/* How far the two ends are. */
+int32_t fazgrond_line_look(fazgrond_line *line, uint32_t now, fazgrond_line_state *state);
+
+/* Opens a viewer, as fazgrond_line_open its host's end. */
+int32_t fazgrond_viewer_open(fazgrond_viewer *viewer, const fazgrond_line_settings *settings);
+
+/* Closes it. Nothing happens if it is closed. */
+static inline void fazgrond_viewer_close(fazgrond_viewer *viewer) {
+    fazgrond_close((fazgrond_session *)(void *)viewer);
+}
+
+/* Takes a datagram that came of the host, as fazgrond_line_receive. `rows` is how many rows were taken from it: 64 at most may
+ * wait to be played, and the others come again. */
+int32_t fazgrond_viewer_receive(fazgrond_viewer *viewer, const uint8_t *bytes, size_t length, uint32_t now, uint32_t *rows);
+
+/* The datagram to send to the host in this turn, as fazgrond_line_send. */
+int32_t fazgrond_viewer_send(fazgrond_viewer *viewer, uint32_t now, uint8_t *out, size_t room, size_t *length);
+
+/* The datagram that says that the viewer leaves: the line has ended. Send it a few times. FAZGROND_NOTHING: the two haven't heard
+ * each other, so that nobody is to be told; the line has ended all the same. */
+int32_t fazgrond_viewer_bye(fazgrond_viewer *viewer, uint8_t *out, size_t room, size_t *length);
+
+/* The next row that is to be played, from frame 0 on; FAZGROND_NOTHING if none is there. */
+int32_t fazgrond_viewer_row(fazgrond_viewer *viewer, fazgrond_row *row);
+
+/* How far the two ends are. */
+int32_t fazgrond_viewer_look(fazgrond_viewer *viewer, uint32_t now, fazgrond_line_state *state);
+
+#ifdef __cplusplus
+}
+#endif
+#endif

@@ -1,0 +1,90 @@
+/* What the game is told of a match. */
+#include "inside.h"
+
+int ggponet_disconnect_in(const GGPOSession *session, uint32_t time) {
+    return session->silent_after == 0 || time > INT32_MAX ? INT32_MAX : (int)time;
+}
+
+static int handle_of(const GGPOSession *session, uint32_t of) {
+    return of < (uint32_t)session->machines ? session->machine[of].handle : GGPO_INVALID_HANDLE;
+}
+
+static void log_event(GGPOSession *session, const fazgrond_event *event) {
+    ggpo_log(session, "event %d: machine %u, player %u, ahead %u, frame %u, field %u, gone in %u", (int)event->code,
+             (unsigned)event->machine, (unsigned)event->player, (unsigned)event->frames_ahead, (unsigned)event->frame,
+             (unsigned)event->field, (unsigned)event->disconnect_in);
+}
+
+/* Whether an event is for the log alone: GGPO has none like it, and a game needs none. */
+static bool is_logged_alone(uint32_t code) {
+    return code == FAZGROND_RESTARTED || code == FAZGROND_STALLED || code == FAZGROND_REFUSED || code == FAZGROND_MISSING;
+}
+
+/* The first that is heard of a machine. */
+static void tell_connected(GGPOSession *session, const fazgrond_event *event) {
+    GGPOEvent told;
+    if (event->machine >= (uint32_t)session->machines || session->machine[event->machine].is_known)
+        return;
+    session->machine[event->machine].is_known = true;
+    memset(&told, 0, sizeof told);
+    told.code = GGPO_EVENTCODE_CONNECTED_TO_PEER;
+    told.u.connected.player = handle_of(session, event->machine);
+    session->call.on_event(&told);
+}
+
+static void note_left(GGPOSession *session, uint32_t player) {
+    if (player >= 1 && player <= (uint32_t)session->players)
+        session->player[player - 1].has_left = true;
+}
+
+/* An event as GGPO has it. */
+static GGPOEvent told_of(const GGPOSession *session, const fazgrond_event *event) {
+    GGPOEvent told;
+    int handle = handle_of(session, event->machine);
+    memset(&told, 0, sizeof told);
+    told.code = (GGPOEventCode)event->code;
+    switch (told.code) {
+    case GGPO_EVENTCODE_SYNCHRONIZING_WITH_PEER:
+    case GGPO_EVENTCODE_SYNCHRONIZED_WITH_PEER:
+        told.u.synchronizing.player = handle; /* that of `synchronized` has the same place */
+        told.u.synchronizing.count = (int)event->count;
+        told.u.synchronizing.total = (int)event->total;
+        break;
+    case GGPO_EVENTCODE_DISCONNECTED_FROM_PEER: told.u.disconnected.player = (int)event->player; break;
+    case GGPO_EVENTCODE_TIMESYNC: told.u.timesync.frames_ahead = (int)event->frames_ahead; break;
+    case GGPO_EVENTCODE_CONNECTION_INTERRUPTED:
+        told.u.connection_interrupted.player = handle;
+        told.u.connection_interrupted.disconnect_timeout = ggponet_disconnect_in(session, event->disconnect_in);
+        break;
+    case GGPO_EVENTCODE_CONNECTION_RESUMED: told.u.connection_resumed.player = handle; break;
+    case FAZGGPO_EVENTCODE_MACHINE_LEFT: told.u.left.player = handle; break;
+    case FAZGGPO_EVENTCODE_DESYNC:
+        told.u.desync.player = handle;
+        told.u.desync.frame = (int)event->frame;
+        break;
+    case FAZGGPO_EVENTCODE_MISMATCH:
+        told.u.mismatch.player = handle;
+        told.u.mismatch.field = (int)event->field;
+        break;
+    default: break;
+    }
+    return told;
+}
+
+static void tell(GGPOSession *session, const fazgrond_event *event) {
+    log_event(session, event);
+    if (is_logged_alone(event->code))
+        return;
+    if (event->code == FAZGROND_SYNCHRONIZING || event->code == FAZGROND_SYNCHRONIZED)
+        tell_connected(session, event);
+    if (event->code == FAZGROND_DISCONNECTED)
+        note_left(session, event->player);
+    GGPOEvent told = told_of(session, event);
+    session->call.on_event(&told);
+}
+
+void ggponet_tell_of_match(GGPOSession *session) {
+    fazgrond_event event;
+    while (fazgrond_peer_event(&session->peer, &event) == FAZGROND_OK)
+        tell(session, &event);
+}

@@ -1,0 +1,103 @@
+/* A UDP socket. */
+#include "inside.h"
+
+#ifdef _WIN32
+typedef WSAPOLLFD pollfd_t;
+#define NO_SOCKET INVALID_SOCKET
+#define close_socket closesocket
+#define poll_sockets WSAPoll
+#else
+#include <arpa/inet.h>
+#include <fcntl.h>
+#include <poll.h>
+#include <sys/socket.h>
+#include <unistd.h>
+typedef struct pollfd pollfd_t;
+#define NO_SOCKET (-1)
+#define close_socket close
+#define poll_sockets poll
+#endif
+
+static bool begin_sockets(void) {
+#ifdef _WIN32
+    WSADATA data;
+    return WSAStartup(MAKEWORD(2, 2), &data) == 0;
+#else
+    return true;
+#endif
+}
+
+static bool make_unblocking(socket_t socket) {
+#ifdef _WIN32
+    u_long one = 1;
+    return ioctlsocket(socket, FIONBIO, &one) == 0;
+#else
+    return fcntl(socket, F_SETFL, O_NONBLOCK) == 0;
+#endif
+}
+
+static struct sockaddr_in address_of(uint32_t host, unsigned short port) {
+    struct sockaddr_in address;
+    memset(&address, 0, sizeof address);
+    address.sin_family = AF_INET;
+    address.sin_addr.s_addr = host;
+    address.sin_port = htons(port);
+    return address;
+}
+
+bool ggponet_read_address(const char *text, unsigned short port, struct sockaddr_in *address) {
+    struct in_addr host;
+    if (inet_pton(AF_INET, text, &host) != 1)
+        return false;
+    *address = address_of(host.s_addr, port);
+    return true;
+}
+
+bool ggponet_is_address(const struct sockaddr_in *one, const struct sockaddr_in *other) {
+    return one->sin_addr.s_addr == other->sin_addr.s_addr && one->sin_port == other->sin_port;
+}
+
+bool ggponet_open_port(GGPOSession *session, unsigned short port) {
+    struct sockaddr_in address = address_of(htonl(INADDR_ANY), port);
+    session->socket = begin_sockets() ? socket(AF_INET, SOCK_DGRAM, 0) : NO_SOCKET;
+    if (session->socket == NO_SOCKET)
+        return false;
+    session->has_port = bind(session->socket, (struct sockaddr *)&address, sizeof address) == 0
+        && make_unblocking(session->socket);
+    if (!session->has_port)
+        close_socket(session->socket);
+    return session->has_port;
+}
+
+void ggponet_close_port(GGPOSession *session) {
+    if (session->has_port)
+        close_socket(session->socket);
+    session->has_port = false;
+}
+
+void ggponet_send_now(GGPOSession *session, int to, const uint8_t *bytes, size_t length) {
+    const struct sockaddr_in *address = &session->machine[to].address;
+    /* What can't be sent is lost, as it may be anyway. */
+    sendto(session->socket, (const char *)bytes, length, 0, (const struct sockaddr *)address, sizeof *address);
+}
+
+long ggponet_next_datagram(GGPOSession *session, struct sockaddr_in *from, uint8_t *bytes, size_t room) {
+    socklen_t size = sizeof *from;
+    memset(from, 0, sizeof *from);
+    return (long)recvfrom(session->socket, (char *)bytes, room, 0, (struct sockaddr *)from, &size);
+}
+
+void ggponet_wait_micros(GGPOSession *session, uint64_t time) {
+    pollfd_t one;
+    time /= session->speed;
+    if (time > 1000000)
+        time = 1000000;
+    if (time < 1000 || !session->is_open) {
+        ggponet_sleep_micros(time);
+        return;
+    }
+    memset(&one, 0, sizeof one);
+    one.fd = session->socket;
+    one.events = POLLIN;
+    poll_sockets(&one, 1, (int)(time / 1000));
+}
