@@ -54,7 +54,8 @@ static void carry_out_all(match *game) {
 }
 
 static void open_match(match *game) {
-    fazgrond_settings settings = { FAZGROND_GGPO, 2, 1, 8, 1048576, 16777216, { 0 }, { UINT32_MAX, UINT32_MAX } };
+    fazgrond_settings settings = fazgrond_settings_for(2);
+    settings.local = 1;
     must(fazgrond_open(&game->session, &settings));
     game->state = game->saved[0] = 0;
     game->steps = 0;

@@ -1,12 +1,15 @@
 /* fazgrond.h: rollback sessions for games in C, C++, Rust and any language that can call C.
  *
  * The library never calls the game. A call that may roll back (fazgrond_synchronize_input, fazgrond_advance_frame) or that makes
- * a job (fazgrond_guess) leaves a list of requests, which the game takes by fazgrond_take_requests and carries out in their
- * order: load a state, save one, advance by a frame, free one. docs/C.md shows a whole game.
+ * a job (fazgrond_guess) leaves a list of requests, which the game takes by fazgrond_take_requests and carries out in order:
+ * load a state, save one, advance by a frame, free one. docs/C.md shows a whole game.
  *
- * Players are numbered from 1, frames and slots from 0. Every int32_t that comes back is FAZGROND_OK or why the call was
- * refused. A refused call writes nothing through its pointers, but for the length of a claim that has no room. No pointer may be
- * null, and a buffer has to have the room that is said of it.
+ * A match over a network has two handles side by side: the session, which plays, and a peer, which is the network. The game
+ * gives its own players' words to the session, the datagrams that it hears to the peer, and lends the session to the peer's calls.
+ *
+ * Players are numbered from 1, frames, slots and machines from 0. An int32_t that comes back is FAZGROND_OK or says why the call
+ * was refused. A refused call writes nothing through its pointers, except that fazgrond_claim says how much room it needs. No
+ * pointer may be null, and a buffer must have the room that is said of it.
  */
 #ifndef FAZGROND_H
 #define FAZGROND_H
@@ -18,11 +21,23 @@
 extern "C" {
 #endif
 
+/* The version of this header: major << 16 | minor << 8 | patch. docs/VERSIONS.md says what raises which of them. */
+#define FAZGROND_VERSION 0x000100
+
+/* The version of the library that the program runs with. While the major number is 0, a library fits a header with the same major
+ * and minor number. If it doesn't know the sizes of this header's settings, nothing is opened: FAZGROND_OTHER_VERSION. */
+uint32_t fazgrond_version(void);
+
+/* What an answer or the code of an event means, in an English sentence for a log: as much of it as `out` has room for, without a
+ * 0 at its end. Comes back with the length of the whole sentence; 0 if there is no such number. */
+size_t fazgrond_text(int32_t code, uint8_t *out, size_t room);
+
 /* The most players of a session. */
 #define FAZGROND_PLAYERS 8
 
-/* A session, in the game's memory. Begin with FAZGROND_CLOSED. Never copy it, move it or write into it while it is open,
- * and make one call at a time, also of those that only ask: from any thread, but not from two at once. */
+/* A session, in the game's memory. Begin with FAZGROND_CLOSED. Never copy it, move it or write into it while it is open. Make one
+ * call at a time, even those that only ask: from any thread, but not from two at once. A call with two handles is a call of
+ * both. */
 typedef struct fazgrond_session {
     uint8_t full;
     void *at;
@@ -33,7 +48,9 @@ typedef struct fazgrond_session {
 /* The limits of a session: GGPO's are 4 players and 8 frames ahead, the wide ones 8 players and 15 frames. */
 enum { FAZGROND_GGPO = 0, FAZGROND_WIDE = 1 };
 
+/* Begin with fazgrond_settings_for, so that members which a later version adds have a value too. */
 typedef struct fazgrond_settings {
+    uint32_t size;                     /* sizeof(fazgrond_settings) */
     uint32_t profile;                  /* FAZGROND_GGPO or FAZGROND_WIDE */
     uint32_t players;                  /* how many there are */
     uint32_t local;                    /* bit p - 1 for each player p of this machine */
@@ -44,6 +61,25 @@ typedef struct fazgrond_settings {
     uint32_t masks[FAZGROND_PLAYERS];  /* which bits of a player's last word are predicted as held: all by 0xffffffff; with
                                         * 0 the prediction is always 0 */
 } fazgrond_settings;
+
+/* Settings for so many players: as far ahead as GGPO goes, as long as can be, without delays, and every word predicted as held.
+ * `local` has still to be set. */
+static inline fazgrond_settings fazgrond_settings_for(uint32_t players) {
+    fazgrond_settings settings;
+    int at;
+    settings.size = (uint32_t)sizeof settings;
+    settings.profile = players <= 4 ? FAZGROND_GGPO : FAZGROND_WIDE;
+    settings.players = players;
+    settings.local = 0;
+    settings.threshold = 8;
+    settings.limit = 1048576;
+    settings.log = 16777216;
+    for (at = 0; at < FAZGROND_PLAYERS; at++) {
+        settings.delays[at] = 0;
+        settings.masks[at] = 0xffffffff;
+    }
+    return settings;
+}
 
 /* The words of all players for a frame, player 1's first. Bit p - 1 of `gone` is set for a player p who has left; its word
  * is 0. */
@@ -100,7 +136,6 @@ enum {
     FAZGROND_INVALID_PLAYER = 2,
     FAZGROND_PLAYER_OUT_OF_RANGE = 3,       /* the settings: the number of players */
     FAZGROND_PREDICTION_THRESHOLD = 4,      /* too far ahead: wait for the others' words */
-    FAZGROND_NOT_SYNCHRONIZED = 6,          /* a peer: the match has not begun */
     FAZGROND_PLAYER_DISCONNECTED = 9,
     FAZGROND_INVALID_REQUEST = 11,          /* the settings: a limit, a delay, no local player .. Or a guess that goes over 24
                                              * frames past the settled one, or has no word, or over 24 */
@@ -121,10 +156,12 @@ enum {
     FAZGROND_NO_PLAN = 117,                 /* there was no rollback yet */
     FAZGROND_FULL = 119,                    /* 64 jobs are out */
     FAZGROND_NO_JOB = 120,                  /* there is no such job */
-    FAZGROND_IS_CLOSED = 201,
+    FAZGROND_IS_CLOSED = 201,               /* the handle, or one of the two. Also a handle of another kind */
     FAZGROND_PENDING = 202,                 /* requests were not taken yet */
     FAZGROND_NOTHING = 203,                 /* there is no such thing: no such player, row or word */
     FAZGROND_TOO_SHORT = 204,               /* the buffer has less room than what is to be written */
+    FAZGROND_OTHER_VERSION = 205,           /* `size` isn't the one that this library knows: another version's header */
+    /* From here on, of peers, lines and viewers alone. */
     FAZGROND_NOT_SEALED = 301,              /* bytes that are not of this opening of the match or line, were changed on their
                                              * way, or are too few or too many */
     FAZGROND_NO_DATAGRAM = 302,             /* they are sealed as they have to be, and no datagram of this version */
@@ -138,35 +175,45 @@ enum {
     FAZGROND_OTHER_SENDER = 309,            /* the other end of the line didn't send them */
     FAZGROND_NO_ROWS = 310,                 /* what the host sends are no rows of this match's players */
     FAZGROND_ROWS_MISSING = 311,            /* rows before those that the host sends have not come yet */
-    FAZGROND_OUTSIDE = 312                  /* the sender tells of machines or players that the match hasn't */
+    FAZGROND_OUTSIDE = 312,                 /* the sender tells of machines or players that the match hasn't */
+    FAZGROND_OTHER_SESSION = 313            /* the session isn't the one that this peer plays, or was told of others past the
+                                             * peer. The match is over for this machine */
 };
 
 /* Opens a session. Before the first request the game has its opening state as the current one and in slot 0. If the handle is
- * open, its session is closed once the new one is there; if the new one is refused, it stays. */
+ * open, its session is closed once the new one is there; if the new one is refused, the old one stays. */
 int32_t fazgrond_open(fazgrond_session *session, const fazgrond_settings *settings);
 
 /* Closes it. Nothing happens if it is closed. */
 void fazgrond_close(fazgrond_session *session);
 
-/* Gives a local player's word of this frame. */
+/* Gives a local player's word of this frame. FAZGROND_INPUT_TWICE if it was given already: the first one counts. */
 int32_t fazgrond_add_local_input(fazgrond_session *session, uint8_t player, uint32_t word);
 
-/* Takes a remote player's next word. `repeated` is 1 if it was taken before, else 0. */
+/* Takes a remote player's next word. `repeated` is 1 if it was taken before, else 0. For a game with a network of its own: beside
+ * a peer, the peer alone makes this call. */
 int32_t fazgrond_remote_input(fazgrond_session *session, uint8_t player, uint32_t frame, uint32_t word,
                               uint32_t *repeated);
 
-/* A remote player leaves. */
+/* A remote player leaves. Beside a peer, the peer alone makes this call: see fazgrond_peer_disconnect. */
 int32_t fazgrond_disconnect_player(fazgrond_session *session, uint8_t player);
 
-/* The row of this frame, after a rollback if a prediction was wrong. Leaves requests. */
+/* The row of this frame, after a rollback if a prediction was wrong. Leaves requests. FAZGROND_PENDING if those of the last call
+ * weren't taken yet. */
 int32_t fazgrond_synchronize_input(fazgrond_session *session, fazgrond_row *row);
 
-/* Goes on to the next frame. Leaves requests. */
+/* Goes on to the next frame, after a rollback if a prediction was wrong. Leaves requests. FAZGROND_LOCAL_INPUT_MISSING if a local
+ * player gave no word for this frame. FAZGROND_PENDING as above. */
 int32_t fazgrond_advance_frame(fazgrond_session *session, fazgrond_reached *reached);
 
-/* The requests that were not taken yet, in their order: fills `out`, which has room for so many, and says how many it wrote.
- * After each of the two calls above, and after fazgrond_guess, take until 0 comes back, whatever the call answered: then all are
- * taken, or the session is closed. */
+/* Whether the state that is shown may be out of date: `flag` is 1 if a call was accepted since the last rollback or advance, or if
+ * there was none yet, else 0. A turn that plays no frame asks this, and calls fazgrond_synchronize_input if it is 1; without, that
+ * call would change nothing, and leave one more entry in the log. */
+int32_t fazgrond_has_news(fazgrond_session *session, uint32_t *flag);
+
+/* The requests that were not taken yet, in order: fills `out`, which has room for so many, and says how many it wrote. After each
+ * call that leaves requests, take until 0 comes back, whatever the call answered: then all are taken, or the session is
+ * closed. */
 size_t fazgrond_take_requests(fazgrond_session *session, fazgrond_request *out, size_t room);
 
 /* A guess: if this player gave these words next, the first of them for the first frame whose word isn't known. Leaves the
@@ -200,6 +247,10 @@ int32_t fazgrond_settled(fazgrond_session *session, uint32_t *rows);
 /* A settled row. */
 int32_t fazgrond_settled_row(fazgrond_session *session, uint32_t frame, fazgrond_row *row);
 
+/* The settled frame, and the slot in which the state after all settled rows lies once the requests are carried out. It stays
+ * there until the next call that leaves requests. */
+int32_t fazgrond_settled_slot(fazgrond_session *session, uint32_t *frame, uint32_t *slot);
+
 /* How many words of a player are confirmed: the frame whose word must come next. */
 int32_t fazgrond_confirmed(fazgrond_session *session, uint8_t player, uint32_t *words);
 
@@ -217,7 +268,8 @@ int32_t fazgrond_log_length(fazgrond_session *session, size_t *entries);
 int32_t fazgrond_log_entry(fazgrond_session *session, size_t place, fazgrond_entry *entry);
 
 /* Notes by how many frames this machine is behind the other one, and the other behind this one, as it told last; a machine that
- * is ahead is behind by a negative number. Once a frame is often enough: the last 40 pairs count. */
+ * is ahead is behind by a negative number. Once a frame is often enough: the last 40 pairs count. Beside a peer this isn't
+ * needed: FAZGROND_TIME_SYNC tells. */
 int32_t fazgrond_note_advantages(fazgrond_session *session, int32_t local, int32_t remote);
 
 /* How many frames this machine should wait, so that the other comes up to it: 0, or 3 to 9. */
@@ -227,8 +279,24 @@ int32_t fazgrond_frames_ahead(fazgrond_session *session, uint32_t *frames);
  * checks. It is written if `out` has room for it; `length` is how long it is, also if the answer is FAZGROND_TOO_SHORT. */
 int32_t fazgrond_claim(fazgrond_session *session, uint8_t *out, size_t room, size_t *length);
 
-/* ---- A match over a network: a session that makes and takes datagrams itself. It has no socket and no clock. Machines are
- * numbered from 0.
+/* ---- A match over a network.
+ *
+ * A peer is the network of a match at one machine: who has which words, who is gone, what to send. It has no socket, no clock and
+ * no game: it makes and takes datagrams, and stands beside the session that plays. Each call that needs the session is lent it.
+ *
+ * A turn, some 60 times a second:
+ *   fazgrond_peer_receive for each datagram that came, then fazgrond_peer_poll;
+ *   fazgrond_peer_is_running: until it says 1, give no words, and skip the next two lines;
+ *   fazgrond_add_local_input for each player of this machine; if all are accepted, fazgrond_advance_frame, and else, if
+ *   fazgrond_has_news says 1, fazgrond_synchronize_input. Then carry out the requests;
+ *   fazgrond_peer_event until there is none, and fazgrond_peer_send for each other machine.
+ *
+ * Always give a peer the session that it was opened with. The peer alone tells that session of the other machines: a program that
+ * calls fazgrond_remote_input or fazgrond_disconnect_player itself ends the match for this machine, since from then on each call
+ * that takes both answers FAZGROND_OTHER_SESSION. So does a session with other settings, with other numbers of words, or from
+ * which somebody has left who hasn't left the match. Two sessions of which all this is the same aren't told apart.
+ * Everything else is the session's own and works beside a peer as without one: guesses and grafts, claims, limits of slots, the
+ * log.
  *
  * `now` is this machine's clock in milliseconds, from a moment of its own choice. It may wrap, and it may jump: time that goes
  * back counts as none, and a leap forwards alone makes nobody silent, since whoever is gone for its silence has left ten of this
@@ -246,8 +314,9 @@ typedef struct fazgrond_peer {
 /* The most machines of a match. */
 #define FAZGROND_MACHINES 8
 
-/* Of the session its players, limits and masks are the same at each machine; so are `digest`, `machines` and `owners`, and the
- * number of each two machines at both of them.
+/* The players, limits and masks of the session are the same at each machine, and its local players are those that `me` owns; so
+ * are `digest`, `machines` and `owners`, and the number of each two machines at both of them. Begin with
+ * fazgrond_match_for, so that members which a later version adds have a value too.
  *
  * The draw: 64 bits of the system's source of random bits (getrandom, BCryptGenRandom or the like), drawn anew for each opening
  * of a peer, and never 0. Nothing has to be agreed on for it: machines tell each other theirs, and by them what was sent in an
@@ -255,12 +324,12 @@ typedef struct fazgrond_peer {
  * recorded the earlier opening can play it into this one; and to the other machines two openings with one draw are one, which
  * has forgotten what it had told them. */
 typedef struct fazgrond_match {
-    fazgrond_settings session;           /* its local players are those that `me` owns */
+    uint32_t size;                       /* sizeof(fazgrond_match) */
+    uint32_t me;                         /* which machine this is */
     uint64_t numbers[FAZGROND_MACHINES]; /* with each machine a number that only these two know, 64 random bits; that of `me` is
                                           * not read. The same in all places: the match's number */
     uint64_t draw;                       /* drawn for this opening: not 0 */
     uint64_t digest;                     /* of all else that has to be alike at all machines */
-    uint32_t me;                         /* which machine this is */
     uint32_t machines;                   /* how many there are, 2 to 8 */
     uint32_t owners[FAZGROND_PLAYERS];   /* the machine of each player, player 1 first; FAZGROND_NO_PLAYER if there is none */
     uint32_t silent_after;               /* milliseconds after which a machine is gone that answers nothing; 0: it never is */
@@ -269,6 +338,26 @@ typedef struct fazgrond_match {
     uint32_t stalled_after;              /* milliseconds after which a machine is gone that answers, and holds this one up since
                                           * it gives no words; 0: it never is, and the match may stand for good */
 } fazgrond_match;
+
+/* A match of so many machines, of which this one is `me`. Nobody is ever silent for too long, no player has an owner, and there
+ * are no numbers and no draw yet: set these. */
+static inline fazgrond_match fazgrond_match_for(uint32_t machines, uint32_t me) {
+    fazgrond_match match;
+    int at;
+    match.size = (uint32_t)sizeof match;
+    match.me = me;
+    match.draw = 0;
+    match.digest = 0;
+    match.machines = machines;
+    for (at = 0; at < FAZGROND_MACHINES; at++)
+        match.numbers[at] = 0;
+    for (at = 0; at < FAZGROND_PLAYERS; at++)
+        match.owners[at] = FAZGROND_NO_PLAYER;
+    match.silent_after = 0;
+    match.notify_after = 0;
+    match.stalled_after = 0;
+    return match;
+}
 
 /* A match that has one number, which all its machines know: each of them could speak in the name of another. */
 static inline void fazgrond_one_number(fazgrond_match *match, uint64_t number) {
@@ -285,8 +374,9 @@ static inline void fazgrond_one_number(fazgrond_match *match, uint64_t number) {
  * MISMATCH: `machine` means another match: `field` is 1 if it has another number of machines, 2 if other owners, 3 if another
  * digest. It may come in the middle of a match too. DROPPED: another machine regards this one as gone.
  * RESTARTED: `machine` was opened anew. It can't come back into this match: its old opening is silent from now on, and gone by
- * that, and its new one waits until you open a match anew too. Told once for each opening. STALLED: `machine` is heard, and holds this one up, since it gives no words. If it is to be
- * gone for that, it is in `disconnect_in` milliseconds, else that is 0. Told once, until it gives a word.
+ * that, and its new one waits until you open a match anew too. Told once for each opening.
+ * STALLED: `machine` is heard, and holds this one up, since it gives no words. If it is to be gone for that, it is in
+ * `disconnect_in` milliseconds, else that is 0. Told once, until it gives a word.
  * REFUSED: what `machine` sealed was refused, or a word of it was: its program is broken, or it lies. Told at the first of a run.
  * MISSING: `silent_after` has passed since this peer was opened, and `machine` isn't there yet. Told once. It is waited for, until
  * you disconnect it. */
@@ -326,70 +416,57 @@ typedef struct fazgrond_stats {
 /* The most bytes of a datagram. */
 #define FAZGROND_DATAGRAM 1200
 
-/* Opens a peer, as fazgrond_open a session. FAZGROND_INVALID_MACHINE: too few or too many machines, or `me` is none of them.
+/* Opens a peer beside an open session, which stays the game's: close each of the two when you need it no more. Of the session
+ * nothing changes. If the peer's handle is open, its peer is closed once the new one is there; if the new one is refused, the old
+ * one stays. One session can get a new peer only while it has no word of another machine's player.
+ * FAZGROND_INVALID_MACHINE: too few or too many machines, or `me` is none of them.
  * FAZGROND_INVALID_PLAYER: the session's players are not those that machines own, or its local ones not those of `me`.
- * FAZGROND_INVALID_REQUEST also if the draw is 0, or if `me`, `machines` or an owner is over 255. */
-int32_t fazgrond_peer_open(fazgrond_peer *peer, const fazgrond_match *match);
+ * FAZGROND_INVALID_REQUEST: the draw is 0; or `me`, `machines` or an owner is over 255; or the session has words of another
+ * machine's player already, or a player has left it. */
+int32_t fazgrond_peer_open(fazgrond_peer *peer, fazgrond_session *session, const fazgrond_match *match);
 
-/* Closes it. Nothing happens if it is closed. */
-void fazgrond_peer_close(fazgrond_peer *peer);
+/* Closes it. Nothing happens if it is closed. The session stays open. */
+static inline void fazgrond_peer_close(fazgrond_peer *peer) {
+    fazgrond_close((fazgrond_session *)(void *)peer);
+}
 
-/* Takes a datagram that came. What is refused, by a code from 301 on, has changed nothing but what is counted and told of its
- * sender. */
-int32_t fazgrond_peer_receive(fazgrond_peer *peer, const uint8_t *bytes, size_t length, uint32_t now);
+/* Takes a datagram that came, and gives the session the words in it. What is refused, by a code from 301 on, has changed nothing
+ * but what is counted and told of its sender. May be called before the session's requests are taken. */
+int32_t fazgrond_peer_receive(fazgrond_peer *peer, fazgrond_session *session, const uint8_t *bytes, size_t length,
+                              uint32_t now);
 
-/* Gives a local player's word of this frame. FAZGROND_NOT_SYNCHRONIZED before the match has begun. */
-int32_t fazgrond_peer_add_local_input(fazgrond_peer *peer, uint8_t player, uint32_t word);
+/* Once a turn, before the session's own calls: machines that were silent too long are gone, players of who is gone leave the
+ * session, and the match begins once a play of each machine has come. FAZGROND_LOG_FULL or FAZGROND_NO_MEMORY if a player who is
+ * to leave is still there: all else is done, and the next poll tries again. May be called before the session's requests are
+ * taken. */
+int32_t fazgrond_peer_poll(fazgrond_peer *peer, fazgrond_session *session, uint32_t now);
 
-/* Once a turn, before the next three: machines that were silent too long are gone, players of who is gone leave, and the match
- * begins once a play of each machine has come. FAZGROND_LOG_FULL or FAZGROND_NO_MEMORY if a player who is to leave is still
- * there: all else is done, and the next poll tries again. */
-int32_t fazgrond_peer_poll(fazgrond_peer *peer, uint32_t now);
-
-/* Whether words came since the last rollback, or players left: `flag` is 1 if so, else 0. A turn that plays no frame has
- * something to synchronize then. Without, fazgrond_peer_synchronize_input would change nothing but the log, by one entry more. */
-int32_t fazgrond_peer_has_news(fazgrond_peer *peer, uint32_t *flag);
-
-/* As fazgrond_synchronize_input. Leaves requests. FAZGROND_NOT_SYNCHRONIZED before the match has begun. */
-int32_t fazgrond_peer_synchronize_input(fazgrond_peer *peer, fazgrond_row *row);
-
-/* As fazgrond_advance_frame. Leaves requests. FAZGROND_NOT_SYNCHRONIZED before the match has begun. */
-int32_t fazgrond_peer_advance_frame(fazgrond_peer *peer, fazgrond_reached *reached);
-
-/* As fazgrond_take_requests, after each of the two calls above. */
-size_t fazgrond_peer_take_requests(fazgrond_peer *peer, fazgrond_request *out, size_t room);
+/* Whether the match has begun: `flag` is 1 if so, else 0. Ask after fazgrond_peer_poll, and give the session no words before it is
+ * 1: the session itself would take them, and run ahead of machines that aren't there yet. It never becomes 0 again. */
+int32_t fazgrond_peer_is_running(fazgrond_peer *peer, uint32_t *flag);
 
 /* The datagram to send to a machine in this turn, in `out`, which has room for FAZGROND_DATAGRAM bytes, and how long it is. If
  * there is less room, FAZGROND_TOO_SHORT, and nothing was sent. FAZGROND_NOTHING: the machine is gone, or this one, or none. */
-int32_t fazgrond_peer_send(fazgrond_peer *peer, uint8_t machine, uint32_t now, uint8_t *out, size_t room, size_t *length);
+int32_t fazgrond_peer_send(fazgrond_peer *peer, fazgrond_session *session, uint8_t machine, uint32_t now, uint8_t *out,
+                           size_t room, size_t *length);
 
 /* The datagram that says to a machine that this one leaves the match: another one for each machine. Send each a few times.
  * FAZGROND_NOTHING: the machine is gone, or this one, or none, or it and this one haven't heard each other. */
 int32_t fazgrond_peer_bye(fazgrond_peer *peer, uint8_t machine, uint8_t *out, size_t room, size_t *length);
 
-/* Regards a machine as gone, for good. */
+/* Regards a machine as gone, for good. Its players leave the session at a later fazgrond_peer_poll, once it is known which words
+ * of them the remaining machines have. */
 int32_t fazgrond_peer_disconnect(fazgrond_peer *peer, uint8_t machine);
 
-/* Notes the game's own digest of the settled state, by which the machines see that they play alike. */
-int32_t fazgrond_peer_note_settled(fazgrond_peer *peer, uint64_t digest);
-
-/* The settled frame, and the slot in which the state after all settled rows lies once the requests are carried out. It stays
- * there until the next call that leaves requests. */
-int32_t fazgrond_peer_settled_slot(fazgrond_peer *peer, uint32_t *frame, uint32_t *slot);
+/* Notes the game's own digest of the session's settled state, by which the machines see that they play alike:
+ * fazgrond_settled_slot says where that state lies. */
+int32_t fazgrond_peer_note_settled(fazgrond_peer *peer, fazgrond_session *session, uint64_t digest);
 
 /* What happened, the oldest first; FAZGROND_NOTHING if no event waits. The oldest is dropped if more than 64 wait. */
 int32_t fazgrond_peer_event(fazgrond_peer *peer, fazgrond_event *event);
 
 /* What was counted and measured of a machine. */
 int32_t fazgrond_peer_stats(fazgrond_peer *peer, uint8_t machine, fazgrond_stats *stats);
-
-/* As the calls of a session that are named alike. */
-int32_t fazgrond_peer_frame(fazgrond_peer *peer, uint32_t *frame);
-int32_t fazgrond_peer_settled(fazgrond_peer *peer, uint32_t *rows);
-int32_t fazgrond_peer_settled_row(fazgrond_peer *peer, uint32_t frame, fazgrond_row *row);
-int32_t fazgrond_peer_confirmed(fazgrond_peer *peer, uint8_t player, uint32_t *words);
-int32_t fazgrond_peer_log_length(fazgrond_peer *peer, size_t *entries);
-int32_t fazgrond_peer_log_entry(fazgrond_peer *peer, size_t place, fazgrond_entry *entry);
 
 /* ---- Spectators over a network: a viewer on another machine is sent the settled rows of a match by one of its machines, the
  * host. Each viewer has a line of its own with its host. `now` is each end's own clock, as a peer's. */
@@ -432,15 +509,17 @@ typedef struct fazgrond_line_state {
 int32_t fazgrond_line_open(fazgrond_line *line, const fazgrond_line_settings *settings);
 
 /* Closes it. Nothing happens if it is closed. */
-void fazgrond_line_close(fazgrond_line *line);
+static inline void fazgrond_line_close(fazgrond_line *line) {
+    fazgrond_close((fazgrond_session *)(void *)line);
+}
 
 /* Takes a datagram that came of the viewer. What is refused, by a code from 301 on, has changed nothing, but that after
  * FAZGROND_MISMATCHED no rows are sent: until a hello of the viewer means this match. */
 int32_t fazgrond_line_receive(fazgrond_line *line, const uint8_t *bytes, size_t length, uint32_t now);
 
-/* The datagram to send to the viewer in this turn, as fazgrond_peer_send: settled rows of the peer's session from those on that
- * the viewer has, as many as fit. Always give it the same peer. FAZGROND_NOTHING once the line has ended. */
-int32_t fazgrond_line_send(fazgrond_line *line, fazgrond_peer *peer, uint32_t now, uint8_t *out, size_t room,
+/* The datagram to send to the viewer in this turn, as fazgrond_peer_send: settled rows of the session from those on that the
+ * viewer has, as many as fit. Always give it the same session. FAZGROND_NOTHING once the line has ended. */
+int32_t fazgrond_line_send(fazgrond_line *line, fazgrond_session *session, uint32_t now, uint8_t *out, size_t room,
                            size_t *length);
 
 /* The datagram that says that the host leaves the viewer: the line has ended. Send it a few times. FAZGROND_NOTHING: the two
@@ -454,7 +533,9 @@ int32_t fazgrond_line_look(fazgrond_line *line, uint32_t now, fazgrond_line_stat
 int32_t fazgrond_viewer_open(fazgrond_viewer *viewer, const fazgrond_line_settings *settings);
 
 /* Closes it. Nothing happens if it is closed. */
-void fazgrond_viewer_close(fazgrond_viewer *viewer);
+static inline void fazgrond_viewer_close(fazgrond_viewer *viewer) {
+    fazgrond_close((fazgrond_session *)(void *)viewer);
+}
 
 /* Takes a datagram that came of the host, as fazgrond_line_receive. `rows` is how many rows were taken from it: 64 at most may
  * wait to be played, and the others come again. */
