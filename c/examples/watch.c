@@ -121,7 +121,8 @@ int main(void) {
         for (uint32_t me = 0; me < 2; me++) {
             hear(me, turn);
             play(me, turn);
-            must(fazgrond_peer_send(&peers[me], &sessions[me], (uint8_t)(1 - me), now, sent.bytes, sizeof sent.bytes, &sent.length));
+            must(fazgrond_peer_send(&peers[me], &sessions[me], (uint8_t)(1 - me), now, sent.bytes, sizeof sent.bytes,
+                                    &sent.length));
             send_to(1 - me, me, turn, sent);
         }
         if (fazgrond_line_send(&line, &sessions[0], now, sent.bytes, sizeof sent.bytes, &sent.length) == FAZGROND_OK)

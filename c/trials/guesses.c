@@ -7,6 +7,9 @@
 
 enum { JOBS = 64, JOB_REQUESTS = 17, AHEAD = 8, TEXT = 1 << 16 };
 
+/* So many slots are enough without jobs. With jobs beside them rolls are refused now and then, and run again. */
+enum { JUST_ENOUGH = 8 + 3 };
+
 /* A job, whose requests are carried out a few in each turn. */
 typedef struct aside {
     bool is_out;
@@ -20,7 +23,7 @@ typedef struct guesser {
     aside jobs[MACHINES][JOBS];
     uint32_t openings[MACHINES]; /* of which the jobs are */
     uint64_t random;
-    uint32_t grafted, kept, dropped, forgotten, claims;
+    uint32_t grafted, kept, dropped, forgotten, claims, refused;
 } guesser;
 
 static guesser the_guesser;
@@ -41,7 +44,7 @@ static void must(world *self, bool is_so, const char *what) {
 static void carry_out_one(world *self, machine *at, aside *job) {
     const fazgrond_request *request = &job->requests[job->done++];
     if (request->kind != FAZGROND_JOB_STEP)
-        must(self, request->slot < SLOTS && at->is_taken[request->slot], "a job's slot isn't its own");
+        must(self, request->slot < world_slots(self) && at->is_taken[request->slot], "a job's slot isn't its own");
     switch (request->kind) {
     case FAZGROND_JOB_LOAD: job->state = at->saved[request->slot]; break;
     case FAZGROND_JOB_SAVE: at->saved[request->slot] = job->state; break;
@@ -72,12 +75,12 @@ static void give_up(world *self, guesser *by, machine *at, aside *job) {
     job->is_out = false;
 }
 
-/* Most jobs are done in this turn, and others later; one in sixteen is given up. */
+/* Most jobs are done in this turn, and others later; one in sixteen is given up, and all if a roll had no slot. */
 static void go_on(world *self, guesser *by, machine *at, aside *job) {
     size_t most = draw(by, 4) == 0 ? draw(by, JOB_REQUESTS) : JOB_REQUESTS;
     for (size_t more = 0; more < most && job->done < job->count; more++)
         carry_out_one(self, at, job);
-    if (draw(by, 16) == 0)
+    if (draw(by, 16) == 0 || at->is_short)
         give_up(self, by, at, job);
     else if (job->done == job->count)
         graft(self, by, at, job);
@@ -90,7 +93,8 @@ static void take_requests(world *self, machine *at, aside *job) {
     fazgrond_request request;
     job->count = job->done = 0;
     while (fazgrond_take_requests(&at->session, &request, 1) > 0) {
-        must(self, request.kind >= FAZGROND_JOB_LOAD && request.slot < SLOTS && job->count < JOB_REQUESTS, "a request of a guess");
+        must(self, request.kind >= FAZGROND_JOB_LOAD && request.slot < world_slots(self) && job->count < JOB_REQUESTS,
+             "a request of a guess");
         if (self->wrong != NULL)
             return;
         if (request.kind == FAZGROND_JOB_SAVE) {
@@ -116,7 +120,10 @@ static void guess(world *self, guesser *by, uint32_t who, uint8_t player, const 
     int32_t code = fazgrond_guess(&at->session, player, words, count, at->frame, &job->number);
     take_requests(self, at, job);
     job->is_out = code == FAZGROND_OK;
-    must(self, code == FAZGROND_OK || code == FAZGROND_NOTHING || code == FAZGROND_TREE_FULL || code == FAZGROND_INVALID_REQUEST,
+    by->refused += code == FAZGROND_NO_MEMORY;
+    must(self,
+         code == FAZGROND_OK || code == FAZGROND_NOTHING || code == FAZGROND_TREE_FULL
+             || (code == FAZGROND_NO_MEMORY && self->setup.slots != 0),
          "a guess is refused");
     if (job->is_out)
         go_on(self, by, at, job);
@@ -160,7 +167,7 @@ void guess_in_turn(world *self, uint32_t who) {
     for (size_t one = 0; one < JOBS; one++)
         if (by->jobs[who][one].is_out)
             go_on(self, by, at, &by->jobs[who][one]);
-    for (uint8_t player = 1; player <= self->setup.machines; player++)
+    for (uint8_t player = 1; player <= self->setup.machines && !at->is_short; player++)
         if (player != who + 1)
             guess_player(self, by, who, player);
     look_at_claim(self, by, at);
@@ -196,7 +203,7 @@ static outcome play(const setup *with, bool is_guessing, uint32_t milliseconds) 
     return made;
 }
 
-static void must_be_less(const outcome *without, const outcome *guessed, uint32_t machines) {
+static void must_be_less(const outcome *without, const outcome *guessed, uint32_t machines, uint32_t times) {
     uint32_t frames = without->frames < guessed->frames ? without->frames : guessed->frames;
     trial_must(memcmp(without->history, guessed->history, (frames + 1) * sizeof *without->history) == 0,
                "the states are those without guesses");
@@ -204,22 +211,24 @@ static void must_be_less(const outcome *without, const outcome *guessed, uint32_
         char text[100];
         snprintf(text, sizeof text, "%u frames are run again, and %u without guesses", (unsigned)guessed->again[who],
                  (unsigned)without->again[who]);
-        trial_must_of(guessed->again[who] < without->again[who] && without->again[who] > 0, who, text);
+        trial_must_of(times * guessed->again[who] < without->again[who], who, text);
     }
 }
 
-static void guesses(uint32_t machines, uint32_t delay, uint32_t loss, uint32_t seed) {
+static void guesses(uint32_t machines, uint32_t slots, uint32_t delay, uint32_t loss, uint32_t seed) {
     setup with = plain;
     with.machines = machines;
+    with.slots = slots;
     with.delay = delay;
     with.jitter = delay / 2;
     with.loss = loss;
     with.is_button = true;
     with.seed = seed;
-    trial_case("%u machines guess words on a line of %u to %u ms that loses %u %%, seed %u", (unsigned)machines, (unsigned)delay,
-               (unsigned)(delay + delay / 2), (unsigned)loss, (unsigned)seed);
+    trial_case("%u machines guess words, with %u slots, on a line of %u to %u ms that loses %u %%, seed %u", (unsigned)machines,
+               (unsigned)slots, (unsigned)delay, (unsigned)(delay + delay / 2), (unsigned)loss, (unsigned)seed);
     outcome without = play(&with, false, 20000), guessed = play(&with, true, 20000);
-    must_be_less(&without, &guessed, machines);
+    must_be_less(&without, &guessed, machines, slots == 0 ? 4 : slots > JUST_ENOUGH);
+    trial_must((the_guesser.refused > 0) == (slots != 0), "guesses are refused that have no slots, and no others");
     trial_must(the_guesser.grafted > 100 && the_guesser.kept >= the_guesser.grafted, "jobs are taken");
     trial_must(the_guesser.forgotten > 0 && the_guesser.dropped > 0, "jobs are given up, and come too late");
     trial_must(the_guesser.claims > 100, "rollbacks have claims");
@@ -229,8 +238,10 @@ static void guesses(uint32_t machines, uint32_t delay, uint32_t loss, uint32_t s
 
 void trial_guesses(uint32_t count, uint32_t seed) {
     for (uint32_t time = 0; time < count; time++, seed++) {
-        guesses(2, 30, 0, seed);
-        guesses(2, 60, 10, seed);
-        guesses(3, 40, 5, seed);
+        guesses(2, 0, 30, 0, seed);
+        guesses(2, 0, 60, 10, seed);
+        guesses(3, 0, 40, 5, seed);
+        guesses(2, JUST_ENOUGH, 60, 5, seed);
+        guesses(2, 24, 60, 5, seed);
     }
 }

@@ -99,6 +99,8 @@ static void arrive(world *self, datagram *come) {
 
 /* ---- A game. */
 
+uint32_t world_slots(const world *self) { return self->setup.slots != 0 ? self->setup.slots : SLOTS; }
+
 static void is_wrong(world *self, const char *what) {
     if (self->wrong == NULL)
         self->wrong = what;
@@ -112,7 +114,7 @@ uint64_t world_state_after(uint64_t state, const fazgrond_row *row) {
 
 static void carry_out(world *self, machine *at, const fazgrond_request *request) {
     uint32_t slot = request->slot;
-    if (slot >= SLOTS || (request->kind != FAZGROND_STEP && at->is_taken[slot] != (request->kind != FAZGROND_SAVE))) {
+    if (slot >= world_slots(self) || (request->kind != FAZGROND_STEP && at->is_taken[slot] != (request->kind != FAZGROND_SAVE))) {
         is_wrong(self, "a slot that is saved to is taken, or one that is loaded or freed isn't");
         return;
     }
@@ -216,7 +218,8 @@ static void empty(machine *at) {
 void world_open_session(world *self, uint32_t who) {
     machine *at = &self->machine[who];
     fazgrond_settings settings = world_settings(self, who);
-    if (fazgrond_open(&at->session, &settings) != FAZGROND_OK || fazgrond_limit_slots(&at->session, SLOTS) != FAZGROND_OK)
+    if (fazgrond_open(&at->session, &settings) != FAZGROND_OK
+        || fazgrond_limit_slots(&at->session, world_slots(self)) != FAZGROND_OK)
         is_wrong(self, "a session doesn't open");
     memset(at->is_taken, 0, sizeof at->is_taken);
     at->is_taken[0] = true;
@@ -293,6 +296,8 @@ static bool give_words(world *self, uint32_t who) {
     for (uint32_t player = 0; player < players_of(&self->setup); player++)
         if (owner_of(&self->setup, player) == who) {
             given = fazgrond_add_local_input(&at->session, (uint8_t)(player + 1), word_of(self, player, at->frame));
+            if (given == FAZGROND_INPUT_TWICE && at->is_short) /* the roll that it was given for is made again */
+                given = FAZGROND_OK;
             if (given != FAZGROND_OK)
                 break;
         }
@@ -355,7 +360,9 @@ static void turn(world *self, uint32_t who) {
         is_wrong(self, "a poll is refused");
     fazgrond_peer_is_running(&at->peer, &is_running);
     fazgrond_frame(&at->session, &at->frame);
-    if (is_running != 0 && play(self, who) != FAZGROND_OK)
+    int32_t code = is_running != 0 ? play(self, who) : FAZGROND_OK;
+    at->is_short = code == FAZGROND_NO_MEMORY && self->setup.slots != 0;
+    if (code != FAZGROND_OK && !at->is_short)
         is_wrong(self, "a turn is refused");
     world_carry_out(self, who);
     look_at_settled(self, at);

@@ -19,6 +19,7 @@ typedef struct setup {
     uint32_t silent_after, notify_after, stalled_after;
     uint32_t silent_first;  /* machine 0 has this time in the place of silent_after, if it isn't 0 */
     uint32_t input_delay;   /* frames by which all words count later */
+    uint32_t slots;         /* room for so many states; 0: for more than are ever needed */
     uint32_t last_frame;    /* nobody gives words from this frame on; 0: no such frame */
     bool has_pair_numbers;  /* each two machines have a number of their own */
     bool is_idle;           /* all words are 0 */
@@ -58,6 +59,7 @@ typedef struct machine {
     uint64_t *history; /* the states after so many settled rows */
     uint32_t settled, room;
     uint32_t frame, wait, rolled_back, steps;
+    bool is_short; /* a roll had no slot: it is made again in the next turn */
 
     /* What is wrong with it. */
     bool is_dead;        /* it does nothing */
@@ -147,6 +149,9 @@ uint32_t world_told_at(const world *self, uint32_t who, uint32_t code, uint32_t 
 bool world_agree(const world *self, uint32_t one, uint32_t other, uint32_t frames);
 
 size_t world_log(world *self, uint32_t who);
+
+/* How many states a game has room for. */
+uint32_t world_slots(const world *self);
 
 /* The game: the state after one row more. */
 uint64_t world_state_after(uint64_t state, const fazgrond_row *row);

@@ -41,7 +41,7 @@ impl Game for Digest {
 
 /// A button that a player holds for some ten frames.
 fn word_of(machine: u8, frame: u32) -> u32 {
-    let run = frame / (9 + 4 * u32::from(machine));
+    let run = frame / (5 + 2 * u32::from(machine));
     Random(u64::from(run) << 8 | u64::from(machine)).below(2)
 }
 
@@ -238,8 +238,8 @@ fn guesses_save_frames_and_change_no_state() {
         assert_eq!(scene.watched.game.sum, without_a_network());
     }
     for (plain, guessed) in plain.machines.iter().zip(&guessed.machines) {
-        assert!(plain.again() > FRAMES / 4, "{} frames are run again", plain.again());
-        assert!(guessed.again() < plain.again() / 2, "{} of {} frames are run again", guessed.again(), plain.again());
+        assert!(plain.again() > 100, "{} frames are run again", plain.again());
+        assert!(guessed.again() < plain.again() / 4, "{} of {} frames are run again", guessed.again(), plain.again());
         assert!(guessed.grafted > FRAMES);
         assert!(guessed.session.claim().unwrap().starts_with(b"rollcert"));
     }
