@@ -318,6 +318,50 @@ impl<G: Game> Plays for Session<G> {}
 /// In each turn hear what came by [`receive`](Peer::receive), give the session its own players' words once
 /// [`is_running`](Peer::is_running) says that the match has begun, make a [`turn`](Peer::turn), and [`send`](Peer::send) to each
 /// other machine.
+///
+/// Here are two machines in one program; each hears what the other sent in the turn before.
+///
+/// ```
+/// use fazgrond::{Datagram, Error, Match, Peer, Session, Settings};
+/// # use fazgrond::{Game, Row};
+/// # struct Sum(u32);
+/// # impl Game for Sum {
+/// #     type State = u32;
+/// #     fn save(&self) -> u32 { self.0 }
+/// #     fn load(&mut self, state: &u32) { self.0 = *state; }
+/// #     fn advance(&mut self, row: &Row) { self.0 += row.cells().flatten().sum::<u32>(); }
+/// # }
+/// # fn random_bits() -> u64 { 4 }
+/// # fn main() -> Result<(), Error> {
+/// let mut machines = Vec::new();
+/// for me in 0..2 {
+///     let mut session = Session::open(&Settings::new(2, &[me + 1]), Sum(0))?;
+///     let of = Match::new(2, me, &[0, 1], random_bits()).number(0x5eed).silent_after(5000);
+///     let peer = Peer::open(&mut session, &of)?;
+///     machines.push((session, peer, Vec::<Datagram>::new()));
+/// }
+/// for turn in 0..100 {
+///     let now = 16 * turn; // your clock
+///     for me in 0..2 {
+///         let (session, peer, came) = &mut machines[usize::from(me)];
+///         for bytes in came.drain(..) {
+///             let _ = peer.receive(session, &bytes, now); // what is refused has changed nothing
+///         }
+///         if peer.is_running() {
+///             let _ = session.add_local_input(me + 1, turn % 2); // refused if this machine is too far ahead
+///         }
+///         peer.turn(session, now)?;
+///         while let Some(event) = peer.event() {
+///             println!("machine {me}: {event:?}");
+///         }
+///         let sent = peer.send(session, 1 - me, now)?;
+///         machines[usize::from(1 - me)].2.extend(sent);
+///     }
+/// }
+/// assert!(machines.iter().all(|(session, ..)| session.settled() > 80));
+/// # Ok(())
+/// # }
+/// ```
 #[derive(Debug)]
 pub struct Peer {
     owned: Owned,
