@@ -25,7 +25,8 @@ extern "C" {
 #define FAZGROND_VERSION 0x000100
 
 /* The version of the library that the program runs with. While the major number is 0, a library fits a header with the same major
- * and minor number. If it doesn't know the sizes of this header's settings, nothing is opened: FAZGROND_OTHER_VERSION. */
+ * and minor number. If a library knows another size of fazgrond_settings or fazgrond_match than the header, it opens nothing and
+ * answers FAZGROND_OTHER_VERSION. */
 uint32_t fazgrond_version(void);
 
 /* What an answer or the code of an event means, in an English sentence for a log: as much of it as `out` has room for, without a
@@ -176,8 +177,8 @@ enum {
     FAZGROND_NO_ROWS = 310,                 /* what the host sends are no rows of this match's players */
     FAZGROND_ROWS_MISSING = 311,            /* rows before those that the host sends have not come yet */
     FAZGROND_OUTSIDE = 312,                 /* the sender tells of machines or players that the match hasn't */
-    FAZGROND_OTHER_SESSION = 313            /* the session isn't the one that this peer plays, or was told of others past the
-                                             * peer. The match is over for this machine */
+    FAZGROND_OTHER_SESSION = 313            /* the session isn't the one that this peer plays: give it that one. Or it was told of
+                                             * others past the peer: then the match is over for this machine */
 };
 
 /* Opens a session. Before the first request the game has its opening state as the current one and in slot 0. If the handle is
@@ -206,9 +207,9 @@ int32_t fazgrond_synchronize_input(fazgrond_session *session, fazgrond_row *row)
  * player gave no word for this frame. FAZGROND_PENDING as above. */
 int32_t fazgrond_advance_frame(fazgrond_session *session, fazgrond_reached *reached);
 
-/* Whether the state that is shown may be out of date: `flag` is 1 if a call was accepted since the last rollback or advance, or if
- * there was none yet, else 0. A turn that plays no frame asks this, and calls fazgrond_synchronize_input if it is 1; without, that
- * call would change nothing, and leave one more entry in the log. */
+/* Whether the state that is shown may be out of date: `flag` is 0 if the last entry of the log is SYNC or ADVANCE, else 1. A turn
+ * that plays no frame asks this, and calls fazgrond_synchronize_input if it is 1. If it is 0, that call would change nothing but
+ * the log, by one entry more. */
 int32_t fazgrond_has_news(fazgrond_session *session, uint32_t *flag);
 
 /* The requests that were not taken yet, in order: fills `out`, which has room for so many, and says how many it wrote. After each
