@@ -2,8 +2,9 @@
  *
  * Two players, a game of one number. Each line is the least of nine runs; a frame is all calls and requests of a turn. Beside each
  * is the same match by GGPO's policy with callbacks, in plain C: if a prediction was wrong, it loads the state before the first wrong
- * frame and runs from there on. The last lines are many sessions that take turns: the least of two runs, and a minute at 60 frames a
- * second, in which each frame of all sessions has a sixtieth of a second. `c_frames 0` leaves the minute out. */
+ * frame and runs from there on. Then come two machines with peers beside their sessions: a turn of one is all its calls, with a
+ * datagram that comes and one that goes. The last lines are many sessions that take turns: the least of two runs, and a minute at 60
+ * frames a second, in which each frame of all sessions has a sixtieth of a second. `c_frames 0` leaves the minute out. */
 #define _POSIX_C_SOURCE 199309L
 #include <fazgrond.h>
 #include <stdio.h>
@@ -54,7 +55,8 @@ static void carry_out_all(match *game) {
 }
 
 static void open_match(match *game) {
-    fazgrond_settings settings = { FAZGROND_GGPO, 2, 1, 8, 1048576, 16777216, { 0 }, { UINT32_MAX, UINT32_MAX } };
+    fazgrond_settings settings = fazgrond_settings_for(2);
+    settings.local = 1;
     must(fazgrond_open(&game->session, &settings));
     game->state = game->saved[0] = 0;
     game->steps = 0;
@@ -189,6 +191,67 @@ static void measure(const char *what, uint32_t late, int changes) {
     fazgrond_close(&game.session);
 }
 
+/* Two machines: each hears in each turn what the other sent in the turn before. */
+typedef struct machine {
+    match match;
+    fazgrond_peer peer;
+    uint8_t bytes[FAZGROND_DATAGRAM];
+    size_t length;
+} machine;
+
+static void open_machine(machine *at, uint32_t me) {
+    fazgrond_settings settings = fazgrond_settings_for(2);
+    fazgrond_match match = fazgrond_match_for(2, me);
+    settings.local = 1u << me;
+    match.owners[0] = 0;
+    match.owners[1] = 1;
+    match.draw = me + 1;
+    match.silent_after = 5000;
+    fazgrond_one_number(&match, 7);
+    must(fazgrond_open(&at->match.session, &settings));
+    must(fazgrond_peer_open(&at->peer, &at->match.session, &match));
+    at->match.state = at->match.saved[0] = at->match.steps = 0;
+    at->length = 0;
+}
+
+static void take_turn(machine *at, uint32_t me, machine *other, uint32_t turn) {
+    fazgrond_session *session = &at->match.session;
+    fazgrond_reached reached;
+    uint32_t is_running, now = turn * 16;
+    if (at->length > 0) /* a first play can't be opened yet */
+        (void)fazgrond_peer_receive(&at->peer, session, at->bytes, at->length, now);
+    must(fazgrond_peer_poll(&at->peer, session, now));
+    must(fazgrond_peer_is_running(&at->peer, &is_running));
+    if (is_running != 0 && fazgrond_add_local_input(session, (uint8_t)(me + 1), turn) == FAZGROND_OK)
+        must(fazgrond_advance_frame(session, &reached));
+    carry_out_all(&at->match);
+    must(fazgrond_peer_send(&at->peer, session, (uint8_t)(1 - me), now, other->bytes, sizeof other->bytes, &other->length));
+}
+
+static void measure_peers(void) {
+    static machine both[2];
+    uint32_t frame = 0;
+    double least = 0;
+    for (int run = 0; run < RUNS; run++) {
+        for (uint32_t me = 0; me < 2; me++)
+            open_machine(&both[me], me);
+        double from = now();
+        for (uint32_t turn = 0; turn < FRAMES; turn++)
+            for (uint32_t me = 0; me < 2; me++)
+                take_turn(&both[me], me, &both[1 - me], turn);
+        double took = (now() - from) / FRAMES / 2;
+        if (run == 0 || took < least)
+            least = took;
+    }
+    must(fazgrond_frame(&both[0].match.session, &frame));
+    printf("%-38s %7.0f ns a turn, %4.2f steps, %.2f frames\n", "two peers, a turn of one", least,
+           (double)both[0].match.steps / FRAMES, (double)frame / FRAMES);
+    for (uint32_t me = 0; me < 2; me++) {
+        fazgrond_peer_close(&both[me].peer);
+        fazgrond_close(&both[me].match.session);
+    }
+}
+
 /* Many sessions, each of which plays a frame in turn: the other player's word comes 2 frames late, and is another one in each. */
 #define SESSIONS 10000
 #define TURNS 120
@@ -266,6 +329,7 @@ int main(int count, char **words) {
     measure("each word 6 frames late, as predicted", 6, 0);
     measure("each word 6 frames late, another one", 6, 1);
     measure("each word 2 frames late, another one", 2, 1);
+    measure_peers();
     measure_many(count < 2 || words[1][0] != '0');
     return 0;
 }

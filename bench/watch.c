@@ -102,7 +102,7 @@ static uint32_t players(void) { return strcmp(how, "brawl") == 0 ? 4 : 2; }
 static void open_match(match *self, long number) {
     char name[FAZ_NAME];
     const char *why;
-    fazgrond_settings session = { .players = players(), .threshold = 8 };
+    fazgrond_settings session = fazgrond_settings_for(players());
     duel_open(&self->field, players());
     for (uint32_t at = 0; at < players(); at++)
         self->bots[at] = duel_bot_of(number + 1, (int)at + 1);

@@ -1,9 +1,10 @@
-// fazgrond.hpp: the calls of fazgrond.h as a class of C++17. It throws nothing of its own.
+// fazgrond.hpp: the calls of fazgrond.h as classes of C++17. They throw nothing of their own.
 #ifndef FAZGROND_HPP
 #define FAZGROND_HPP
 
 #include "fazgrond.h"
 
+#include <array>
 #include <cstddef>
 #include <cstdint>
 #include <memory>
@@ -17,6 +18,23 @@ using Row = fazgrond_row;
 using Reached = fazgrond_reached;
 using Request = fazgrond_request;
 using Entry = fazgrond_entry;
+using Match = fazgrond_match;
+using Event = fazgrond_event;
+using Stats = fazgrond_stats;
+using LineSettings = fazgrond_line_settings;
+using LineState = fazgrond_line_state;
+
+// Where the state after all settled rows lies.
+struct Settled {
+    std::uint32_t frame;
+    std::uint32_t slot;
+};
+
+// What is sent or has come: so many bytes.
+struct Datagram {
+    std::array<std::uint8_t, FAZGROND_DATAGRAM> bytes;
+    std::size_t length = 0;
+};
 
 // What a call answers.
 enum class [[nodiscard]] Code : std::int32_t {
@@ -47,54 +65,75 @@ enum class [[nodiscard]] Code : std::int32_t {
     pending = FAZGROND_PENDING,
     nothing = FAZGROND_NOTHING,
     too_short = FAZGROND_TOO_SHORT,
+    other_version = FAZGROND_OTHER_VERSION,
+    not_sealed = FAZGROND_NOT_SEALED,
+    no_datagram = FAZGROND_NO_DATAGRAM,
+    invalid_machine = FAZGROND_INVALID_MACHINE,
+    own_machine = FAZGROND_OWN_MACHINE,
+    machine_gone = FAZGROND_MACHINE_GONE,
+    mismatched = FAZGROND_MISMATCHED,
+    overstated = FAZGROND_OVERSTATED,
+    ended = FAZGROND_ENDED,
+    other_sender = FAZGROND_OTHER_SENDER,
+    no_rows = FAZGROND_NO_ROWS,
+    rows_missing = FAZGROND_ROWS_MISSING,
+    outside = FAZGROND_OUTSIDE,
+    other_session = FAZGROND_OTHER_SESSION,
 };
 
-inline const char *message(Code code) {
-    switch (code) {
-    case Code::ok: return "ok";
-    case Code::invalid_player: return "no such player, or not this kind of player";
-    case Code::player_out_of_range: return "the number of players is out of range";
-    case Code::prediction_threshold: return "the prediction threshold is reached";
-    case Code::player_disconnected: return "the player is disconnected";
-    case Code::invalid_request: return "invalid settings, or an invalid guess";
-    case Code::local_input_missing: return "a local input is missing";
-    case Code::input_twice: return "the input was given already";
-    case Code::gap: return "an earlier input is missing";
-    case Code::conflict: return "the input conflicts with a confirmed one";
-    case Code::queue_full: return "the input queue is full";
-    case Code::frame_limit: return "the frame limit is reached";
-    case Code::no_memory: return "out of memory";
-    case Code::stranger: return "the job's states are not of this session";
-    case Code::too_far: return "the guess goes too far";
-    case Code::late: return "the job comes too late";
-    case Code::orphan: return "the job's start is not kept any more";
-    case Code::dead: return "the guess is wrong";
-    case Code::tree_full: return "no more states of jobs can be kept";
-    case Code::log_full: return "the log is full";
-    case Code::no_plan: return "there was no rollback yet";
-    case Code::full: return "too many jobs are out";
-    case Code::no_job: return "there is no such job";
-    case Code::is_closed: return "the session is closed";
-    case Code::pending: return "requests were not taken yet";
-    case Code::nothing: return "there is no such thing";
-    case Code::too_short: return "the buffer is too short";
-    }
-    return "an unknown code";
+// The sentence for an answer.
+inline std::string message(Code code) {
+    std::string text(1, '\0');
+    std::size_t length = 0;
+    do {
+        text.resize(length > 0 ? length : 1);
+        length = fazgrond_text(std::int32_t(code), reinterpret_cast<std::uint8_t *>(&text[0]), text.size());
+    } while (length > text.size());
+    text.resize(length);
+    return text;
 }
 
 // The settings of so many players, of whom those with a bit in `local` are on this machine: no delay, and all else at its most.
 inline Settings settings_of(std::uint32_t players, std::uint32_t local) {
-    bool wide = players > 4;
-    Settings settings = {};
-    settings.profile = wide ? FAZGROND_WIDE : FAZGROND_GGPO;
-    settings.players = players;
+    Settings settings = fazgrond_settings_for(players);
     settings.local = local;
-    settings.threshold = wide ? 15 : 8;
-    settings.limit = 1048576;
-    settings.log = 16777216;
-    for (std::uint32_t &mask : settings.masks)
-        mask = UINT32_MAX;
+    settings.threshold = settings.profile == FAZGROND_WIDE ? 15 : 8;
     return settings;
+}
+
+// A handle of C, which closes by itself.
+struct Closer {
+    void operator()(fazgrond_session *handle) const {
+        fazgrond_close(handle);
+        delete handle;
+    }
+
+    void operator()(fazgrond_peer *handle) const {
+        fazgrond_peer_close(handle);
+        delete handle;
+    }
+
+    void operator()(fazgrond_line *handle) const {
+        fazgrond_line_close(handle);
+        delete handle;
+    }
+
+    void operator()(fazgrond_viewer *handle) const {
+        fazgrond_viewer_close(handle);
+        delete handle;
+    }
+};
+
+template <class Handle>
+using Owned = std::unique_ptr<Handle, Closer>;
+
+// What a call writes, if it answers ok.
+template <class Answer, class Handle, class Call, class... Of>
+std::optional<Answer> asked(Handle *handle, Call call, Of... of) {
+    Answer answer;
+    if (call(handle, of..., &answer) != FAZGROND_OK)
+        return std::nullopt;
+    return answer;
 }
 
 // A session, closed at first. The handle stays where it is when the session is moved. One that was moved from takes no calls.
@@ -134,6 +173,12 @@ public:
         Code code = Code(fazgrond_advance_frame(handle.get(), &reached));
         take_requests(carry_out);
         return code;
+    }
+
+    // Whether the state that is shown may be out of date: then a turn that plays no frame synchronizes.
+    std::optional<bool> has_news() {
+        std::optional<std::uint32_t> flag = asked<std::uint32_t>(handle.get(), fazgrond_has_news);
+        return flag ? std::optional<bool>(*flag != 0) : std::nullopt;
     }
 
     // Gives each request that is left to `carry_out`. Some are left only if `carry_out` threw.
@@ -176,9 +221,9 @@ public:
     Code reserve_log(std::uint32_t events) { return Code(fazgrond_reserve_log(handle.get(), events)); }
 
     // The log has all accepted calls, in their order.
-    std::optional<std::size_t> log_length() { return asked<std::size_t>(fazgrond_log_length); }
+    std::optional<std::size_t> log_length() { return asked<std::size_t>(handle.get(), fazgrond_log_length); }
 
-    std::optional<Entry> log_entry(std::size_t place) { return asked<Entry>(fazgrond_log_entry, place); }
+    std::optional<Entry> log_entry(std::size_t place) { return asked<Entry>(handle.get(), fazgrond_log_entry, place); }
 
     // By how many frames this machine is behind the other one, and the other behind this one.
     Code note_advantages(std::int32_t local, std::int32_t remote) {
@@ -186,7 +231,7 @@ public:
     }
 
     // How many frames this machine should wait.
-    std::optional<std::uint32_t> frames_ahead() { return asked<std::uint32_t>(fazgrond_frames_ahead); }
+    std::optional<std::uint32_t> frames_ahead() { return asked<std::uint32_t>(handle.get(), fazgrond_frames_ahead); }
 
     // The text of the last rollback's claim, if the answer is ok.
     Code claim(std::string &text) {
@@ -202,41 +247,152 @@ public:
     }
 
     // These answer nothing too if the session is closed.
-    std::optional<std::uint32_t> frame() { return asked<std::uint32_t>(fazgrond_frame); }
+    std::optional<std::uint32_t> frame() { return asked<std::uint32_t>(handle.get(), fazgrond_frame); }
 
-    std::optional<std::uint32_t> settled() { return asked<std::uint32_t>(fazgrond_settled); }
+    std::optional<std::uint32_t> settled() { return asked<std::uint32_t>(handle.get(), fazgrond_settled); }
 
-    std::optional<Row> settled_row(std::uint32_t frame) { return asked<Row>(fazgrond_settled_row, frame); }
+    std::optional<Row> settled_row(std::uint32_t frame) { return asked<Row>(handle.get(), fazgrond_settled_row, frame); }
+
+    // The state in this slot stays there until the next call that leaves requests.
+    std::optional<Settled> settled_slot() {
+        Settled found;
+        if (fazgrond_settled_slot(handle.get(), &found.frame, &found.slot) != FAZGROND_OK)
+            return std::nullopt;
+        return found;
+    }
 
     std::optional<std::uint32_t> confirmed(std::uint8_t player) {
-        return asked<std::uint32_t>(fazgrond_confirmed, player);
+        return asked<std::uint32_t>(handle.get(), fazgrond_confirmed, player);
     }
 
     std::optional<std::uint32_t> confirmed_word(std::uint8_t player, std::uint32_t frame) {
-        return asked<std::uint32_t>(fazgrond_confirmed_word, player, frame);
+        return asked<std::uint32_t>(handle.get(), fazgrond_confirmed_word, player, frame);
     }
 
     std::optional<std::uint32_t> input_frame(std::uint8_t player) {
-        return asked<std::uint32_t>(fazgrond_input_frame, player);
+        return asked<std::uint32_t>(handle.get(), fazgrond_input_frame, player);
     }
 
 private:
-    struct Closer {
-        void operator()(fazgrond_session *session) const {
-            fazgrond_close(session);
-            delete session;
-        }
-    };
+    friend class Peer;
+    friend class Line;
 
-    template <class Answer, class Call, class... Of>
-    std::optional<Answer> asked(Call call, Of... of) {
-        Answer answer;
-        if (call(handle.get(), of..., &answer) != FAZGROND_OK)
-            return std::nullopt;
-        return answer;
+    Owned<fazgrond_session> handle;
+};
+
+// The network of a match at one machine, closed at first. Give its calls always the session that it was opened with. As a session it
+// may be moved.
+class Peer {
+public:
+    Peer() : handle(new fazgrond_peer FAZGROND_CLOSED) {}
+
+    Code open(Session &session, const Match &match) {
+        return Code(fazgrond_peer_open(handle.get(), session.handle.get(), &match));
     }
 
-    std::unique_ptr<fazgrond_session, Closer> handle;
+    void close() { fazgrond_peer_close(handle.get()); }
+
+    Code receive(Session &session, const std::uint8_t *bytes, std::size_t length, std::uint32_t now) {
+        return Code(fazgrond_peer_receive(handle.get(), session.handle.get(), bytes, length, now));
+    }
+
+    Code poll(Session &session, std::uint32_t now) {
+        return Code(fazgrond_peer_poll(handle.get(), session.handle.get(), now));
+    }
+
+    // Whether the match has begun: before that the session gets no words.
+    bool is_running() { return asked<std::uint32_t>(handle.get(), fazgrond_peer_is_running).value_or(0) != 0; }
+
+    // The datagram to send to a machine in this turn. The answer is nothing if there is none to send.
+    Code send(Session &session, std::uint8_t machine, std::uint32_t now, Datagram &out) {
+        return Code(fazgrond_peer_send(handle.get(), session.handle.get(), machine, now, out.bytes.data(), out.bytes.size(),
+                                       &out.length));
+    }
+
+    // The datagram that says to a machine that this one leaves. The answer is nothing if there is none to send.
+    Code bye(std::uint8_t machine, Datagram &out) {
+        return Code(fazgrond_peer_bye(handle.get(), machine, out.bytes.data(), out.bytes.size(), &out.length));
+    }
+
+    Code disconnect(std::uint8_t machine) { return Code(fazgrond_peer_disconnect(handle.get(), machine)); }
+
+    Code note_settled(Session &session, std::uint64_t digest) {
+        return Code(fazgrond_peer_note_settled(handle.get(), session.handle.get(), digest));
+    }
+
+    // What happened, the oldest first.
+    std::optional<Event> event() { return asked<Event>(handle.get(), fazgrond_peer_event); }
+
+    std::optional<Stats> stats(std::uint8_t machine) { return asked<Stats>(handle.get(), fazgrond_peer_stats, machine); }
+
+private:
+    Owned<fazgrond_peer> handle;
+};
+
+// A host's end of a viewer's line, closed at first. Give `send` always the same session.
+class Line {
+public:
+    Line() : handle(new fazgrond_line FAZGROND_CLOSED) {}
+
+    Code open(const LineSettings &settings) { return Code(fazgrond_line_open(handle.get(), &settings)); }
+
+    void close() { fazgrond_line_close(handle.get()); }
+
+    Code receive(const std::uint8_t *bytes, std::size_t length, std::uint32_t now) {
+        return Code(fazgrond_line_receive(handle.get(), bytes, length, now));
+    }
+
+    // The datagram to send to the viewer in this turn. The answer is nothing once the line has ended.
+    Code send(Session &session, std::uint32_t now, Datagram &out) {
+        return Code(fazgrond_line_send(handle.get(), session.handle.get(), now, out.bytes.data(), out.bytes.size(), &out.length));
+    }
+
+    // The line ends. The answer is nothing if nobody is to be told.
+    Code bye(Datagram &out) {
+        return Code(fazgrond_line_bye(handle.get(), out.bytes.data(), out.bytes.size(), &out.length));
+    }
+
+    std::optional<LineState> look(std::uint32_t now) { return asked<LineState>(handle.get(), fazgrond_line_look, now); }
+
+private:
+    Owned<fazgrond_line> handle;
+};
+
+// A viewer's end of its line, closed at first.
+class Viewer {
+public:
+    Viewer() : handle(new fazgrond_viewer FAZGROND_CLOSED) {}
+
+    Code open(const LineSettings &settings) { return Code(fazgrond_viewer_open(handle.get(), &settings)); }
+
+    void close() { fazgrond_viewer_close(handle.get()); }
+
+    // `rows` is how many rows were taken from it.
+    Code receive(const std::uint8_t *bytes, std::size_t length, std::uint32_t now, std::uint32_t *rows = nullptr) {
+        std::uint32_t taken = 0;
+        Code code = Code(fazgrond_viewer_receive(handle.get(), bytes, length, now, &taken));
+        if (code == Code::ok && rows != nullptr)
+            *rows = taken;
+        return code;
+    }
+
+    // The datagram to send to the host in this turn. The answer is nothing once the line has ended.
+    Code send(std::uint32_t now, Datagram &out) {
+        return Code(fazgrond_viewer_send(handle.get(), now, out.bytes.data(), out.bytes.size(), &out.length));
+    }
+
+    // The line ends. The answer is nothing if nobody is to be told.
+    Code bye(Datagram &out) {
+        return Code(fazgrond_viewer_bye(handle.get(), out.bytes.data(), out.bytes.size(), &out.length));
+    }
+
+    // The next row that is to be played.
+    std::optional<Row> row() { return asked<Row>(handle.get(), fazgrond_viewer_row); }
+
+    std::optional<LineState> look(std::uint32_t now) { return asked<LineState>(handle.get(), fazgrond_viewer_look, now); }
+
+private:
+    Owned<fazgrond_viewer> handle;
 };
 
 } // namespace fazgrond

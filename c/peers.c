@@ -1,5 +1,5 @@
-/* What the calls of a peer and of a viewer's line answer where nothing is to be done: on a closed handle, before the match,
- * with requests that were not taken, with too little room. Says nothing if all is as it has to be. */
+/* What the calls of a peer and of a viewer's line answer where nothing is to be done: on a closed handle, or one of another kind,
+ * before the match, with requests that were not taken, with too little room. Says nothing if all is as it has to be. */
 #include <fazgrond.h>
 #include <stdio.h>
 #include <stdlib.h>
@@ -16,13 +16,32 @@ static void is(int32_t got, int32_t wanted, int line) {
 
 enum { KIND = 13, PLAY = 1 };
 
+/* A machine: its session, and the peer beside it. */
+typedef struct machine {
+    fazgrond_session session;
+    fazgrond_peer peer;
+} machine;
+
+static fazgrond_settings settings_of(uint32_t me) {
+    fazgrond_settings settings = fazgrond_settings_for(2);
+    settings.local = 1u << me;
+    settings.limit = 100;
+    settings.log = 1000;
+    for (int at = 0; at < FAZGROND_PLAYERS; at++)
+        settings.masks[at] = 0;
+    return settings;
+}
+
 static fazgrond_match match_of(uint32_t me) {
-    fazgrond_match match = { .draw = 70 + me, .digest = 8, .me = me, .machines = 2, .silent_after = 5000, .notify_after = 750 };
+    fazgrond_match match = fazgrond_match_for(2, me);
+    match.draw = 70 + me;
+    match.digest = 8;
+    match.silent_after = 5000;
+    match.notify_after = 750;
     fazgrond_one_number(&match, 7);
     match.numbers[me] = 123; /* it isn't read */
-    match.session = (fazgrond_settings){ .players = 2, .local = 1u << me, .threshold = 8, .limit = 100, .log = 1000 };
-    for (uint32_t at = 0; at < FAZGROND_PLAYERS; at++)
-        match.owners[at] = at < 2 ? at : FAZGROND_NO_PLAYER;
+    match.owners[0] = 0;
+    match.owners[1] = 1;
     return match;
 }
 
@@ -37,75 +56,180 @@ static fazgrond_stats stats;
 static fazgrond_entry entry;
 static fazgrond_request requests[8];
 
-static void closed(void) {
-    fazgrond_peer peer = FAZGROND_CLOSED;
-    IS(fazgrond_peer_receive(&peer, bytes, 20, 0), FAZGROND_IS_CLOSED);
-    IS(fazgrond_peer_add_local_input(&peer, 1, 0), FAZGROND_IS_CLOSED);
-    IS(fazgrond_peer_poll(&peer, 0), FAZGROND_IS_CLOSED);
-    IS(fazgrond_peer_has_news(&peer, &a), FAZGROND_IS_CLOSED);
-    IS(fazgrond_peer_synchronize_input(&peer, &row), FAZGROND_IS_CLOSED);
-    IS(fazgrond_peer_advance_frame(&peer, &reached), FAZGROND_IS_CLOSED);
-    IS((int32_t)fazgrond_peer_take_requests(&peer, requests, 8), 0);
-    IS(fazgrond_peer_send(&peer, 1, 0, bytes, sizeof bytes, &length), FAZGROND_IS_CLOSED);
-    IS(fazgrond_peer_bye(&peer, 1, bytes, sizeof bytes, &length), FAZGROND_IS_CLOSED);
-    IS(fazgrond_peer_disconnect(&peer, 1), FAZGROND_IS_CLOSED);
-    IS(fazgrond_peer_note_settled(&peer, 1), FAZGROND_IS_CLOSED);
-    IS(fazgrond_peer_settled_slot(&peer, &a, &b), FAZGROND_IS_CLOSED);
-    IS(fazgrond_peer_event(&peer, &event), FAZGROND_IS_CLOSED);
-    IS(fazgrond_peer_stats(&peer, 1, &stats), FAZGROND_IS_CLOSED);
-    IS(fazgrond_peer_frame(&peer, &a), FAZGROND_IS_CLOSED);
-    IS(fazgrond_peer_settled(&peer, &a), FAZGROND_IS_CLOSED);
-    IS(fazgrond_peer_settled_row(&peer, 0, &row), FAZGROND_IS_CLOSED);
-    IS(fazgrond_peer_confirmed(&peer, 1, &a), FAZGROND_IS_CLOSED);
-    IS(fazgrond_peer_log_length(&peer, &length), FAZGROND_IS_CLOSED);
-    IS(fazgrond_peer_log_entry(&peer, 0, &entry), FAZGROND_IS_CLOSED);
-    fazgrond_peer_close(&peer);
+/* All calls that need a peer, of which one of the two handles is closed. */
+static void are_closed(fazgrond_peer *peer, fazgrond_session *session) {
+    fazgrond_match match = match_of(0);
+    IS(fazgrond_peer_receive(peer, session, bytes, 20, 0), FAZGROND_IS_CLOSED);
+    IS(fazgrond_peer_poll(peer, session, 0), FAZGROND_IS_CLOSED);
+    IS(fazgrond_peer_send(peer, session, 1, 0, bytes, sizeof bytes, &length), FAZGROND_IS_CLOSED);
+    IS(fazgrond_peer_send(peer, session, 1, 0, bytes, 3, &length), FAZGROND_IS_CLOSED);
+    IS(fazgrond_peer_note_settled(peer, session, 1), FAZGROND_IS_CLOSED);
+    if (session->full == 0)
+        IS(fazgrond_peer_open(peer, session, &match), FAZGROND_IS_CLOSED);
+    is((int32_t)length, 77, __LINE__);
+}
+
+/* All calls that need a peer alone. */
+static void is_closed(fazgrond_peer *peer) {
+    IS(fazgrond_peer_is_running(peer, &a), FAZGROND_IS_CLOSED);
+    IS(fazgrond_peer_bye(peer, 1, bytes, sizeof bytes, &length), FAZGROND_IS_CLOSED);
+    IS(fazgrond_peer_disconnect(peer, 1), FAZGROND_IS_CLOSED);
+    IS(fazgrond_peer_event(peer, &event), FAZGROND_IS_CLOSED);
+    IS(fazgrond_peer_stats(peer, 1, &stats), FAZGROND_IS_CLOSED);
     is(a + b, 10, __LINE__);
     is((int32_t)length, 77, __LINE__);
 }
 
-static void not_opened(void) {
+static void open_session(fazgrond_session *session, uint32_t me) {
+    fazgrond_settings settings = settings_of(me);
+    IS(fazgrond_open(session, &settings), FAZGROND_OK);
+}
+
+static void closed(void) {
     fazgrond_peer peer = FAZGROND_CLOSED;
+    fazgrond_session session = FAZGROND_CLOSED;
     fazgrond_match match = match_of(0);
+    is_closed(&peer);
+    are_closed(&peer, &session);
+    IS(fazgrond_settled_slot(&session, &a, &b), FAZGROND_IS_CLOSED);
+    IS(fazgrond_has_news(&session, &a), FAZGROND_IS_CLOSED);
+    fazgrond_peer_close(&peer);
+    open_session(&session, 0);
+    are_closed(&peer, &session);
+    IS(fazgrond_peer_open(&peer, &session, &match), FAZGROND_OK);
+    fazgrond_close(&session);
+    are_closed(&peer, &session);
+    fazgrond_peer_close(&peer);
+    fazgrond_peer_close(&peer);
+    is_closed(&peer);
+}
+
+/* A handle of another kind is a closed one. */
+static void of_another_kind(void) {
+    fazgrond_peer peer = FAZGROND_CLOSED;
+    fazgrond_session session = FAZGROND_CLOSED;
+    fazgrond_match match = match_of(0);
+    open_session(&session, 0);
+    IS(fazgrond_peer_open(&peer, &session, &match), FAZGROND_OK);
+    is_closed((fazgrond_peer *)&session);
+    are_closed((fazgrond_peer *)&session, &session);
+    IS(fazgrond_peer_poll(&peer, (fazgrond_session *)&peer, 0), FAZGROND_IS_CLOSED);
+    IS(fazgrond_frame((fazgrond_session *)&peer, &a), FAZGROND_IS_CLOSED);
+    IS((int32_t)fazgrond_take_requests((fazgrond_session *)&peer, requests, 8), 0);
+    IS(fazgrond_line_look((fazgrond_line *)&peer, 0, &(fazgrond_line_state){ 0 }), FAZGROND_IS_CLOSED);
+    IS(fazgrond_viewer_row((fazgrond_viewer *)&peer, &row), FAZGROND_IS_CLOSED);
+    is(a + b, 10, __LINE__);
+    IS(fazgrond_peer_poll(&peer, &session, 0), FAZGROND_OK);
+    fazgrond_peer_close(&peer);
+    IS(fazgrond_frame(&session, &a), FAZGROND_OK); /* it stays open */
+    a = 5;
+    fazgrond_close(&session);
+}
+
+static void is_not_opened(fazgrond_session *session, const fazgrond_match *match, int32_t code) {
+    fazgrond_peer peer = FAZGROND_CLOSED;
+    IS(fazgrond_peer_open(&peer, session, match), code);
+    IS(fazgrond_peer_event(&peer, &event), FAZGROND_IS_CLOSED);
+}
+
+static void not_opened(void) {
+    fazgrond_session session = FAZGROND_CLOSED;
+    fazgrond_match match = match_of(0);
+    open_session(&session, 0);
     match.me = 2;
-    IS(fazgrond_peer_open(&peer, &match), FAZGROND_INVALID_MACHINE);
+    is_not_opened(&session, &match, FAZGROND_INVALID_MACHINE);
     match.me = 256;
-    IS(fazgrond_peer_open(&peer, &match), FAZGROND_INVALID_REQUEST);
+    is_not_opened(&session, &match, FAZGROND_INVALID_REQUEST);
     match = match_of(0);
     match.owners[7] = 256;
-    IS(fazgrond_peer_open(&peer, &match), FAZGROND_INVALID_REQUEST);
+    is_not_opened(&session, &match, FAZGROND_INVALID_REQUEST);
     match = match_of(0);
     match.owners[2] = 1;
-    IS(fazgrond_peer_open(&peer, &match), FAZGROND_INVALID_PLAYER);
-    match = match_of(0);
-    match.session.local = 2;
-    IS(fazgrond_peer_open(&peer, &match), FAZGROND_INVALID_PLAYER);
+    is_not_opened(&session, &match, FAZGROND_INVALID_PLAYER);
+    match = match_of(1); /* the local player is that of machine 0 */
+    is_not_opened(&session, &match, FAZGROND_INVALID_PLAYER);
     match = match_of(0);
     match.draw = 0;
-    IS(fazgrond_peer_open(&peer, &match), FAZGROND_INVALID_REQUEST);
+    is_not_opened(&session, &match, FAZGROND_INVALID_REQUEST);
     match = match_of(0);
     match.machines = 9;
-    IS(fazgrond_peer_open(&peer, &match), FAZGROND_INVALID_MACHINE);
-    match = match_of(0);
-    match.session.players = 5;
-    IS(fazgrond_peer_open(&peer, &match), FAZGROND_PLAYER_OUT_OF_RANGE);
-    IS(fazgrond_peer_poll(&peer, 0), FAZGROND_IS_CLOSED);
+    is_not_opened(&session, &match, FAZGROND_INVALID_MACHINE);
+    for (uint32_t size = 0; size < 300; size++) { /* another version's */
+        match = match_of(0);
+        match.size = size;
+        if (size != sizeof match)
+            is_not_opened(&session, &match, FAZGROND_OTHER_VERSION);
+    }
+    fazgrond_close(&session);
+}
+
+/* Settings that don't open leave the session open that was there. */
+static void sessions_not_opened(void) {
+    fazgrond_session session = FAZGROND_CLOSED;
+    fazgrond_settings settings = settings_of(0);
+    settings.players = 5;
+    IS(fazgrond_open(&session, &settings), FAZGROND_PLAYER_OUT_OF_RANGE);
+    IS(fazgrond_frame(&session, &a), FAZGROND_IS_CLOSED);
+    for (uint32_t size = 0; size < 300; size++) {
+        settings = settings_of(0);
+        settings.size = size;
+        IS(fazgrond_open(&session, &settings), size == sizeof settings ? FAZGROND_OK : FAZGROND_OTHER_VERSION);
+    }
+    IS(fazgrond_frame(&session, &a), FAZGROND_OK);
+    a = 5;
+    fazgrond_close(&session);
+}
+
+/* A session that has heard of others can't begin a match. */
+static void started(void) {
+    fazgrond_session session = FAZGROND_CLOSED;
+    fazgrond_match match = match_of(0);
+    open_session(&session, 0);
+    IS(fazgrond_remote_input(&session, 2, 0, 1, &a), FAZGROND_OK);
+    is_not_opened(&session, &match, FAZGROND_INVALID_REQUEST);
+    open_session(&session, 0);
+    IS(fazgrond_disconnect_player(&session, 2), FAZGROND_OK);
+    is_not_opened(&session, &match, FAZGROND_INVALID_REQUEST);
+    open_session(&session, 0);
+    IS(fazgrond_add_local_input(&session, 1, 1), FAZGROND_OK);
+    IS(fazgrond_advance_frame(&session, &reached), FAZGROND_OK);
+    fazgrond_peer peer = FAZGROND_CLOSED; /* own words alone don't matter, nor that requests wait */
+    IS(fazgrond_peer_open(&peer, &session, &match), FAZGROND_OK);
+    fazgrond_peer_close(&peer);
+    fazgrond_close(&session);
+    a = 5;
+}
+
+/* What the library says of itself and of numbers. */
+static void says(void) {
+    uint8_t text[200];
+    IS((int32_t)fazgrond_version(), FAZGROND_VERSION);
+    size_t whole = fazgrond_text(FAZGROND_OTHER_SESSION, text, sizeof text);
+    is(whole > 10 && whole < sizeof text, 1, __LINE__);
+    uint8_t begin[200];
+    memset(begin, '!', sizeof begin);
+    is((int32_t)fazgrond_text(FAZGROND_OTHER_SESSION, begin, 4), (int32_t)whole, __LINE__);
+    is(memcmp(begin, text, 4), 0, __LINE__);
+    is(begin[4], '!', __LINE__);
+    is(fazgrond_text(FAZGROND_OK, text, 0) > 0 && fazgrond_text(FAZGROND_RUNNING, text, 0) > 0, 1, __LINE__);
+    is((int32_t)fazgrond_text(12345, text, sizeof text), 0, __LINE__);
+    is((int32_t)fazgrond_text(-1, text, sizeof text), 0, __LINE__);
 }
 
 /* What one sends the other hears, or can't open; the number of bytes. */
-static size_t pass_or(fazgrond_peer *from, fazgrond_peer *to, uint8_t machine, uint32_t now, int32_t answer) {
+static size_t pass_or(machine *from, machine *to, uint8_t machine, uint32_t now, int32_t answer) {
     size_t sent;
-    IS(fazgrond_peer_send(from, machine, now, bytes, sizeof bytes, &sent), FAZGROND_OK);
-    IS(fazgrond_peer_receive(to, bytes, sent, now), answer);
+    IS(fazgrond_peer_send(&from->peer, &from->session, machine, now, bytes, sizeof bytes, &sent), FAZGROND_OK);
+    IS(fazgrond_peer_receive(&to->peer, &to->session, bytes, sent, now), answer);
     return sent;
 }
 
-static size_t pass(fazgrond_peer *from, fazgrond_peer *to, uint8_t machine, uint32_t now) {
+static size_t pass(machine *from, machine *to, uint8_t machine, uint32_t now) {
     return pass_or(from, to, machine, now, FAZGROND_OK);
 }
 
 /* The other hears a play: what is sent before it may be a hello. */
-static void pass_play(fazgrond_peer *from, fazgrond_peer *to, uint8_t machine, uint32_t now) {
+static void pass_play(machine *from, machine *to, uint8_t machine, uint32_t now) {
     for (int at = 0; at < 3; at++) {
         pass(from, to, machine, now);
         if (bytes[KIND] == PLAY)
@@ -114,196 +238,233 @@ static void pass_play(fazgrond_peer *from, fazgrond_peer *to, uint8_t machine, u
     is(bytes[KIND], PLAY, __LINE__);
 }
 
-static void next_event(fazgrond_peer *peer, uint32_t code, uint32_t machine) {
-    IS(fazgrond_peer_event(peer, &event), FAZGROND_OK);
+static void next_event(machine *at, uint32_t code, uint32_t machine) {
+    IS(fazgrond_peer_event(&at->peer, &event), FAZGROND_OK);
     IS((int32_t)event.code, (int32_t)code);
     IS((int32_t)event.machine, (int32_t)machine);
 }
 
-static void open_both(fazgrond_peer *one, fazgrond_peer *two) {
-    fazgrond_match match = match_of(0);
-    IS(fazgrond_peer_open(one, &match), FAZGROND_OK);
-    match = match_of(1);
-    IS(fazgrond_peer_open(two, &match), FAZGROND_OK);
+static void no_event(machine *at) { IS(fazgrond_peer_event(&at->peer, &event), FAZGROND_NOTHING); }
+
+static void polled(machine *at, uint32_t now) { IS(fazgrond_peer_poll(&at->peer, &at->session, now), FAZGROND_OK); }
+
+static void is_running(machine *at, int32_t wanted) {
+    uint32_t flag = 77;
+    IS(fazgrond_peer_is_running(&at->peer, &flag), FAZGROND_OK);
+    IS((int32_t)flag, wanted);
 }
 
-static void before(fazgrond_peer *one, fazgrond_peer *two) {
-    IS(fazgrond_peer_poll(one, 0), FAZGROND_OK);
-    IS(fazgrond_peer_has_news(one, &a), FAZGROND_OK);
-    IS((int32_t)a, 0);
-    IS(fazgrond_peer_add_local_input(one, 1, 0), FAZGROND_NOT_SYNCHRONIZED);
-    IS(fazgrond_peer_synchronize_input(one, &row), FAZGROND_NOT_SYNCHRONIZED);
-    IS(fazgrond_peer_advance_frame(one, &reached), FAZGROND_NOT_SYNCHRONIZED);
-    IS(fazgrond_peer_event(one, &event), FAZGROND_NOTHING);
-    IS(fazgrond_peer_send(one, 1, 0, bytes, FAZGROND_DATAGRAM - 1, &length), FAZGROND_TOO_SHORT);
-    IS(fazgrond_peer_send(one, 0, 0, bytes, sizeof bytes, &length), FAZGROND_NOTHING);
-    IS(fazgrond_peer_send(one, 2, 0, bytes, sizeof bytes, &length), FAZGROND_NOTHING);
+static void opened(machine *at, uint32_t me) {
+    fazgrond_match match = match_of(me);
+    open_session(&at->session, me);
+    IS(fazgrond_peer_open(&at->peer, &at->session, &match), FAZGROND_OK);
+}
+
+static void open_both(machine *one, machine *two) {
+    opened(one, 0);
+    opened(two, 1);
+}
+
+static void close_both(machine *one, machine *two) {
+    fazgrond_peer_close(&one->peer);
+    fazgrond_close(&one->session);
+    fazgrond_close(&two->session); /* the order of the two doesn't matter */
+    fazgrond_peer_close(&two->peer);
+}
+
+static int32_t sent_to(machine *at, uint8_t machine, uint32_t now, size_t room, size_t *written) {
+    return fazgrond_peer_send(&at->peer, &at->session, machine, now, bytes, room, written);
+}
+
+static int32_t heard_by(machine *at, size_t come, uint32_t now) {
+    return fazgrond_peer_receive(&at->peer, &at->session, bytes, come, now);
+}
+
+static int32_t bye_of(machine *at, uint8_t machine, size_t room, size_t *written) {
+    return fazgrond_peer_bye(&at->peer, machine, bytes, room, written);
+}
+
+static void before(machine *one, machine *two) {
+    polled(one, 0);
+    is_running(one, 0);
+    no_event(one);
+    IS(sent_to(one, 1, 0, FAZGROND_DATAGRAM - 1, &length), FAZGROND_TOO_SHORT);
+    IS(sent_to(one, 0, 0, sizeof bytes, &length), FAZGROND_NOTHING);
+    IS(sent_to(one, 2, 0, sizeof bytes, &length), FAZGROND_NOTHING);
     for (uint8_t machine = 0; machine < 3; machine++) /* none: there is nobody to whom it could be sealed */
-        IS(fazgrond_peer_bye(one, machine, bytes, sizeof bytes, &length), FAZGROND_NOTHING);
+        IS(bye_of(one, machine, sizeof bytes, &length), FAZGROND_NOTHING);
     is((int32_t)length, 77, __LINE__);
-    IS(fazgrond_peer_stats(one, 2, &stats), FAZGROND_INVALID_MACHINE);
-    IS(fazgrond_peer_stats(one, 1, &stats), FAZGROND_OK);
+    IS(fazgrond_peer_stats(&one->peer, 2, &stats), FAZGROND_INVALID_MACHINE);
+    IS(fazgrond_peer_stats(&one->peer, 1, &stats), FAZGROND_OK);
     IS((int32_t)stats.sent, 0); /* a call with too little room counts nothing */
-    IS(fazgrond_peer_disconnect(one, 0), FAZGROND_OWN_MACHINE);
-    IS(fazgrond_peer_disconnect(one, 2), FAZGROND_INVALID_MACHINE);
-    IS(fazgrond_peer_receive(one, bytes, 0, 0), FAZGROND_NOT_SEALED);
+    IS(fazgrond_peer_disconnect(&one->peer, 0), FAZGROND_OWN_MACHINE);
+    IS(fazgrond_peer_disconnect(&one->peer, 2), FAZGROND_INVALID_MACHINE);
+    IS(heard_by(one, 0, 0), FAZGROND_NOT_SEALED);
 
     pass(two, one, 0, 0);
     next_event(one, FAZGROND_SYNCHRONIZING, 1);
     IS((int32_t)event.count, 1);
     IS((int32_t)event.total, 2);
-    IS(fazgrond_peer_event(one, &event), FAZGROND_NOTHING);
+    no_event(one);
     size_t sent = pass(one, two, 1, 0);
     next_event(two, FAZGROND_SYNCHRONIZED, 0);
-    IS(fazgrond_peer_receive(one, bytes, sent, 0), FAZGROND_OWN_MACHINE);
+    IS(heard_by(one, sent, 0), FAZGROND_OWN_MACHINE);
     bytes[sent - 1] ^= 1;
-    IS(fazgrond_peer_receive(two, bytes, sent, 0), FAZGROND_NOT_SEALED);
+    IS(heard_by(two, sent, 0), FAZGROND_NOT_SEALED);
     pass_or(two, one, 0, 0, FAZGROND_NOT_SEALED); /* a play: the first doesn't know yet what it is sealed with */
     pass(two, one, 0, 0);
     next_event(one, FAZGROND_SYNCHRONIZED, 1);
-    IS(fazgrond_peer_bye(one, 1, bytes, FAZGROND_DATAGRAM - 1, &length), FAZGROND_TOO_SHORT);
+    IS(bye_of(one, 1, FAZGROND_DATAGRAM - 1, &length), FAZGROND_TOO_SHORT);
     is((int32_t)length, 77, __LINE__);
-    IS(fazgrond_peer_poll(one, 16), FAZGROND_OK);
-    IS(fazgrond_peer_event(one, &event), FAZGROND_NOTHING); /* a play of the other one has to come, too */
+    polled(one, 16);
+    no_event(one); /* a play of the other one has to come, too */
+    is_running(one, 0);
     pass_play(two, one, 0, 16);
     pass_play(one, two, 1, 16);
-    IS(fazgrond_peer_poll(one, 16), FAZGROND_OK);
-    IS(fazgrond_peer_poll(two, 16), FAZGROND_OK);
+    is_running(one, 0); /* a poll says so */
+    polled(one, 16);
+    polled(two, 16);
+    is_running(one, 1);
     next_event(one, FAZGROND_RUNNING, 0);
     next_event(two, FAZGROND_RUNNING, 0);
-    IS(fazgrond_peer_event(two, &event), FAZGROND_NOTHING);
+    no_event(two);
 }
 
 /* How many words a machine hasn't said that it has. */
-static void is_queued(fazgrond_peer *peer, uint8_t machine, int32_t words) {
-    IS(fazgrond_peer_stats(peer, machine, &stats), FAZGROND_OK);
+static void is_queued(machine *at, uint8_t machine, int32_t words) {
+    IS(fazgrond_peer_stats(&at->peer, machine, &stats), FAZGROND_OK);
     IS((int32_t)stats.words_queued, words);
 }
 
 /* Whether there is something to synchronize. */
-static void has_news(fazgrond_peer *peer, int32_t wanted) {
+static void has_news(machine *at, int32_t wanted) {
     uint32_t flag = 77;
-    IS(fazgrond_peer_has_news(peer, &flag), FAZGROND_OK);
+    IS(fazgrond_has_news(&at->session, &flag), FAZGROND_OK);
     IS((int32_t)flag, wanted);
 }
 
-static void during(fazgrond_peer *one, fazgrond_peer *two) {
-    IS(fazgrond_peer_advance_frame(one, &reached), FAZGROND_LOCAL_INPUT_MISSING);
-    IS(fazgrond_peer_add_local_input(one, 2, 3), FAZGROND_INVALID_PLAYER);
-    IS(fazgrond_peer_add_local_input(one, 1, 3), FAZGROND_OK);
-    IS(fazgrond_peer_add_local_input(one, 1, 3), FAZGROND_INPUT_TWICE);
-    IS(fazgrond_peer_advance_frame(one, &reached), FAZGROND_OK);
+static void during(machine *one, machine *two) {
+    fazgrond_session *session = &one->session;
+    has_news(one, 1); /* nothing was accepted yet */
+    IS(fazgrond_advance_frame(session, &reached), FAZGROND_LOCAL_INPUT_MISSING);
+    IS(fazgrond_add_local_input(session, 2, 3), FAZGROND_INVALID_PLAYER);
+    IS(fazgrond_add_local_input(session, 1, 3), FAZGROND_OK);
+    IS(fazgrond_add_local_input(session, 1, 3), FAZGROND_INPUT_TWICE);
+    IS(fazgrond_advance_frame(session, &reached), FAZGROND_OK);
     IS((int32_t)reached.frame, 1);
     memset(&reached, 0, sizeof reached);
-    IS(fazgrond_peer_synchronize_input(one, &row), FAZGROND_PENDING);
-    IS(fazgrond_peer_advance_frame(one, &reached), FAZGROND_PENDING);
+    IS(fazgrond_synchronize_input(session, &row), FAZGROND_PENDING);
+    IS(fazgrond_advance_frame(session, &reached), FAZGROND_PENDING);
     IS((int32_t)reached.frame, 0);
     IS((int32_t)row.count, 0);
-    IS(fazgrond_peer_has_news(one, &a), FAZGROND_OK);
-    IS((int32_t)a, 0);
-    while (fazgrond_peer_take_requests(one, requests, 1) > 0)
+    has_news(one, 0);
+    polled(one, 16); /* a peer doesn't mind requests that wait */
+    pass_play(two, one, 0, 16);
+    pass_play(one, two, 1, 16);
+    while (fazgrond_take_requests(session, requests, 1) > 0)
         ;
-    IS(fazgrond_peer_synchronize_input(one, &row), FAZGROND_OK);
+    IS(fazgrond_synchronize_input(session, &row), FAZGROND_OK);
     IS((int32_t)row.count, 2);
-    IS(fazgrond_peer_frame(one, &a), FAZGROND_OK);
+    IS(fazgrond_frame(session, &a), FAZGROND_OK);
     IS((int32_t)a, 1);
+    while (fazgrond_take_requests(session, requests, 1) > 0)
+        ;
     is_queued(one, 1, 1);
     pass_play(one, two, 1, 32);
     is_queued(one, 1, 1); /* sent, but not yet said to be there */
-    IS(fazgrond_peer_confirmed(two, 1, &a), FAZGROND_OK);
+    IS(fazgrond_confirmed(&two->session, 1, &a), FAZGROND_OK);
     IS((int32_t)a, 1);
     has_news(two, 1);
-    IS(fazgrond_peer_synchronize_input(two, &row), FAZGROND_OK);
-    while (fazgrond_peer_take_requests(two, requests, 8) > 0)
+    IS(fazgrond_synchronize_input(&two->session, &row), FAZGROND_OK);
+    while (fazgrond_take_requests(&two->session, requests, 8) > 0)
         ;
     IS((int32_t)row.words[0], 3);
     has_news(two, 0);
     pass_play(one, two, 1, 32);
     has_news(two, 0); /* the same word again is none */
     is_queued(two, 0, 0);
-    IS(fazgrond_peer_add_local_input(two, 2, 4), FAZGROND_OK);
-    is_queued(two, 0, 1);
-    has_news(two, 0); /* nor is a word of its own */
+    IS(fazgrond_add_local_input(&two->session, 2, 4), FAZGROND_OK);
+    has_news(two, 1); /* a word of its own is accepted too */
     pass_play(two, one, 0, 32);
+    is_queued(two, 0, 1); /* that the peer sees it, is seen by the next call with both */
     is_queued(one, 1, 0);
-    IS(fazgrond_peer_confirmed(two, 3, &a), FAZGROND_NOTHING);
-    IS(fazgrond_peer_settled_row(two, 0, &row), FAZGROND_NOTHING);
-    IS(fazgrond_peer_log_length(one, &length), FAZGROND_OK);
-    IS(fazgrond_peer_log_entry(one, 0, &entry), FAZGROND_OK);
+    IS(fazgrond_confirmed(&two->session, 3, &a), FAZGROND_NOTHING);
+    IS(fazgrond_settled_row(&two->session, 0, &row), FAZGROND_NOTHING);
+    IS(fazgrond_log_length(session, &length), FAZGROND_OK);
+    IS(fazgrond_log_entry(session, 0, &entry), FAZGROND_OK);
     IS((int32_t)entry.kind, FAZGROND_LOCAL);
     IS((int32_t)entry.word, 3);
-    IS(fazgrond_peer_log_entry(one, length, &entry), FAZGROND_NOTHING);
+    IS(fazgrond_log_entry(session, length, &entry), FAZGROND_NOTHING);
 }
 
-static void after(fazgrond_peer *one, fazgrond_peer *two) {
+static void after(machine *one, machine *two) {
     size_t said;
-    IS(fazgrond_peer_bye(one, 0, bytes, sizeof bytes, &said), FAZGROND_NOTHING);
-    IS(fazgrond_peer_bye(one, 1, bytes, sizeof bytes, &said), FAZGROND_OK);
-    IS(fazgrond_peer_receive(two, bytes, said, 48), FAZGROND_OK);
-    IS(fazgrond_peer_receive(two, bytes, said, 48), FAZGROND_MACHINE_GONE);
-    IS(fazgrond_peer_poll(two, 48), FAZGROND_OK);
+    IS(bye_of(one, 0, sizeof bytes, &said), FAZGROND_NOTHING);
+    IS(bye_of(one, 1, sizeof bytes, &said), FAZGROND_OK);
+    IS(heard_by(two, said, 48), FAZGROND_OK);
+    IS(heard_by(two, said, 48), FAZGROND_MACHINE_GONE);
+    polled(two, 48);
     next_event(two, FAZGROND_LEFT, 0);
-    IS(fazgrond_peer_event(two, &event), FAZGROND_OK);
+    IS(fazgrond_peer_event(&two->peer, &event), FAZGROND_OK);
     IS((int32_t)event.code, FAZGROND_DISCONNECTED);
     IS((int32_t)event.player, 1);
     has_news(two, 1);
-    IS(fazgrond_peer_send(two, 0, 48, bytes, sizeof bytes, &said), FAZGROND_NOTHING);
-    IS(fazgrond_peer_bye(two, 0, bytes, sizeof bytes, &said), FAZGROND_NOTHING);
+    IS(sent_to(two, 0, 48, sizeof bytes, &said), FAZGROND_NOTHING);
+    IS(bye_of(two, 0, sizeof bytes, &said), FAZGROND_NOTHING);
     is_queued(two, 0, 0); /* nothing is sent to who is gone */
+    is_running(two, 1);   /* it never ends to be so */
     /* the other hears nothing any more, though it asks: its silence is told, and then it is gone */
     uint32_t now = 32; /* it was heard last then, and answered by then */
     for (; now < 5000; now += 100) {
-        IS(fazgrond_peer_send(one, 1, now, bytes, sizeof bytes, &said), FAZGROND_OK);
-        IS(fazgrond_peer_poll(one, now), FAZGROND_OK);
+        IS(sent_to(one, 1, now, sizeof bytes, &said), FAZGROND_OK);
+        polled(one, now);
         if (now == 832) {
             next_event(one, FAZGROND_INTERRUPTED, 1);
             is(event.disconnect_in >= 4000 && event.disconnect_in <= 4300, 1, __LINE__);
         }
-        IS(fazgrond_peer_event(one, &event), FAZGROND_NOTHING);
+        no_event(one);
     }
-    IS(fazgrond_peer_poll(one, 5033), FAZGROND_OK);
+    polled(one, 5033);
     next_event(one, FAZGROND_LEFT, 1);
 }
 
 /* A silence without questions is none: a program that stood still for an hour puts nobody out. And a machine that isn't there after
  * the time of silence is told of, once. */
 static void standing_still(void) {
-    fazgrond_peer one = FAZGROND_CLOSED, two = FAZGROND_CLOSED;
+    machine one = { FAZGROND_CLOSED, FAZGROND_CLOSED }, two = { FAZGROND_CLOSED, FAZGROND_CLOSED };
     open_both(&one, &two);
-    IS(fazgrond_peer_poll(&one, 0), FAZGROND_OK);
-    IS(fazgrond_peer_poll(&one, 5000), FAZGROND_OK);
-    IS(fazgrond_peer_event(&one, &event), FAZGROND_NOTHING);
+    polled(&one, 0);
+    polled(&one, 5000);
+    no_event(&one);
     for (uint32_t now = 5001; now < 5004; now++)
-        IS(fazgrond_peer_poll(&one, now), FAZGROND_OK);
+        polled(&one, now);
     next_event(&one, FAZGROND_MISSING, 1);
-    IS(fazgrond_peer_event(&one, &event), FAZGROND_NOTHING);
+    no_event(&one);
     for (int at = 0; at < 4; at++) {
         size_t sent;
-        IS(fazgrond_peer_send(&one, 1, 5100, bytes, sizeof bytes, &sent), FAZGROND_OK);
-        (void)fazgrond_peer_receive(&two, bytes, sent, 0);
-        IS(fazgrond_peer_send(&two, 0, 0, bytes, sizeof bytes, &sent), FAZGROND_OK);
-        (void)fazgrond_peer_receive(&one, bytes, sent, 5100);
+        IS(sent_to(&one, 1, 5100, sizeof bytes, &sent), FAZGROND_OK);
+        (void)heard_by(&two, sent, 0);
+        IS(sent_to(&two, 0, 0, sizeof bytes, &sent), FAZGROND_OK);
+        (void)heard_by(&one, sent, 5100);
     }
     next_event(&one, FAZGROND_SYNCHRONIZED, 1);
-    IS(fazgrond_peer_poll(&one, 5100), FAZGROND_OK);
+    polled(&one, 5100);
     next_event(&one, FAZGROND_RUNNING, 0);
-    IS(fazgrond_peer_poll(&one, 5100 + 3600000), FAZGROND_OK);
+    polled(&one, 5100 + 3600000);
     next_event(&one, FAZGROND_INTERRUPTED, 1);
-    IS(fazgrond_peer_event(&one, &event), FAZGROND_NOTHING);
+    no_event(&one);
     pass(&two, &one, 0, 10); /* and time that goes back is none */
     next_event(&one, FAZGROND_RESUMED, 1);
-    fazgrond_peer_close(&one);
-    fazgrond_peer_close(&two);
+    close_both(&one, &two);
 }
 
 /* Another digest means another match, at both of them. The numbers of two machines alone have to be alike. */
 static void others(void) {
-    fazgrond_peer one = FAZGROND_CLOSED, two = FAZGROND_CLOSED;
-    fazgrond_match match = match_of(0);
-    IS(fazgrond_peer_open(&one, &match), FAZGROND_OK);
-    match = match_of(1);
+    machine one = { FAZGROND_CLOSED, FAZGROND_CLOSED }, two = { FAZGROND_CLOSED, FAZGROND_CLOSED };
+    open_both(&one, &two);
+    fazgrond_match match = match_of(1);
     match.digest++;
-    IS(fazgrond_peer_open(&two, &match), FAZGROND_OK);
+    IS(fazgrond_peer_open(&two.peer, &two.session, &match), FAZGROND_OK);
     pass(&two, &one, 0, 0);
     next_event(&one, FAZGROND_SYNCHRONIZING, 1);
     pass(&one, &two, 1, 0);
@@ -313,22 +474,21 @@ static void others(void) {
     next_event(&one, FAZGROND_MISMATCH, 1);
     IS((int32_t)event.field, 3);
     pass(&two, &one, 0, 0);
-    IS(fazgrond_peer_event(&one, &event), FAZGROND_NOTHING); /* told once */
-    IS(fazgrond_peer_bye(&one, 1, bytes, sizeof bytes, &length), FAZGROND_NOTHING);
+    no_event(&one); /* told once */
+    IS(bye_of(&one, 1, sizeof bytes, &length), FAZGROND_NOTHING);
     /* a refused match leaves the peer open that was there */
     match.me = 9;
-    IS(fazgrond_peer_open(&one, &match), FAZGROND_INVALID_MACHINE);
-    IS(fazgrond_peer_poll(&one, 0), FAZGROND_OK);
+    IS(fazgrond_peer_open(&one.peer, &one.session, &match), FAZGROND_INVALID_MACHINE);
+    polled(&one, 0);
     match = match_of(0);
     match.numbers[1]++;
-    IS(fazgrond_peer_open(&one, &match), FAZGROND_OK);
+    IS(fazgrond_peer_open(&one.peer, &one.session, &match), FAZGROND_OK);
     pass_or(&one, &two, 1, 0, FAZGROND_NOT_SEALED);
     match = match_of(1);
     match.numbers[0]++;
-    IS(fazgrond_peer_open(&two, &match), FAZGROND_OK);
+    IS(fazgrond_peer_open(&two.peer, &two.session, &match), FAZGROND_OK);
     pass(&one, &two, 1, 0);
-    fazgrond_peer_close(&one);
-    fazgrond_peer_close(&two);
+    close_both(&one, &two);
 }
 
 static fazgrond_line_settings watched(void) {
@@ -349,11 +509,11 @@ static void are_refused(const fazgrond_line_settings *settings, int32_t code) {
 static void closed_lines(void) {
     fazgrond_line line = FAZGROND_CLOSED;
     fazgrond_viewer viewer = FAZGROND_CLOSED;
-    fazgrond_peer peer = FAZGROND_CLOSED;
+    fazgrond_session session = FAZGROND_CLOSED;
     fazgrond_line_state state = { 0 };
     fazgrond_line_settings settings = watched();
     IS(fazgrond_line_receive(&line, bytes, 20, 0), FAZGROND_IS_CLOSED);
-    IS(fazgrond_line_send(&line, &peer, 0, bytes, sizeof bytes, &length), FAZGROND_IS_CLOSED);
+    IS(fazgrond_line_send(&line, &session, 0, bytes, sizeof bytes, &length), FAZGROND_IS_CLOSED);
     IS(fazgrond_line_bye(&line, bytes, sizeof bytes, &length), FAZGROND_IS_CLOSED);
     IS(fazgrond_line_look(&line, 0, &state), FAZGROND_IS_CLOSED);
     fazgrond_line_close(&line);
@@ -378,15 +538,15 @@ static void closed_lines(void) {
     }
     settings = watched();
     IS(fazgrond_line_open(&line, &settings), FAZGROND_OK);
-    IS(fazgrond_line_send(&line, &peer, 0, bytes, sizeof bytes, &length), FAZGROND_IS_CLOSED); /* the peer is */
+    IS(fazgrond_line_send(&line, &session, 0, bytes, sizeof bytes, &length), FAZGROND_IS_CLOSED); /* the session is */
     fazgrond_line_close(&line);
 }
 
 /* What an end of a line sends, the other hears, with one of these answers. */
-static int32_t to_viewer(fazgrond_line *line, fazgrond_peer *peer, fazgrond_viewer *viewer, uint32_t now) {
+static int32_t to_viewer(fazgrond_line *line, fazgrond_session *session, fazgrond_viewer *viewer, uint32_t now) {
     size_t sent;
     uint32_t rows;
-    IS(fazgrond_line_send(line, peer, now, bytes, sizeof bytes, &sent), FAZGROND_OK);
+    IS(fazgrond_line_send(line, session, now, bytes, sizeof bytes, &sent), FAZGROND_OK);
     return fazgrond_viewer_receive(viewer, bytes, sent, now, &rows);
 }
 
@@ -397,19 +557,19 @@ static int32_t to_line(fazgrond_viewer *viewer, fazgrond_line *line, uint32_t no
 }
 
 /* A viewer who means another match: refused at the latest by a hello that answers. Then one who means the same. */
-static void other_viewer(fazgrond_peer *peer, fazgrond_line *line, fazgrond_viewer *viewer) {
+static void other_viewer(fazgrond_session *session, fazgrond_line *line, fazgrond_viewer *viewer) {
     fazgrond_line_settings settings = watched();
     size_t sent = 77;
     settings.digest++;
     settings.draw = 91;
     IS(fazgrond_viewer_open(viewer, &settings), FAZGROND_OK);
     IS(fazgrond_viewer_send(viewer, 0, bytes, FAZGROND_DATAGRAM - 1, &sent), FAZGROND_TOO_SHORT);
-    IS(fazgrond_line_send(line, peer, 0, bytes, FAZGROND_DATAGRAM - 1, &sent), FAZGROND_TOO_SHORT);
+    IS(fazgrond_line_send(line, session, 0, bytes, FAZGROND_DATAGRAM - 1, &sent), FAZGROND_TOO_SHORT);
     IS((int32_t)sent, 77);
     IS(fazgrond_viewer_row(viewer, &row), FAZGROND_NOTHING);
-    to_viewer(line, peer, viewer, 0);
+    to_viewer(line, session, viewer, 0);
     IS(to_line(viewer, line, 0), FAZGROND_MISMATCHED);
-    IS(to_viewer(line, peer, viewer, 0), FAZGROND_MISMATCHED);
+    IS(to_viewer(line, session, viewer, 0), FAZGROND_MISMATCHED);
     settings = watched();
     settings.draw = 92;
     IS(fazgrond_viewer_open(viewer, &settings), FAZGROND_OK);
@@ -435,8 +595,8 @@ static void nobody_to_tell(void) {
     fazgrond_viewer_close(&viewer);
 }
 
-/* A viewer of the peer's match. */
-static void viewers(fazgrond_peer *peer) {
+/* A viewer of the session's match. */
+static void viewers(fazgrond_session *session) {
     fazgrond_line line = FAZGROND_CLOSED;
     fazgrond_viewer viewer = FAZGROND_CLOSED;
     fazgrond_line_settings settings = watched();
@@ -444,8 +604,8 @@ static void viewers(fazgrond_peer *peer) {
     size_t sent = 77;
     uint32_t rows = 5;
     IS(fazgrond_line_open(&line, &settings), FAZGROND_OK);
-    other_viewer(peer, &line, &viewer);
-    IS(fazgrond_line_send(&line, peer, 0, bytes, sizeof bytes, &sent), FAZGROND_OK);
+    other_viewer(session, &line, &viewer);
+    IS(fazgrond_line_send(&line, session, 0, bytes, sizeof bytes, &sent), FAZGROND_OK);
     IS(fazgrond_line_receive(&line, bytes, sent, 0), FAZGROND_OTHER_SENDER); /* its own */
     IS(fazgrond_viewer_receive(&viewer, bytes, sent - 1, 0, &rows), FAZGROND_NOT_SEALED);
     IS((int32_t)rows, 5);
@@ -453,7 +613,7 @@ static void viewers(fazgrond_peer *peer) {
     IS((int32_t)rows, 0);
     for (int at = 0; at < 4; at++) {
         to_line(&viewer, &line, 10);
-        to_viewer(&line, peer, &viewer, 10);
+        to_viewer(&line, session, &viewer, 10);
     }
     IS(fazgrond_line_look(&line, 12, &state), FAZGROND_OK);
     IS((int32_t)state.is_playing, 1);
@@ -465,7 +625,7 @@ static void viewers(fazgrond_peer *peer) {
     fazgrond_line_look(&line, 12 + 6000, &state);
     IS((int32_t)state.is_silent, 0);
     for (uint32_t now = 12; now < 5012; now += 100)
-        IS(fazgrond_line_send(&line, peer, now, bytes, sizeof bytes, &sent), FAZGROND_OK);
+        IS(fazgrond_line_send(&line, session, now, bytes, sizeof bytes, &sent), FAZGROND_OK);
     fazgrond_line_look(&line, 5010, &state);
     IS((int32_t)state.is_silent, 0);
     fazgrond_line_look(&line, 5012, &state);
@@ -476,25 +636,28 @@ static void viewers(fazgrond_peer *peer) {
     IS((int32_t)state.has_ended, 1);
     IS(fazgrond_viewer_receive(&viewer, bytes, sent, 12, &rows), FAZGROND_ENDED);
     IS(fazgrond_line_receive(&line, bytes, sent, 5012), FAZGROND_OK);
-    IS(fazgrond_line_send(&line, peer, 5012, bytes, sizeof bytes, &sent), FAZGROND_NOTHING);
+    IS(fazgrond_line_send(&line, session, 5012, bytes, sizeof bytes, &sent), FAZGROND_NOTHING);
     IS(fazgrond_viewer_send(&viewer, 12, bytes, sizeof bytes, &sent), FAZGROND_NOTHING);
     fazgrond_line_close(&line);
     fazgrond_viewer_close(&viewer);
 }
 
 int main(void) {
-    fazgrond_peer one = FAZGROND_CLOSED, two = FAZGROND_CLOSED;
+    machine one = { FAZGROND_CLOSED, FAZGROND_CLOSED }, two = { FAZGROND_CLOSED, FAZGROND_CLOSED };
+    says();
     closed();
+    of_another_kind();
     closed_lines();
     not_opened();
+    sessions_not_opened();
+    started();
     open_both(&one, &two);
     before(&one, &two);
     during(&one, &two);
     nobody_to_tell();
-    viewers(&one);
+    viewers(&one.session);
     after(&one, &two);
-    fazgrond_peer_close(&one);
-    fazgrond_peer_close(&two);
+    close_both(&one, &two);
     standing_still();
     others();
     return 0;

@@ -362,15 +362,16 @@ static void read_settings(fazgrond_settings *settings) {
          *limit = behind(&options, "limit"), *log = behind(&options, "log");
     if (!version || !players || !locals || !delays || !threshold)
         unreadable();
+    *settings = fazgrond_settings_for(number_of(players));
     settings->profile = number_of(version) == 3 ? FAZGROND_WIDE : FAZGROND_GGPO;
-    settings->players = number_of(players);
     for (size_t at = 0, count = numbers_of(locals, local, FAZGROND_PLAYERS); at < count; at++)
         if (local[at] >= 1 && local[at] <= FAZGROND_PLAYERS)
             settings->local |= 1u << (local[at] - 1);
     settings->threshold = number_of(threshold);
-    settings->limit = limit ? number_of(limit) : 1048576;
-    settings->log = log ? number_of(log) : 16777216;
-    memset(settings->masks, 0xff, sizeof settings->masks);
+    if (limit)
+        settings->limit = number_of(limit);
+    if (log)
+        settings->log = number_of(log);
     numbers_of(delays, settings->delays, FAZGROND_PLAYERS);
     if (masks)
         numbers_of(masks, settings->masks, FAZGROND_PLAYERS);

@@ -69,35 +69,58 @@ static const uint8_t viewers_answer[24] = {
 
 enum { KIND = 13, HELLO = 0, PLAY = 1 };
 
-static fazgrond_peer opened(uint32_t me, uint64_t number, uint64_t draw) {
-    fazgrond_peer peer = FAZGROND_CLOSED;
-    fazgrond_match match = { .draw = draw, .digest = DIGEST, .me = me, .machines = 2,
-                             .silent_after = 5000, .notify_after = 750 };
+/* A machine: its session, and the peer beside it. */
+typedef struct machine {
+    fazgrond_session session;
+    fazgrond_peer peer;
+} machine;
+
+static void open_machine(machine *at, uint32_t me, uint64_t number, uint64_t draw) {
+    fazgrond_settings settings = fazgrond_settings_for(2);
+    fazgrond_match match = fazgrond_match_for(2, me);
+    settings.local = 1u << me;
+    for (uint32_t player = 0; player < 2; player++) {
+        settings.masks[player] = 0;
+        match.owners[player] = player;
+    }
+    match.draw = draw;
+    match.digest = DIGEST;
+    match.silent_after = 5000;
+    match.notify_after = 750;
     fazgrond_one_number(&match, number);
-    match.session = (fazgrond_settings){ .players = 2, .local = 1u << me, .threshold = 8, .limit = 1048576, .log = 16777216 };
-    for (uint32_t at = 0; at < FAZGROND_PLAYERS; at++)
-        match.owners[at] = at < 2 ? at : FAZGROND_NO_PLAYER;
-    IS(fazgrond_peer_open(&peer, &match), FAZGROND_OK);
-    return peer;
+    *at = (machine){ FAZGROND_CLOSED, FAZGROND_CLOSED };
+    IS(fazgrond_open(&at->session, &settings), FAZGROND_OK);
+    IS(fazgrond_peer_open(&at->peer, &at->session, &match), FAZGROND_OK);
+}
+
+static void close_machine(machine *at) {
+    fazgrond_peer_close(&at->peer);
+    fazgrond_close(&at->session);
 }
 
 /* What one of the two sends to the other. */
-static size_t sent(fazgrond_peer *from, uint8_t machine, uint32_t now, uint8_t *bytes) {
+static size_t sent(machine *from, uint8_t to, uint32_t now, uint8_t *bytes) {
     size_t length;
-    IS(fazgrond_peer_send(from, machine, now, bytes, FAZGROND_DATAGRAM, &length), FAZGROND_OK);
+    IS(fazgrond_peer_send(&from->peer, &from->session, to, now, bytes, FAZGROND_DATAGRAM, &length), FAZGROND_OK);
     return length;
 }
 
-static void pass(fazgrond_peer *from, fazgrond_peer *to, uint8_t machine, uint32_t sent_at, uint32_t heard_at) {
-    uint8_t bytes[FAZGROND_DATAGRAM];
-    size_t length = sent(from, machine, sent_at, bytes);
-    IS(fazgrond_peer_receive(to, bytes, length, heard_at), FAZGROND_OK);
+static int32_t heard(machine *at, const uint8_t *bytes, size_t length, uint32_t now) {
+    return fazgrond_peer_receive(&at->peer, &at->session, bytes, length, now);
 }
 
-static void no_event_but(fazgrond_peer *peer, uint32_t code) {
+static void polled(machine *at, uint32_t now) { IS(fazgrond_peer_poll(&at->peer, &at->session, now), FAZGROND_OK); }
+
+static void pass(machine *from, machine *to, uint8_t number, uint32_t sent_at, uint32_t heard_at) {
+    uint8_t bytes[FAZGROND_DATAGRAM];
+    size_t length = sent(from, number, sent_at, bytes);
+    IS(heard(to, bytes, length, heard_at), FAZGROND_OK);
+}
+
+static void no_event_but(machine *at, uint32_t code) {
     fazgrond_event event;
     int found = 0;
-    while (fazgrond_peer_event(peer, &event) == FAZGROND_OK)
+    while (fazgrond_peer_event(&at->peer, &event) == FAZGROND_OK)
         found += event.code == code;
     IS(found, code != 0);
 }
@@ -111,21 +134,22 @@ static uint32_t word_of(uint8_t player, uint32_t frame) {
 }
 
 /* Plays so many frames, all of which a machine may predict. */
-static void play(fazgrond_peer *peer, uint8_t player, int frames) {
+static void play(machine *at, uint8_t player, int frames) {
+    fazgrond_session *session = &at->session;
     fazgrond_request requests[8];
     fazgrond_reached reached;
     uint32_t frame;
-    for (int at = 0; at < frames; at++) {
-        IS(fazgrond_peer_frame(peer, &frame), FAZGROND_OK);
-        IS(fazgrond_peer_add_local_input(peer, player, word_of(player, frame)), FAZGROND_OK);
-        IS(fazgrond_peer_advance_frame(peer, &reached), FAZGROND_OK);
-        while (fazgrond_peer_take_requests(peer, requests, 8) > 0)
+    for (int time = 0; time < frames; time++) {
+        IS(fazgrond_frame(session, &frame), FAZGROND_OK);
+        IS(fazgrond_add_local_input(session, player, word_of(player, frame)), FAZGROND_OK);
+        IS(fazgrond_advance_frame(session, &reached), FAZGROND_OK);
+        while (fazgrond_take_requests(session, requests, 8) > 0)
             ;
     }
 }
 
 /* Both play up to a frame, and hear each other in each of them. */
-static void play_up_to(fazgrond_peer *one, fazgrond_peer *two, uint32_t end) {
+static void play_up_to(machine *one, machine *two, uint32_t end) {
     uint32_t frames[2] = { 0, 0 };
     while (frames[0] < end || frames[1] < end) {
         if (frames[0] < end)
@@ -134,21 +158,21 @@ static void play_up_to(fazgrond_peer *one, fazgrond_peer *two, uint32_t end) {
             play(two, 2, 1);
         pass(one, two, 1, 0, 0);
         pass(two, one, 0, 0, 0);
-        IS(fazgrond_peer_frame(one, &frames[0]), FAZGROND_OK);
-        IS(fazgrond_peer_frame(two, &frames[1]), FAZGROND_OK);
+        IS(fazgrond_frame(&one->session, &frames[0]), FAZGROND_OK);
+        IS(fazgrond_frame(&two->session, &frames[1]), FAZGROND_OK);
     }
 }
 
 /* Machine 0 has the words of an example, up to a frame, that it had not before. */
-static void has_words(fazgrond_peer *one, uint32_t from, uint32_t end) {
+static void has_words(machine *one, uint32_t from, uint32_t end) {
     fazgrond_entry entry;
     uint32_t words;
     size_t entries;
-    IS(fazgrond_peer_confirmed(one, 2, &words), FAZGROND_OK);
+    IS(fazgrond_confirmed(&one->session, 2, &words), FAZGROND_OK);
     IS(words, end);
-    IS(fazgrond_peer_log_length(one, &entries), FAZGROND_OK);
+    IS(fazgrond_log_length(&one->session, &entries), FAZGROND_OK);
     for (uint32_t frame = end; frame-- > from;) {
-        IS(fazgrond_peer_log_entry(one, --entries, &entry), FAZGROND_OK);
+        IS(fazgrond_log_entry(&one->session, --entries, &entry), FAZGROND_OK);
         IS(entry.kind, FAZGROND_REMOTE);
         IS(entry.frame, frame);
         IS(entry.word, word_of(2, frame));
@@ -156,106 +180,113 @@ static void has_words(fazgrond_peer *one, uint32_t from, uint32_t end) {
 }
 
 /* The two come to play, and what machine 1 sends meanwhile are the examples. */
-static void greet(fazgrond_peer *one, fazgrond_peer *two) {
+static void greet(machine *one, machine *two) {
     uint8_t bytes[FAZGROND_DATAGRAM];
     size_t length;
-    IS(fazgrond_peer_receive(one, turn, sizeof turn, 0), FAZGROND_NOT_SEALED); /* machine 1's draw isn't known yet */
-    IS(fazgrond_peer_bye(two, 0, bytes, sizeof bytes, &length), FAZGROND_NOTHING);
+    IS(heard(one, turn, sizeof turn, 0), FAZGROND_NOT_SEALED); /* machine 1's draw isn't known yet */
+    IS(fazgrond_peer_bye(&two->peer, 0, bytes, sizeof bytes, &length), FAZGROND_NOTHING);
     IS(sent(two, 0, 0, bytes), sizeof first_hello);
     IS(memcmp(bytes, first_hello, sizeof first_hello), 0);
-    IS(fazgrond_peer_receive(one, first_hello, sizeof first_hello, 0), FAZGROND_OK);
-    IS(fazgrond_peer_receive(one, turn, sizeof turn, 0), FAZGROND_NOT_SEALED); /* nor is it believed yet */
+    IS(heard(one, first_hello, sizeof first_hello, 0), FAZGROND_OK);
+    IS(heard(one, turn, sizeof turn, 0), FAZGROND_NOT_SEALED); /* nor is it believed yet */
     pass(one, two, 1, 0, 0);
     IS(sent(two, 0, 0, bytes) > 0, 1); /* a play, which the other can't open yet */
     IS(sent(two, 0, 0, bytes), sizeof hello);
     IS(memcmp(bytes, hello, sizeof hello), 0);
-    IS(fazgrond_peer_receive(one, hello, sizeof hello, 0), FAZGROND_OK);
+    IS(heard(one, hello, sizeof hello, 0), FAZGROND_OK);
     for (int at = 0; at < 3; at++) {
         pass(one, two, 1, 0, 0);
         pass(two, one, 0, 0, 0);
     }
-    IS(fazgrond_peer_poll(one, 0), FAZGROND_OK);
-    IS(fazgrond_peer_poll(two, 0), FAZGROND_OK);
+    polled(one, 0);
+    polled(two, 0);
 }
 
 /* Each example is heard, and what machine 1 sends is the example. The plays are heard where they may be: machine 0 has the words that
  * machine 1 says that it has of it. */
 static void examples(void) {
-    fazgrond_peer one = opened(0, MATCH, draws[0]), two = opened(1, MATCH, draws[1]);
+    machine one, two;
     uint8_t bytes[FAZGROND_DATAGRAM];
     size_t length;
+    open_machine(&one, 0, MATCH, draws[0]);
+    open_machine(&two, 1, MATCH, draws[1]);
     greet(&one, &two);
-    IS(fazgrond_peer_receive(&one, turn, sizeof turn, 0), FAZGROND_OVERSTATED); /* it has no word yet, and not 119 */
+    IS(heard(&one, turn, sizeof turn, 0), FAZGROND_OVERSTATED); /* it has no word yet, and not 119 */
     play_up_to(&one, &two, 117);
     play(&one, 1, 2);
     pass(&one, &two, 1, 0, 0);
     play(&two, 2, 6); /* now both have what the example tells */
-    IS(fazgrond_peer_receive(&one, turn, sizeof turn, 0), FAZGROND_OK);
+    IS(heard(&one, turn, sizeof turn, 0), FAZGROND_OK);
     has_words(&one, 117, 123);
     play_up_to(&one, &two, 19997);
     play(&one, 1, 2);
-    IS(fazgrond_peer_receive(&one, held, sizeof held, 0), FAZGROND_OK);
+    IS(heard(&one, held, sizeof held, 0), FAZGROND_OK);
     has_words(&one, 19997, 20003);
-    IS(fazgrond_peer_bye(&two, 0, bytes, sizeof bytes, &length), FAZGROND_OK);
+    IS(fazgrond_peer_bye(&two.peer, 0, bytes, sizeof bytes, &length), FAZGROND_OK);
     IS(length, sizeof bye);
     IS(memcmp(bytes, bye, length), 0);
-    IS(fazgrond_peer_receive(&one, bye, sizeof bye, 0), FAZGROND_OK);
-    IS(fazgrond_peer_receive(&one, bye, sizeof bye, 0), FAZGROND_MACHINE_GONE);
-    fazgrond_peer_close(&one);
-    fazgrond_peer_close(&two);
+    IS(heard(&one, bye, sizeof bye, 0), FAZGROND_OK);
+    IS(heard(&one, bye, sizeof bye, 0), FAZGROND_MACHINE_GONE);
+    close_machine(&one);
+    close_machine(&two);
 }
 
 /* An example isn't heard if any bit of it is another. What isn't of the other machine isn't even opened. */
 static void is_whole(const uint8_t *text, size_t length) {
-    fazgrond_peer one = opened(0, MATCH, draws[0]);
+    machine one;
     uint8_t bytes[FAZGROND_DATAGRAM];
+    open_machine(&one, 0, MATCH, draws[0]);
     if (text[KIND] != HELLO)
-        IS(fazgrond_peer_receive(&one, hello, sizeof hello, 0), FAZGROND_OK);
+        IS(heard(&one, hello, sizeof hello, 0), FAZGROND_OK);
     memcpy(bytes, text, length);
     for (size_t bit = 0; bit < 8 * length; bit++) {
         bytes[bit / 8] ^= (uint8_t)(1 << bit % 8);
-        IS(fazgrond_peer_receive(&one, bytes, length, 0),
+        IS(heard(&one, bytes, length, 0),
            bytes[12] == 1 ? FAZGROND_NOT_SEALED : bytes[12] == 0 ? FAZGROND_OWN_MACHINE : FAZGROND_INVALID_MACHINE);
         bytes[bit / 8] ^= (uint8_t)(1 << bit % 8);
     }
-    int32_t code = fazgrond_peer_receive(&one, bytes, length, 0);
+    int32_t code = heard(&one, bytes, length, 0);
     IS(code == FAZGROND_OK || (text[KIND] == PLAY && code == FAZGROND_OVERSTATED), 1);
-    fazgrond_peer_close(&one);
+    close_machine(&one);
 }
 
 /* Nor is one of another match or another opening, with the number in the place of its tag, or of another length. */
 static void refused(void) {
     static const uint8_t zeros[1201] = { [12] = 1 };
     uint8_t named[sizeof bye];
-    fazgrond_peer one = opened(0, MATCH, draws[0]), next = opened(0, MATCH + 1, draws[0]), again = opened(0, MATCH, draws[0] + 1);
+    machine one, next, again;
+    open_machine(&one, 0, MATCH, draws[0]);
+    open_machine(&next, 0, MATCH + 1, draws[0]);
+    open_machine(&again, 0, MATCH, draws[0] + 1);
     memcpy(named, bye, sizeof bye);
     for (int at = 0; at < 8; at++)
         named[4 + at] = (uint8_t)(MATCH >> (56 - 8 * at));
-    IS(fazgrond_peer_receive(&next, hello, sizeof hello, 0), FAZGROND_NOT_SEALED);
-    IS(fazgrond_peer_receive(&again, hello, sizeof hello, 0), FAZGROND_OK); /* but it answers another draw */
-    IS(fazgrond_peer_receive(&one, hello, sizeof hello, 0), FAZGROND_OK);
-    IS(fazgrond_peer_receive(&next, bye, sizeof bye, 0), FAZGROND_NOT_SEALED);
-    IS(fazgrond_peer_receive(&again, bye, sizeof bye, 0), FAZGROND_NOT_SEALED);
-    IS(fazgrond_peer_receive(&one, named, sizeof named, 0), FAZGROND_NOT_SEALED);
+    IS(heard(&next, hello, sizeof hello, 0), FAZGROND_NOT_SEALED);
+    IS(heard(&again, hello, sizeof hello, 0), FAZGROND_OK); /* but it answers another draw */
+    IS(heard(&one, hello, sizeof hello, 0), FAZGROND_OK);
+    IS(heard(&next, bye, sizeof bye, 0), FAZGROND_NOT_SEALED);
+    IS(heard(&again, bye, sizeof bye, 0), FAZGROND_NOT_SEALED);
+    IS(heard(&one, named, sizeof named, 0), FAZGROND_NOT_SEALED);
     for (size_t length = 0; length < sizeof bye; length++)
-        IS(fazgrond_peer_receive(&one, bye, length, 0), FAZGROND_NOT_SEALED);
-    IS(fazgrond_peer_receive(&one, zeros, sizeof zeros - 1, 0), FAZGROND_NOT_SEALED);
-    IS(fazgrond_peer_receive(&one, zeros, sizeof zeros, 0), FAZGROND_NOT_SEALED);
-    IS(fazgrond_peer_receive(&one, bye, sizeof bye, 0), FAZGROND_OK);
-    fazgrond_peer_close(&one);
-    fazgrond_peer_close(&next);
-    fazgrond_peer_close(&again);
+        IS(heard(&one, bye, length, 0), FAZGROND_NOT_SEALED);
+    IS(heard(&one, zeros, sizeof zeros - 1, 0), FAZGROND_NOT_SEALED);
+    IS(heard(&one, zeros, sizeof zeros, 0), FAZGROND_NOT_SEALED);
+    IS(heard(&one, bye, sizeof bye, 0), FAZGROND_OK);
+    close_machine(&one);
+    close_machine(&next);
+    close_machine(&again);
 }
 
 /* The examples of a line: what the viewer sends is the example, and each end opens what is for it. */
 static void line_examples(void) {
     fazgrond_line_settings settings = { .number = LINE, .draw = host_draw, .digest = DIGEST, .machines = 2, .silent_after = 5000 };
-    fazgrond_peer peer = opened(0, MATCH, draws[0]);
+    machine host;
     fazgrond_line line = FAZGROND_CLOSED;
     fazgrond_viewer viewer = FAZGROND_CLOSED;
     uint8_t bytes[FAZGROND_DATAGRAM];
     uint32_t taken;
     size_t length;
+    open_machine(&host, 0, MATCH, draws[0]);
     for (uint32_t at = 0; at < FAZGROND_PLAYERS; at++)
         settings.owners[at] = at < 2 ? at : FAZGROND_NO_PLAYER;
     IS(fazgrond_line_open(&line, &settings), FAZGROND_OK);
@@ -263,7 +294,7 @@ static void line_examples(void) {
     settings.silent_after = 3000;
     IS(fazgrond_viewer_open(&viewer, &settings), FAZGROND_OK);
     IS(fazgrond_viewer_receive(&viewer, rows, sizeof rows, 0, &taken), FAZGROND_NOT_SEALED);
-    IS(fazgrond_line_send(&line, &peer, 0, bytes, sizeof bytes, &length), FAZGROND_OK);
+    IS(fazgrond_line_send(&line, &host.session, 0, bytes, sizeof bytes, &length), FAZGROND_OK);
     IS(fazgrond_viewer_receive(&viewer, bytes, length, 0, &taken), FAZGROND_OK);
     IS(fazgrond_viewer_send(&viewer, 0, bytes, sizeof bytes, &length), FAZGROND_OK);
     IS(length, sizeof viewers_hello);
@@ -271,28 +302,28 @@ static void line_examples(void) {
     IS(fazgrond_line_receive(&line, viewers_answer, sizeof viewers_answer, 0), FAZGROND_NOT_SEALED);
     IS(fazgrond_line_receive(&line, viewers_hello, sizeof viewers_hello, 0), FAZGROND_OK);
     for (int at = 0; at < 2; at++) { /* a play that the viewer can't open yet, and a hello */
-        IS(fazgrond_line_send(&line, &peer, 0, bytes, sizeof bytes, &length), FAZGROND_OK);
+        IS(fazgrond_line_send(&line, &host.session, 0, bytes, sizeof bytes, &length), FAZGROND_OK);
         (void)fazgrond_viewer_receive(&viewer, bytes, length, 0, &taken);
     }
     IS(fazgrond_viewer_receive(&viewer, rows, sizeof rows, 0, &taken), FAZGROND_ROWS_MISSING); /* it has none before row 600 */
     IS(fazgrond_line_receive(&line, viewers_answer, sizeof viewers_answer, 0), FAZGROND_OK);
     fazgrond_line_close(&line);
     fazgrond_viewer_close(&viewer);
-    fazgrond_peer_close(&peer);
+    close_machine(&host);
 }
 
 /* The two hear each other, and each a play of the other. A first play comes before the other can open it. */
-static void meet(fazgrond_peer *one, fazgrond_peer *two, uint32_t at_one, uint32_t at_two) {
+static void meet(machine *one, machine *two, uint32_t at_one, uint32_t at_two) {
     uint8_t bytes[FAZGROND_DATAGRAM];
     pass(one, two, 1, at_one, at_two);
     pass(two, one, 0, at_two, at_one);
-    IS(fazgrond_peer_receive(two, bytes, sent(one, 1, at_one, bytes), at_two), FAZGROND_NOT_SEALED);
+    IS(heard(two, bytes, sent(one, 1, at_one, bytes), at_two), FAZGROND_NOT_SEALED);
     for (int at = 0; at < 4; at++) {
         pass(one, two, 1, at_one, at_two);
         pass(two, one, 0, at_two, at_one);
     }
-    IS(fazgrond_peer_poll(one, at_one), FAZGROND_OK);
-    IS(fazgrond_peer_poll(two, at_two), FAZGROND_OK);
+    polled(one, at_one);
+    polled(two, at_two);
     no_event_but(one, FAZGROND_RUNNING);
     no_event_but(two, FAZGROND_RUNNING);
 }
@@ -301,18 +332,20 @@ static void meet(fazgrond_peer *one, fazgrond_peer *two, uint32_t at_one, uint32
  * are 5000 / 16 milliseconds old. They come back after 48 milliseconds, of which the other held them for 8. */
 static void clocks(void) {
     const uint32_t start = UINT32_MAX - 9;
-    fazgrond_peer one = opened(0, MATCH, draws[0] | 0xffffff00), two = opened(1, MATCH, draws[1]);
+    machine one, two;
     fazgrond_stats stats, before;
     uint8_t bytes[FAZGROND_DATAGRAM];
+    open_machine(&one, 0, MATCH, draws[0] | 0xffffff00);
+    open_machine(&two, 1, MATCH, draws[1]);
     meet(&one, &two, start, 500);
     play(&one, 1, 4);
     play(&two, 2, 1);
     pass(&one, &two, 1, start + 400, 900);
     play(&one, 1, 1);
     play(&two, 2, 1);
-    IS(fazgrond_peer_stats(&one, 1, &before), FAZGROND_OK);
+    IS(fazgrond_peer_stats(&one.peer, 1, &before), FAZGROND_OK);
     pass(&two, &one, 0, 908, start + 448);
-    IS(fazgrond_peer_stats(&one, 1, &stats), FAZGROND_OK);
+    IS(fazgrond_peer_stats(&one.peer, 1, &stats), FAZGROND_OK);
     IS(stats.is_measured, 1);
     IS(stats.round_trip, 40);
     IS(stats.received, before.received + 1);
@@ -320,11 +353,11 @@ static void clocks(void) {
     IS(stats.frames_behind, -3);      /* the first is at frame 5 and heard of frame 2 */
     IS(stats.their_frames_behind, 3); /* the other was at 2, and took the first to be at 5: at 4 as it told, and one more */
     /* 750 milliseconds of silence aren't told, and 751 are, once */
-    IS(fazgrond_peer_poll(&one, start + 448 + 750), FAZGROND_OK);
+    polled(&one, start + 448 + 750);
     no_event_but(&one, 0);
-    IS(fazgrond_peer_poll(&one, start + 448 + 751), FAZGROND_OK);
+    polled(&one, start + 448 + 751);
     no_event_but(&one, FAZGROND_INTERRUPTED);
-    IS(fazgrond_peer_poll(&one, start + 448 + 752), FAZGROND_OK);
+    polled(&one, start + 448 + 752);
     no_event_but(&one, 0);
     pass(&two, &one, 0, 1000, start + 1300);
     no_event_but(&one, FAZGROND_RESUMED);
@@ -332,12 +365,12 @@ static void clocks(void) {
     sent(&two, 0, 1000, bytes);
     for (int at = 0; at < 20; at++)
         pass(&two, &one, 0, 1000 + (uint32_t)at * 16, start + 1300 + (uint32_t)at * 16);
-    IS(fazgrond_peer_stats(&one, 1, &stats), FAZGROND_OK);
+    IS(fazgrond_peer_stats(&one.peer, 1, &stats), FAZGROND_OK);
     IS(stats.received, before.received + 22);
     IS(stats.lost, 1);
     IS(stats.refused, 0);
-    fazgrond_peer_close(&one);
-    fazgrond_peer_close(&two);
+    close_machine(&one);
+    close_machine(&two);
 }
 
 int main(void) {

@@ -89,20 +89,13 @@ static void play(int is_guessed) {
     static const uint32_t words[] = { 3 };
     game game = { 0 };
     fazgrond_session session = FAZGROND_CLOSED;
-    fazgrond_settings settings = {
-        .profile = FAZGROND_GGPO,
-        .players = 2,
-        .local = 1,
-        .threshold = 8,
-        .limit = 1048576,
-        .log = 16777216,
-        .masks = { UINT32_MAX, UINT32_MAX },
-    };
+    fazgrond_settings settings = fazgrond_settings_for(2);
     job job = { .saved = game.saved };
     pthread_t thread;
     uint32_t number, added, repeated;
     fazgrond_row row;
 
+    settings.local = 1;
     must(fazgrond_open(&session, &settings));
     must(fazgrond_limit_slots(&session, SLOTS));
     advance(&game, &session);

@@ -67,18 +67,11 @@ static void advance(tally *game, fazgrond_session *session) {
 int main(void) {
     static tally game;
     fazgrond_session session = FAZGROND_CLOSED;
-    fazgrond_settings settings = {
-        .profile = FAZGROND_GGPO,
-        .players = 2,
-        .local = 1,
-        .threshold = 8,
-        .limit = 1048576,
-        .log = 16777216,
-        .masks = { UINT32_MAX, UINT32_MAX },
-    };
+    fazgrond_settings settings = fazgrond_settings_for(2);
     uint32_t repeated, settled;
     fazgrond_row row;
 
+    settings.local = 1;
     must(fazgrond_open(&session, &settings));
     game.state = game.saved[0] = 0; /* the opening */
     advance(&game, &session);

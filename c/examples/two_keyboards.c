@@ -68,13 +68,8 @@ static void must(int32_t code) {
 }
 
 static void open_machine(machine *self, uint8_t me, uint8_t other) {
-    fazgrond_settings settings = { 0 };
-    settings.profile = FAZGROND_GGPO;
-    settings.players = 2;
+    fazgrond_settings settings = fazgrond_settings_for(2);
     settings.local = 1u << (me - 1);
-    settings.threshold = 8;
-    settings.limit = 1048576;
-    settings.log = 16777216;
     for (int at = 0; at < FAZGROND_PLAYERS; at++)
         settings.masks[at] = LEFT | RIGHT; /* a hit isn't held */
     must(fazgrond_open(&self->session, &settings));

@@ -1,4 +1,4 @@
-/* Two peers of a match, in one process. The line between them loses datagrams, and brings the others late and out of order.
+/* Two machines of a match, in one process. The line between them loses datagrams, and brings the others late and out of order.
  * Where `send_to` and `hear` stand, a game on two machines has its sockets. */
 #include <fazgrond.h>
 #include <inttypes.h>
@@ -14,8 +14,9 @@ typedef struct datagram {
     uint8_t bytes[FAZGROND_DATAGRAM];
 } datagram;
 
-/* A machine: its peer, the game's state and its saved states, and what is on the way to it. */
+/* A machine: its session, the peer beside it, the game's state and its saved states, and what is on the way to it. */
 typedef struct machine {
+    fazgrond_session session;
     fazgrond_peer peer;
     uint64_t state, settled_state, saved[SLOTS];
     uint32_t wait, rerun, settled, alone;
@@ -46,7 +47,7 @@ static uint32_t word_of(uint32_t me, uint32_t frame) {
 static void carry_out_all(machine *self) {
     fazgrond_request requests[16];
     size_t count;
-    while ((count = fazgrond_peer_take_requests(&self->peer, requests, 16)) > 0)
+    while ((count = fazgrond_take_requests(&self->session, requests, 16)) > 0)
         for (size_t at = 0; at < count; at++)
             switch (requests[at].kind) {
             case FAZGROND_LOAD: self->state = self->saved[requests[at].slot]; break;
@@ -63,14 +64,18 @@ static uint64_t draw_of(uint32_t me) {
 }
 
 static void open_machine(machine *self, uint32_t me) {
-    fazgrond_match match = { .draw = draw_of(me), .me = me, .machines = 2, .silent_after = 5000, .notify_after = 750 };
+    fazgrond_settings settings = fazgrond_settings_for(2);
+    fazgrond_match match = fazgrond_match_for(2, me);
+    settings.local = 1u << me;
+    settings.limit = FRAMES;
+    match.owners[0] = 0; /* machine 0 has player 1 */
+    match.owners[1] = 1;
+    match.draw = draw_of(me);
+    match.silent_after = 5000;
+    match.notify_after = 750;
     fazgrond_one_number(&match, 0x5eed5eed5eed5eed);
-    match.session = (fazgrond_settings){ .players = 2, .local = 1u << me, .threshold = 8, .limit = FRAMES, .log = 65536 };
-    for (uint32_t at = 0; at < FAZGROND_PLAYERS; at++) {
-        match.session.masks[at] = UINT32_MAX;
-        match.owners[at] = at < 2 ? at : FAZGROND_NO_PLAYER;
-    }
-    must(fazgrond_peer_open(&self->peer, &match));
+    must(fazgrond_open(&self->session, &settings));
+    must(fazgrond_peer_open(&self->peer, &self->session, &match));
     self->state = self->saved[0] = 0; /* the opening */
 }
 
@@ -89,35 +94,45 @@ static void send_to(machine *other, uint32_t turn, const uint8_t *bytes, size_t 
 static void hear(machine *self, uint32_t turn) {
     for (size_t at = 0; at < self->on_the_way;)
         if (self->line[at].due <= turn) { /* what is refused has changed nothing */
-            (void)fazgrond_peer_receive(&self->peer, self->line[at].bytes, self->line[at].length, turn * TURN_MILLISECONDS);
+            (void)fazgrond_peer_receive(&self->peer, &self->session, self->line[at].bytes, self->line[at].length,
+                                        turn * TURN_MILLISECONDS);
             self->line[at] = self->line[--self->on_the_way];
         } else
             at++;
 }
 
-/* A turn of the main loop: a frame, or at least what came too late for the frames before. */
-static void play(machine *self, uint32_t me, uint32_t turn) {
+/* A frame, or at least what came too late for the frames before. */
+static void play(machine *self, uint32_t me) {
     fazgrond_reached reached = { 0 };
     fazgrond_row row;
-    fazgrond_event event;
-    uint32_t frame, slot, has_news;
+    uint32_t frame, has_news;
     int32_t given = FAZGROND_LOCAL_INPUT_MISSING;
-    must(fazgrond_peer_frame(&self->peer, &frame));
+    must(fazgrond_frame(&self->session, &frame));
     if (self->wait > 0)
         self->wait--;
     else
-        given = fazgrond_peer_add_local_input(&self->peer, (uint8_t)(me + 1), word_of(me, frame));
-    must(fazgrond_peer_poll(&self->peer, turn * TURN_MILLISECONDS));
-    must(fazgrond_peer_has_news(&self->peer, &has_news));
+        given = fazgrond_add_local_input(&self->session, (uint8_t)(me + 1), word_of(me, frame));
+    must(fazgrond_has_news(&self->session, &has_news));
     if (given == FAZGROND_OK)
-        must(fazgrond_peer_advance_frame(&self->peer, &reached));
-    else if (given != FAZGROND_NOT_SYNCHRONIZED && has_news != 0) /* too far ahead, or told to wait, or at the last frame */
-        must(fazgrond_peer_synchronize_input(&self->peer, &row));
+        must(fazgrond_advance_frame(&self->session, &reached));
+    else if (has_news != 0) /* too far ahead, or told to wait, or at the last frame */
+        must(fazgrond_synchronize_input(&self->session, &row));
     carry_out_all(self);
     self->rerun += reached.rerun;
-    must(fazgrond_peer_settled_slot(&self->peer, &self->settled, &slot));
+}
+
+/* A turn of the main loop. */
+static void take_turn(machine *self, uint32_t me, uint32_t turn) {
+    fazgrond_event event;
+    uint32_t slot, is_running;
+    hear(self, turn);
+    must(fazgrond_peer_poll(&self->peer, &self->session, turn * TURN_MILLISECONDS));
+    must(fazgrond_peer_is_running(&self->peer, &is_running));
+    if (is_running != 0) /* all machines are there */
+        play(self, me);
+    must(fazgrond_settled_slot(&self->session, &self->settled, &slot));
     self->settled_state = self->saved[slot];
-    must(fazgrond_peer_note_settled(&self->peer, self->settled_state)); /* the state is a digest of itself */
+    must(fazgrond_peer_note_settled(&self->peer, &self->session, self->settled_state)); /* the state is a digest of itself */
     while (fazgrond_peer_event(&self->peer, &event) == FAZGROND_OK) {
         if (event.code == FAZGROND_TIME_SYNC)
             self->wait = event.frames_ahead;
@@ -135,9 +150,9 @@ int main(void) {
         open_machine(&both[me], me);
     for (; both[0].settled < FRAMES || both[1].settled < FRAMES; turn++)
         for (uint32_t me = 0; me < 2; me++) {
-            hear(&both[me], turn);
-            play(&both[me], me, turn);
-            must(fazgrond_peer_send(&both[me].peer, (uint8_t)(1 - me), turn * TURN_MILLISECONDS, bytes, sizeof bytes, &length));
+            take_turn(&both[me], me, turn);
+            must(fazgrond_peer_send(&both[me].peer, &both[me].session, (uint8_t)(1 - me), turn * TURN_MILLISECONDS, bytes,
+                                    sizeof bytes, &length));
             send_to(&both[1 - me], turn, bytes, length);
         }
     for (uint32_t me = 0; me < 2; me++)
@@ -147,12 +162,12 @@ int main(void) {
     must(fazgrond_peer_bye(&both[0].peer, 1, bytes, sizeof bytes, &length));
     for (int time = 0; time < 3; time++)
         send_to(&both[1], turn, bytes, length);
-    fazgrond_peer_close(&both[0].peer);
-    for (; both[1].alone == 0; turn++) {
-        hear(&both[1], turn);
-        play(&both[1], 1, turn);
-    }
+    for (; both[1].alone == 0; turn++)
+        take_turn(&both[1], 1, turn);
     printf("machine 1 is alone\n");
-    fazgrond_peer_close(&both[1].peer);
+    for (uint32_t me = 0; me < 2; me++) {
+        fazgrond_peer_close(&both[me].peer);
+        fazgrond_close(&both[me].session);
+    }
     return 0;
 }

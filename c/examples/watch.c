@@ -4,7 +4,6 @@
 #include <inttypes.h>
 #include <stdio.h>
 #include <stdlib.h>
-#define OWNERS { 0, 1, 255, 255, 255, 255, 255, 255 } /* machine 0 has player 1, machine 1 player 2 */
 enum { SLOTS = 257, FRAMES = 600, UNDER_WAY = 64, TURN_MILLISECONDS = 16, VIEWER = 2 };
 typedef struct datagram {
     uint32_t due, from;
@@ -14,6 +13,7 @@ typedef struct datagram {
 
 static datagram ways[3][UNDER_WAY]; /* what is on the way to each machine, and to the viewer */
 static size_t on_the_way[3];
+static fazgrond_session sessions[2];
 static fazgrond_peer peers[2];
 static uint64_t states[2], saved[2][SLOTS]; /* of the machines' games, whose opening is 0 */
 static fazgrond_line line;
@@ -55,7 +55,7 @@ static void hear(uint32_t me, uint32_t turn) {
             else if (ways[me][at].from == VIEWER)
                 (void)fazgrond_line_receive(&line, ways[me][at].bytes, ways[me][at].length, now);
             else
-                (void)fazgrond_peer_receive(&peers[me], ways[me][at].bytes, ways[me][at].length, now);
+                (void)fazgrond_peer_receive(&peers[me], &sessions[me], ways[me][at].bytes, ways[me][at].length, now);
             ways[me][at] = ways[me][--on_the_way[me]];
         }
 }
@@ -64,16 +64,18 @@ static void play(uint32_t me, uint32_t turn) {
     fazgrond_reached reached;
     fazgrond_row row;
     fazgrond_request request;
-    uint32_t frame, has_news;
-    must(fazgrond_peer_frame(&peers[me], &frame));
-    int32_t given = fazgrond_peer_add_local_input(&peers[me], (uint8_t)(me + 1), word_of(me, frame));
-    must(fazgrond_peer_poll(&peers[me], turn * TURN_MILLISECONDS));
-    must(fazgrond_peer_has_news(&peers[me], &has_news));
-    if (given == FAZGROND_OK)
-        must(fazgrond_peer_advance_frame(&peers[me], &reached));
-    else if (given != FAZGROND_NOT_SYNCHRONIZED && has_news != 0)
-        must(fazgrond_peer_synchronize_input(&peers[me], &row));
-    while (fazgrond_peer_take_requests(&peers[me], &request, 1) > 0)
+    uint32_t frame, is_running, has_news;
+    must(fazgrond_peer_poll(&peers[me], &sessions[me], turn * TURN_MILLISECONDS));
+    must(fazgrond_peer_is_running(&peers[me], &is_running));
+    if (is_running == 0)
+        return;
+    must(fazgrond_frame(&sessions[me], &frame));
+    must(fazgrond_has_news(&sessions[me], &has_news));
+    if (fazgrond_add_local_input(&sessions[me], (uint8_t)(me + 1), word_of(me, frame)) == FAZGROND_OK)
+        must(fazgrond_advance_frame(&sessions[me], &reached));
+    else if (has_news != 0)
+        must(fazgrond_synchronize_input(&sessions[me], &row));
+    while (fazgrond_take_requests(&sessions[me], &request, 1) > 0)
         switch (request.kind) {
         case FAZGROND_LOAD: states[me] = saved[me][request.slot]; break;
         case FAZGROND_SAVE: saved[me][request.slot] = states[me]; break;
@@ -87,21 +89,30 @@ static uint64_t new_draw(void) {
     return draw += 0x9e3779b97f4a7c15;
 }
 
+static void open_machine(uint32_t me) {
+    fazgrond_settings settings = fazgrond_settings_for(2);
+    fazgrond_match match = fazgrond_match_for(2, me);
+    settings.local = 1u << me;
+    settings.limit = FRAMES;
+    match.owners[0] = 0; /* machine 0 has player 1 */
+    match.owners[1] = 1;
+    match.draw = new_draw();
+    match.silent_after = 5000;
+    fazgrond_one_number(&match, 0x5eed5eed5eed5eed);
+    must(fazgrond_open(&sessions[me], &settings));
+    must(fazgrond_peer_open(&peers[me], &sessions[me], &match));
+}
+
 int main(void) {
-    fazgrond_match match = { .machines = 2, .silent_after = 5000, .notify_after = 750, .owners = OWNERS,
-                             .session = { .players = 2, .threshold = 8, .limit = FRAMES, .log = 65536 } };
-    fazgrond_line_settings settings = { .number = 0x1157e2, .host = 0, .machines = 2, .owners = OWNERS, .silent_after = 5000 };
+    fazgrond_line_settings settings = { .number = 0x1157e2, .host = 0, .machines = 2, .silent_after = 5000,
+                                        .owners = { 0, 1, 255, 255, 255, 255, 255, 255 } };
     fazgrond_line_state state = { 0 };
     fazgrond_row row;
     datagram sent = { 0 };
     uint64_t seen = 0; /* the state of the viewer's game, after so many rows */
     uint32_t rows = 0;
-    fazgrond_one_number(&match, 0x5eed5eed5eed5eed);
-    for (match.me = 0; match.me < 2; match.me++) {
-        match.session.local = 1u << match.me;
-        match.draw = new_draw();
-        must(fazgrond_peer_open(&peers[match.me], &match));
-    }
+    for (uint32_t me = 0; me < 2; me++)
+        open_machine(me);
     settings.draw = new_draw();
     must(fazgrond_line_open(&line, &settings));
     settings.draw = new_draw();
@@ -110,10 +121,11 @@ int main(void) {
         for (uint32_t me = 0; me < 2; me++) {
             hear(me, turn);
             play(me, turn);
-            must(fazgrond_peer_send(&peers[me], (uint8_t)(1 - me), now, sent.bytes, sizeof sent.bytes, &sent.length));
+            must(fazgrond_peer_send(&peers[me], &sessions[me], (uint8_t)(1 - me), now, sent.bytes, sizeof sent.bytes,
+                                    &sent.length));
             send_to(1 - me, me, turn, sent);
         }
-        if (fazgrond_line_send(&line, &peers[0], now, sent.bytes, sizeof sent.bytes, &sent.length) == FAZGROND_OK)
+        if (fazgrond_line_send(&line, &sessions[0], now, sent.bytes, sizeof sent.bytes, &sent.length) == FAZGROND_OK)
             send_to(VIEWER, 0, turn, sent);
         hear(VIEWER, turn);
         for (; fazgrond_viewer_row(&viewer, &row) == FAZGROND_OK; rows++)
@@ -126,7 +138,9 @@ int main(void) {
     printf("viewer: rows %" PRIu32 " state %" PRIu64 "\n", rows, seen);
     fazgrond_viewer_close(&viewer);
     fazgrond_line_close(&line);
-    for (uint32_t me = 0; me < 2; me++)
+    for (uint32_t me = 0; me < 2; me++) {
         fazgrond_peer_close(&peers[me]);
+        fazgrond_close(&sessions[me]);
+    }
     return 0;
 }

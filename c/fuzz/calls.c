@@ -1,6 +1,7 @@
-/* A fuzzer of the C interface: the input is a list of calls of a session, or of a peer and the two ends of a viewer's line, with
- * whatever arguments keep what the header asks. Memory runs out now and then, as the input says. Requests must be such that a game
- * can carry them out, and where all that is shown is settled, the game's state must be that of the settled rows. */
+/* A fuzzer of the C interface: the input is a list of calls of a session, and perhaps of a peer beside it and of the two ends of a
+ * viewer's line, with whatever arguments keep what the header asks. Handles of one kind are given for those of another too. Memory
+ * runs out now and then, as the input says. Requests must be such that a game can carry them out; where all that is shown is
+ * settled, the game's state must be that of the settled rows; and what another handle's call answers changes no session. */
 #include "game.h"
 
 /* The library's memory, in place of heap.c: after so many grants it runs out. */
@@ -33,7 +34,7 @@ block rattle_realloc(void *at, size_t old_size, size_t size, size_t align) {
 
 void rattle_dealloc(void *at) { free(at); }
 
-/* A session, or a peer, and its game. */
+/* A session and its game, and what stands beside it. */
 
 enum { JOBS = 64, WORDS = 30, TEXT = 4096 };
 
@@ -42,13 +43,15 @@ typedef struct subject {
     fazgrond_peer peer;
     fazgrond_line line;
     fazgrond_viewer viewer;
-    game of_session, of_peer;
+    fazgrond_settings settings;
+    game game;
     uint32_t now;
 } subject;
 
 static fazgrond_settings take_settings(input *in) {
-    fazgrond_settings made = { .profile = take_some(in, 2), .limit = 1048576, .log = 16777216 };
+    fazgrond_settings made = fazgrond_settings_for(0);
     uint32_t how = take_byte(in);
+    made.profile = take_some(in, 2);
     made.players = take_some(in, made.profile == FAZGROND_WIDE ? 9 : 5);
     made.local = take_some(in, 16);
     made.threshold = take_some(in, made.profile == FAZGROND_WIDE ? 16 : 9);
@@ -66,24 +69,29 @@ static fazgrond_settings take_settings(input *in) {
         made.delays[at] = how & 4 && made.local >> at & 1 ? take_some(in, 9) : 0;
         made.masks[at] = how & 8 ? take_number(in) : UINT32_MAX;
     }
+    made.size = how == 255 ? take_some(in, 200) : made.size;
     return made;
 }
 
 static void open_session(subject *self, input *in) {
     fazgrond_settings settings = take_settings(in);
-    if (fazgrond_open(&self->session, &settings) == FAZGROND_OK)
-        begin_game(&self->of_session);
+    int32_t code = fazgrond_open(&self->session, &settings);
+    MUST((code == FAZGROND_OTHER_VERSION) == (settings.size != sizeof settings));
+    if (code != FAZGROND_OK)
+        return;
+    self->settings = settings;
+    begin_game(&self->game);
 }
 
 static void open_peer(subject *self, input *in) {
-    fazgrond_match match = { .session = take_settings(in), .digest = 1 };
+    fazgrond_match match = fazgrond_match_for(2 + take_some(in, 3), take_some(in, 3));
+    match.digest = 1;
     fazgrond_one_number(&match, 1);
     match.draw = take_byte(in) == 255 ? 0 : 1;
-    match.me = take_some(in, 3);
-    match.machines = 2 + take_some(in, 3);
+    match.size = take_byte(in) == 255 ? take_some(in, 200) : match.size;
     for (uint32_t at = 0; at < FAZGROND_PLAYERS; at++) {
-        match.owners[at] = match.session.local >> at & 1 ? match.me : (match.me + 1) % 3;
-        if (at >= match.session.players)
+        match.owners[at] = self->settings.local >> at & 1 ? match.me : (match.me + 1) % 3;
+        if (at >= self->settings.players)
             match.owners[at] = FAZGROND_NO_PLAYER;
         if (take_byte(in) == 255)
             match.owners[at] = take_number(in);
@@ -91,8 +99,8 @@ static void open_peer(subject *self, input *in) {
     match.silent_after = take_some(in, 200) * 32;
     match.notify_after = take_some(in, 50) * 32;
     match.stalled_after = take_some(in, 50) * 32;
-    if (fazgrond_peer_open(&self->peer, &match) == FAZGROND_OK)
-        begin_game(&self->of_peer);
+    int32_t code = fazgrond_peer_open(&self->peer, &self->session, &match);
+    MUST(code != FAZGROND_OK || match.size == sizeof match);
 }
 
 static void open_line(subject *self, input *in) {
@@ -113,15 +121,7 @@ static void take_all(subject *self, input *in) {
     size_t count;
     while ((count = fazgrond_take_requests(&self->session, requests, 1 + take_byte(in) % 8)) > 0)
         for (size_t at = 0; at < count; at++)
-            carry_out(&self->of_session, &requests[at]);
-}
-
-static void take_all_of_peer(subject *self, input *in) {
-    fazgrond_request requests[8];
-    size_t count;
-    while ((count = fazgrond_peer_take_requests(&self->peer, requests, 1 + take_byte(in) % 8)) > 0)
-        for (size_t at = 0; at < count; at++)
-            carry_out(&self->of_peer, &requests[at]);
+            carry_out(&self->game, &requests[at]);
 }
 
 /* If all rows are settled, the game is at their serial run. */
@@ -136,7 +136,7 @@ static void check_settled(subject *self) {
         MUST(fazgrond_settled_row(&self->session, at, &row) == FAZGROND_OK);
         state = state_after(state, &row);
     }
-    MUST(self->of_session.now == state);
+    MUST(self->game.now == state);
 }
 
 static void roll(subject *self, input *in, bool is_advance) {
@@ -149,22 +149,12 @@ static void roll(subject *self, input *in, bool is_advance) {
     if (take_byte(in) == 255) {
         fazgrond_request one;
         if (fazgrond_take_requests(&self->session, &one, 1) == 1)
-            carry_out(&self->of_session, &one);
+            carry_out(&self->game, &one);
         return;
     }
     take_all(self, in);
     if (code == FAZGROND_OK)
         check_settled(self);
-}
-
-static void roll_peer(subject *self, input *in, bool is_advance) {
-    fazgrond_row row;
-    fazgrond_reached reached;
-    if (is_advance)
-        fazgrond_peer_advance_frame(&self->peer, &reached);
-    else
-        fazgrond_peer_synchronize_input(&self->peer, &row);
-    take_all_of_peer(self, in);
 }
 
 /* A guess, whose slots get what its job would put there: with a digest of rows for a state, that is the job's own run. */
@@ -180,13 +170,13 @@ static void guess(subject *self, input *in) {
         return;
     while ((taken = fazgrond_take_requests(&self->session, requests, 8)) > 0)
         for (size_t at = 0; at < taken; at++) {
-            carry_out(&self->of_session, &requests[at]);
+            carry_out(&self->game, &requests[at]);
             if (requests[at].kind == FAZGROND_JOB_LOAD)
-                aside = self->of_session.slots[requests[at].slot];
+                aside = self->game.slots[requests[at].slot];
             else if (requests[at].kind == FAZGROND_JOB_STEP)
                 aside = state_after(aside, &requests[at].row);
             else if (requests[at].kind == FAZGROND_JOB_SAVE)
-                self->of_session.slots[requests[at].slot] = aside;
+                self->game.slots[requests[at].slot] = aside;
         }
 }
 
@@ -287,7 +277,7 @@ static void call_of_line(subject *self, input *in, uint32_t what, size_t room) {
     case 2:
     case 3:
     case 4:
-        if (fazgrond_line_send(&self->line, &self->peer, self->now, bytes, room, &length) == FAZGROND_OK)
+        if (fazgrond_line_send(&self->line, &self->session, self->now, bytes, room, &length) == FAZGROND_OK)
             fazgrond_viewer_receive(&self->viewer, bytes, length, self->now, &rows);
         break;
     case 5:
@@ -311,55 +301,79 @@ static void call_of_line(subject *self, input *in, uint32_t what, size_t room) {
     free(bytes);
 }
 
+/* What can be seen of the session. */
+typedef struct looks {
+    uint32_t frame, settled, confirmed[FAZGROND_PLAYERS];
+    size_t entries;
+} looks;
+
+static looks look_at(subject *self) {
+    looks seen;
+    memset(&seen, 0, sizeof seen);
+    fazgrond_frame(&self->session, &seen.frame);
+    fazgrond_settled(&self->session, &seen.settled);
+    fazgrond_log_length(&self->session, &seen.entries);
+    for (uint8_t player = 1; player <= FAZGROND_PLAYERS; player++)
+        fazgrond_confirmed(&self->session, player, &seen.confirmed[player - 1]);
+    return seen;
+}
+
+/* A call of two handles, of which one may be of another kind. */
+static int32_t call_of_both(subject *self, input *in, uint32_t what, uint8_t *bytes, size_t room, size_t *length) {
+    uint32_t kinds = take_byte(in);
+    fazgrond_peer *peer = kinds == 255 ? (fazgrond_peer *)&self->session : &self->peer;
+    fazgrond_session *session = kinds == 254 ? (fazgrond_session *)&self->peer : &self->session;
+    switch (what) {
+    case 0:
+    case 1: return fazgrond_peer_send(peer, session, (uint8_t)take_some(in, 4), self->now, bytes, room, length);
+    case 2: return fazgrond_peer_receive(peer, session, bytes, room, self->now);
+    case 3: return fazgrond_peer_note_settled(peer, session, take_number(in));
+    default: self->now += take_some(in, 100); return fazgrond_peer_poll(peer, session, self->now);
+    }
+}
+
+static void call_beside(subject *self, input *in, uint32_t what, size_t room) {
+    uint8_t *bytes = malloc(room + 1);
+    size_t length = 0;
+    if (bytes == NULL)
+        return;
+    memset(bytes, (int)take_byte(in), room);
+    looks before = look_at(self);
+    int32_t code = call_of_both(self, in, what, bytes, room, &length);
+    looks after = look_at(self);
+    MUST(length <= room);
+    if (code == FAZGROND_OTHER_SESSION || code == FAZGROND_IS_CLOSED)
+        MUST(memcmp(&before, &after, sizeof before) == 0);
+    free(bytes);
+}
+
 static void call_of_peer(subject *self, input *in) {
-    uint32_t what = take_byte(in), number, slot;
-    uint8_t *bytes = NULL;
-    size_t room = take_some(in, 8) * 200 % 1300, length = 0, entries;
+    uint32_t what = take_byte(in), flag, frame, slot;
+    uint8_t bytes[1300];
+    size_t room = take_some(in, 8) * 200 % sizeof bytes, length = 0;
     fazgrond_event event;
     fazgrond_stats stats;
-    fazgrond_row row;
-    fazgrond_entry entry;
     switch (what % 16) {
     case 0:
-    case 1: fazgrond_peer_add_local_input(&self->peer, (uint8_t)take_some(in, 5), take_some(in, 4)); break;
-    case 2: roll_peer(self, in, false); break;
-    case 3: roll_peer(self, in, true); break;
+    case 1:
+    case 2:
+    case 3:
     case 4:
-        self->now += take_some(in, 100);
-        fazgrond_peer_poll(&self->peer, self->now);
-        take_all_of_peer(self, in);
-        break;
-    case 5:
+    case 5: call_beside(self, in, what % 16, room); break;
     case 6:
-    case 7:
-        bytes = malloc(room + 1);
-        if (bytes == NULL)
-            break;
-        if (what % 16 == 5)
-            fazgrond_peer_send(&self->peer, (uint8_t)take_some(in, 4), self->now, bytes, room, &length);
-        else if (what % 16 == 6)
-            fazgrond_peer_bye(&self->peer, (uint8_t)take_some(in, 4), bytes, room, &length);
-        else {
-            memset(bytes, (int)take_byte(in), room);
-            fazgrond_peer_receive(&self->peer, bytes, room, self->now);
-        }
+        fazgrond_peer_bye(&self->peer, (uint8_t)take_some(in, 4), bytes, room, &length);
         MUST(length <= room);
-        free(bytes);
         break;
-    case 8: fazgrond_peer_disconnect(&self->peer, (uint8_t)take_some(in, 4)); break;
-    case 9: fazgrond_peer_note_settled(&self->peer, take_number(in)); break;
-    case 10: fazgrond_peer_event(&self->peer, &event); break;
-    case 11: fazgrond_peer_stats(&self->peer, (uint8_t)take_some(in, 9), &stats); break;
+    case 7: fazgrond_peer_disconnect(&self->peer, (uint8_t)take_some(in, 4)); break;
+    case 8: fazgrond_peer_event(&self->peer, &event); break;
+    case 9: fazgrond_peer_stats(&self->peer, (uint8_t)take_some(in, 9), &stats); break;
+    case 10:
+        fazgrond_peer_is_running(&self->peer, &flag);
+        fazgrond_has_news(&self->session, &flag);
+        fazgrond_settled_slot(&self->session, &frame, &slot);
+        break;
+    case 11: fazgrond_text((int32_t)take_some(in, 2000), bytes, room); break;
     case 12:
-        fazgrond_peer_frame(&self->peer, &number);
-        fazgrond_peer_has_news(&self->peer, &number);
-        fazgrond_peer_settled(&self->peer, &number);
-        fazgrond_peer_settled_slot(&self->peer, &number, &slot);
-        fazgrond_peer_settled_row(&self->peer, take_some(in, 40), &row);
-        fazgrond_peer_confirmed(&self->peer, (uint8_t)take_some(in, 9), &number);
-        fazgrond_peer_log_length(&self->peer, &entries);
-        fazgrond_peer_log_entry(&self->peer, take_some(in, 40), &entry);
-        break;
     case 13:
     case 14: call_of_line(self, in, what, room); break;
     default:
@@ -382,7 +396,7 @@ int LLVMFuzzerTestOneInput(const uint8_t *data, size_t size) {
     if (is_peer)
         open_peer(&self, &in);
     while (in.left > 0) {
-        if (is_peer)
+        if (is_peer && take_byte(&in) % 2 == 0)
             call_of_peer(&self, &in);
         else
             call_of_session(&self, &in);

@@ -14,8 +14,9 @@ typedef struct packet {
     size_t length;
 } packet;
 
-/* The two ends, and what is on the way to each; with the peers of the match that is watched. */
+/* The two ends, and what is on the way to each; with the sessions and peers of the match that is watched. */
 typedef struct scene {
+    fazgrond_session sessions[2];
     fazgrond_peer peers[2];
     fazgrond_line line;
     fazgrond_viewer viewer;
@@ -31,15 +32,17 @@ static uint32_t owner_of(const scene *self, uint32_t player) {
 }
 
 static void open_peer(scene *self, uint32_t me) {
-    fazgrond_match made = { .draw = 5 + me, .digest = DIGEST, .me = me, .machines = 2 };
+    fazgrond_settings settings = fazgrond_settings_for(self->players);
+    fazgrond_match made = fazgrond_match_for(2, me);
+    made.draw = 5 + me;
+    made.digest = DIGEST;
     fazgrond_one_number(&made, 1);
-    made.session = (fazgrond_settings){ .players = self->players, .threshold = 8, .limit = 1048576, .log = 16777216 };
     for (uint32_t player = 0; player < FAZGROND_PLAYERS; player++) {
         made.owners[player] = owner_of(self, player);
-        made.session.masks[player] = UINT32_MAX;
-        made.session.local |= made.owners[player] == me ? 1u << player : 0;
+        settings.local |= made.owners[player] == me ? 1u << player : 0;
     }
-    MUST(fazgrond_peer_open(&self->peers[me], &made) == FAZGROND_OK);
+    MUST(fazgrond_open(&self->sessions[me], &settings) == FAZGROND_OK);
+    MUST(fazgrond_peer_open(&self->peers[me], &self->sessions[me], &made) == FAZGROND_OK);
 }
 
 static fazgrond_line_settings settings_of(scene *self, uint64_t draw) {
@@ -80,21 +83,26 @@ static void open_all(scene *self, input *in) {
 
 static void pass(scene *self, uint32_t from) {
     packet made;
-    if (fazgrond_peer_send(&self->peers[from], (uint8_t)(1 - from), self->now, made.bytes, sizeof made.bytes, &made.length)
-        == FAZGROND_OK)
-        (void)fazgrond_peer_receive(&self->peers[1 - from], made.bytes, made.length, self->now);
+    uint32_t to = 1 - from;
+    if (fazgrond_peer_send(&self->peers[from], &self->sessions[from], (uint8_t)to, self->now, made.bytes, sizeof made.bytes,
+                           &made.length) == FAZGROND_OK)
+        (void)fazgrond_peer_receive(&self->peers[to], &self->sessions[to], made.bytes, made.length, self->now);
 }
 
 static void play(scene *self, uint32_t me, input *in) {
-    fazgrond_peer *peer = &self->peers[me];
+    fazgrond_session *session = &self->sessions[me];
     fazgrond_reached reached;
     fazgrond_request requests[8];
+    uint32_t is_running = 0;
+    MUST(fazgrond_peer_poll(&self->peers[me], session, self->now) == FAZGROND_OK);
+    MUST(fazgrond_peer_is_running(&self->peers[me], &is_running) == FAZGROND_OK);
+    if (is_running == 0)
+        return;
     for (uint8_t player = 1; player <= self->players; player++)
         if (owner_of(self, player - 1u) == me)
-            fazgrond_peer_add_local_input(peer, player, take_some(in, 4));
-    fazgrond_peer_poll(peer, self->now);
-    fazgrond_peer_advance_frame(peer, &reached);
-    while (fazgrond_peer_take_requests(peer, requests, 8) > 0)
+            fazgrond_add_local_input(session, player, take_some(in, 4));
+    fazgrond_advance_frame(session, &reached);
+    while (fazgrond_take_requests(session, requests, 8) > 0)
         ;
 }
 
@@ -148,7 +156,7 @@ static void hear(scene *self, bool is_viewer, const packet *come, bool is_forged
 
 static bool make_packet(scene *self, bool is_viewer, packet *made) {
     int32_t code = is_viewer ? fazgrond_viewer_send(&self->viewer, self->now, made->bytes, sizeof made->bytes, &made->length)
-                             : fazgrond_line_send(&self->line, &self->peers[0], self->now, made->bytes, sizeof made->bytes,
+                             : fazgrond_line_send(&self->line, &self->sessions[0], self->now, made->bytes, sizeof made->bytes,
                                                   &made->length);
     MUST(code == FAZGROND_OK || code == FAZGROND_NOTHING);
     return code == FAZGROND_OK;
@@ -189,7 +197,7 @@ static void take_rows(scene *self, uint32_t most) {
         state_after(0, &row);
         if (self->is_forged)
             continue;
-        MUST(fazgrond_peer_settled_row(&self->peers[0], self->played, &wanted) == FAZGROND_OK);
+        MUST(fazgrond_settled_row(&self->sessions[0], self->played, &wanted) == FAZGROND_OK);
         MUST(row.gone == wanted.gone && memcmp(row.words, wanted.words, sizeof row.words) == 0);
     }
 }
@@ -270,8 +278,10 @@ int LLVMFuzzerTestOneInput(const uint8_t *data, size_t size) {
     while (in.left > 0)
         one_thing(&self, &in);
     take_rows(&self, UINT32_MAX);
-    fazgrond_peer_close(&self.peers[0]);
-    fazgrond_peer_close(&self.peers[1]);
+    for (int me = 0; me < 2; me++) {
+        fazgrond_peer_close(&self.peers[me]);
+        fazgrond_close(&self.sessions[me]);
+    }
     fazgrond_line_close(&self.line);
     fazgrond_viewer_close(&self.viewer);
     return 0;

@@ -16,6 +16,7 @@ typedef struct packet {
 } packet;
 
 typedef struct machine {
+    fazgrond_session session;
     fazgrond_peer peer;
     uint64_t draw;
     game game;
@@ -34,21 +35,24 @@ typedef struct match {
 static void open_machine(match *self, uint32_t me) {
     machine *at = &self->machine[me];
     uint32_t how = self->how;
-    fazgrond_match made = { .draw = at->draw + 0x100 + me, .digest = 7, .me = me, .machines = self->machines };
+    fazgrond_settings settings = fazgrond_settings_for(self->players);
+    fazgrond_match made = fazgrond_match_for(self->machines, me);
+    made.draw = at->draw + 0x100 + me;
+    made.digest = 7;
     fazgrond_one_number(&made, NUMBER);
-    made.session = (fazgrond_settings){ .players = self->players, .threshold = 8, .limit = 1048576, .log = 16777216 };
-    for (uint32_t player = 0; player < FAZGROND_PLAYERS; player++) {
-        made.owners[player] = player < self->players ? player % self->machines : 255;
-        made.session.masks[player] = how & 8 ? 0xff : UINT32_MAX;
+    for (uint32_t player = 0; player < self->players; player++) {
+        made.owners[player] = player % self->machines;
+        settings.masks[player] = how & 8 ? 0xff : UINT32_MAX;
         if (made.owners[player] == me) {
-            made.session.local |= 1u << player;
-            made.session.delays[player] = how >> 4 & 3;
+            settings.local |= 1u << player;
+            settings.delays[player] = how >> 4 & 3;
         }
     }
     made.silent_after = how & 64 ? 5000 : 0;
     made.notify_after = how & 64 ? 750 : 0;
     made.stalled_after = how & 128 ? 3000 : 0;
-    MUST(fazgrond_peer_open(&at->peer, &made) == FAZGROND_OK);
+    MUST(fazgrond_open(&at->session, &settings) == FAZGROND_OK);
+    MUST(fazgrond_peer_open(&at->peer, &at->session, &made) == FAZGROND_OK);
     begin_game(&at->game);
     at->draw = made.draw;
     at->settled_rows = 0;
@@ -70,18 +74,18 @@ static void carry_out_all(machine *self) {
     fazgrond_request requests[8];
     size_t count;
     uint32_t frame, slot, rows;
-    while ((count = fazgrond_peer_take_requests(&self->peer, requests, 8)) > 0)
+    while ((count = fazgrond_take_requests(&self->session, requests, 8)) > 0)
         for (size_t at = 0; at < count; at++)
             carry_out(&self->game, &requests[at]);
-    MUST(fazgrond_peer_settled_slot(&self->peer, &frame, &slot) == FAZGROND_OK);
-    MUST(fazgrond_peer_settled(&self->peer, &rows) == FAZGROND_OK && rows == frame && rows >= self->settled_rows);
+    MUST(fazgrond_settled_slot(&self->session, &frame, &slot) == FAZGROND_OK);
+    MUST(fazgrond_settled(&self->session, &rows) == FAZGROND_OK && rows == frame && rows >= self->settled_rows);
     for (; self->settled_rows < rows; self->settled_rows++) {
         fazgrond_row row;
-        MUST(fazgrond_peer_settled_row(&self->peer, self->settled_rows, &row) == FAZGROND_OK);
+        MUST(fazgrond_settled_row(&self->session, self->settled_rows, &row) == FAZGROND_OK);
         self->settled_state = state_after(self->settled_state, &row);
     }
     MUST(slot < GAME_SLOTS && self->game.is_taken[slot] && self->game.slots[slot] == self->settled_state);
-    fazgrond_peer_note_settled(&self->peer, self->settled_state);
+    MUST(fazgrond_peer_note_settled(&self->peer, &self->session, self->settled_state) == FAZGROND_OK);
 }
 
 typedef struct looks {
@@ -92,11 +96,11 @@ typedef struct looks {
 static looks look_at(match *self, machine *at) {
     looks seen;
     memset(&seen, 0, sizeof seen);
-    fazgrond_peer_frame(&at->peer, &seen.frame);
-    fazgrond_peer_settled(&at->peer, &seen.settled);
-    fazgrond_peer_log_length(&at->peer, &seen.entries);
+    fazgrond_frame(&at->session, &seen.frame);
+    fazgrond_settled(&at->session, &seen.settled);
+    fazgrond_log_length(&at->session, &seen.entries);
     for (uint8_t player = 1; player <= self->players; player++)
-        fazgrond_peer_confirmed(&at->peer, player, &seen.confirmed[player - 1]);
+        fazgrond_confirmed(&at->session, player, &seen.confirmed[player - 1]);
     return seen;
 }
 
@@ -108,7 +112,7 @@ static void hear(match *self, uint32_t who, const packet *come, bool is_forged) 
         return;
     memcpy(bytes, come->bytes, come->length);
     looks before = look_at(self, to);
-    int32_t code = fazgrond_peer_receive(&to->peer, bytes, come->length, self->now);
+    int32_t code = fazgrond_peer_receive(&to->peer, &to->session, bytes, come->length, self->now);
     looks after = look_at(self, to);
     free(bytes);
     if (code == FAZGROND_OK) {
@@ -122,8 +126,8 @@ static void hear(match *self, uint32_t who, const packet *come, bool is_forged) 
 
 static bool make_packet(match *self, uint32_t from, uint32_t to, packet *made) {
     machine *sender = &self->machine[from % self->machines];
-    int32_t code = fazgrond_peer_send(&sender->peer, (uint8_t)(to % self->machines), self->now, made->bytes, sizeof made->bytes,
-                                      &made->length);
+    int32_t code = fazgrond_peer_send(&sender->peer, &sender->session, (uint8_t)(to % self->machines), self->now, made->bytes,
+                                      sizeof made->bytes, &made->length);
     MUST(code == FAZGROND_OK || code == FAZGROND_NOTHING);
     MUST(code != FAZGROND_OK || (made->length >= 14 && made->length <= sizeof made->bytes));
     return code == FAZGROND_OK;
@@ -163,24 +167,33 @@ static void synchronize(machine *at) {
     uint32_t has_news = 77;
     uint64_t before = at->game.now;
     fazgrond_row row;
-    MUST(fazgrond_peer_has_news(&at->peer, &has_news) == FAZGROND_OK && has_news <= 1);
-    if (fazgrond_peer_synchronize_input(&at->peer, &row) != FAZGROND_OK)
+    MUST(fazgrond_has_news(&at->session, &has_news) == FAZGROND_OK && has_news <= 1);
+    if (fazgrond_synchronize_input(&at->session, &row) != FAZGROND_OK)
         return;
     carry_out_all(at);
     MUST(has_news != 0 || at->game.now == before);
-    MUST(fazgrond_peer_has_news(&at->peer, &has_news) == FAZGROND_OK && has_news == 0);
+    MUST(fazgrond_has_news(&at->session, &has_news) == FAZGROND_OK && has_news == 0);
 }
 
 static void play(match *self, uint32_t who, input *in) {
     machine *at = &self->machine[who % self->machines];
     fazgrond_reached reached;
+    uint32_t is_running = 77;
+    MUST(fazgrond_peer_is_running(&at->peer, &is_running) == FAZGROND_OK && is_running <= 1);
+    if (is_running == 0)
+        return;
     for (uint8_t player = 1; player <= self->players; player++)
         if ((uint32_t)(player - 1) % self->machines == who % self->machines)
-            fazgrond_peer_add_local_input(&at->peer, player, take_some(in, 4));
+            fazgrond_add_local_input(&at->session, player, take_some(in, 4));
     if (take_byte(in) % 2 == 0)
         synchronize(at);
-    if (fazgrond_peer_advance_frame(&at->peer, &reached) == FAZGROND_OK)
+    if (fazgrond_advance_frame(&at->session, &reached) == FAZGROND_OK)
         carry_out_all(at);
+}
+
+static void poll(match *self, uint32_t who) {
+    machine *at = &self->machine[who % self->machines];
+    MUST(fazgrond_peer_poll(&at->peer, &at->session, self->now) == FAZGROND_OK);
 }
 
 static void ask(match *self, uint32_t who) {
@@ -212,7 +225,7 @@ static void turn(match *self, input *in) {
             if (make_packet(self, who, to, &made))
                 hear(self, to, &made, false);
         }
-        fazgrond_peer_poll(&self->machine[who].peer, self->now);
+        poll(self, who);
         play(self, who, in);
     }
 }
@@ -249,7 +262,7 @@ static void one_thing(match *self, input *in) {
     case 12: ask(self, who); break;
     case 13:
         self->now += take_byte(in);
-        fazgrond_peer_poll(&self->machine[who % self->machines].peer, self->now);
+        poll(self, who);
         break;
     case 14:
         if (what & 16 && (who & 7) == 0)
@@ -283,8 +296,8 @@ static void compare(match *self) {
         uint32_t rows = self->machine[0].settled_rows, theirs = self->machine[who].settled_rows;
         for (uint32_t frame = 0; frame < (rows < theirs ? rows : theirs); frame++) {
             fazgrond_row one = { 0 }, other = { 0 };
-            MUST(fazgrond_peer_settled_row(&self->machine[0].peer, frame, &one) == FAZGROND_OK);
-            MUST(fazgrond_peer_settled_row(&self->machine[who].peer, frame, &other) == FAZGROND_OK);
+            MUST(fazgrond_settled_row(&self->machine[0].session, frame, &one) == FAZGROND_OK);
+            MUST(fazgrond_settled_row(&self->machine[who].session, frame, &other) == FAZGROND_OK);
             MUST(state_after(0, &one) == state_after(0, &other));
         }
     }
@@ -300,7 +313,9 @@ int LLVMFuzzerTestOneInput(const uint8_t *data, size_t size) {
         one_thing(&self, &in);
     if (!self.is_forged && !has_parted(&self))
         compare(&self);
-    for (uint32_t who = 0; who < self.machines; who++)
+    for (uint32_t who = 0; who < self.machines; who++) {
         fazgrond_peer_close(&self.machine[who].peer);
+        fazgrond_close(&self.machine[who].session);
+    }
     return 0;
 }

@@ -572,7 +572,7 @@ static void kinds_as_text(unsigned kinds, char *out, size_t room) {
 static void must_be_answered(world *self, const lie *one, uint32_t who, const uint32_t *before, uint32_t since) {
     machine *at = &self->machine[who];
     char text[160], kinds[100];
-    for (int32_t code = FAZGROND_NOT_SEALED; code <= FAZGROND_OUTSIDE; code++) {
+    for (int32_t code = FAZGROND_NOT_SEALED; code <= FAZGROND_OTHER_SESSION; code++) {
         bool is_answered = at->answers[code] > before[code];
         if (code == one->answer && !is_answered)
             trial_must_of(false, who, "the lie isn't answered as it should be");

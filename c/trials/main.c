@@ -8,7 +8,7 @@
 static const char usage[] =
     "trials                          all trials, a few cases of each; the last line is `N passed, M failed`\n"
     "trials NAME [COUNT [SEED]]      one of them: rematches, restarts, copies, clocks, stalls, standing, honest, lies,\n"
-    "                                viewers\n"
+    "                                viewers, sessions, guesses\n"
     "trials play [OPTIONS] [FAULT..] a match, and what its machines are told; without more it says how\n";
 
 static char name[128];
@@ -106,6 +106,7 @@ static const struct {
     { "rematches", trial_rematches, 8 }, { "restarts", trial_restarts, 1 }, { "copies", trial_copies, 2 },
     { "clocks", trial_clocks, 1 },       { "stalls", trial_stalls, 1 },     { "standing", trial_standing, 1 },
     { "honest", trial_honest, 8 },       { "lies", trial_lies, 1 },         { "viewers", trial_viewers, 2 },
+    { "sessions", trial_sessions, 2 },   { "guesses", trial_guesses, 1 },
 };
 
 int main(int count, char **words) {

@@ -11,6 +11,7 @@ static const char usage[] =
     "  --delay MS --jitter MS --loss PERCENT --copies PERCENT    the line; delay is one way\n"
     "  --silent MS --notify MS --stalled MS --input-delay FRAMES --last FRAME (no words from it on)\n"
     "  --pairs    each two machines have a number of their own\n"
+    "  --buttons  all words are 0 or 1   --guesses  each machine guesses the others' words (with buttons)\n"
     "A fault is MS:WHAT:MACHINE or MS:WHAT:MACHINE:NUMBER, with the milliseconds since the beginning, in their order:\n"
     "  kill  open (anew)  leave (with byes)  mute  deaf  stall (it gives no words)  heal (of these three)\n"
     "  slow (words in one turn of NUMBER)  still (for NUMBER ms)  jump (its clock, by NUMBER ms; less than 0 too)\n"
@@ -19,7 +20,7 @@ static const char usage[] =
 
 static struct {
     long machines, players, rate, seconds, seed, delay, jitter, loss, copies, silent, notify, stalled, input_delay, last;
-    bool is_idle, has_pairs;
+    bool is_idle, has_pairs, has_buttons, has_guesses;
 } self = { .machines = 2, .rate = 60, .seconds = 10, .seed = 1, .delay = 20, .silent = 5000, .notify = 750 };
 
 static const option options[] = {
@@ -31,6 +32,7 @@ static const option options[] = {
     { "--notify", &self.notify, NULL, NULL },     { "--stalled", &self.stalled, NULL, NULL },
     { "--input-delay", &self.input_delay, NULL, NULL }, { "--last", &self.last, NULL, NULL },
     { "--idle", NULL, NULL, &self.is_idle },      { "--pairs", NULL, NULL, &self.has_pairs },
+    { "--buttons", NULL, NULL, &self.has_buttons }, { "--guesses", NULL, NULL, &self.has_guesses },
     { NULL, NULL, NULL, NULL },
 };
 
@@ -40,7 +42,8 @@ static setup setup_of(void) {
                     .copies = (uint32_t)self.copies, .silent_after = (uint32_t)self.silent,
                     .notify_after = (uint32_t)self.notify, .stalled_after = (uint32_t)self.stalled,
                     .input_delay = (uint32_t)self.input_delay, .last_frame = (uint32_t)self.last,
-                    .has_pair_numbers = self.has_pairs, .is_idle = self.is_idle, .seed = (uint64_t)self.seed };
+                    .has_pair_numbers = self.has_pairs, .is_idle = self.is_idle,
+                    .is_button = self.has_buttons, .seed = (uint64_t)self.seed };
 }
 
 /* Does to a machine what a fault says. False if there is no such fault. */
@@ -94,8 +97,9 @@ static void print_machines(world *all) {
     for (uint32_t who = 0; who < all->setup.machines; who++) {
         const machine *at = &all->machine[who];
         if (at->is_open)
-            printf("machine %u: frame %u settled %u state %016llx log %zu, %u rollbacks\n", who, at->frame, at->settled,
-                   (unsigned long long)at->history[at->settled], world_log(all, who), at->rolled_back);
+            printf("machine %u: frame %u settled %u state %016llx log %zu, %u rollbacks, %u frames run again\n", who, at->frame,
+                   at->settled, (unsigned long long)at->history[at->settled], world_log(all, who), at->rolled_back,
+                   at->steps - at->frame);
     }
     if (all->wrong != NULL)
         printf("wrong: %s\n", all->wrong);
@@ -115,6 +119,7 @@ int trial_play(int count, char **words) {
     setup with = setup_of();
     world *all = world_begin(&with);
     all->out = stdout;
+    all->after_turn = self.has_guesses ? guess_in_turn : NULL;
     world_open_all(all);
     uint32_t begin = world_millis(all);
     for (; at < count; at++)

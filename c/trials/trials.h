@@ -41,6 +41,11 @@ void trial_standing(uint32_t count, uint32_t seed);
 void trial_honest(uint32_t count, uint32_t seed);
 void trial_lies(uint32_t count, uint32_t seed);
 void trial_viewers(uint32_t count, uint32_t seed);
+void trial_sessions(uint32_t count, uint32_t seed);
+void trial_guesses(uint32_t count, uint32_t seed);
+
+/* What a program that guesses does in a turn. */
+void guess_in_turn(world *self, uint32_t who);
 
 /* A match as the command line says, with what is told. */
 int trial_play(int count, char **words);

@@ -108,8 +108,7 @@ static void take_rows(scene *self) {
     const machine *host = &self->match->machine[0];
     fazgrond_row row;
     while (fazgrond_viewer_row(&self->viewer, &row) == FAZGROND_OK) {
-        for (uint32_t at = 0; at < row.count; at++)
-            self->state = (self->state ^ row.words[at]) * 0x100000001b3u + (row.gone >> at & 1) + 1;
+        self->state = world_state_after(self->state, &row);
         self->rows++;
         trial_must(self->rows <= host->settled && self->state == host->history[self->rows], "the viewer's state is the players'");
     }
@@ -140,7 +139,7 @@ static void scene_run(scene *self, uint32_t milliseconds) {
         deliver(self);
         sent.to_viewer = true;
         if (!self->is_host_dead
-            && fazgrond_line_send(&self->line, &self->match->machine[0].peer, host_clock(self), sent.bytes, sizeof sent.bytes,
+            && fazgrond_line_send(&self->line, &self->match->machine[0].session, host_clock(self), sent.bytes, sizeof sent.bytes,
                                   &sent.length) == FAZGROND_OK)
             post(self, &sent);
         take_rows(self);

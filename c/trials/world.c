@@ -99,12 +99,14 @@ static void arrive(world *self, datagram *come) {
 
 /* ---- A game. */
 
+uint32_t world_slots(const world *self) { return self->setup.slots != 0 ? self->setup.slots : SLOTS; }
+
 static void is_wrong(world *self, const char *what) {
     if (self->wrong == NULL)
         self->wrong = what;
 }
 
-static uint64_t state_after(uint64_t state, const fazgrond_row *row) {
+uint64_t world_state_after(uint64_t state, const fazgrond_row *row) {
     for (uint32_t at = 0; at < row->count; at++)
         state = (state ^ row->words[at]) * 0x100000001b3u + (row->gone >> at & 1) + 1;
     return state;
@@ -112,7 +114,7 @@ static uint64_t state_after(uint64_t state, const fazgrond_row *row) {
 
 static void carry_out(world *self, machine *at, const fazgrond_request *request) {
     uint32_t slot = request->slot;
-    if (slot >= SLOTS || (request->kind != FAZGROND_STEP && at->is_taken[slot] != (request->kind != FAZGROND_SAVE))) {
+    if (slot >= world_slots(self) || (request->kind != FAZGROND_STEP && at->is_taken[slot] != (request->kind != FAZGROND_SAVE))) {
         is_wrong(self, "a slot that is saved to is taken, or one that is loaded or freed isn't");
         return;
     }
@@ -125,7 +127,10 @@ static void carry_out(world *self, machine *at, const fazgrond_request *request)
         at->saved[slot] = at->state;
         at->is_taken[slot] = true;
         break;
-    case FAZGROND_STEP: at->state = state_after(at->state, &request->row); break;
+    case FAZGROND_STEP:
+        at->state = world_state_after(at->state, &request->row);
+        at->steps++;
+        break;
     case FAZGROND_FREE: at->is_taken[slot] = false; break;
     default: is_wrong(self, "a kind of request");
     }
@@ -147,27 +152,28 @@ static void keep_history(machine *at, uint32_t frame, uint64_t state) {
 static void look_at_settled(world *self, machine *at) {
     uint32_t frame, slot;
     fazgrond_row row;
-    if (fazgrond_peer_settled_slot(&at->peer, &frame, &slot) != FAZGROND_OK || frame < at->settled || slot >= SLOTS) {
+    if (fazgrond_settled_slot(&at->session, &frame, &slot) != FAZGROND_OK || frame < at->settled || slot >= SLOTS) {
         is_wrong(self, "the settled frame fell");
         return;
     }
     while (at->settled < frame) {
-        if (fazgrond_peer_settled_row(&at->peer, at->settled, &row) != FAZGROND_OK)
+        if (fazgrond_settled_row(&at->session, at->settled, &row) != FAZGROND_OK)
             is_wrong(self, "a settled row is missing");
-        keep_history(at, at->settled + 1, state_after(at->history[at->settled], &row));
+        keep_history(at, at->settled + 1, world_state_after(at->history[at->settled], &row));
     }
     if (at->saved[slot] != at->history[frame] || !at->is_taken[slot])
         is_wrong(self, "the settled state isn't that of the settled rows");
-    fazgrond_peer_note_settled(&at->peer, at->history[frame]);
+    if (fazgrond_peer_note_settled(&at->peer, &at->session, at->history[frame]) != FAZGROND_OK)
+        is_wrong(self, "a settled state isn't noted");
 }
 
-static void carry_out_all(world *self, machine *at) {
+void world_carry_out(world *self, uint32_t who) {
+    machine *at = &self->machine[who];
     fazgrond_request requests[REQUESTS];
     size_t count;
-    while ((count = fazgrond_peer_take_requests(&at->peer, requests, REQUESTS)) > 0)
+    while ((count = fazgrond_take_requests(&at->session, requests, REQUESTS)) > 0)
         for (size_t one = 0; one < count; one++)
             carry_out(self, at, &requests[one]);
-    look_at_settled(self, at);
 }
 
 /* ---- A machine. */
@@ -178,19 +184,24 @@ static uint32_t owner_of(const setup *with, uint32_t player) {
     return player < players_of(with) ? player % with->machines : FAZGROND_NO_PLAYER;
 }
 
+fazgrond_settings world_settings(const world *self, uint32_t who) {
+    const setup *with = &self->setup;
+    fazgrond_settings made = fazgrond_settings_for(players_of(with));
+    for (uint32_t player = 0; player < FAZGROND_PLAYERS; player++)
+        if (owner_of(with, player) == who) {
+            made.local |= 1u << player;
+            made.delays[player] = with->input_delay;
+        }
+    return made;
+}
+
 static fazgrond_match match_of(const world *self, uint32_t who) {
     const setup *with = &self->setup;
-    fazgrond_match made = { .draw = self->machine[who].draw, .digest = 0x6d617463, .me = who, .machines = with->machines };
-    made.session = (fazgrond_settings){ .players = players_of(with), .threshold = 8, .limit = 1048576, .log = 16777216 };
-    made.session.profile = made.session.players > 4 ? FAZGROND_WIDE : FAZGROND_GGPO;
-    for (uint32_t player = 0; player < FAZGROND_PLAYERS; player++) {
+    fazgrond_match made = fazgrond_match_for(with->machines, who);
+    made.draw = self->machine[who].draw;
+    made.digest = 0x6d617463;
+    for (uint32_t player = 0; player < FAZGROND_PLAYERS; player++)
         made.owners[player] = owner_of(with, player);
-        made.session.masks[player] = UINT32_MAX;
-        if (made.owners[player] == who) {
-            made.session.local |= 1u << player;
-            made.session.delays[player] = with->input_delay;
-        }
-    }
     for (uint32_t other = 0; other < MACHINES; other++)
         made.numbers[other] = self->numbers[who][other];
     made.silent_after = who == 0 && with->silent_first != 0 ? with->silent_first : with->silent_after;
@@ -204,6 +215,17 @@ static void empty(machine *at) {
         free(at->inbox[--at->waiting]);
 }
 
+void world_open_session(world *self, uint32_t who) {
+    machine *at = &self->machine[who];
+    fazgrond_settings settings = world_settings(self, who);
+    if (fazgrond_open(&at->session, &settings) != FAZGROND_OK
+        || fazgrond_limit_slots(&at->session, world_slots(self)) != FAZGROND_OK)
+        is_wrong(self, "a session doesn't open");
+    memset(at->is_taken, 0, sizeof at->is_taken);
+    at->is_taken[0] = true;
+    at->state = at->saved[0] = 0;
+}
+
 void world_open(world *self, uint32_t who) {
     machine *at = &self->machine[who];
     do
@@ -211,12 +233,10 @@ void world_open(world *self, uint32_t who) {
     while (at->draw == 0);
     fazgrond_match match = match_of(self, who);
     empty(at);
-    if (fazgrond_peer_open(&at->peer, &match) != FAZGROND_OK)
+    world_open_session(self, who);
+    if (fazgrond_peer_open(&at->peer, &at->session, &match) != FAZGROND_OK)
         is_wrong(self, "a machine doesn't open");
-    memset(at->is_taken, 0, sizeof at->is_taken);
-    at->is_taken[0] = true;
-    at->state = at->saved[0] = 0;
-    at->frame = at->wait = at->rolled_back = 0;
+    at->frame = at->wait = at->rolled_back = at->steps = 0;
     keep_history(at, 0, 0);
     at->opening++;
     at->is_open = true;
@@ -237,6 +257,7 @@ void world_leave(world *self, uint32_t who) {
             for (int times = 0; times < BYES; times++)
                 post(self, &said);
     fazgrond_peer_close(&at->peer);
+    fazgrond_close(&at->session);
     at->is_open = false;
     empty(at);
 }
@@ -245,14 +266,15 @@ void world_leave(world *self, uint32_t who) {
 static uint32_t word_of(const world *self, uint32_t player, uint32_t frame) {
     uint64_t mixed = (self->setup.seed + 7) * 0x9e3779b97f4a7c15u + frame / (3 + player) * 0xff51afd7ed558ccdu + player;
     mixed = (mixed ^ mixed >> 29) * 0xbf58476d1ce4e5b9u;
-    return self->setup.is_idle ? 0 : (uint32_t)(mixed >> 40) & 0xffff;
+    return self->setup.is_idle ? 0 : (uint32_t)(mixed >> 40) & (self->setup.is_button ? 1 : 0xffff);
 }
 
 static void hear(world *self, uint32_t who) {
     machine *at = &self->machine[who];
     size_t taken = at->waiting < MOST_AT_ONCE ? at->waiting : MOST_AT_ONCE;
     for (size_t one = 0; one < taken; one++) {
-        int32_t code = fazgrond_peer_receive(&at->peer, at->inbox[one]->bytes, at->inbox[one]->length, world_clock(self, who));
+        int32_t code = fazgrond_peer_receive(&at->peer, &at->session, at->inbox[one]->bytes, at->inbox[one]->length,
+                                             world_clock(self, who));
         at->answers[code >= 0 && code < CODES ? code : CODES - 1]++;
         free(at->inbox[one]);
     }
@@ -260,23 +282,40 @@ static void hear(world *self, uint32_t who) {
     memmove(at->inbox, at->inbox + taken, at->waiting * sizeof *at->inbox);
 }
 
-static int32_t give_words(world *self, uint32_t who) {
+/* False if it gives none in this turn, or is too far ahead. */
+static bool give_words(world *self, uint32_t who) {
     machine *at = &self->machine[who];
     int32_t given = FAZGROND_LOCAL_INPUT_MISSING;
     if (at->wait > 0) {
         at->wait--;
-        return given;
+        return false;
     }
     if (at->is_stalled || (at->word_every != 0 && at->turns % at->word_every != 0)
         || (self->setup.last_frame != 0 && at->frame >= self->setup.last_frame))
-        return given;
+        return false;
     for (uint32_t player = 0; player < players_of(&self->setup); player++)
         if (owner_of(&self->setup, player) == who) {
-            given = fazgrond_peer_add_local_input(&at->peer, (uint8_t)(player + 1), word_of(self, player, at->frame));
+            given = fazgrond_add_local_input(&at->session, (uint8_t)(player + 1), word_of(self, player, at->frame));
+            if (given == FAZGROND_INPUT_TWICE && at->is_short) /* the roll that it was given for is made again */
+                given = FAZGROND_OK;
             if (given != FAZGROND_OK)
                 break;
         }
-    return given;
+    if (given != FAZGROND_OK && given != FAZGROND_PREDICTION_THRESHOLD)
+        is_wrong(self, "a word is refused");
+    return given == FAZGROND_OK;
+}
+
+/* A frame, or at least what came for the frames before. */
+static int32_t play(world *self, uint32_t who) {
+    machine *at = &self->machine[who];
+    fazgrond_reached reached;
+    fazgrond_row row;
+    uint32_t has_news = 77;
+    if (give_words(self, who))
+        return fazgrond_advance_frame(&at->session, &reached);
+    fazgrond_has_news(&at->session, &has_news);
+    return has_news != 0 ? fazgrond_synchronize_input(&at->session, &row) : FAZGROND_OK;
 }
 
 static void tell(world *self, uint32_t who, const fazgrond_event *event) {
@@ -305,7 +344,8 @@ static void send_all(world *self, uint32_t who) {
     machine *at = &self->machine[who];
     datagram sent = { .from = who };
     for (sent.to = 0; sent.to < self->setup.machines; sent.to++)
-        if (fazgrond_peer_send(&at->peer, (uint8_t)sent.to, world_clock(self, who), sent.bytes, FAZGROND_DATAGRAM, &sent.length)
+        if (fazgrond_peer_send(&at->peer, &at->session, (uint8_t)sent.to, world_clock(self, who), sent.bytes, FAZGROND_DATAGRAM,
+                               &sent.length)
             == FAZGROND_OK)
             post(self, &sent);
 }
@@ -313,24 +353,22 @@ static void send_all(world *self, uint32_t who) {
 /* A turn of the main loop, as docs/C.md has it. */
 static void turn(world *self, uint32_t who) {
     machine *at = &self->machine[who];
-    fazgrond_reached reached;
     fazgrond_event event;
-    fazgrond_row row;
-    uint32_t has_news = 0;
+    uint32_t is_running = 77;
     hear(self, who);
-    fazgrond_peer_frame(&at->peer, &at->frame);
-    int32_t given = give_words(self, who), code = FAZGROND_OK;
-    if (fazgrond_peer_poll(&at->peer, world_clock(self, who)) != FAZGROND_OK)
+    if (fazgrond_peer_poll(&at->peer, &at->session, world_clock(self, who)) != FAZGROND_OK)
         is_wrong(self, "a poll is refused");
-    fazgrond_peer_has_news(&at->peer, &has_news);
-    if (given == FAZGROND_OK)
-        code = fazgrond_peer_advance_frame(&at->peer, &reached);
-    else if (given != FAZGROND_NOT_SYNCHRONIZED && has_news != 0)
-        code = fazgrond_peer_synchronize_input(&at->peer, &row);
-    if (code != FAZGROND_OK && code != FAZGROND_NOT_SYNCHRONIZED)
+    fazgrond_peer_is_running(&at->peer, &is_running);
+    fazgrond_frame(&at->session, &at->frame);
+    int32_t code = is_running != 0 ? play(self, who) : FAZGROND_OK;
+    at->is_short = code == FAZGROND_NO_MEMORY && self->setup.slots != 0;
+    if (code != FAZGROND_OK && !at->is_short)
         is_wrong(self, "a turn is refused");
-    carry_out_all(self, at);
-    fazgrond_peer_frame(&at->peer, &at->frame);
+    world_carry_out(self, who);
+    look_at_settled(self, at);
+    fazgrond_frame(&at->session, &at->frame);
+    if (self->after_turn != NULL)
+        self->after_turn(self, who);
     while (fazgrond_peer_event(&at->peer, &event) == FAZGROND_OK)
         tell(self, who, &event);
     send_all(self, who);
@@ -358,6 +396,7 @@ void world_end(world *self) {
     for (uint32_t who = 0; who < MACHINES; who++) {
         machine *at = &self->machine[who];
         fazgrond_peer_close(&at->peer);
+        fazgrond_close(&at->session);
         empty(at);
         free(at->history);
     }
@@ -454,7 +493,7 @@ bool world_agree(const world *self, uint32_t one, uint32_t other, uint32_t frame
 
 size_t world_log(world *self, uint32_t who) {
     size_t entries = 0;
-    fazgrond_peer_log_length(&self->machine[who].peer, &entries);
+    fazgrond_log_length(&self->machine[who].session, &entries);
     return entries;
 }
 

@@ -19,9 +19,11 @@ typedef struct setup {
     uint32_t silent_after, notify_after, stalled_after;
     uint32_t silent_first;  /* machine 0 has this time in the place of silent_after, if it isn't 0 */
     uint32_t input_delay;   /* frames by which all words count later */
+    uint32_t slots;         /* room for so many states; 0: for more than are ever needed */
     uint32_t last_frame;    /* nobody gives words from this frame on; 0: no such frame */
     bool has_pair_numbers;  /* each two machines have a number of their own */
     bool is_idle;           /* all words are 0 */
+    bool is_button;         /* or 0 and 1: a button that is held or not */
     uint64_t seed;
 } setup;
 
@@ -44,6 +46,7 @@ typedef struct told {
 } told;
 
 typedef struct machine {
+    fazgrond_session session;
     fazgrond_peer peer;
     bool is_open;
     uint64_t draw;
@@ -55,7 +58,8 @@ typedef struct machine {
     bool is_taken[SLOTS];
     uint64_t *history; /* the states after so many settled rows */
     uint32_t settled, room;
-    uint32_t frame, wait, rolled_back;
+    uint32_t frame, wait, rolled_back, steps;
+    bool is_short; /* a roll had no slot: it is made again in the next turn */
 
     /* What is wrong with it. */
     bool is_dead;        /* it does nothing */
@@ -76,6 +80,9 @@ typedef struct world world;
 /* Sees what is sent, and may change it, or send more. False if it is to be lost. */
 typedef bool on_sent(world *self, datagram *sent);
 
+/* What the program of a machine does too in each of its turns, once the requests are carried out. */
+typedef void in_turn(world *self, uint32_t who);
+
 struct world {
     setup setup;
     machine machine[MACHINES];
@@ -87,6 +94,7 @@ struct world {
     size_t on_way, way_room;
     on_sent *watcher;
     void *watchers; /* what the watcher knows */
+    in_turn *after_turn;
     told told[MOST_TOLD];
     size_t events;
     FILE *out; /* where all that is told is printed, if it isn't null */
@@ -100,6 +108,15 @@ void world_end(world *self);
 /* Opens a machine, or opens it anew; or all of them. */
 void world_open(world *self, uint32_t who);
 void world_open_all(world *self);
+
+/* Opens the session of a machine anew, with its game, beside its peer as it is. */
+void world_open_session(world *self, uint32_t who);
+
+/* The settings of a machine's session. */
+fazgrond_settings world_settings(const world *self, uint32_t who);
+
+/* Carries out the requests that a session has left. Those of jobs may not be among them. */
+void world_carry_out(world *self, uint32_t who);
 
 /* The machine says bye to all others, three times, and closes. */
 void world_leave(world *self, uint32_t who);
@@ -132,6 +149,12 @@ uint32_t world_told_at(const world *self, uint32_t who, uint32_t code, uint32_t 
 bool world_agree(const world *self, uint32_t one, uint32_t other, uint32_t frames);
 
 size_t world_log(world *self, uint32_t who);
+
+/* How many states a game has room for. */
+uint32_t world_slots(const world *self);
+
+/* The game: the state after one row more. */
+uint64_t world_state_after(uint64_t state, const fazgrond_row *row);
 
 /* The name of an event. */
 const char *world_name(uint32_t code);

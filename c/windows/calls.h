@@ -1,4 +1,6 @@
 /* The functions of fazgrond.h: what each answers, its name, its parameters, and their names. */
+CALL(uint32_t, fazgrond_version, (void), ())
+CALL(size_t, fazgrond_text, (int32_t code, uint8_t *out, size_t room), (code, out, room))
 CALL(int32_t, fazgrond_open, (fazgrond_session *session, const fazgrond_settings *settings), (session, settings))
 CALL(void, fazgrond_close, (fazgrond_session *session), (session))
 CALL(int32_t, fazgrond_add_local_input, (fazgrond_session *session, uint8_t player, uint32_t word), (session, player, word))
@@ -8,6 +10,7 @@ CALL(int32_t, fazgrond_remote_input,
 CALL(int32_t, fazgrond_disconnect_player, (fazgrond_session *session, uint8_t player), (session, player))
 CALL(int32_t, fazgrond_synchronize_input, (fazgrond_session *session, fazgrond_row *row), (session, row))
 CALL(int32_t, fazgrond_advance_frame, (fazgrond_session *session, fazgrond_reached *reached), (session, reached))
+CALL(int32_t, fazgrond_has_news, (fazgrond_session *session, uint32_t *flag), (session, flag))
 CALL(size_t, fazgrond_take_requests, (fazgrond_session *session, fazgrond_request *out, size_t room), (session, out, room))
 CALL(int32_t, fazgrond_guess,
      (fazgrond_session *session, uint8_t player, const uint32_t *words, size_t count, uint32_t until, uint32_t *job),
@@ -19,6 +22,7 @@ CALL(int32_t, fazgrond_reserve_log, (fazgrond_session *session, uint32_t events)
 CALL(int32_t, fazgrond_frame, (fazgrond_session *session, uint32_t *frame), (session, frame))
 CALL(int32_t, fazgrond_settled, (fazgrond_session *session, uint32_t *rows), (session, rows))
 CALL(int32_t, fazgrond_settled_row, (fazgrond_session *session, uint32_t frame, fazgrond_row *row), (session, frame, row))
+CALL(int32_t, fazgrond_settled_slot, (fazgrond_session *session, uint32_t *frame, uint32_t *slot), (session, frame, slot))
 CALL(int32_t, fazgrond_confirmed, (fazgrond_session *session, uint8_t player, uint32_t *words), (session, player, words))
 CALL(int32_t, fazgrond_confirmed_word, (fazgrond_session *session, uint8_t player, uint32_t frame, uint32_t *word),
      (session, player, frame, word))
@@ -29,43 +33,32 @@ CALL(int32_t, fazgrond_note_advantages, (fazgrond_session *session, int32_t loca
 CALL(int32_t, fazgrond_frames_ahead, (fazgrond_session *session, uint32_t *frames), (session, frames))
 CALL(int32_t, fazgrond_claim, (fazgrond_session *session, uint8_t *out, size_t room, size_t *length),
      (session, out, room, length))
-CALL(int32_t, fazgrond_peer_open, (fazgrond_peer *peer, const fazgrond_match *match), (peer, match))
-CALL(void, fazgrond_peer_close, (fazgrond_peer *peer), (peer))
-CALL(int32_t, fazgrond_peer_receive, (fazgrond_peer *peer, const uint8_t *bytes, size_t length, uint32_t now),
-     (peer, bytes, length, now))
-CALL(int32_t, fazgrond_peer_add_local_input, (fazgrond_peer *peer, uint8_t player, uint32_t word), (peer, player, word))
-CALL(int32_t, fazgrond_peer_poll, (fazgrond_peer *peer, uint32_t now), (peer, now))
-CALL(int32_t, fazgrond_peer_has_news, (fazgrond_peer *peer, uint32_t *flag), (peer, flag))
-CALL(int32_t, fazgrond_peer_synchronize_input, (fazgrond_peer *peer, fazgrond_row *row), (peer, row))
-CALL(int32_t, fazgrond_peer_advance_frame, (fazgrond_peer *peer, fazgrond_reached *reached), (peer, reached))
-CALL(size_t, fazgrond_peer_take_requests, (fazgrond_peer *peer, fazgrond_request *out, size_t room), (peer, out, room))
+CALL(int32_t, fazgrond_peer_open, (fazgrond_peer *peer, fazgrond_session *session, const fazgrond_match *match),
+     (peer, session, match))
+CALL(int32_t, fazgrond_peer_receive,
+     (fazgrond_peer *peer, fazgrond_session *session, const uint8_t *bytes, size_t length, uint32_t now),
+     (peer, session, bytes, length, now))
+CALL(int32_t, fazgrond_peer_poll, (fazgrond_peer *peer, fazgrond_session *session, uint32_t now), (peer, session, now))
+CALL(int32_t, fazgrond_peer_is_running, (fazgrond_peer *peer, uint32_t *flag), (peer, flag))
 CALL(int32_t, fazgrond_peer_send,
-     (fazgrond_peer *peer, uint8_t machine, uint32_t now, uint8_t *out, size_t room, size_t *length),
-     (peer, machine, now, out, room, length))
+     (fazgrond_peer *peer, fazgrond_session *session, uint8_t machine, uint32_t now, uint8_t *out, size_t room, size_t *length),
+     (peer, session, machine, now, out, room, length))
 CALL(int32_t, fazgrond_peer_bye, (fazgrond_peer *peer, uint8_t machine, uint8_t *out, size_t room, size_t *length),
      (peer, machine, out, room, length))
 CALL(int32_t, fazgrond_peer_disconnect, (fazgrond_peer *peer, uint8_t machine), (peer, machine))
-CALL(int32_t, fazgrond_peer_note_settled, (fazgrond_peer *peer, uint64_t digest), (peer, digest))
-CALL(int32_t, fazgrond_peer_settled_slot, (fazgrond_peer *peer, uint32_t *frame, uint32_t *slot), (peer, frame, slot))
+CALL(int32_t, fazgrond_peer_note_settled, (fazgrond_peer *peer, fazgrond_session *session, uint64_t digest),
+     (peer, session, digest))
 CALL(int32_t, fazgrond_peer_event, (fazgrond_peer *peer, fazgrond_event *event), (peer, event))
 CALL(int32_t, fazgrond_peer_stats, (fazgrond_peer *peer, uint8_t machine, fazgrond_stats *stats), (peer, machine, stats))
-CALL(int32_t, fazgrond_peer_frame, (fazgrond_peer *peer, uint32_t *frame), (peer, frame))
-CALL(int32_t, fazgrond_peer_settled, (fazgrond_peer *peer, uint32_t *rows), (peer, rows))
-CALL(int32_t, fazgrond_peer_settled_row, (fazgrond_peer *peer, uint32_t frame, fazgrond_row *row), (peer, frame, row))
-CALL(int32_t, fazgrond_peer_confirmed, (fazgrond_peer *peer, uint8_t player, uint32_t *words), (peer, player, words))
-CALL(int32_t, fazgrond_peer_log_length, (fazgrond_peer *peer, size_t *entries), (peer, entries))
-CALL(int32_t, fazgrond_peer_log_entry, (fazgrond_peer *peer, size_t place, fazgrond_entry *entry), (peer, place, entry))
 CALL(int32_t, fazgrond_line_open, (fazgrond_line *line, const fazgrond_line_settings *settings), (line, settings))
-CALL(void, fazgrond_line_close, (fazgrond_line *line), (line))
 CALL(int32_t, fazgrond_line_receive, (fazgrond_line *line, const uint8_t *bytes, size_t length, uint32_t now),
      (line, bytes, length, now))
 CALL(int32_t, fazgrond_line_send,
-     (fazgrond_line *line, fazgrond_peer *peer, uint32_t now, uint8_t *out, size_t room, size_t *length),
-     (line, peer, now, out, room, length))
+     (fazgrond_line *line, fazgrond_session *session, uint32_t now, uint8_t *out, size_t room, size_t *length),
+     (line, session, now, out, room, length))
 CALL(int32_t, fazgrond_line_bye, (fazgrond_line *line, uint8_t *out, size_t room, size_t *length), (line, out, room, length))
 CALL(int32_t, fazgrond_line_look, (fazgrond_line *line, uint32_t now, fazgrond_line_state *state), (line, now, state))
 CALL(int32_t, fazgrond_viewer_open, (fazgrond_viewer *viewer, const fazgrond_line_settings *settings), (viewer, settings))
-CALL(void, fazgrond_viewer_close, (fazgrond_viewer *viewer), (viewer))
 CALL(int32_t, fazgrond_viewer_receive,
      (fazgrond_viewer *viewer, const uint8_t *bytes, size_t length, uint32_t now, uint32_t *rows),
      (viewer, bytes, length, now, rows))

@@ -1,3 +1,4 @@
+use crate::raw;
 use std::fmt;
 
 /// Why a call was refused.
@@ -50,33 +51,78 @@ pub enum Error {
     NoJob,
     /// Requests of the last roll were not taken, or not all of them were carried out.
     Pending,
+    /// The library is of another version than this crate.
+    OtherVersion,
+    /// Bytes that are not of this opening of the match or line, were changed on their way, or are too few or too many.
+    NotSealed,
+    /// Bytes that are sealed as they have to be, and no datagram of this version.
+    NoDatagram,
+    /// There is no such machine in the match.
+    InvalidMachine,
+    /// The machine is this one.
+    OwnMachine,
+    /// The sender is gone.
+    MachineGone,
+    /// The other end of the line means another match.
+    Mismatched,
+    /// The sender sends words that it does not say that it has, or says that it has words that it was never given.
+    Overstated,
+    /// The line has ended.
+    Ended,
+    /// The other end of the line didn't send it.
+    OtherSender,
+    /// What the host sends are no rows of this match's players.
+    NoRows,
+    /// Rows before those that the host sends have not come yet.
+    RowsMissing,
+    /// The sender tells of machines or players that the match hasn't.
+    Outside,
+    /// The session isn't the one that the peer plays, or was told of others past it.
+    OtherSession,
 }
 
-const ALL: [(Error, i32, &str); 23] = [
-    (Error::InvalidPlayer, 2, "no such player, or not this kind of player"),
-    (Error::PlayerOutOfRange, 3, "the number of players is out of range"),
-    (Error::PredictionThreshold, 4, "the prediction threshold is reached"),
-    (Error::PlayerDisconnected, 9, "the player is disconnected"),
-    (Error::InvalidRequest, 11, "invalid settings, or an invalid guess"),
-    (Error::LocalInputMissing, 101, "a local input is missing"),
-    (Error::InputTwice, 102, "the input was given already"),
-    (Error::Gap, 103, "an earlier input is missing"),
-    (Error::Conflict, 104, "the input conflicts with a confirmed one"),
-    (Error::QueueFull, 105, "the input queue is full"),
-    (Error::FrameLimit, 106, "the frame limit is reached"),
-    (Error::NoMemory, 107, "out of memory"),
-    (Error::Stranger, 108, "the job's states are not of this session"),
-    (Error::TooFar, 109, "the guess goes too far"),
-    (Error::Late, 110, "the job comes too late"),
-    (Error::Orphan, 111, "the job's start is not kept any more"),
-    (Error::Dead, 112, "the guess is wrong"),
-    (Error::TreeFull, 113, "no more states of jobs can be kept"),
-    (Error::LogFull, 114, "the log is full"),
-    (Error::NoPlan, 117, "there was no rollback yet"),
-    (Error::Full, 119, "too many jobs are out"),
-    (Error::NoJob, 120, "there is no such job"),
-    (Error::Pending, 202, "requests were not carried out yet"),
+const ALL: [(Error, i32); 37] = [
+    (Error::InvalidPlayer, 2),
+    (Error::PlayerOutOfRange, 3),
+    (Error::PredictionThreshold, 4),
+    (Error::PlayerDisconnected, 9),
+    (Error::InvalidRequest, 11),
+    (Error::LocalInputMissing, 101),
+    (Error::InputTwice, 102),
+    (Error::Gap, 103),
+    (Error::Conflict, 104),
+    (Error::QueueFull, 105),
+    (Error::FrameLimit, 106),
+    (Error::NoMemory, 107),
+    (Error::Stranger, 108),
+    (Error::TooFar, 109),
+    (Error::Late, 110),
+    (Error::Orphan, 111),
+    (Error::Dead, 112),
+    (Error::TreeFull, 113),
+    (Error::LogFull, 114),
+    (Error::NoPlan, 117),
+    (Error::Full, 119),
+    (Error::NoJob, 120),
+    (Error::Pending, 202),
+    (Error::OtherVersion, 205),
+    (Error::NotSealed, 301),
+    (Error::NoDatagram, 302),
+    (Error::InvalidMachine, 303),
+    (Error::OwnMachine, 304),
+    (Error::MachineGone, 305),
+    (Error::Mismatched, 306),
+    (Error::Overstated, 307),
+    (Error::Ended, 308),
+    (Error::OtherSender, 309),
+    (Error::NoRows, 310),
+    (Error::RowsMissing, 311),
+    (Error::Outside, 312),
+    (Error::OtherSession, 313),
 ];
+
+/// Longer than each sentence of the library.
+const SENTENCE: usize = 256;
 
 impl Error {
     /// The code that the C library answers.
@@ -87,33 +133,41 @@ impl Error {
 
 impl fmt::Display for Error {
     fn fmt(&self, out: &mut fmt::Formatter<'_>) -> fmt::Result {
-        out.write_str(ALL[*self as usize].2)
+        let mut text = [0; SENTENCE];
+        // SAFETY: the library writes at most as many bytes as there is room for.
+        let length = unsafe { raw::fazgrond_text(self.code(), text.as_mut_ptr(), SENTENCE) };
+        out.write_str(&String::from_utf8_lossy(&text[..length.min(SENTENCE)]))
     }
 }
 
 impl std::error::Error for Error {}
 
-/// What a code says, of those that an open session answers.
+/// What a code says, of those that what is open answers.
 pub(crate) fn said(code: i32) -> Result<(), Error> {
     if code == 0 {
         return Ok(());
     }
-    match ALL.iter().find(|(_, known, _)| *known == code) {
-        Some((error, _, _)) => Err(*error),
-        None => unreachable!("an open session answered {code}"),
+    match ALL.iter().find(|(_, known)| *known == code) {
+        Some((error, _)) => Err(*error),
+        None => unreachable!("a call answered {code}"),
     }
 }
 
 #[cfg(test)]
 mod tests {
-    use super::{said, ALL};
+    use super::{said, ALL, SENTENCE};
 
     #[test]
     fn each_error_has_its_code() {
-        for (error, code, text) in ALL {
+        for (error, code) in ALL {
             assert_eq!(said(code), Err(error));
             assert_eq!(error.code(), code);
-            assert_eq!(error.to_string(), text);
+            let text = error.to_string();
+            assert!(text.len() > 5 && text.len() < SENTENCE && text.is_ascii(), "{code}: {text:?}");
+            assert!(
+                ALL.iter().all(|(other, _)| *other == error || other.to_string() != text),
+                "{text:?} is said twice"
+            );
         }
     }
 }

@@ -1,8 +1,8 @@
 use crate::error::{said, Error};
+use crate::owned::{answered, Owned};
 use crate::raw;
 use crate::row::Row;
 use crate::settings::Settings;
-use std::ptr;
 
 /// Whether a remote word is new.
 #[derive(Clone, Copy, PartialEq, Eq, Debug)]
@@ -91,52 +91,51 @@ pub enum Request {
 /// those of a job in their own time, on any thread.
 #[derive(Debug)]
 pub struct Handle {
-    // From `Box::into_raw`: the library's side must not move. A raw pointer keeps `Handle` from being `Sync`.
-    raw: *mut raw::Session,
+    owned: Owned,
 }
 
-// SAFETY: the library may be called from any thread, though not from two at once.
-unsafe impl Send for Handle {}
-
-// SAFETY, of each call of the library below: `raw` is a session that `open` made and `drop` closes; other pointers are to
+// SAFETY, of each call of the library below: `raw` is of a session that `open` made and `drop` closes; other pointers are to
 // what lives past the call; and there is one call at a time, since `Handle` isn't `Sync` and no call comes back to it.
 impl Handle {
     /// Opens a session.
     pub fn open(settings: &Settings) -> Result<Handle, Error> {
-        let closed = raw::Session { full: 0, at: ptr::null_mut() };
-        let handle = Handle { raw: Box::into_raw(Box::new(closed)) };
-        said(unsafe { raw::fazgrond_open(handle.raw, settings) })?;
+        let handle = Handle { owned: Owned::closed() };
+        said(unsafe { raw::fazgrond_open(handle.raw(), settings) })?;
         Ok(handle)
+    }
+
+    pub(crate) fn raw(&self) -> *mut raw::Session {
+        self.owned.raw()
     }
 
     /// Gives a local player's word of this frame.
     pub fn add_local_input(&mut self, player: u8, word: u32) -> Result<(), Error> {
-        said(unsafe { raw::fazgrond_add_local_input(self.raw, player, word) })
+        said(unsafe { raw::fazgrond_add_local_input(self.raw(), player, word) })
     }
 
     /// Takes a remote player's next word.
     pub fn remote_input(&mut self, player: u8, frame: u32, word: u32) -> Result<Heard, Error> {
         let mut repeated = 0;
-        said(unsafe { raw::fazgrond_remote_input(self.raw, player, frame, word, &mut repeated) })?;
+        said(unsafe { raw::fazgrond_remote_input(self.raw(), player, frame, word, &mut repeated) })?;
         Ok(if repeated == 1 { Heard::Repeated } else { Heard::Taken })
     }
 
     /// A remote player leaves.
     pub fn disconnect_player(&mut self, player: u8) -> Result<(), Error> {
-        said(unsafe { raw::fazgrond_disconnect_player(self.raw, player) })
+        said(unsafe { raw::fazgrond_disconnect_player(self.raw(), player) })
     }
 
     /// The row of this frame, after a rollback if a prediction was wrong.
     pub fn synchronize_input(&mut self) -> Result<Row, Error> {
         let mut row = Row::default();
-        said(unsafe { raw::fazgrond_synchronize_input(self.raw, &mut row) })?;
+        said(unsafe { raw::fazgrond_synchronize_input(self.raw(), &mut row) })?;
         Ok(row)
     }
 
     /// Goes on to the next frame.
     pub fn advance_frame(&mut self) -> Result<Reached, Error> {
         let mut reached = Reached::default();
-        said(unsafe { raw::fazgrond_advance_frame(self.raw, &mut reached) })?;
+        said(unsafe { raw::fazgrond_advance_frame(self.raw(), &mut reached) })?;
         Ok(reached)
     }
 
@@ -148,7 +147,7 @@ impl Handle {
     /// them. If the guess is refused, such requests are to be dropped: there is no job.
     pub fn guess(&mut self, player: u8, words: &[u32], until: u32) -> Result<Option<u32>, Error> {
         let mut job = 0;
-        match unsafe { raw::fazgrond_guess(self.raw, player, words.as_ptr(), words.len(), until, &mut job) } {
+        match unsafe { raw::fazgrond_guess(self.raw(), player, words.as_ptr(), words.len(), until, &mut job) } {
             raw::NOTHING => Ok(None),
             code => said(code).map(|()| Some(job)),
         }
@@ -158,19 +157,19 @@ impl Handle {
     /// answer but [`Error::Pending`], the number is free again.
     pub fn graft(&mut self, job: u32) -> Result<u32, Error> {
         let mut added = 0;
-        said(unsafe { raw::fazgrond_graft(self.raw, job, &mut added) })?;
+        said(unsafe { raw::fazgrond_graft(self.raw(), job, &mut added) })?;
         Ok(added)
     }
 
     /// Gives a job up: none of its requests may be carried out any more, and its number is free again.
     pub fn forget(&mut self, job: u32) -> Result<(), Error> {
-        said(unsafe { raw::fazgrond_forget(self.raw, job) })
+        said(unsafe { raw::fazgrond_forget(self.raw(), job) })
     }
 
     /// From now on nothing is saved in a slot from this one on: a call that would need one is refused with
     /// [`Error::NoMemory`].
     pub fn limit_slots(&mut self, slots: u32) {
-        let answer = said(unsafe { raw::fazgrond_limit_slots(self.raw, slots) });
+        let answer = said(unsafe { raw::fazgrond_limit_slots(self.raw(), slots) });
         debug_assert!(answer.is_ok(), "an open session takes any limit");
     }
 
@@ -181,7 +180,7 @@ impl Handle {
 
     /// Makes room for so many more events: none of them is then refused for want of memory by the log.
     pub fn reserve_log(&mut self, events: u32) -> Result<(), Error> {
-        said(unsafe { raw::fazgrond_reserve_log(self.raw, events) })
+        said(unsafe { raw::fazgrond_reserve_log(self.raw(), events) })
     }
 
     /// The text of the last rollback's claim: a certificate that it couldn't start from a later state.
@@ -189,7 +188,7 @@ impl Handle {
         let mut text = Vec::new();
         let mut length = 0;
         loop {
-            let code = unsafe { raw::fazgrond_claim(self.raw, text.as_mut_ptr(), text.len(), &mut length) };
+            let code = unsafe { raw::fazgrond_claim(self.raw(), text.as_mut_ptr(), text.len(), &mut length) };
             if code != raw::TOO_SHORT {
                 return said(code).map(|()| text);
             }
@@ -199,14 +198,14 @@ impl Handle {
 
     /// How many entries the log has.
     pub fn log_length(&self) -> usize {
-        answered(|out| unsafe { raw::fazgrond_log_length(self.raw, out) }).unwrap_or_default()
+        answered(|out| unsafe { raw::fazgrond_log_length(self.raw(), out) }).unwrap_or_default()
     }
 
     /// The entry at a place of the log, counted from 0. A log of calls alone is a replay: a new session with the same settings,
     /// of which they are made in turn, accepts each of them and comes to the same.
     pub fn log_entry(&self, place: usize) -> Option<Entry> {
         let raw::Entry { kind, player, frame, word } =
-            answered(|out| unsafe { raw::fazgrond_log_entry(self.raw, place, out) })?;
+            answered(|out| unsafe { raw::fazgrond_log_entry(self.raw(), place, out) })?;
         let player = player as u8;
         Some(match kind {
             1 => Entry::Local { player, word },
@@ -223,51 +222,57 @@ impl Handle {
     /// Notes by how many frames this machine is behind the other one, and the other behind this one, as it told last. The last 40
     /// pairs count.
     pub fn note_advantages(&mut self, local: i32, remote: i32) {
-        let _open = unsafe { raw::fazgrond_note_advantages(self.raw, local, remote) };
+        let _open = unsafe { raw::fazgrond_note_advantages(self.raw(), local, remote) };
     }
 
     /// How many frames this machine should wait, so that the other comes up to it: 0, or 3 to 9.
     pub fn frames_ahead(&self) -> u32 {
-        answered(|out| unsafe { raw::fazgrond_frames_ahead(self.raw, out) }).unwrap_or_default()
+        answered(|out| unsafe { raw::fazgrond_frames_ahead(self.raw(), out) }).unwrap_or_default()
     }
 
     /// The current frame.
     pub fn frame(&self) -> u32 {
-        answered(|out| unsafe { raw::fazgrond_frame(self.raw, out) }).unwrap_or_default()
+        answered(|out| unsafe { raw::fazgrond_frame(self.raw(), out) }).unwrap_or_default()
     }
 
     /// How many rows are settled: they never change.
     pub fn settled(&self) -> u32 {
-        answered(|out| unsafe { raw::fazgrond_settled(self.raw, out) }).unwrap_or_default()
+        answered(|out| unsafe { raw::fazgrond_settled(self.raw(), out) }).unwrap_or_default()
     }
 
     /// The row of a frame, if it is settled.
     pub fn settled_row(&self, frame: u32) -> Option<Row> {
-        answered(|out| unsafe { raw::fazgrond_settled_row(self.raw, frame, out) })
+        answered(|out| unsafe { raw::fazgrond_settled_row(self.raw(), frame, out) })
     }
 
     /// How many words of a player are confirmed: the frame whose word must come next. None if there is no such player.
     pub fn confirmed(&self, player: u8) -> Option<u32> {
-        answered(|out| unsafe { raw::fazgrond_confirmed(self.raw, player, out) })
+        answered(|out| unsafe { raw::fazgrond_confirmed(self.raw(), player, out) })
     }
 
     /// The confirmed word of a player at a frame, if there is one.
     pub fn confirmed_word(&self, player: u8, frame: u32) -> Option<u32> {
-        answered(|out| unsafe { raw::fazgrond_confirmed_word(self.raw, player, frame, out) })
+        answered(|out| unsafe { raw::fazgrond_confirmed_word(self.raw(), player, frame, out) })
+    }
+
+    /// Whether the state that is shown may be out of date: a call was accepted since the last roll, or there was none yet. Then a
+    /// turn that plays no frame has something to synchronize.
+    pub fn has_news(&self) -> bool {
+        answered(|out| unsafe { raw::fazgrond_has_news(self.raw(), out) }).unwrap_or(0u32) != 0
+    }
+
+    /// The settled frame, and the slot in which the state after all settled rows lies once the requests are carried out. It stays
+    /// there until the next roll or guess.
+    pub fn settled_slot(&self) -> (u32, usize) {
+        let (mut frame, mut slot) = (0, 0);
+        let answer = said(unsafe { raw::fazgrond_settled_slot(self.raw(), &mut frame, &mut slot) });
+        debug_assert!(answer.is_ok(), "an open session has a settled state");
+        (frame, slot as usize)
     }
 
     /// The frame in which a local player's next word counts. None if there is no such local player.
     pub fn input_frame(&self, player: u8) -> Option<u32> {
-        answered(|out| unsafe { raw::fazgrond_input_frame(self.raw, player, out) })
-    }
-}
-
-impl Drop for Handle {
-    fn drop(&mut self) {
-        unsafe {
-            raw::fazgrond_close(self.raw);
-            drop(Box::from_raw(self.raw));
-        }
+        answered(|out| unsafe { raw::fazgrond_input_frame(self.raw(), player, out) })
     }
 }
 
@@ -282,7 +287,7 @@ impl Iterator for Requests<'_> {
 
     fn next(&mut self) -> Option<Request> {
         let mut request = raw::Request::default();
-        let count = unsafe { raw::fazgrond_take_requests(self.handle.raw, &mut request, 1) };
+        let count = unsafe { raw::fazgrond_take_requests(self.handle.raw(), &mut request, 1) };
         (count == 1).then(|| match request.kind {
             raw::LOAD => Request::Load(request.slot as usize),
             raw::SAVE => Request::Save(request.slot as usize),
@@ -294,10 +299,4 @@ impl Iterator for Requests<'_> {
             kind => unreachable!("a request of the kind {kind}"),
         })
     }
-}
-
-/// What a question is answered, if there is such a thing.
-fn answered<T: Default>(ask: impl FnOnce(&mut T) -> i32) -> Option<T> {
-    let mut answer = T::default();
-    (ask(&mut answer) == 0).then_some(answer)
 }

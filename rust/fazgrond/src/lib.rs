@@ -91,10 +91,16 @@
 //! thread. If the word comes so, no frame is run again.
 //!
 //! A game that wants the requests themselves, to keep its states where it likes, opens a [`Handle`] in place of a session.
+//!
+//! A [`Peer`] is the network of a match, beside the session: it makes and takes datagrams, and tells the session of the others. A
+//! [`Viewer`] on another machine is sent a match's settled rows, by a [`Line`].
 
 mod error;
 mod handle;
 mod job;
+mod line;
+mod owned;
+mod peer;
 mod raw;
 mod row;
 mod session;
@@ -103,6 +109,8 @@ mod settings;
 pub use error::Error;
 pub use handle::{Entry, Handle, Heard, Reached, Request, Requests};
 pub use job::{Done, Job};
+pub use line::{Line, LineSettings, LineState, Viewer};
+pub use peer::{Datagram, Event, Field, Match, Peer, Plays, Stats, MACHINES};
 pub use row::{Row, PLAYERS};
 pub use session::{Game, Session};
 pub use settings::Settings;

@@ -1,14 +1,22 @@
 //! What c/fazgrond.h declares.
 use crate::handle::Reached;
+use crate::line::LineSettings;
+use crate::peer::Match;
 use crate::row::Row;
 use crate::settings::Settings;
 use std::ffi::c_void;
 
+/// What is open: a session, a peer, a line or a viewer. To another kind's calls it is closed.
 #[repr(C)]
-pub struct Session {
+pub struct Object {
     pub full: u8,
     pub at: *mut c_void,
 }
+
+pub type Session = Object;
+pub type Peer = Object;
+pub type Line = Object;
+pub type Viewer = Object;
 
 #[repr(C)]
 #[derive(Default)]
@@ -18,7 +26,6 @@ pub struct Request {
     pub row: Row,
 }
 
-pub const NOTHING: i32 = 203;
 #[repr(C)]
 #[derive(Default)]
 pub struct Entry {
@@ -28,6 +35,46 @@ pub struct Entry {
     pub word: u32,
 }
 
+#[repr(C)]
+#[derive(Default)]
+pub struct Event {
+    pub code: u32,
+    pub machine: u32,
+    pub player: u32,
+    pub count: u32,
+    pub total: u32,
+    pub frames_ahead: u32,
+    pub disconnect_in: u32,
+    pub frame: u32,
+    pub field: u32,
+}
+
+#[repr(C)]
+#[derive(Default)]
+pub struct Stats {
+    pub is_measured: u32,
+    pub round_trip: u32,
+    pub sent: u32,
+    pub received: u32,
+    pub lost: u32,
+    pub words_queued: u32,
+    pub frames_behind: i32,
+    pub their_frames_behind: i32,
+    pub refused: u32,
+}
+
+#[repr(C)]
+#[derive(Default)]
+pub struct LineState {
+    pub rows: u32,
+    pub settled: u32,
+    pub silence: u32,
+    pub is_playing: u32,
+    pub has_ended: u32,
+    pub is_silent: u32,
+}
+
+pub const NOTHING: i32 = 203;
 pub const TOO_SHORT: i32 = 204;
 
 pub const LOAD: u32 = 1;
@@ -39,6 +86,7 @@ pub const JOB_SAVE: u32 = 6;
 pub const JOB_STEP: u32 = 7;
 
 unsafe extern "C" {
+    pub fn fazgrond_text(code: i32, out: *mut u8, room: usize) -> usize;
     pub fn fazgrond_open(session: *mut Session, settings: *const Settings) -> i32;
     pub fn fazgrond_close(session: *mut Session);
     pub fn fazgrond_add_local_input(session: *mut Session, player: u8, word: u32) -> i32;
@@ -70,4 +118,54 @@ unsafe extern "C" {
     pub fn fazgrond_frames_ahead(session: *mut Session, frames: *mut u32) -> i32;
     pub fn fazgrond_claim(session: *mut Session, out: *mut u8, room: usize, length: *mut usize) -> i32;
     pub fn fazgrond_input_frame(session: *mut Session, player: u8, frame: *mut u32) -> i32;
+    pub fn fazgrond_settled_slot(session: *mut Session, frame: *mut u32, slot: *mut u32) -> i32;
+    pub fn fazgrond_has_news(session: *mut Session, flag: *mut u32) -> i32;
+    pub fn fazgrond_peer_open(peer: *mut Peer, session: *mut Session, of: *const Match) -> i32;
+    pub fn fazgrond_peer_receive(
+        peer: *mut Peer,
+        session: *mut Session,
+        bytes: *const u8,
+        length: usize,
+        now: u32,
+    ) -> i32;
+    pub fn fazgrond_peer_poll(peer: *mut Peer, session: *mut Session, now: u32) -> i32;
+    pub fn fazgrond_peer_is_running(peer: *mut Peer, flag: *mut u32) -> i32;
+    pub fn fazgrond_peer_send(
+        peer: *mut Peer,
+        session: *mut Session,
+        machine: u8,
+        now: u32,
+        out: *mut u8,
+        room: usize,
+        length: *mut usize,
+    ) -> i32;
+    pub fn fazgrond_peer_bye(peer: *mut Peer, machine: u8, out: *mut u8, room: usize, length: *mut usize) -> i32;
+    pub fn fazgrond_peer_disconnect(peer: *mut Peer, machine: u8) -> i32;
+    pub fn fazgrond_peer_note_settled(peer: *mut Peer, session: *mut Session, digest: u64) -> i32;
+    pub fn fazgrond_peer_event(peer: *mut Peer, event: *mut Event) -> i32;
+    pub fn fazgrond_peer_stats(peer: *mut Peer, machine: u8, stats: *mut Stats) -> i32;
+    pub fn fazgrond_line_open(line: *mut Line, settings: *const LineSettings) -> i32;
+    pub fn fazgrond_line_receive(line: *mut Line, bytes: *const u8, length: usize, now: u32) -> i32;
+    pub fn fazgrond_line_send(
+        line: *mut Line,
+        session: *mut Session,
+        now: u32,
+        out: *mut u8,
+        room: usize,
+        length: *mut usize,
+    ) -> i32;
+    pub fn fazgrond_line_bye(line: *mut Line, out: *mut u8, room: usize, length: *mut usize) -> i32;
+    pub fn fazgrond_line_look(line: *mut Line, now: u32, state: *mut LineState) -> i32;
+    pub fn fazgrond_viewer_open(viewer: *mut Viewer, settings: *const LineSettings) -> i32;
+    pub fn fazgrond_viewer_receive(
+        viewer: *mut Viewer,
+        bytes: *const u8,
+        length: usize,
+        now: u32,
+        rows: *mut u32,
+    ) -> i32;
+    pub fn fazgrond_viewer_send(viewer: *mut Viewer, now: u32, out: *mut u8, room: usize, length: *mut usize) -> i32;
+    pub fn fazgrond_viewer_bye(viewer: *mut Viewer, out: *mut u8, room: usize, length: *mut usize) -> i32;
+    pub fn fazgrond_viewer_row(viewer: *mut Viewer, row: *mut Row) -> i32;
+    pub fn fazgrond_viewer_look(viewer: *mut Viewer, now: u32, state: *mut LineState) -> i32;
 }

@@ -46,6 +46,10 @@ impl<G: Game> Session<G> {
         &self.game
     }
 
+    pub(crate) fn handle(&self) -> &Handle {
+        &self.handle
+    }
+
     /// Gives a local player's word of this frame.
     pub fn add_local_input(&mut self, player: u8, word: u32) -> Result<(), Error> {
         self.handle.add_local_input(player, word)
@@ -200,6 +204,19 @@ impl<G: Game> Session<G> {
     /// The current frame.
     pub fn frame(&self) -> u32 {
         self.handle.frame()
+    }
+
+    /// Whether the state that is shown may be out of date: a call was accepted since the last roll, or there was none yet. Then a
+    /// turn that plays no frame has something to synchronize.
+    pub fn has_news(&self) -> bool {
+        self.handle.has_news()
+    }
+
+    /// The settled frame, and the state after all settled rows. None after a method of the game has panicked.
+    pub fn settled_state(&self) -> Option<(u32, &G::State)> {
+        let (frame, slot) = self.handle.settled_slot();
+        let state = self.slots.get(slot).and_then(Option::as_ref);
+        state.filter(|_| self.is_whole).map(|state| (frame, state))
     }
 
     /// How many rows are settled: they never change.

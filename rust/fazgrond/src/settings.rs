@@ -1,9 +1,11 @@
 use crate::row::PLAYERS;
+use std::mem::size_of;
 
 /// How a session is opened.
 #[derive(Clone, Debug)]
 #[repr(C)]
 pub struct Settings {
+    size: u32,
     profile: u32,
     players: u32,
     local: u32,
@@ -23,6 +25,7 @@ impl Settings {
     /// If a local player isn't one of 1 to 8.
     pub fn new(players: u8, local: &[u8]) -> Settings {
         let settings = Settings {
+            size: size_of::<Settings>() as u32,
             profile: 0,
             players: players.into(),
             local: local.iter().fold(0, |bits, player| bits | 1 << place_of(*player)),

@@ -1,0 +1,465 @@
+use crate::error::{said, Error};
+use crate::handle::{Handle, Reached};
+use crate::owned::{answered, Owned};
+use crate::raw;
+use crate::row::PLAYERS;
+use crate::session::{Game, Session};
+use std::fmt;
+use std::mem::size_of;
+use std::ops::Deref;
+
+/// The most machines of a match.
+pub const MACHINES: usize = 8;
+
+/// The owner of a player whom there isn't.
+pub(crate) const NO_PLAYER: u32 = 255;
+
+/// How a match is opened at one machine. Machines are numbered from 0.
+#[derive(Clone, Debug)]
+#[repr(C)]
+pub struct Match {
+    size: u32,
+    me: u32,
+    numbers: [u64; MACHINES],
+    draw: u64,
+    digest: u64,
+    machines: u32,
+    owners: [u32; PLAYERS],
+    silent_after: u32,
+    notify_after: u32,
+    stalled_after: u32,
+}
+
+impl Match {
+    /// A match of so many machines, of which this one is `me`. Each player has an owner, player 1 first. Nobody is ever silent for
+    /// too long, and the match has the number 0: set one.
+    ///
+    /// The draw is 64 bits of the system's source of random bits, drawn anew for each opening, and never 0: by it what was sent in
+    /// an earlier opening of the same match isn't heard in this one.
+    ///
+    /// # Panics
+    ///
+    /// If there are more than 8 owners.
+    pub fn new(machines: u8, me: u8, owners: &[u8], draw: u64) -> Match {
+        Match {
+            size: size_of::<Match>() as u32,
+            me: me.into(),
+            numbers: [0; MACHINES],
+            draw,
+            digest: 0,
+            machines: machines.into(),
+            owners: owners_of(owners),
+            silent_after: 0,
+            notify_after: 0,
+            stalled_after: 0,
+        }
+    }
+
+    /// One number for all machines, 64 random bits: each of them could speak in the name of another.
+    pub fn number(self, number: u64) -> Match {
+        self.numbers([number; MACHINES])
+    }
+
+    /// With each machine a number that only these two know, 64 random bits. That of this machine isn't read.
+    pub fn numbers(self, numbers: [u64; MACHINES]) -> Match {
+        Match { numbers, ..self }
+    }
+
+    /// A digest of all else that has to be alike at all machines.
+    pub fn digest(self, digest: u64) -> Match {
+        Match { digest, ..self }
+    }
+
+    /// After how many milliseconds a machine is gone that answers nothing. 0: it never is.
+    pub fn silent_after(self, milliseconds: u32) -> Match {
+        Match { silent_after: milliseconds, ..self }
+    }
+
+    /// After how many milliseconds [`Event::Interrupted`] tells of a machine of which nothing comes, and [`Event::Stalled`] of one
+    /// that holds this one up. 0: neither is told.
+    pub fn notify_after(self, milliseconds: u32) -> Match {
+        Match { notify_after: milliseconds, ..self }
+    }
+
+    /// After how many milliseconds a machine is gone that answers, and holds this one up since it gives no words. 0: it never is.
+    pub fn stalled_after(self, milliseconds: u32) -> Match {
+        Match { stalled_after: milliseconds, ..self }
+    }
+}
+
+/// The owners of all players whom there may be.
+pub(crate) fn owners_of(owners: &[u8]) -> [u32; PLAYERS] {
+    let mut all = [NO_PLAYER; PLAYERS];
+    for (place, owner) in all[..owners.len()].iter_mut().zip(owners) {
+        *place = u32::from(*owner);
+    }
+    all
+}
+
+/// The most bytes of a datagram.
+const DATAGRAM: usize = 1200;
+
+/// Bytes to be sent to another machine.
+#[derive(Clone)]
+pub struct Datagram {
+    bytes: [u8; DATAGRAM],
+    length: usize,
+}
+
+impl Datagram {
+    /// What a call writes: its buffer, its room, and where its length goes. None if there is nothing to send.
+    pub(crate) fn written(write: impl FnOnce(*mut u8, usize, &mut usize) -> i32) -> Result<Option<Datagram>, Error> {
+        let mut made = Datagram { bytes: [0; DATAGRAM], length: 0 };
+        match write(made.bytes.as_mut_ptr(), DATAGRAM, &mut made.length) {
+            raw::NOTHING => Ok(None),
+            code => said(code).map(|()| Some(made)),
+        }
+    }
+}
+
+impl Deref for Datagram {
+    type Target = [u8];
+
+    fn deref(&self) -> &[u8] {
+        &self.bytes[..self.length]
+    }
+}
+
+impl fmt::Debug for Datagram {
+    fn fmt(&self, out: &mut fmt::Formatter<'_>) -> fmt::Result {
+        self.deref().fmt(out)
+    }
+}
+
+/// Which terms of a match another machine has otherwise.
+#[derive(Clone, Copy, PartialEq, Eq, Debug)]
+pub enum Field {
+    /// The number of machines.
+    Machines,
+    /// The owners of the players.
+    Owners,
+    /// The digest.
+    Digest,
+}
+
+/// Something that a peer tells its program.
+#[derive(Clone, Copy, PartialEq, Eq, Debug)]
+pub enum Event {
+    /// A machine was heard, and the match isn't played with it yet.
+    Synchronizing {
+        /// The machine.
+        machine: u8,
+        /// How many steps are done.
+        count: u32,
+        /// Of how many.
+        total: u32,
+    },
+    /// A machine and this one have heard each other.
+    Synchronized {
+        /// The machine.
+        machine: u8,
+    },
+    /// The match begins.
+    Running,
+    /// A player has left.
+    Disconnected {
+        /// The player.
+        player: u8,
+    },
+    /// This machine is ahead: give no word for so many turns.
+    TimeSync {
+        /// How many turns.
+        frames_ahead: u32,
+    },
+    /// A machine is silent.
+    Interrupted {
+        /// The machine.
+        machine: u8,
+        /// In how many milliseconds it is gone.
+        disconnect_in: u32,
+    },
+    /// A machine that was silent was heard again.
+    Resumed {
+        /// The machine.
+        machine: u8,
+    },
+    /// A machine is gone for good.
+    Left {
+        /// The machine.
+        machine: u8,
+    },
+    /// A machine has another state at a settled frame.
+    Desync {
+        /// The machine.
+        machine: u8,
+        /// The frame.
+        frame: u32,
+    },
+    /// A machine means another match.
+    Mismatch {
+        /// The machine.
+        machine: u8,
+        /// What it has otherwise.
+        field: Field,
+    },
+    /// Another machine regards this one as gone.
+    Dropped,
+    /// A machine was opened anew. It can't come back into this match.
+    Restarted {
+        /// The machine.
+        machine: u8,
+    },
+    /// A machine is heard, and holds this one up, since it gives no words.
+    Stalled {
+        /// The machine.
+        machine: u8,
+        /// In how many milliseconds it is gone for that; 0 if it never is.
+        disconnect_in: u32,
+    },
+    /// What a machine sealed was refused, or a word of it was: its program is broken, or it lies.
+    Refused {
+        /// The machine.
+        machine: u8,
+    },
+    /// A machine isn't there, though it had the time. It is waited for, until it is disconnected.
+    Missing {
+        /// The machine.
+        machine: u8,
+    },
+}
+
+impl Event {
+    fn of(told: raw::Event) -> Event {
+        let machine = told.machine as u8;
+        let disconnect_in = told.disconnect_in;
+        match told.code {
+            1001 => Event::Synchronizing { machine, count: told.count, total: told.total },
+            1002 => Event::Synchronized { machine },
+            1003 => Event::Running,
+            1004 => Event::Disconnected { player: told.player as u8 },
+            1005 => Event::TimeSync { frames_ahead: told.frames_ahead },
+            1006 => Event::Interrupted { machine, disconnect_in },
+            1007 => Event::Resumed { machine },
+            1101 => Event::Left { machine },
+            1102 => Event::Desync { machine, frame: told.frame },
+            1103 => Event::Mismatch { machine, field: field_of(told.field) },
+            1104 => Event::Dropped,
+            1105 => Event::Restarted { machine },
+            1106 => Event::Stalled { machine, disconnect_in },
+            1107 => Event::Refused { machine },
+            1108 => Event::Missing { machine },
+            code => unreachable!("an event of the code {code}"),
+        }
+    }
+}
+
+fn field_of(field: u32) -> Field {
+    match field {
+        1 => Field::Machines,
+        2 => Field::Owners,
+        3 => Field::Digest,
+        field => unreachable!("a field of the number {field}"),
+    }
+}
+
+/// What was counted and measured of the datagrams between this machine and another.
+#[derive(Clone, Copy, PartialEq, Eq, Debug)]
+pub struct Stats {
+    /// The round trip in milliseconds, if it was measured.
+    pub round_trip: Option<u32>,
+    /// How many were sent.
+    pub sent: u32,
+    /// How many came.
+    pub received: u32,
+    /// How many were lost, or late.
+    pub lost: u32,
+    /// How many words it hasn't said that it has, at most 160 of each player.
+    pub words_queued: u32,
+    /// By how many frames this machine is behind the other: negative if it is ahead.
+    pub frames_behind: i32,
+    /// And the other, as it says, behind this one.
+    pub their_frames_behind: i32,
+    /// How many that it sealed were refused, or had words that were.
+    pub refused: u32,
+}
+
+mod sealed {
+    pub trait Sealed {
+        fn raw(&self) -> *mut crate::raw::Session;
+    }
+}
+
+/// What a peer can stand beside: a [`Session`] or a [`Handle`].
+pub trait Plays: sealed::Sealed {}
+
+impl sealed::Sealed for Handle {
+    fn raw(&self) -> *mut raw::Session {
+        Handle::raw(self)
+    }
+}
+
+impl Plays for Handle {}
+
+impl<G: Game> sealed::Sealed for Session<G> {
+    fn raw(&self) -> *mut raw::Session {
+        self.handle().raw()
+    }
+}
+
+impl<G: Game> Plays for Session<G> {}
+
+/// The network of a match at one machine: who has which words, who is gone, what to send. It has no socket and no clock, and stands
+/// beside the session that plays.
+///
+/// `now` is this machine's clock in milliseconds, from a moment of its own choice; it may wrap, and it may jump. Give the peer always
+/// the session that it was opened with, and tell that of the other machines by it alone: else each call that takes both answers
+/// [`Error::OtherSession`], and nothing changes.
+///
+/// In each turn hear what came by [`receive`](Peer::receive), give the session its own players' words once
+/// [`is_running`](Peer::is_running) says that the match has begun, make a [`turn`](Peer::turn), and [`send`](Peer::send) to each
+/// other machine.
+///
+/// Here are two machines in one program; each hears what the other sent in the turn before.
+///
+/// ```
+/// use fazgrond::{Datagram, Error, Match, Peer, Session, Settings};
+/// # use fazgrond::{Game, Row};
+/// # struct Sum(u32);
+/// # impl Game for Sum {
+/// #     type State = u32;
+/// #     fn save(&self) -> u32 { self.0 }
+/// #     fn load(&mut self, state: &u32) { self.0 = *state; }
+/// #     fn advance(&mut self, row: &Row) { self.0 += row.cells().flatten().sum::<u32>(); }
+/// # }
+/// # fn random_bits() -> u64 { 4 }
+/// # fn main() -> Result<(), Error> {
+/// let mut machines = Vec::new();
+/// for me in 0..2 {
+///     let mut session = Session::open(&Settings::new(2, &[me + 1]), Sum(0))?;
+///     let of = Match::new(2, me, &[0, 1], random_bits()).number(0x5eed).silent_after(5000);
+///     let peer = Peer::open(&mut session, &of)?;
+///     machines.push((session, peer, Vec::<Datagram>::new()));
+/// }
+/// for turn in 0..100 {
+///     let now = 16 * turn; // your clock
+///     for me in 0..2 {
+///         let (session, peer, came) = &mut machines[usize::from(me)];
+///         for bytes in came.drain(..) {
+///             let _ = peer.receive(session, &bytes, now); // what is refused has changed nothing
+///         }
+///         if peer.is_running() {
+///             let _ = session.add_local_input(me + 1, turn % 2); // refused if this machine is too far ahead
+///         }
+///         peer.turn(session, now)?;
+///         while let Some(event) = peer.event() {
+///             println!("machine {me}: {event:?}");
+///         }
+///         let sent = peer.send(session, 1 - me, now)?;
+///         machines[usize::from(1 - me)].2.extend(sent);
+///     }
+/// }
+/// assert!(machines.iter().all(|(session, ..)| session.settled() > 80));
+/// # Ok(())
+/// # }
+/// ```
+#[derive(Debug)]
+pub struct Peer {
+    owned: Owned,
+}
+
+// SAFETY, of each call of the library below: `raw` is of a peer that `open` made and `drop` closes, and a session's is of one that
+// is open; other pointers are to what lives past the call; and there is one call at a time, since neither is `Sync`.
+impl Peer {
+    /// Opens a peer beside a session whose local players are those of this machine, and that has heard of no others yet.
+    pub fn open(session: &mut impl Plays, of: &Match) -> Result<Peer, Error> {
+        let peer = Peer { owned: Owned::closed() };
+        said(unsafe { raw::fazgrond_peer_open(peer.raw(), session.raw(), of) })?;
+        Ok(peer)
+    }
+
+    fn raw(&self) -> *mut raw::Peer {
+        self.owned.raw()
+    }
+
+    /// Takes a datagram that came, and gives the session the words in it. What is refused has changed nothing but what is counted
+    /// and told of its sender.
+    pub fn receive(&mut self, session: &mut impl Plays, bytes: &[u8], now: u32) -> Result<(), Error> {
+        said(unsafe { raw::fazgrond_peer_receive(self.raw(), session.raw(), bytes.as_ptr(), bytes.len(), now) })
+    }
+
+    /// What a turn does before it plays: machines that were silent too long are gone, players of who is gone leave the session, and
+    /// the match begins once all machines are there. If it is refused by the session, a player who is to leave is still there: all
+    /// else is done, and the next poll tries again.
+    pub fn poll(&mut self, session: &mut impl Plays, now: u32) -> Result<(), Error> {
+        said(unsafe { raw::fazgrond_peer_poll(self.raw(), session.raw(), now) })
+    }
+
+    /// A turn of the main loop: a [`poll`](Peer::poll), and once the match has begun, the session goes on to its next frame if its
+    /// local words are there, and says so; else it rolls back, if anything was accepted since it last did.
+    pub fn turn<G: Game>(&mut self, session: &mut Session<G>, now: u32) -> Result<Option<Reached>, Error> {
+        self.poll(session, now)?;
+        if !self.is_running() {
+            return Ok(None);
+        }
+        match session.advance_frame() {
+            Err(Error::LocalInputMissing) => {
+                if session.has_news() {
+                    session.synchronize_input()?;
+                }
+                Ok(None)
+            }
+            answer => answer.map(Some),
+        }
+    }
+
+    /// Whether the match has begun. Before that give the session no words.
+    pub fn is_running(&self) -> bool {
+        answered(|out| unsafe { raw::fazgrond_peer_is_running(self.raw(), out) }).unwrap_or(0u32) != 0
+    }
+
+    /// The datagram to send to a machine in this turn. None if it is gone, or this one, or there is no such machine.
+    pub fn send(&mut self, session: &impl Plays, machine: u8, now: u32) -> Result<Option<Datagram>, Error> {
+        Datagram::written(|out, room, length| unsafe {
+            raw::fazgrond_peer_send(self.raw(), session.raw(), machine, now, out, room, length)
+        })
+    }
+
+    /// The datagram that says to a machine that this one leaves the match: another one for each machine. Send each a few times.
+    /// None if there is nobody to tell.
+    pub fn bye(&self, machine: u8) -> Option<Datagram> {
+        let made = Datagram::written(|out, room, length| unsafe {
+            raw::fazgrond_peer_bye(self.raw(), machine, out, room, length)
+        });
+        made.unwrap_or(None)
+    }
+
+    /// Regards a machine as gone, for good. Its players leave the session at a later [`poll`](Peer::poll).
+    pub fn disconnect(&mut self, machine: u8) -> Result<(), Error> {
+        said(unsafe { raw::fazgrond_peer_disconnect(self.raw(), machine) })
+    }
+
+    /// Notes the game's own digest of the session's settled state, by which the machines see that they play alike.
+    pub fn note_settled(&mut self, session: &impl Plays, digest: u64) -> Result<(), Error> {
+        said(unsafe { raw::fazgrond_peer_note_settled(self.raw(), session.raw(), digest) })
+    }
+
+    /// What happened, the oldest first. The oldest is dropped if more than 64 wait.
+    pub fn event(&mut self) -> Option<Event> {
+        answered(|out| unsafe { raw::fazgrond_peer_event(self.raw(), out) }).map(Event::of)
+    }
+
+    /// What was counted and measured of a machine. None if there is no such machine.
+    pub fn stats(&self, machine: u8) -> Option<Stats> {
+        let seen: raw::Stats = answered(|out| unsafe { raw::fazgrond_peer_stats(self.raw(), machine, out) })?;
+        Some(Stats {
+            round_trip: (seen.is_measured != 0).then_some(seen.round_trip),
+            sent: seen.sent,
+            received: seen.received,
+            lost: seen.lost,
+            words_queued: seen.words_queued,
+            frames_behind: seen.frames_behind,
+            their_frames_behind: seen.their_frames_behind,
+            refused: seen.refused,
+        })
+    }
+}

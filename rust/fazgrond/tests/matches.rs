@@ -1,0 +1,306 @@
+//! Matches of two machines in one process, over lines that lose datagrams and bring the others late, with guesses and without; and a
+//! viewer of one of them.
+#[allow(dead_code)] // not all of it is used here
+mod random_numbers;
+
+use fazgrond::{
+    Datagram, Error, Event, Game, Handle, Line, LineSettings, Match, Peer, Plays, Row, Session, Settings, Viewer,
+};
+use random_numbers::Random;
+use std::collections::BTreeMap;
+
+const FRAMES: u32 = 600;
+const TURN: u32 = 16;
+const OWNERS: [u8; 2] = [0, 1];
+
+/// A digest of all rows, which counts its steps.
+#[derive(Default)]
+struct Digest {
+    sum: u64,
+    steps: u32,
+}
+
+impl Game for Digest {
+    type State = u64;
+
+    fn save(&self) -> u64 {
+        self.sum
+    }
+
+    fn load(&mut self, sum: &u64) {
+        self.sum = *sum;
+    }
+
+    fn advance(&mut self, row: &Row) {
+        for word in row.cells() {
+            self.sum = (self.sum ^ u64::from(word.unwrap_or(9))).wrapping_mul(0x100_0000_01b3) + 1;
+        }
+        self.steps += 1;
+    }
+}
+
+/// A button that a player holds for some ten frames.
+fn word_of(machine: u8, frame: u32) -> u32 {
+    let run = frame / (5 + 2 * u32::from(machine));
+    Random(u64::from(run) << 8 | u64::from(machine)).below(2)
+}
+
+/// What is on the way to one end. One datagram in five is lost, and the others come one to five turns later.
+#[derive(Default)]
+struct Way {
+    under_way: BTreeMap<(u32, usize), Datagram>,
+    count: usize,
+}
+
+impl Way {
+    fn send(&mut self, random: &mut Random, turn: u32, sent: Option<Datagram>) {
+        let Some(sent) = sent.filter(|_| !random.one_in(5)) else { return };
+        self.under_way.insert((turn + 1 + random.below(5), self.count), sent);
+        self.count += 1;
+    }
+
+    fn come(&mut self, turn: u32) -> impl Iterator<Item = Datagram> {
+        let later = self.under_way.split_off(&(turn + 1, 0));
+        std::mem::replace(&mut self.under_way, later).into_values()
+    }
+}
+
+fn match_of(me: u8, draw: u64) -> Match {
+    Match::new(2, me, &OWNERS, draw).number(7).digest(8).silent_after(5000).notify_after(2000)
+}
+
+fn settings_of(me: u8) -> Settings {
+    Settings::new(2, &[me + 1]).limit(FRAMES)
+}
+
+struct Machine {
+    me: u8,
+    session: Session<Digest>,
+    peer: Peer,
+    to_me: Way,
+    wait: u32,
+    grafted: u32,
+}
+
+impl Machine {
+    fn new(me: u8) -> Machine {
+        let mut session = Session::open(&settings_of(me), Digest::default()).unwrap();
+        let peer = Peer::open(&mut session, &match_of(me, 70 + u64::from(me))).unwrap();
+        Machine { me, session, peer, to_me: Way::default(), wait: 0, grafted: 0 }
+    }
+
+    fn turn(&mut self, turn: u32, is_guessing: bool) {
+        for bytes in self.to_me.come(turn) {
+            let heard = self.peer.receive(&mut self.session, &bytes, turn * TURN);
+            assert!(matches!(heard, Ok(()) | Err(Error::NotSealed)), "{heard:?}");
+        }
+        if self.peer.is_running() && self.wait == 0 {
+            let word = word_of(self.me, self.session.frame());
+            let given = self.session.add_local_input(self.me + 1, word);
+            assert!(matches!(given, Ok(()) | Err(Error::PredictionThreshold | Error::FrameLimit)), "{given:?}");
+        }
+        self.wait = self.wait.saturating_sub(1);
+        self.peer.turn(&mut self.session, turn * TURN).unwrap();
+        let (_, state) = self.session.settled_state().unwrap();
+        let digest = *state;
+        self.peer.note_settled(&self.session, digest).unwrap();
+        if is_guessing {
+            self.guess();
+        }
+        while let Some(event) = self.peer.event() {
+            match event {
+                Event::TimeSync { frames_ahead } => self.wait = frames_ahead,
+                Event::Synchronizing { .. } | Event::Synchronized { .. } | Event::Running => {}
+                other => panic!("machine {} is told {other:?}", self.me),
+            }
+        }
+    }
+
+    /// The other player may have pressed or let go its button in each of the frames whose words haven't come.
+    fn guess(&mut self) {
+        let other = 2 - self.me;
+        let (frame, known) = (self.session.frame(), self.session.confirmed(other).unwrap());
+        let last = known.checked_sub(1).and_then(|frame| self.session.confirmed_word(other, frame)).unwrap_or(0);
+        for held in 0..frame.saturating_sub(known).min(8) {
+            let mut words = vec![last; held as usize];
+            words.push(1 - last);
+            if let Ok(Some(job)) = self.session.guess(other, &words, frame) {
+                self.grafted += self.session.graft(job.run(&mut Digest::default())).unwrap_or(0);
+            }
+        }
+    }
+
+    /// How many frames were run more than once.
+    fn again(&self) -> u32 {
+        self.session.game().steps - self.session.frame()
+    }
+}
+
+struct Watched {
+    line: Line,
+    viewer: Viewer,
+    to_line: Way,
+    to_viewer: Way,
+    game: Digest,
+}
+
+impl Watched {
+    fn new() -> Watched {
+        let settings = |draw| LineSettings::new(9, draw, 0, 2, &OWNERS).digest(8).silent_after(5000);
+        Watched {
+            line: Line::open(&settings(90)).unwrap(),
+            viewer: Viewer::open(&settings(91)).unwrap(),
+            to_line: Way::default(),
+            to_viewer: Way::default(),
+            game: Digest::default(),
+        }
+    }
+
+    fn turn(&mut self, random: &mut Random, turn: u32, session: &impl Plays) {
+        for bytes in self.to_line.come(turn) {
+            let heard = self.line.receive(&bytes, turn * TURN);
+            assert!(matches!(heard, Ok(()) | Err(Error::NotSealed)), "{heard:?}");
+        }
+        for bytes in self.to_viewer.come(turn) {
+            let heard = self.viewer.receive(&bytes, turn * TURN);
+            assert!(matches!(heard, Ok(_) | Err(Error::NotSealed)), "{heard:?}");
+        }
+        while let Some(row) = self.viewer.row() {
+            self.game.advance(&row);
+        }
+        self.to_viewer.send(random, turn, self.line.send(session, turn * TURN));
+        self.to_line.send(random, turn, self.viewer.send(turn * TURN));
+    }
+}
+
+struct Scene {
+    machines: [Machine; 2],
+    watched: Watched,
+    random: Random,
+    turn: u32,
+    is_guessing: bool,
+}
+
+impl Scene {
+    fn new(is_guessing: bool) -> Scene {
+        let machines = [Machine::new(0), Machine::new(1)];
+        Scene { machines, watched: Watched::new(), random: Random(3), turn: 0, is_guessing }
+    }
+
+    fn turn(&mut self) {
+        for machine in &mut self.machines {
+            machine.turn(self.turn, self.is_guessing);
+        }
+        let [one, two] = &mut self.machines;
+        two.to_me.send(&mut self.random, self.turn, one.peer.send(&one.session, 1, self.turn * TURN).unwrap());
+        one.to_me.send(&mut self.random, self.turn, two.peer.send(&two.session, 0, self.turn * TURN).unwrap());
+        self.watched.turn(&mut self.random, self.turn, &one.session);
+        self.turn += 1;
+        assert!(self.turn < 10 * FRAMES, "the match stands");
+    }
+
+    fn play_to(&mut self, frames: u32) {
+        while self.machines.iter().any(|machine| machine.session.settled() < frames) {
+            self.turn();
+        }
+    }
+
+    fn play_to_end(&mut self) {
+        while self.watched.game.steps < FRAMES {
+            self.turn();
+        }
+    }
+}
+
+/// The game that is run once, with each word in its frame.
+fn without_a_network() -> u64 {
+    let settings = Settings::new(2, &[1, 2]);
+    let mut session = Session::open(&settings, Digest::default()).unwrap();
+    for frame in 0..FRAMES {
+        for machine in OWNERS {
+            session.add_local_input(machine + 1, word_of(machine, frame)).unwrap();
+        }
+        session.advance_frame().unwrap();
+    }
+    session.game().sum
+}
+
+#[test]
+fn guesses_save_frames_and_change_no_state() {
+    let [mut plain, mut guessed] = [false, true].map(Scene::new);
+    for scene in [&mut plain, &mut guessed] {
+        scene.play_to(FRAMES);
+        scene.play_to_end();
+        for machine in &scene.machines {
+            assert_eq!(machine.session.settled_state(), Some((FRAMES, &without_a_network())));
+            assert_eq!(machine.session.game().sum, without_a_network());
+        }
+        assert_eq!(scene.watched.game.sum, without_a_network());
+    }
+    for (plain, guessed) in plain.machines.iter().zip(&guessed.machines) {
+        assert!(plain.again() > 100, "{} frames are run again", plain.again());
+        assert!(guessed.again() < plain.again() / 4, "{} of {} frames are run again", guessed.again(), plain.again());
+        assert!(guessed.grafted > FRAMES);
+        assert!(guessed.session.claim().unwrap().starts_with(b"rollcert"));
+    }
+}
+
+#[test]
+fn another_session_is_refused() {
+    let mut scene = Scene::new(false);
+    scene.play_to(50);
+    let now = scene.turn * TURN;
+    let (machine, other) = {
+        let [one, two] = &mut scene.machines;
+        (one, two.peer.send(&two.session, 0, now).unwrap().unwrap())
+    };
+    let before = machine.peer.stats(1);
+    let mut fresh = Handle::open(&settings_of(0)).unwrap();
+    assert_eq!(machine.peer.receive(&mut fresh, &other, now), Err(Error::OtherSession));
+    assert_eq!(machine.peer.poll(&mut fresh, now), Err(Error::OtherSession));
+    assert_eq!(machine.peer.send(&fresh, 1, now).map(|_| ()), Err(Error::OtherSession));
+    assert_eq!(machine.peer.note_settled(&fresh, 1), Err(Error::OtherSession));
+    assert_eq!((fresh.log_length(), machine.peer.event()), (0, None));
+    assert_eq!(machine.peer.stats(1), before);
+    assert_eq!(machine.peer.receive(&mut machine.session, &other, now), Ok(()));
+    scene.play_to(100);
+}
+
+#[test]
+fn a_machine_leaves() {
+    let mut scene = Scene::new(false);
+    scene.play_to(50);
+    let [one, two] = &mut scene.machines;
+    assert!(one.peer.bye(0).is_none() && one.peer.bye(7).is_none());
+    let bye = one.peer.bye(1).unwrap();
+    two.peer.receive(&mut two.session, &bye, scene.turn * TURN).unwrap();
+    assert_eq!(two.peer.receive(&mut two.session, &bye, scene.turn * TURN), Err(Error::MachineGone));
+    two.peer.turn(&mut two.session, scene.turn * TURN).unwrap();
+    assert_eq!(two.peer.event(), Some(Event::Left { machine: 0 }));
+    assert_eq!(two.peer.event(), Some(Event::Disconnected { player: 1 }));
+    assert!(two.peer.send(&two.session, 0, scene.turn * TURN).unwrap().is_none());
+    let said = scene.watched.line.bye().unwrap();
+    scene.watched.viewer.receive(&said, scene.turn * TURN).unwrap();
+    assert!(scene.watched.viewer.look(0).has_ended && scene.watched.viewer.send(0).is_none());
+}
+
+#[test]
+fn matches_that_cant_be() {
+    let mut session = Handle::open(&settings_of(0)).unwrap();
+    let mut refused = |of: Match| Peer::open(&mut session, &of).map(|_| ()).unwrap_err();
+    assert_eq!(refused(match_of(0, 0)), Error::InvalidRequest);
+    assert_eq!(refused(match_of(1, 1)), Error::InvalidPlayer);
+    assert_eq!(refused(match_of(2, 1)), Error::InvalidMachine);
+    assert_eq!(refused(Match::new(2, 0, &[0, 1, 1], 1)), Error::InvalidPlayer);
+    assert!(Line::open(&LineSettings::new(9, 0, 0, 2, &OWNERS)).is_err());
+    assert!(Viewer::open(&LineSettings::new(9, 1, 2, 2, &OWNERS)).is_err());
+}
+
+#[test]
+fn peers_may_be_sent() {
+    fn is_send<T: Send>() {}
+    is_send::<Peer>();
+    is_send::<Line>();
+    is_send::<Viewer>();
+    is_send::<Handle>();
+}
