@@ -44,17 +44,17 @@ HAS(fazgrond_peer, 16);
 AT(fazgrond_peer, full, 0);
 AT(fazgrond_peer, at, 8);
 
-HAS(fazgrond_match, 136);
+HAS(fazgrond_match, 144);
 AT(fazgrond_match, size, 0);
-AT(fazgrond_match, me, 4);
 AT(fazgrond_match, numbers, 8);
 AT(fazgrond_match, draw, 72);
 AT(fazgrond_match, digest, 80);
-AT(fazgrond_match, machines, 88);
-AT(fazgrond_match, owners, 92);
-AT(fazgrond_match, silent_after, 124);
-AT(fazgrond_match, notify_after, 128);
-AT(fazgrond_match, stalled_after, 132);
+AT(fazgrond_match, me, 88);
+AT(fazgrond_match, machines, 92);
+AT(fazgrond_match, owners, 96);
+AT(fazgrond_match, silent_after, 128);
+AT(fazgrond_match, notify_after, 132);
+AT(fazgrond_match, stalled_after, 136);
 
 HAS(fazgrond_event, 36);
 AT(fazgrond_event, code, 0);
