@@ -5,6 +5,7 @@ ghost use Rattle.roll_frame.specs.Events.{branch_of, is_repeat, tests_of};
 ghost use Rattle.roll_frame.specs.Grafts.{new_paths};
 ghost use Rattle.roll_frame.specs.Refusals.{first_refusal};
 ghost use Rattle.roll_frame.specs.Settings.{start_refusal};
+ghost use Rattle.roll_frame.specs.Timeline.{row_at};
 ghost use Rattle.roll_game.specs.Counts.{no_calls};
 ghost use Rattle.roll_session.specs.Answered.{replied, with_entries, IsAnswered};
 ghost use Rattle.roll_session.specs.Calls.{entry_of, event_of, input_reply, judged, IsAdmitted, IsAllowed, IsInput, IsRoll, IsRollTo};
@@ -26,7 +27,7 @@ use crate::room::Room;
 use crate::saves::Saves;
 use crate::way::{Way, add_rolled};
 use roll_branch::PackedRoute;
-use roll_frame::{Refusal, Reply, Route, Settings};
+use roll_frame::{Refusal, Reply, Route, Row, Settings};
 use roll_inputs::{Board, Heard};
 use roll_plan::Planner;
 use roll_tree::Tree;
@@ -101,6 +102,7 @@ impl<S> Core<S> {
         ensures answered { IsAnswered still self.old.seen self.new.seen (event_of call)
             (replied (λ heard. input_reply call heard) result) }
         ensures keeps { KeepsAll self.old.saves self.new.saves }
+        ensures shown { self.new.seen.core.shown ≡ self.old.seen.core.shown }
     {
         match self.admit(call)? {
             Heard::Taken => {
@@ -271,6 +273,14 @@ impl<S> Core<S> {
         self.saves.laws();
     }
 
+    /// The timeline's row of a frame from the settled one on.
+    pub fn row(&self, frame: u32) -> Row
+        requires { self.now.saves.inputs.settled ≤ frame }
+        ensures { result ≡ row_at self.now.saves.inputs.players frame }
+    {
+        self.saves.board().row(frame)
+    }
+
     /// The accepted events.
     pub fn log(&self) -> &Log
         ensures { result.now.entries ≡ self.now.seen.log }
@@ -373,6 +383,7 @@ impl<S> Core<S> {
         requires room { 1 ≤ self.old.seen.reserved }
         ensures taken { self.new.seen
             ≡ with_entries self.old.seen (entry_of call ∷ []) self.old.seen.counts }
+        ensures shown { self.new.seen.core.shown ≡ self.old.seen.core.shown }
         ensures keeps { KeepsAll self.old.saves self.new.saves }
     {
         self.saves.laws();

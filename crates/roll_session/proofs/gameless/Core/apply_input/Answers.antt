@@ -1,4 +1,5 @@
-use Rattle.std.proofs.Common.{refl}
+use Rattle.std.proofs.Common.{ap, refl, ◌∙◌}
+use Rattle.roll_frame.specs.Core.{Core}
 use Rattle.roll_frame.specs.Events.{replay}
 use Rattle.roll_laws.proofs.Glue.{replay-push}
 use Rattle.roll_session.specs.Calls.{entry_of}
@@ -31,3 +32,9 @@ pub returns-clause-keeps : goal.returns-clause-keeps
 returns-clause-keeps g c =
     let e = c.take.ensures in
     rw (← c.self.view_is) (λ value step opening h. keeps_settled c.take.new.self c.settle.new.self c.settle.ensures.inputs c.settle.ensures.states value step opening (keeps_taken c.self.inside.saves c.take.new.self (entry_of c.args.call) e.inputs e.states e.rows value step opening h))
+
+pub returns-clause-shown : goal.returns-clause-shown
+returns-clause-shown g c =
+    let q = rw (← c.self.view_is) at c.requires in
+    let core = replay c.self.inside.settings c.self.inside.log.entries in
+    rw (← c.self.view_is, c.add_call.ensures.entries) (ap (λ (r : Core). r.shown) (replay-push c.self.inside.settings c.self.inside.log.entries (entry_of c.args.call)) ∙ still_shown core c.args.call q.input)
