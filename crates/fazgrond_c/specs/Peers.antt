@@ -84,6 +84,7 @@ pub record IsReceived (bytes : List ℕ) (now : ℕ) (old new : Peered) (before 
   pub result : Result Received Ignored
   pub received : IfOk result (Receives step_of before.session after.session
       (meeting before.session (ticking now old)) new bytes)
+  pub tied : OnOk result (IsTied after.session new.member.mesh)
   pub accepted : OnOk result (IsOf before.session old.member)
   pub fine : OnOk result (ignored (meeting before.session (ticking now old)) bytes ≡ None)
   pub refused : IfErr result (IsIgnored before.session (ticking now old) new bytes)

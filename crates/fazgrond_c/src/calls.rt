@@ -1,5 +1,5 @@
 //! Calls through a handle.
-ghost use Rattle.std.specs.Prelude.{◌≡◌, Result, IfErr, IfOk};
+ghost use Rattle.std.specs.Prelude.{◌≡◌, ◌≢◌, pos, Some, Result, IfErr, IfOk};
 ghost use Rattle.roll_requests.specs.Names.{step_of};
 ghost use Rattle.roll_session.specs.Answered.{IsReplied};
 ghost use Rattle.roll_session.specs.Calls.{event_of};
@@ -25,6 +25,20 @@ pub const TOO_SHORT: i32 = 204;
 pub const OTHER_VERSION: i32 = 205;
 /// The code of `Refusal::NoMemory`.
 const NO_MEMORY: i32 = 107;
+
+/// Opens something in the place of what a handle has open.
+pub fn open_in(alloc: Global, handle: &mut Handle, it: Open) -> i32
+    ensures opened { result ≡ pos 0 → handle.new.hold.value ≡ Some it }
+    ensures refused { result ≢ pos 0
+        → (result ≡ pos 107) × (handle.new.hold.value ≡ handle.old.hold.value) }
+{
+    let Ok(held) = Box::new(alloc, it) else {
+        return NO_MEMORY;
+    };
+    let _old = handle.take(alloc);
+    handle.put(held);
+    0
+}
 
 /// Makes a call of the session that a handle has open.
 ///

@@ -3,7 +3,7 @@ ghost use Rattle.std.specs.Prelude.{◌≡◌, ◌≢◌, pos};
 ghost use Rattle.fazgrond_c.specs.Handles.{line_in, FillsBy, FillsFor, Makes, Opens, Reads};
 ghost use Rattle.fazgrond_c.specs.Lines.{host_state, HostHearsBytes, IsHostsBye, IsOpened, IsTelling, IsWhyClosed};
 
-use crate::calls::CLOSED;
+use crate::calls::{CLOSED, open_in};
 use crate::handle::Handle;
 use crate::line_calls;
 use crate::line_kinds::{LineIn, LineState};
@@ -28,12 +28,7 @@ pub extern "C" fn fazgrond_line_open(alloc: Global, handle: &mut Handle, given: 
         Ok(line) => line,
         Err(why) => return code_of_fault(why),
     };
-    let Ok(held) = Box::new(alloc, Open::Line(line)) else {
-        return Refusal::NoMemory.code();
-    };
-    let _old = handle.take(alloc);
-    handle.put(held);
-    0
+    open_in(alloc, handle, Open::Line(line))
 }
 
 /// Hears a datagram that came of the viewer.

@@ -3,7 +3,7 @@ ghost use Rattle.std.specs.Prelude.{◌≡◌, if◌then◌else◌};
 ghost use Rattle.fazgrond_c.specs.Handles.{peer_in, FillsBy, FillsFor, Makes, MakesBeside, MakesFor, Reads, ReadsOr, Writes};
 ghost use Rattle.fazgrond_c.specs.Peers.{stats_at, IsFarewell, IsNoted, IsOpenedBy, IsPolledFor, IsPutOut, IsReceived, IsSentTo, IsTold, OpensBeside};
 
-use crate::calls::{CLOSED, OTHER_VERSION};
+use crate::calls::{CLOSED, OTHER_VERSION, open_in};
 use crate::handle::Handle;
 use crate::live::Live;
 use crate::open::Open;
@@ -36,13 +36,13 @@ pub extern "C" fn fazgrond_peer_open(
         session.put(lent);
         return CLOSED;
     };
-    let code = open(alloc, handle, live, given);
+    let code = open_beside(alloc, handle, live, given);
     session.put(lent);
     code
 }
 
 /// Opens a peer beside an open session.
-fn open(alloc: Global, handle: &mut Handle, live: &Live, given: &MatchIn) -> i32
+fn open_beside(alloc: Global, handle: &mut Handle, live: &Live, given: &MatchIn) -> i32
     ensures { OpensBeside given.now live.now.session handle.old.hold.value handle.new.hold.value
         result }
 {
@@ -56,12 +56,7 @@ fn open(alloc: Global, handle: &mut Handle, live: &Live, given: &MatchIn) -> i32
         Ok(peer) => peer,
         Err(why) => return code_of_open(why),
     };
-    let Ok(held) = Box::new(alloc, Open::Peer(peer)) else {
-        return Refusal::NoMemory.code();
-    };
-    let _old = handle.take(alloc);
-    handle.put(held);
-    0
+    open_in(alloc, handle, Open::Peer(peer))
 }
 
 /// Hears a datagram that came: words that it holds become words of the session.

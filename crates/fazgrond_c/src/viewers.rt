@@ -4,7 +4,7 @@ ghost use Rattle.fazgrond_c.specs.Handles.{viewer_in, FillsBy, Opens, Reads, Wri
 ghost use Rattle.fazgrond_c.specs.Lines.{IsWhyClosed};
 ghost use Rattle.fazgrond_c.specs.Viewers.{viewer_state, IsOpened, IsSeen, IsViewersBye, IsViewersWord, ViewerHearsBytes};
 
-use crate::calls::CLOSED;
+use crate::calls::{CLOSED, open_in};
 use crate::handle::Handle;
 use crate::kinds::RowOut;
 use crate::line_kinds::{LineIn, LineState};
@@ -29,12 +29,7 @@ pub extern "C" fn fazgrond_viewer_open(alloc: Global, handle: &mut Handle, given
         Ok(live) => live,
         Err(why) => return code_of_fault(why),
     };
-    let Ok(held) = Box::new(alloc, Open::Viewer(live)) else {
-        return Refusal::NoMemory.code();
-    };
-    let _old = handle.take(alloc);
-    handle.put(held);
-    0
+    open_in(alloc, handle, Open::Viewer(live))
 }
 
 /// Hears a datagram that came of the host, and says how many rows were taken.

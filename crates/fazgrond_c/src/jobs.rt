@@ -1,0 +1,125 @@
+//! Guesses and their jobs, for games in other languages.
+ghost use Rattle.std.specs.Prelude.{◌≡◌};
+ghost use Rattle.fazgrond_c.specs.Handles.{session_in, Makes, Writes};
+ghost use Rattle.fazgrond_c.specs.Jobs.{added_in, code_of_graft, code_of_guess, number_in, IsForgotten, IsGrafted, IsGuessed};
+
+use crate::calls::{CLOSED, NOTHING, PENDING};
+use crate::handle::Handle;
+use crate::live::Live;
+use crate::open::Open;
+use roll_frame::{Refusal, Reply};
+use std::alloc::Global;
+
+/// A guess: its job is asked for, and numbered.
+#[unsafe(no_mangle)]
+pub extern "C" fn fazgrond_guess(
+    alloc: Global,
+    handle: &mut Handle,
+    player: u8,
+    words: &[u32],
+    until: u32,
+    job: &mut u32,
+) -> i32
+    ensures { Writes session_in (IsGuessed player words.now until) handle.old.hold.value
+        handle.new.hold.value job.old job.new result }
+{
+    let Some(mut held) = handle.take(alloc) else {
+        return CLOSED;
+    };
+    let Open::Session(live) = &mut *held else {
+        handle.put(held);
+        return CLOSED;
+    };
+    let code = guess(alloc, live, player, words, until, job);
+    handle.put(held);
+    code
+}
+
+/// Takes in the branch of a job that was carried out.
+#[unsafe(no_mangle)]
+pub extern "C" fn fazgrond_graft(
+    alloc: Global,
+    handle: &mut Handle,
+    job: u32,
+    added: &mut u32,
+) -> i32
+    ensures { Writes session_in (IsGrafted job) handle.old.hold.value handle.new.hold.value
+        added.old added.new result }
+{
+    let Some(mut held) = handle.take(alloc) else {
+        return CLOSED;
+    };
+    let Open::Session(live) = &mut *held else {
+        handle.put(held);
+        return CLOSED;
+    };
+    if !live.is_idle() {
+        handle.put(held);
+        return PENDING;
+    }
+    let outcome = live.graft(job);
+    handle.put(held);
+    grafted(added, outcome)
+}
+
+/// Gives a job up.
+#[unsafe(no_mangle)]
+pub extern "C" fn fazgrond_forget(alloc: Global, handle: &mut Handle, job: u32) -> i32
+    ensures { Makes session_in (IsForgotten job) handle.old.hold.value handle.new.hold.value result }
+{
+    let Some(mut held) = handle.take(alloc) else {
+        return CLOSED;
+    };
+    let Open::Session(live) = &mut *held else {
+        handle.put(held);
+        return CLOSED;
+    };
+    let there = live.forget(job);
+    handle.put(held);
+    if there { 0 } else { Refusal::NoJob.code() }
+}
+
+/// Makes a guess, and writes the number of its job, if there is a job.
+fn guess(
+    alloc: Global,
+    live: &mut Live,
+    player: u8,
+    words: &[u32],
+    until: u32,
+    job: &mut u32,
+) -> i32
+    ensures { IsGuessed player words.now until live.old live.new job.old job.new result }
+{
+    let outcome = live.guess(alloc, player, words, until);
+    numbered(job, outcome)
+}
+
+/// Writes the number of a guess's job, if there is a job.
+fn numbered(job: &mut u32, outcome: Result<Option<u32>, Refusal>) -> i32
+    ensures code { result ≡ code_of_guess outcome }
+    ensures written { job.new ≡ number_in outcome job.old }
+{
+    match outcome {
+        Ok(Some(number)) => {
+            *job = number;
+            0
+        }
+        Ok(None) => NOTHING,
+        Err(why) => why.code(),
+    }
+}
+
+/// Writes how many states a graft added, if it was accepted.
+fn grafted(added: &mut u32, outcome: Result<Reply, Refusal>) -> i32
+    ensures code { result ≡ code_of_graft outcome }
+    ensures written { added.new ≡ added_in outcome added.old }
+{
+    match outcome {
+        Ok(Reply::Grafted { added: count }) => {
+            *added = count;
+            0
+        }
+        Ok(Reply::Refused(why)) | Err(why) => why.code(),
+        Ok(_) => 0,
+    }
+}
