@@ -63,8 +63,8 @@ typedef struct fazgrond_settings {
                                         * 0 the prediction is always 0 */
 } fazgrond_settings;
 
-/* Settings for so many players: as far ahead as GGPO goes, as long as can be, without delays, and every word predicted as held.
- * `local` has still to be set. */
+/* Settings for so many players: with GGPO's limits for up to 4 players and the wide ones for more, as far ahead and as long as they
+ * allow, without delays, and every word predicted as held. `local` has still to be set. */
 static inline fazgrond_settings fazgrond_settings_for(uint32_t players) {
     fazgrond_settings settings;
     int at;
@@ -72,7 +72,7 @@ static inline fazgrond_settings fazgrond_settings_for(uint32_t players) {
     settings.profile = players <= 4 ? FAZGROND_GGPO : FAZGROND_WIDE;
     settings.players = players;
     settings.local = 0;
-    settings.threshold = 8;
+    settings.threshold = players <= 4 ? 8 : 15;
     settings.limit = 1048576;
     settings.log = 16777216;
     for (at = 0; at < FAZGROND_PLAYERS; at++) {
@@ -326,11 +326,11 @@ typedef struct fazgrond_peer {
  * has forgotten what it had told them. */
 typedef struct fazgrond_match {
     uint32_t size;                       /* sizeof(fazgrond_match) */
-    uint32_t me;                         /* which machine this is */
     uint64_t numbers[FAZGROND_MACHINES]; /* with each machine a number that only these two know, 64 random bits; that of `me` is
                                           * not read. The same in all places: the match's number */
     uint64_t draw;                       /* drawn for this opening: not 0 */
     uint64_t digest;                     /* of all else that has to be alike at all machines */
+    uint32_t me;                         /* which machine this is */
     uint32_t machines;                   /* how many there are, 2 to 8 */
     uint32_t owners[FAZGROND_PLAYERS];   /* the machine of each player, player 1 first; FAZGROND_NO_PLAYER if there is none */
     uint32_t silent_after;               /* milliseconds after which a machine is gone that answers nothing; 0: it never is */
@@ -346,9 +346,9 @@ static inline fazgrond_match fazgrond_match_for(uint32_t machines, uint32_t me) 
     fazgrond_match match;
     int at;
     match.size = (uint32_t)sizeof match;
-    match.me = me;
     match.draw = 0;
     match.digest = 0;
+    match.me = me;
     match.machines = machines;
     for (at = 0; at < FAZGROND_MACHINES; at++)
         match.numbers[at] = 0;
