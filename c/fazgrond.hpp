@@ -97,7 +97,6 @@ inline std::string message(Code code) {
 inline Settings settings_of(std::uint32_t players, std::uint32_t local) {
     Settings settings = fazgrond_settings_for(players);
     settings.local = local;
-    settings.threshold = settings.profile == FAZGROND_WIDE ? 15 : 8;
     return settings;
 }
 

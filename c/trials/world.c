@@ -187,6 +187,7 @@ static uint32_t owner_of(const setup *with, uint32_t player) {
 fazgrond_settings world_settings(const world *self, uint32_t who) {
     const setup *with = &self->setup;
     fazgrond_settings made = fazgrond_settings_for(players_of(with));
+    made.threshold = 8;
     for (uint32_t player = 0; player < FAZGROND_PLAYERS; player++)
         if (owner_of(with, player) == who) {
             made.local |= 1u << player;

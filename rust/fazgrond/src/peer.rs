@@ -19,10 +19,10 @@ pub(crate) const NO_PLAYER: u32 = 255;
 #[repr(C)]
 pub struct Match {
     size: u32,
-    me: u32,
     numbers: [u64; MACHINES],
     draw: u64,
     digest: u64,
+    me: u32,
     machines: u32,
     owners: [u32; PLAYERS],
     silent_after: u32,
@@ -43,10 +43,10 @@ impl Match {
     pub fn new(machines: u8, me: u8, owners: &[u8], draw: u64) -> Match {
         Match {
             size: size_of::<Match>() as u32,
-            me: me.into(),
             numbers: [0; MACHINES],
             draw,
             digest: 0,
+            me: me.into(),
             machines: machines.into(),
             owners: owners_of(owners),
             silent_after: 0,
