@@ -1,5 +1,6 @@
 pub mod Agreed
 pub mod Alls
 pub mod Drawn
+pub mod Guessed
 pub mod Named
 pub mod Numbers

@@ -1,5 +1,6 @@
 pub mod Agreement
 pub mod Digests
+pub mod Guessing
 pub mod Networks
 pub mod Options
 pub mod Sights

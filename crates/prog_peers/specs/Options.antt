@@ -32,6 +32,12 @@ abbrev pub makes_guesses : Guesses → Bool
 makes_guesses guesses.Off = false
 makes_guesses _ = true
 
+-- whether guesses are to be made that only a match of two peers has
+abbrev pub has_other_guesses : Guesses → Bool
+has_other_guesses guesses.Words = true
+has_other_guesses guesses.Turns = true
+has_other_guesses _ = false
+
 abbrev pub lacks_ships : GameName → ℕ → Bool
 lacks_ships Duel machines = nat_lt SHIP_LIMIT machines
 lacks_ships Tally machines = false
@@ -57,7 +63,7 @@ stop_fault_of options (Some machine) = Some (stop_fault_at options machine)
 abbrev pub fault_of : PeersOptions → Option PeersFault
 fault_of options =
     if nat_lt options.machines 2 || nat_lt MACHINE_LIMIT options.machines then Some Machines
-    else (if makes_guesses options.common.guesses then Some HasGuesses
+    else (if has_other_guesses options.common.guesses then Some HasGuesses
     else (if lacks_ships options.common.game options.machines then Some Ships
     else (if not (has_staying options) then Some NobodyStays
     else stop_fault_of options (odd_stop_of options))))

@@ -4,9 +4,11 @@
 mod agreement;
 mod digest;
 mod enemy;
+mod guessing;
 mod machine;
 mod network;
 mod options;
+mod other;
 mod picture;
 mod playing;
 mod program;

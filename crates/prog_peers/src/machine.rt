@@ -1,12 +1,17 @@
 //! One machine of a match, and what it does in a tick.
-ghost use Rattle.std.specs.Prelude.{◌≡◌, ◌↔◌, IfOk, IsTrue, OnOk, is_some};
+ghost use Rattle.std.specs.Prelude.{◌≡◌, ◌↔◌, ◌+◌, ◌-◌, ◌^◌, [], IfOk, IfSome, IsTrue, OnOk, false, if◌then◌else◌, is_some, min};
 ghost use Rattle.prog_sides.specs.Options.{IsPlayable};
 ghost use Rattle.prog_peers.specs.Agreement.{IsOver};
+ghost use Rattle.prog_peers.specs.Guessing.{HasMore};
+ghost use Rattle.prog_peers.specs.Options.{makes_guesses};
+ghost use Rattle.roll_frame.specs.Core.{end_of};
 
 use crate::digest::digest_of;
 use crate::enemy::{Enemy, Trick};
+use crate::guessing::guess_best;
 use crate::network::{Letter, Network, Route};
 use crate::options::PeersOptions;
+use crate::other::Other;
 use crate::settings::match_settings;
 use prog_observer::{Observer, has_rolled};
 use prog_sides::{Draws, Engines, drawn, word_at};
@@ -40,6 +45,8 @@ pub struct Counts {
     pub fooled: u64,
     /// How often another machine told of another state than this one had.
     pub desyncs: u64,
+    /// Frames that its game ran again.
+    pub rerun: u64,
 }
 
 /// A machine: a session, and the network beside it.
@@ -47,7 +54,7 @@ pub struct Counts {
 pub struct Machine<G: Shown> {
     pub session: Session<G>,
     pub peer: Peer,
-    /// A second engine of the game, which tells states as text.
+    /// A second engine of the game, which tells states as text, and runs guesses ahead.
     pub helper: G,
     pub me: u8,
     /// Its words of all frames.
@@ -58,8 +65,18 @@ pub struct Machine<G: Shown> {
     /// How many frames are settled whose state was digested last.
     noted: u32,
     enemy: Option<Enemy>,
+    /// What it saw of the other players, if it guesses their words.
+    others: Vec<Other>,
     /// What was seen of its session, if its view is to be shown.
     pub observer: Option<Observer>,
+}
+
+/// What a machine is made of before its session.
+#[derive(Drop)]
+struct Prepared {
+    settings: Settings,
+    words: Vec<u32>,
+    others: Vec<Other>,
 }
 
 impl<G: Shown + Drop> Machine<G> {
@@ -73,7 +90,11 @@ impl<G: Shown + Drop> Machine<G> {
     ) -> Result<Machine<G>, Refusal>
         ensures { IfOk result (λ machine. machine.me ≡ me) }
     {
-        let (settings, words) = match prepare(alloc, options, me) {
+        let Prepared {
+            settings,
+            words,
+            others,
+        } = match prepare(alloc, options, me) {
             Ok(prepared) => prepared,
             Err(why) => {
                 drop(engines);
@@ -97,6 +118,7 @@ impl<G: Shown + Drop> Machine<G> {
                 counts: Counts::default(),
                 noted: 0,
                 enemy: enemy_of(alloc, options, me),
+                others,
                 observer,
             }),
             Err(why) => {
@@ -138,6 +160,7 @@ impl<G: Shown + Drop> Machine<G> {
         self.play(now)?;
         self.watch(alloc, before)?;
         self.note_settled(alloc)?;
+        self.guess(alloc, options)?;
         self.note_events();
         self.send_all(alloc, options, network, tick)
     }
@@ -216,11 +239,35 @@ impl<G: Shown + Drop> Machine<G> {
         ensures { self.new.me ≡ self.old.me }
     {
         self.press()?;
+        let before = self.session.log().len();
         match self.peer.turn(&mut self.session, now) {
-            Ok(_) => Ok(()),
+            Ok(reached) => {
+                if has_rolled(self.session.log(), before) {
+                    self.counts
+                        .note_roll(ran_in_roll(&self.session), reached.is_some());
+                }
+                Ok(())
+            }
             Err(PeerRefusal::Session(why)) => Err(why),
             Err(PeerRefusal::OtherSession) => Err(Refusal::InvalidRequest),
         }
+    }
+
+    /// Guesses the others' next words, if it is to: the best are run ahead, and their branches taken in. They count from the next
+    /// tick on.
+    fn guess(&mut self, alloc: Global, options: &PeersOptions) -> Result<(), Refusal>
+        ensures me { self.new.me ≡ self.old.me }
+        ensures more { OnOk result (HasMore self.old.session self.new.session) }
+    {
+        note_all(&mut self.others, &self.session);
+        guess_best(
+            alloc,
+            &mut self.session,
+            &mut self.helper,
+            &self.others,
+            options.common.jobs,
+        )?;
+        Ok(())
     }
 
     /// Gives its word once the match has begun, unless the session is too far ahead, or has played its last frame.
@@ -337,6 +384,18 @@ impl Counts {
         self.bytes = self.bytes.saturating_add(bytes);
     }
 
+    /// A roll ran so many frames, of which the last is new where it went on to the next frame.
+    fn note_roll(&mut self, ran: u32, advanced: bool)
+        ensures { self.new ≡ record self.old {
+          rerun = min (self.old.rerun + (ran - (if advanced then 1 else 0))) (2 ^ 64 - 1);
+        } }
+    {
+        let new = u32::from(advanced);
+        self.rerun = self
+            .rerun
+            .saturating_add(u64::from(ran.saturating_sub(new)));
+    }
+
     /// A hostile datagram came, and was heard or not.
     fn note_hostile(&mut self, trick: Trick, heard: bool) {
         self.hostile = self.hostile.saturating_add(1);
@@ -362,14 +421,53 @@ fn who_is_gone(peer: &Peer) -> [bool; MACHINE_LIMIT] {
     gone
 }
 
-/// What a machine's session is opened with, and its words of all frames.
-fn prepare(alloc: Global, options: &PeersOptions, me: u8) -> Result<(Settings, Vec<u32>), Refusal>
+/// How many frames a session's last roll ran.
+fn ran_in_roll<G: Shown>(session: &Session<G>) -> u32
+    ensures { IfSome session.now.core.last (λ roll. result ≡ end_of roll - roll.from) }
+{
+    match session.last_plan() {
+        Some(plan) => plan.rerun,
+        None => 0,
+    }
+}
+
+/// Notes what was seen of other players since.
+fn note_all<G: Shown>(others: &mut [Other], session: &Session<G>) {
+    for other in others {
+        other.note(session);
+    }
+}
+
+/// What a machine's session is opened with, its words of all frames, and what it guesses by.
+fn prepare(alloc: Global, options: &PeersOptions, me: u8) -> Result<Prepared, Refusal>
     ensures { OnOk result (IsPlayable options.now.common) }
 {
     let settings = session_settings(options, me)?;
     let mut draws = Draws::numbered(options.common.seed, FIRST_STREAM + u64::from(me));
     let words = drawn(alloc, &mut draws, &options.common)?;
-    Ok((settings, words))
+    let others = others_of(alloc, options, me)?;
+    Ok(Prepared {
+        settings,
+        words,
+        others,
+    })
+}
+
+/// What is seen of the other players before the first tick: nothing is kept of any where no guesses are made.
+fn others_of(alloc: Global, options: &PeersOptions, me: u8) -> Result<Vec<Other>, Refusal>
+    ensures { makes_guesses options.now.common.guesses ≡ false
+        → IfOk result (λ others. others.items ≡ []) }
+{
+    let mut others = Vec::new(alloc);
+    if !options.makes_guesses() {
+        return Ok(others);
+    }
+    for machine in 0..options.machines {
+        if machine != me {
+            others.push(Other::new(&options.common, machine.saturating_add(1)))?;
+        }
+    }
+    Ok(others)
 }
 
 /// Who deceives a machine, if it is to be deceived.

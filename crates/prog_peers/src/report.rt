@@ -1,7 +1,8 @@
 //! How a match came out.
-ghost use Rattle.std.specs.Prelude.{◌≡◌, ◌<◌, length, IfOk, IfSome, IsTrue};
+ghost use Rattle.std.specs.Prelude.{◌≡◌, ◌<◌, ◌-◌, length, IfOk, IfSome, IsTrue};
 ghost use Rattle.std.specs.List.{All};
 ghost use Rattle.prog_peers.specs.Agreement.{AreAlike, IfStays};
+ghost use Rattle.prog_peers.specs.Guessing.{grafts_in, is_graft_at};
 ghost use Rattle.prog_peers.specs.declared.playing.End.TheVariants.{Over as IsEnded};
 ghost use Rattle.roll_member.specs.Joined.{Joined};
 ghost use Rattle.roll_peer.specs.Peered.{beside};
@@ -14,6 +15,7 @@ use arrayvec::ArrayVec;
 use roll_frame::Refusal;
 use roll_game::Shown;
 use roll_mesh::MACHINE_LIMIT;
+use roll_session::{Log, Logged};
 use std::alloc::Global;
 
 /// What a machine and its peer measured of the datagrams of all others.
@@ -34,8 +36,10 @@ pub struct Outcome {
     pub machine: u8,
     pub frames: u32,
     pub settled: u32,
-    /// Frames that its game ran again.
-    pub rerun: u64,
+    /// Jobs of guesses that its session gave, branches of these that it took in, and frames that its helper ran ahead for them.
+    pub jobs: u64,
+    pub taken: u64,
+    pub ahead: u64,
     /// The frame at which its player left, for the machines that stay.
     pub left: Option<u32>,
     pub counts: Counts,
@@ -131,22 +135,41 @@ fn each_outcome<G: Shown>(
 }
 
 /// What came of a machine.
-fn outcome_of<G: Shown>(machine: &Machine<G>, first: &Machine<G>) -> Outcome {
+fn outcome_of<G: Shown>(machine: &Machine<G>, first: &Machine<G>) -> Outcome
+    ensures jobs { result.jobs ≡ machine.now.session.counts.copies - 1 }
+    ensures taken { result.taken ≡ grafts_in machine.now.session.log }
+    ensures ahead { result.ahead ≡ (G.call_counts machine.now.helper).turns }
+    ensures counts { result.counts ≡ machine.now.counts }
+{
     let session = &machine.session;
     let frames = session.frame();
     Outcome {
         machine: machine.me,
         frames,
         settled: session.settled(),
-        rerun: session
-            .game()
-            .counts()
-            .turns
-            .saturating_sub(u64::from(frames)),
+        jobs: session.game().counts().copies.saturating_sub(1),
+        taken: count_grafts(session.log()) as u64,
+        ahead: machine.helper.counts().turns,
         left: first.peer.mesh().left(machine.me),
         counts: machine.counts,
         measured: measure(machine),
     }
+}
+
+/// How many branches were taken in.
+fn count_grafts(log: &Log) -> usize
+    ensures { result ≡ grafts_in log.now.entries }
+{
+    (0..log.len())
+        .filter(|place| is_graft_at(log, *place))
+        .count()
+}
+
+/// Whether an entry says that a branch was taken in.
+fn is_graft_at(log: &Log, place: usize) -> bool
+    ensures { result ≡ is_graft_at log.now.entries place }
+{
+    matches!(log.get(place), Some(Logged::Graft { .. }))
 }
 
 /// What a machine measured of the others.

@@ -3,7 +3,7 @@
 use crate::options::PeersOptions;
 use crate::playing::End;
 use crate::report::{Outcome, Report};
-use prog_sides::game_name;
+use prog_sides::{Guesses, game_name};
 use std::alloc::AllocError;
 use std::fmt::Write;
 
@@ -41,7 +41,11 @@ fn push_heading(out: &mut String, options: &PeersOptions) -> Result<(), AllocErr
         "datagrams 1 to {late} ticks late, {lost} in 100 lost; words held {hold} frames on average"
     )?;
     let (delay, threshold) = (common.delay, common.threshold);
-    writeln!(out, "delay {delay}, threshold {threshold}\n")
+    write!(out, "delay {delay}, threshold {threshold}")?;
+    match common.guesses {
+        Guesses::Off => writeln!(out, "\n"),
+        _ => writeln!(out, ", guesses best, {} jobs a tick\n", common.jobs),
+    }
 }
 
 /// What was played, a line for each machine.
@@ -50,10 +54,11 @@ fn push_played(
     options: &PeersOptions,
     report: &Report,
 ) -> Result<(), AllocError> {
-    writeln!(
-        out,
-        "machine    frames   settled  run again  silent at   left at      sent"
-    )?;
+    write!(out, "machine    frames   settled  run again")?;
+    if options.makes_guesses() {
+        write!(out, "      jobs     taken  run ahead")?;
+    }
+    writeln!(out, "  silent at   left at      sent")?;
     for outcome in &report.outcomes {
         push_outcome(out, options, outcome)?;
     }
@@ -69,16 +74,30 @@ fn push_outcome(
         machine,
         frames,
         settled,
-        rerun,
         left,
         counts,
         ..
     } = *outcome;
+    let rerun = counts.rerun;
     write!(out, "{machine:<7}{frames:>10}{settled:>10}{rerun:>11}")?;
+    if options.makes_guesses() {
+        push_guesses(out, outcome)?;
+    }
     push_frame(out, options.stop(machine), 11)?;
     push_frame(out, left, 10)?;
     let sent = counts.sent;
     writeln!(out, "{sent:>10}")
+}
+
+/// What its guesses came to.
+fn push_guesses(out: &mut String, outcome: &Outcome) -> Result<(), AllocError> {
+    let Outcome {
+        jobs,
+        taken,
+        ahead,
+        ..
+    } = *outcome;
+    write!(out, "{jobs:>10}{taken:>10}{ahead:>11}")
 }
 
 /// A frame, or `-` where there is none.
