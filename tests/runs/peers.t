@@ -59,6 +59,33 @@ The same seed prints the same. Hostile datagrams change neither the table of wha
   1
   $ $match --hostile 9 | cmp - attacked
 
+Guesses change neither what is settled nor the states: the tables are those of a match without, but for the frames that are run
+again, and the last line is the same.
+
+  $ last() { rollduel match "$@" | tail -n 1; }
+  $ for machines in 2 3 4; do
+  >   last --peers $machines --frames 60 --lost 10 > without
+  >   last --peers $machines --frames 60 --lost 10 --guesses best | cmp - without
+  > done
+  $ last --peers 4 --game duel --frames 60 --hold 3 --delay 1 > without
+  $ last --peers 4 --game duel --frames 60 --hold 3 --delay 1 --guesses best --jobs 32 | cmp - without
+  $ $match | sed -n '/^machine  *bytes/,$p' > without
+  $ $match --guesses best --jobs 1 | sed -n '/^machine  *bytes/,$p' | cmp - without
+  $ table() { rollduel match "$@" | sed -n '/^machine  *frames/,/^$/p' | sed '1d;$d'; }
+  $ table --peers 3 --frames 60 | awk '{ print $1, $2, $3, $5, $6, $7 }' > without
+  $ table --peers 3 --frames 60 --guesses best | awk '{ print $1, $2, $3, $8, $9, $10 }' | cmp - without
+
+Fewer frames are run again. As many branches as jobs are taken in at most, and a job runs 1 to 8 frames.
+
+  $ again() { table "$@" | awk '{ sum += $4 } END { print sum }'; }
+  $ for machines in 2 3 4; do
+  >   test $(again --peers $machines --frames 200 --guesses best) -lt $(again --peers $machines --frames 200) && echo fewer
+  > done
+  fewer
+  fewer
+  fewer
+  $ table --peers 3 --frames 60 --guesses best | awk '$6 < 1 || $5 < $6 || $7 < $5 || 8 * $5 < $7'
+
 Standard input isn't read, and a session that doesn't start is refused as in a match of two peers.
 
   $ echo nothing | ($match | cmp - plain; cat)
@@ -103,7 +130,10 @@ What can't be.
   error: --game duel has ships for 4 machines at most
   [2]
   $ rollduel match --peers 3 --guesses turns
-  error: --guesses can't be used with --peers
+  error: --guesses takes none or best with --peers
+  [2]
+  $ rollduel match --peers 3 --guesses words
+  error: --guesses takes none or best with --peers
   [2]
   $ rollduel match --stop 1:30
   error: --stop and --hostile can't be used without --peers
