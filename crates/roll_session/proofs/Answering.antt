@@ -1,5 +1,5 @@
 -- What is answered.
-use Rattle.std.proofs.Common.{◌≡◌, ◌∙◌, ℕ, ◌+◌, ◌-◌, [], ◌∷◌, length, Bool, cond, refl, sym, ap, subst, arith, false, true, inl, inr, Some, None, Ok, Err, Option, Result}
+use Rattle.std.proofs.Common.{◌≡◌, ◌∙◌, ℕ, ◌+◌, ◌-◌, [], ◌∷◌, Bool, cond, refl, sym, ap, subst, arith, false, true, inl, inr, Some, None, Ok, Err, Option, Result}
 use Rattle.std.specs.Prelude.{◌≢◌, max, nat_le, IfErr, IfOk, OnErr, OnOk, if◌then◌else◌}
 use Rattle.std.specs.Option.{option_map_or}
 use Rattle.roll_frame.specs.Events.{CoreEvent, answer, is_repeat, tests_of}
@@ -16,7 +16,12 @@ use Rattle.roll_game.specs.declared.counts.Counts.{Counts}
 use Rattle.roll_session.proofs.Holding.{first_refusal-some}
 use Rattle.roll_session.proofs.Runs.{replied_accepted, replied_refused, replied_repeated}
 use Rattle.roll_session.specs.Answered.{counts_by, replied, with_entries, IsAnswered, IsCutShort, IsReplied, IsShort}
+use Rattle.roll_frame.specs.Core.{Core}
+use Rattle.roll_frame.specs.Games.{Game}
+use Rattle.roll_frame.specs.declared.settings.Settings.{Settings}
 use Rattle.roll_session.specs.Changes.{IsPartial}
+use Rattle.roll_session.specs.Held.{inputs_of}
+use Rattle.roll_session.specs.Saves.{refusal_in, repeats}
 use Rattle.roll_session.specs.Calls.{entry_of, event_of, input_reply, judged, IsAdmitted, IsAllowed, IsInput, IsRollTo}
 use Rattle.roll_session.specs.Seen.{Step, Seen, game_of, plain, refusal_of}
 use Rattle.roll_session.specs.declared.event.Call.{Call}
@@ -28,6 +33,14 @@ pub judged_word : (result : Result Heard Refusal) (again : Bool) (test : Option 
 judged_word (Ok heard) true test is fine tested fresh = ap Ok is
 judged_word (Ok heard) false test is fine tested fresh = ap Ok is ∙ ap (judged false) (sym (fine is))
 judged_word (Err why) again test is fine tested fresh = ap (judged false) (sym tested) ∙ ap (λ b. judged b test) (sym fresh)
+
+-- what is judged of a call by the inputs is what is judged by the core
+pub judged_in : (settings : Settings) (game : Game) (core : Core) (call : Call) → judged (repeats (inputs_of settings core) (entry_of call)) (refusal_in (inputs_of settings core) (entry_of call)) ≡ judged (is_repeat core (entry_of call)) (first_refusal (tests_of settings game core [] (entry_of call)))
+judged_in settings game core (LocalCall p word) = refl
+judged_in settings game core (RemoteCall p f word) = refl
+judged_in settings game core (DisconnectCall p) = refl
+judged_in settings game core SyncCall = refl
+judged_in settings game core AdvanceCall = refl
 
 -- a call that is judged against
 pub refused_replied : (step : Step) (old : Seen) (call : Call) (why : Refusal) → Err why ≡ judged (is_repeat old.core (entry_of call)) (first_refusal (tests_of old.settings (game_of step old) old.core [] (entry_of call)))

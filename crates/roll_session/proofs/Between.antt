@@ -156,7 +156,7 @@ split_path T R q h =
 
 module _ {N : Type 0} (value : N → Value) (step : Value → List Cell → Value) (opening : Value) where
   -- the states keep their values where more rows settle
-  values_settle : (T R : Rows) (xs : List (Saved N)) → All (λ s. value s.snapshot ≡ run step opening (T ++ s.path)) xs
+  pub values_settle : (T R : Rows) (xs : List (Saved N)) → All (λ s. value s.snapshot ≡ run step opening (T ++ s.path)) xs
       → All (λ s. value s.snapshot ≡ run step opening ((T ++ R) ++ s.path)) (map (later (length R)) (filter (λ u. begins_with u.path R) xs))
   values_settle T R xs h =
       let state_named = All-filter (λ u. begins_with u.path R) (λ s. value s.snapshot ≡ run step opening (T ++ s.path)) xs h in

@@ -4,9 +4,7 @@ use Rattle.std.specs.Prelude.{is_none, max, not, IfErr, IfOk, OnErr, OnOk}
 use Rattle.std.proofs.lemmas.Bool.{and_parts, false≢true, not-true}
 use Rattle.std.specs.Option.{option_map_or}
 use Rattle.roll_branch.specs.Routed.{Routed}
-use Rattle.roll_frame.specs.Cells.{Rows}
-use Rattle.roll_frame.specs.Core.{Core}
-use Rattle.roll_frame.specs.Events.{CoreEvent, answer, branch_of, is_accepted, is_repeat, refusal}
+use Rattle.roll_frame.specs.Events.{CoreEvent, answer, branch_of, is_repeat, refusal}
 use Rattle.roll_frame.specs.Grafts.{new_paths}
 use Rattle.roll_frame.specs.Inputs.{changed, is_repeated, with_given, with_gone, with_words}
 use Rattle.roll_frame.specs.Timeline.{Player, row_at}
@@ -21,7 +19,7 @@ use Rattle.roll_inputs.specs.declared.heard.Heard.{Heard}
 use Rattle.roll_inputs.specs.declared.heard.Heard.TheVariants.{Taken as HeardNow, Repeated as HeardBefore}
 use Rattle.roll_session.specs.Answered.{counts_by, replied, with_entries, IsAnswered, IsCutShort, IsReplied}
 use Rattle.roll_session.specs.Calls.{grafting, heard_reply}
-use Rattle.roll_session.specs.Changes.{advance_refusal, after_advance, after_disconnect, after_event, after_graft, after_input, after_local, after_remote, after_sync, disconnect_refusal, graft_refusal, local_refusal, remote_refusal, sync_refusal, IsHeard, IsPartial, IsRefused, IsRollRefused, reached_by}
+use Rattle.roll_session.specs.Changes.{advance_refusal, after_advance, after_disconnect, after_graft, after_input, after_local, after_sync, disconnect_refusal, graft_refusal, local_refusal, remote_refusal, sync_refusal, IsHeard, IsPartial, IsRefused, IsRollRefused, reached_by}
 use Rattle.roll_session.specs.Headline.{is_declined}
 use Rattle.roll_session.specs.Seen.{Seen, Step, game_of, plain}
 use Rattle.roll_session.specs.declared.event.Grafted.{Grafted as Grafts}

@@ -1,7 +1,6 @@
 -- What a roll adds to the paths that are held from the settled frame on.
-use Rattle.std.proofs.Common.{◌≡◌, ℕ, zero, suc, ◌+◌, ◌-◌, ◌<◌, ◌≤◌, List, [], ◌∷◌, ◌++◌, length, refl, ap, sym, ◌∙◌, Bool, true, false, arith, take, drop, subst, inl, inr, map, length-take}
+use Rattle.std.proofs.Common.{◌≡◌, ℕ, zero, suc, ◌+◌, ◌-◌, ◌≤◌, List, [], ◌∷◌, ◌++◌, length, refl, ap, sym, ◌∙◌, Bool, true, arith, take, drop, subst, inl, inr, map}
 use Rattle.std.specs.Prelude.{◌⊎◌, filter}
-use Rattle.std.proofs.lemmas.Bool.{false_from_ne_true}
 use Rattle.std.proofs.lemmas.List.{map-append}
 use Rattle.std.proofs.Math.Seq.{take-append-add}
 use Rattle.roll_frame.specs.Cells.{Rows}
@@ -9,7 +8,7 @@ use Rattle.roll_frame.specs.Core.{Core, row_possible, possible_from, is_possible
 use Rattle.roll_frame.specs.Events.{replay}
 use Rattle.roll_frame.specs.Games.{Game}
 use Rattle.roll_frame.specs.Inputs.{with_none_given}
-use Rattle.roll_frame.specs.Paths.{begins_with, contains, longest, prefixes}
+use Rattle.roll_frame.specs.Paths.{longest, prefixes}
 use Rattle.roll_frame.specs.Timeline.{Player, timeline}
 use Rattle.roll_frame.specs.declared.entry.Entry.{Entry}
 use Rattle.roll_frame.specs.declared.row.Cell.{Cell}
@@ -21,13 +20,11 @@ use Rattle.roll_laws.proofs.Glue.{always_holds}
 use Rattle.roll_laws.proofs.Known.{possible_from_fits, on_time_fits}
 use Rattle.roll_laws.proofs.KeptPaths.{live, settled_kept, rolled_on_time}
 use Rattle.roll_laws.proofs.Least.{pruning_loses_nothing}
-use Rattle.roll_laws.proofs.Prefixes.{in_prefixes}
-use Rattle.roll_laws.proofs.Saved.{In, in_either, has_in, in_has, longest_at_least}
+use Rattle.roll_laws.proofs.Saved.{In, in_either, has_in, in_has}
 use Rattle.roll_laws.proofs.Sound.{Sound, sound_played}
-use Rattle.roll_frame.proofs.Beginnings.{begins}
 use Rattle.roll_frame.proofs.Timelines.{length_timeline, timeline_none_given}
 use Rattle.roll_session.specs.Standing.{rows_from, settled_rows, from_start}
-use Rattle.roll_session.proofs.Rows.{longest_on, length-rows_from, settled-rows_from, take-rows_from}
+use Rattle.roll_session.proofs.Rows.{longest_on, settled-rows_from}
 use Rattle.roll_session.proofs.Settles.{start_root}
 
 -- the rows up to a later frame, from the settled rows

@@ -174,18 +174,24 @@ module _ {N : Type 0} (settings : Settings) (core : Core) (sound : Sound setting
           }))
       go (inr l) = rw (le-ltb (kept_of here R) (length R) l, whole_kept l) refl
 
--- the same of a session
+-- the same of a session, of whose opening it is told
+pub session_guessed_by : {S N : Type 0} {state_value : S → Value} {snapshot_value : N → Value} {step : Step} {opening : Value} {settings : Settings} {log : List Entry} {saves : Standing N} {planner : Planned} {current : Option S} → IsSession state_value snapshot_value step opening settings log saves planner current
+    → (p until : ℕ) (words : List ℕ) (counts : Counts) (reserved : ℕ) → guess_refusal saves.inputs p words until ≡ None
+    → job_along step opening saves (guessed_rows saves.inputs p words until) ≡ guess_job_of step (record { settings = settings; opening = opening; core = replay settings log; log = log; counts = counts; reserved = reserved }) p words until
+session_guessed_by {step = step} {opening = opening} {settings = settings} {log = log} {saves = saves} s p until words counts reserved fine =
+    let game : Game = record { opening = opening; step = step } in
+    let core : Core = replay settings log in
+    let sound = always_holds Sound sound_played settings game log s.is_log in
+    let fine_here = subst (λ (i : Inputs). guess_refusal i p words until ≡ None) s.kept.inputs fine in
+    ap (λ (i : Inputs). job_along step opening (record { inputs = i; tree = saves.tree; room = saves.room }) (guessed_rows i p words until)) s.kept.inputs
+    ∙ guessed settings core sound saves.tree s.kept.kept_is saves.room p until words fine_here step opening
+
+-- and of a session's job
 pub session_guessed : {S N : Type 0} {state_value : S → Value} {snapshot_value : N → Value} {step : Step} {opening : Value} {settings : Settings} {log : List Entry} {saves : Standing N} {planner : Planned} {current : Option S} → IsSession state_value snapshot_value step opening settings log saves planner current
     → (p until : ℕ) (words : List ℕ) (rows : Rows) (counts : Counts) (reserved : ℕ) (result : Result (Option Routed) Refusal) → guess_refusal saves.inputs p words until ≡ None → rows ≡ guessed_rows saves.inputs p words until
     → IfOk result (λ job. (x : Value) → HaveValues snapshot_value step x (timeline saves.inputs.players saves.inputs.settled) saves.tree.states → job ≡ job_along step x saves rows)
     → IfOk result (λ job. job ≡ guess_job_of step (record { settings = settings; opening = opening; core = replay settings log; log = log; counts = counts; reserved = reserved }) p words until)
 session_guessed s p until words rows counts reserved (Err why) fine same made = tt
 session_guessed {snapshot_value = snapshot_value} {step = step} {opening = opening} {settings = settings} {log = log} {saves = saves} s p until words rows counts reserved (Ok job) fine same made =
-    let game : Game = record { opening = opening; step = step } in
-    let core : Core = replay settings log in
-    let sound = always_holds Sound sound_played settings game log s.is_log in
     let values = subst (λ (T : Rows). HaveValues snapshot_value step opening T saves.tree.states) (sym (ap (λ (i : Inputs). timeline i.players i.settled) s.kept.inputs)) s.kept.values in
-    let fine_here = subst (λ (i : Inputs). guess_refusal i p words until ≡ None) s.kept.inputs fine in
-    made opening values ∙ ap (job_along step opening saves) same
-    ∙ ap (λ (i : Inputs). job_along step opening (record { inputs = i; tree = saves.tree; room = saves.room }) (guessed_rows i p words until)) s.kept.inputs
-    ∙ guessed settings core sound saves.tree s.kept.kept_is saves.room p until words fine_here step opening
+    made opening values ∙ ap (job_along step opening saves) same ∙ session_guessed_by s p until words counts reserved fine

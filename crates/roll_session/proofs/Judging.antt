@@ -233,17 +233,23 @@ with_log tests full = go (first_refusal tests) refl
     go (Some why) e = first_refusal-some tests ((full, LogFull) ∷ []) why e
 
 -- why a session refuses a graft, by what its fields tell
+pub graft_refused_by : {S N : Type 0} {state_value : S → Value} {snapshot_value : N → Value} {step : Step} {opening : Value} {settings : Settings} {log : List Entry} {saves : Standing N} {planner : Planned} {current : Option S} → IsSession state_value snapshot_value step opening settings log saves planner current
+    → (branch : Routed) (most : ℕ) (first : Option Refusal) → most ≡ open_to_branches settings.profile → first ≡ first_refusal (branch_tests step opening most saves branch)
+    → refusal settings (record { opening = opening; step = step }) (replay settings log) (grafting branch) ≡ (if is_none first && nat_le settings.log (length log) then Some LogFull else first)
+graft_refused_by {step = step} {opening = opening} {settings = settings} {log = log} {saves = saves} s branch most first most_is judge =
+    let game : Game = record { opening = opening; step = step } in
+    let core = replay settings log in
+    let tests : List (Bool × Refusal) = tests_of settings game core branch.from (Graft branch.ticket branch.route) in
+    let here : first_refusal tests ≡ first = session_judged s branch ∙ ap (λ n. first_refusal (branch_tests step opening n saves branch)) (sym most_is) ∙ sym judge in
+    with_log tests (nat_le settings.log core.logged) ∙ rw (here, s.small.logged) refl
+
 pub graft_refused : {S N : Type 0} {state_value : S → Value} {snapshot_value : N → Value} {step : Step} {opening : Value} {settings : Settings} {log : List Entry} {saves : Standing N} {planner : Planned} {current : Option S} → IsSession state_value snapshot_value step opening settings log saves planner current
     → (branch : Routed) (most : ℕ) (first : Option Refusal) → most ≡ open_to_branches settings.profile
     → ((x : Value) → HaveValues snapshot_value step x (timeline saves.inputs.players saves.inputs.settled) saves.tree.states → first ≡ first_refusal (branch_tests step x most saves branch))
     → refusal settings (record { opening = opening; step = step }) (replay settings log) (grafting branch) ≡ (if is_none first && nat_le settings.log (length log) then Some LogFull else first)
 graft_refused {snapshot_value = snapshot_value} {step = step} {opening = opening} {settings = settings} {log = log} {saves = saves} s branch most first most_is judge =
-    let game : Game = record { opening = opening; step = step } in
-    let core = replay settings log in
-    let tests : List (Bool × Refusal) = tests_of settings game core branch.from (Graft branch.ticket branch.route) in
     let values = subst (λ (T : Rows). HaveValues snapshot_value step opening T saves.tree.states) (sym (ap (λ (i : Inputs). timeline i.players i.settled) s.kept.inputs)) s.kept.values in
-    let here : first_refusal tests ≡ first = session_judged s branch ∙ ap (λ n. first_refusal (branch_tests step opening n saves branch)) (sym most_is) ∙ sym (judge opening values) in
-    with_log tests (nat_le settings.log core.logged) ∙ rw (here, s.small.logged) refl
+    graft_refused_by s branch most first most_is (judge opening values)
 
 -- the three cases of that
 pub refused_first : (first told : Option Refusal) (full : Bool) → told ≡ (if is_none first && full then Some LogFull else first) → is_some first ≡ true → first ≡ told

@@ -24,6 +24,8 @@ pub mod Settles
 pub mod Steps
 pub mod Rolling
 pub mod Ways
+pub mod Entered
+pub mod Bares
 pub mod Rolled
 pub mod Words
 pub mod Turns

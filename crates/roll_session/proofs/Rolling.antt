@@ -1,28 +1,22 @@
 -- A roll, one frame at a time, and what is taken down of it.
-use Rattle.std.proofs.Common.{◌≡◌, ℕ, suc, ◌+◌, ◌-◌, ◌^◌, ◌<◌, ◌≤◌, List, [], ◌∷◌, ◌++◌, length, take, refl, ap, sym, subst, ◌∙◌, arith, inl, inr, slice_get, Bool, true, false, cond, Option, Some, None, add-one, append-nil, append_assoc}
+use Rattle.std.proofs.Common.{◌≡◌, ℕ, suc, ◌+◌, ◌-◌, ◌<◌, ◌≤◌, List, [], ◌∷◌, ◌++◌, length, take, refl, ap, sym, subst, ◌∙◌, arith, inl, inr, slice_get, Bool, true, false, cond, Option, Some, None}
 use Rattle.std.specs.Prelude.{◌⊎◌, option_map, ◌==◌, All, IfSome, IsSome, IsSomeAnd, nat_lt, if◌then◌else◌}
 use Rattle.std.specs.List.{find}
 use Rattle.std.proofs.lemmas.Bool.{cases_lt}
 use Rattle.std.proofs.lemmas.Bool.Decides.{nat_tests}
 use Rattle.std.proofs.lemmas.Option.{slice_get_past, slice_get-get_or}
-use Rattle.std.proofs.lemmas.List.{length-append, length-map, map-append}
-use Rattle.std.proofs.lemmas.List.Elements.{All-push, All-head, All-tail}
-use Rattle.std.proofs.lemmas.List.Sums.{fold_push}
-use Rattle.roll_frame.specs.declared.limits.TheConstants.{FRAME_LIMIT, PATH_LIMIT}
-use Rattle.roll_frame.specs.declared.row.Cell.{Cell}
+use Rattle.std.proofs.lemmas.List.Elements.{All-head, All-tail}
+use Rattle.roll_frame.specs.declared.limits.TheConstants.{FRAME_LIMIT}
 use Rattle.roll_frame.specs.Cells.{Rows}
 use Rattle.roll_frame.specs.Claims.{AreRowsOf}
-use Rattle.roll_frame.specs.Games.{Value}
-use Rattle.roll_frame.specs.Paths.{contains, prefixes, run}
+use Rattle.roll_frame.specs.Paths.{prefixes}
 use Rattle.roll_frame.specs.Timeline.{Player, row_at, timeline}
 use Rattle.roll_plan.specs.Plans.{CanPlan}
-use Rattle.roll_tree.specs.SavedStates.{CanGrow, SavedStates, Saved, state_named, paths_of, time_to, with_state}
+use Rattle.roll_tree.specs.SavedStates.{SavedStates, Saved, state_named, paths_of, time_to, with_state}
 use Rattle.roll_frame.proofs.Timelines.{timeline_row, length_timeline}
-use Rattle.roll_laws.proofs.Few.{length_prefixes}
-use Rattle.roll_session.specs.Saves.{HaveValues, Standing, rows_to, deepest_toward}
 use Rattle.roll_session.specs.Standing.{rows_from}
 use Rattle.roll_session.proofs.Steps.{time_is}
-use Rattle.roll_session.proofs.Rows.{length-rows_from, rows_from-more, settled-rows_from, take-rows_from}
+use Rattle.roll_session.proofs.Rows.{rows_from-more, settled-rows_from, take-rows_from}
 
 -- a settled row, where there is one
 pub settled_read : (players : List Player) (settled frame : ℕ) → slice_get (timeline players settled) frame ≡ (if nat_lt frame settled then Some (row_at players frame) else None)

@@ -1,16 +1,16 @@
 -- A roll in progress, one state at a time.
-use Rattle.std.proofs.Common.{◌≡◌, ℕ, suc, ◌+◌, ◌-◌, ◌^◌, ◌<◌, ◌≤◌, List, [], ◌∷◌, ◌++◌, length, get_or, take, drop, refl, ap, sym, subst, ◌∙◌, arith, inl, inr, Bool, true, false, cond, max, Option, Some, None, add-one, append-nil, append_assoc}
-use Rattle.std.specs.Prelude.{◌⊎◌, option_map, ◌==◌, All, IfSome, IsSome, IsSomeAnd}
+use Rattle.std.proofs.Common.{◌≡◌, ℕ, ◌+◌, ◌-◌, ◌^◌, ◌<◌, ◌≤◌, List, [], ◌∷◌, ◌++◌, length, take, refl, ap, sym, subst, ◌∙◌, arith, Bool, true, false, max, Some, None, add-one, append-nil, append_assoc}
+use Rattle.std.specs.Prelude.{◌==◌, IfSome, IsSomeAnd}
 use Rattle.std.proofs.lemmas.Bool.{false_from_ne_true}
-use Rattle.std.proofs.lemmas.List.{get_or-drop, drop-drop, length-append, length-map, map-append}
+use Rattle.std.proofs.lemmas.List.{length-append, map-append}
 use Rattle.std.proofs.lemmas.List.Elements.{All-push}
 use Rattle.std.proofs.lemmas.List.Sums.{fold_push}
-use Rattle.roll_frame.specs.declared.limits.TheConstants.{FRAME_LIMIT, PATH_LIMIT, TREE_LIMIT}
+use Rattle.roll_frame.specs.declared.limits.TheConstants.{PATH_LIMIT, TREE_LIMIT}
 use Rattle.roll_frame.specs.declared.row.Cell.{Cell}
 use Rattle.roll_frame.specs.Cells.{Rows}
 use Rattle.roll_frame.specs.Games.{Value}
 use Rattle.roll_frame.specs.Paths.{begins_with, contains, longest, prefixes, run}
-use Rattle.roll_frame.specs.Timeline.{Player, row_at, timeline}
+use Rattle.roll_frame.specs.Timeline.{row_at, timeline}
 use Rattle.roll_frame.proofs.Beginnings.{begins}
 use Rattle.roll_tree.specs.SavedStates.{CanGrow, SavedStates, Saved, state_named, paths_of, with_state}
 use Rattle.roll_laws.proofs.Saved.{has_in, longest_at_least}
@@ -19,7 +19,7 @@ use Rattle.roll_session.specs.Standing.{rows_from}
 use Rattle.roll_session.specs.Ways.{IsGoing, next_state}
 use Rattle.roll_session.specs.declared.way.Way.{Way}
 use Rattle.roll_session.proofs.Rows.{length-rows_from, take-rows_from}
-use Rattle.roll_session.proofs.Rolling.{all_held, held_last, held_same, if_some, next_rows, prefixes_more, snapshot_is, some_is, some_there, whole}
+use Rattle.roll_session.proofs.Rolling.{all_held, held_last, held_same, if_some, next_rows, prefixes_more, some_is, some_there, whole}
 
 -- one path more that these rows begin with
 longest_more : (ps : List Rows) (q R : Rows) → begins_with R q ≡ true → longest (ps ++ q ∷ []) R ≡ max (longest ps R) (length q)

@@ -1,5 +1,5 @@
 -- What events make of a session, and what is answered.
-use Rattle.std.specs.Prelude.{◌≡◌, ◌⊎◌, ◌+◌, ◌-◌, ℕ, true, List, [], ◌∷◌, ◌++◌, fold, length, Result, Ok, Err, if◌then◌else◌}
+use Rattle.std.specs.Prelude.{◌≡◌, ◌⊎◌, ◌+◌, ◌-◌, true, List, [], ◌∷◌, ◌++◌, fold, length, Result, Ok, Err, if◌then◌else◌}
 use Rattle.roll_frame.specs.Core.{Core, cost}
 use Rattle.roll_frame.specs.Events.{CoreEvent, after, applied, is_accepted, log_from, played_from, replies_from, reply}
 use Rattle.roll_frame.specs.Games.{Game}

@@ -50,6 +50,12 @@ IsInput (DisconnectCall player) = Unit {0}
 IsInput SyncCall = ⊥
 IsInput AdvanceCall = ⊥
 
+-- the calls that roll
+abbrev pub IsRoll : Call → Type 0
+IsRoll SyncCall = Unit {0}
+IsRoll AdvanceCall = Unit {0}
+IsRoll call = ⊥
+
 -- the frame that a call rolls to
 abbrev pub IsRollTo : Core → Call → ℕ → Type 0
 IsRollTo core SyncCall to = to ≡ core.frame

@@ -64,6 +64,10 @@ module _ {S : Type 0} where
   abbrev pub has_no_room : ℕ → Standing S → Route → Bool
   has_no_room most s route = nat_lt 0 (count_new s route) && nat_lt most (length s.tree.states + count_new s route)
 
+  -- the tests that follow, of a branch whose state at its anchor is the saved one, or not
+  abbrev pub there_tests : ℕ → Bool → Standing S → Route → List (Bool × Refusal)
+  there_tests most same s route = (not same, Stranger) ∷ (has_no_room most s route, TreeFull) ∷ []
+
   -- what a route comes to
   pub record IsPlaceFor (s : Standing S) (route : Route) (place : Place) : Type 0 where
     pub ahead : place.ahead.items ≡ ahead_of s.inputs route
@@ -83,9 +87,7 @@ module _ {S : Type 0} where
   abbrev pub branch_tests : Step → Value → ℕ → Standing S → Routed → List (Bool × Refusal)
   branch_tests step opening most s branch =
       place_tests s branch.route
-      ++ (not (is_same_there step opening s branch.route branch.from), Stranger)
-      ∷ (has_no_room most s branch.route, TreeFull)
-      ∷ []
+      ++ there_tests most (is_same_there step opening s branch.route branch.from) s branch.route
 
   -- whatever a snapshot is worth: where each saved one is worth what is wanted of its path, and each new state of
   -- the branch too, they are so together

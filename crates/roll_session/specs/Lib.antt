@@ -7,6 +7,7 @@ pub mod Started
 pub mod Answered
 pub mod Held
 pub mod Calls
+pub mod Gameless
 pub mod Logs
 pub mod Requests
 pub mod Headline

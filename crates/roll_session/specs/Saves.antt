@@ -1,10 +1,14 @@
 -- The timeline and the saved states as a session sees them, and what their fields keep.
-use Rattle.std.specs.Prelude.{◌≡◌, ℕ, ◌+◌, ◌-◌, ◌≤◌, List, [], ◌∷◌, ◌++◌, length, filter, map, drop, min, not, All, Bool, true, false, Some, None, slice_get}
+use Rattle.std.specs.Prelude.{◌≡◌, ℕ, ◌+◌, ◌-◌, ◌≤◌, List, [], ◌∷◌, ◌++◌, length, filter, map, drop, min, not, All, Bool, true, false, Option, Some, None, slice_get}
 use Rattle.std.specs.Option.{option_eq, option_map_or}
 use Rattle.std.specs.List.{list_all}
 use Rattle.roll_frame.specs.declared.row.Cell.{Cell}
 use Rattle.roll_frame.specs.declared.row.Cell.TheVariants.{Gone, Word}
 use Rattle.roll_frame.specs.Cells.{Rows, cell_eq}
+use Rattle.roll_frame.specs.Events.{all_given}
+use Rattle.roll_frame.specs.Refusals.{first_refusal}
+use Rattle.roll_frame.specs.declared.refusal.Refusal.{Refusal}
+use Rattle.roll_frame.specs.declared.refusal.Refusal.TheVariants.{LocalInputMissing}
 use Rattle.roll_frame.specs.Paths.{begins_with, longest, prefixes, run}
 use Rattle.roll_frame.specs.Games.{Value}
 use Rattle.roll_frame.specs.Timeline.{timeline, front}
@@ -48,6 +52,19 @@ IsFree inputs (Local p word) = local_refusal inputs p ≡ None
 IsFree inputs (Remote p f word) = (is_repeated inputs.players p f word ≡ false) × (remote_refusal inputs p f ≡ None)
 IsFree inputs (Disconnect p) = disconnect_refusal inputs p ≡ None
 IsFree inputs entry = ⊥
+
+-- whether a player's input repeats a word
+abbrev pub repeats : Inputs → Entry → Bool
+repeats inputs (Remote p f word) = is_repeated inputs.players p f word
+repeats inputs entry = false
+
+-- why a call is refused, apart from a full log
+abbrev pub refusal_in : Inputs → Entry → Option Refusal
+refusal_in inputs (Local p word) = local_refusal inputs p
+refusal_in inputs (Remote p f word) = remote_refusal inputs p f
+refusal_in inputs (Disconnect p) = disconnect_refusal inputs p
+refusal_in inputs Advance = first_refusal ((not (all_given inputs.players), LocalInputMissing) ∷ [])
+refusal_in inputs entry = None
 
 -- the inputs after a roll's entry: an advance goes to the next frame
 abbrev pub stepped_inputs : Inputs → Entry → Inputs

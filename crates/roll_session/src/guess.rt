@@ -1,12 +1,13 @@
 //! What is to be run for a guess of what a player does next.
-ghost use Rattle.std.specs.Prelude.{◌≡◌, ◌≤◌, ◌+◌, ◌↔◌, ◌⊎◌, [], length, drop, take, true, false, IsNone, IfSome, IsSomeAnd, IfOk, IfErr, OnOk, OnErr};
+ghost use Rattle.std.specs.Prelude.{◌≡◌, ◌≤◌, ◌<◌, ◌+◌, ◌↔◌, ◌⊎◌, [], length, drop, take, true, false, IsNone, IfSome, IsSomeAnd, IfOk, IfErr, OnOk, OnErr};
 ghost use Rattle.roll_frame.specs.Games.{Value};
 ghost use Rattle.roll_frame.specs.Inputs.{player_at};
 ghost use Rattle.roll_frame.specs.Timeline.{timeline};
 ghost use Rattle.roll_game.specs.Counts.{counted};
 ghost use Rattle.roll_game.specs.declared.counts.Call.TheVariants.{Copy as Copies};
-ghost use Rattle.roll_session.specs.Guessing.{guessed_rows, job_along, route_along, IsCopied};
+ghost use Rattle.roll_session.specs.Guessing.{guessed_rows, job_along, kept_of, route_along, IsCopied};
 ghost use Rattle.roll_session.specs.Saves.{HaveValues};
+ghost use Rattle.roll_tree.specs.SavedStates.{state_named};
 
 use crate::saves::Saves;
 use arrayvec::ArrayVec;
@@ -55,6 +56,29 @@ fn route_at(base: u32, rows: &[Row], depth: usize) -> Route
     Route { path, rows: next }
 }
 
+/// The deepest saved state on the way that rows go from the settled frame on, and what is left of them to run. None if all are
+/// kept.
+pub fn start_along<S>(saves: &Saves<S>, rows: &[Row]) -> Option<(usize, Route)>
+    requires { length rows.now ≤ PATH_LIMIT }
+    ensures left { IfSome result
+        (λ start. kept_of saves.now rows.now < length rows.now) }
+    ensures route { IfSome result (λ start. start.1 ≡ route_along saves.now rows.now) }
+    ensures node { IfSome result
+        (λ start. IsSomeAnd (state_named saves.now.tree start.0)
+        (λ s. s.path ≡ take (kept_of saves.now rows.now) rows.now)) }
+    ensures none { IsNone result → length rows.now ≤ kept_of saves.now rows.now }
+{
+    saves.laws();
+    let tree = saves.tree();
+    let base = tree.base();
+    let (node, end) = tree.longest(rows);
+    let depth = (end - base) as usize;
+    if depth == rows.len() {
+        return None;
+    }
+    Some((node, route_at(base, rows, depth)))
+}
+
 /// The job of a route from a saved state, of which the game is asked for a copy last. None if it has no rows to run.
 fn job_of<G: Game>(
     game: &mut G,
@@ -98,13 +122,8 @@ pub fn job_along<G: Game>(
     ensures refused { IfErr result (λ why. why ≡ Refusal.NoMemory) }
     ensures counts { IsCopied (G.call_counts game.old) (G.call_counts game.new) result }
 {
-    saves.laws();
-    let tree = saves.tree();
-    let base = tree.base();
-    let (node, end) = tree.longest(rows);
-    let depth = (end - base) as usize;
-    if depth == rows.len() {
+    let Some((node, route)) = start_along(saves, rows) else {
         return Ok(None);
-    }
-    job_of(game, tree.get(node), alloc, &route_at(base, rows, depth))
+    };
+    job_of(game, saves.tree().get(node), alloc, &route)
 }

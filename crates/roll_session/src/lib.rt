@@ -2,6 +2,7 @@
 #![tactic(auto)]
 
 mod event;
+mod gameless;
 mod guess;
 mod log;
 mod place;
@@ -13,8 +14,10 @@ mod session;
 mod way;
 
 pub use event::{Call, Grafted, Reached, ReplayFault, Request};
+pub use gameless::Core;
 pub use log::{Log, Logged};
 pub use roll_game::StartFault;
 pub use roll_inputs::{Heard, Source};
 pub use roll_plan::Plan;
 pub use session::{Parts, Session};
+pub use way::Way;

@@ -6,7 +6,7 @@ ghost use Rattle.roll_frame.specs.Paths.{longest, prefixes};
 ghost use Rattle.roll_frame.specs.Refusals.{first_refusal};
 ghost use Rattle.roll_frame.specs.Timeline.{timeline};
 ghost use Rattle.roll_laws.specs.Grafted.{possible_rows};
-ghost use Rattle.roll_session.specs.Grafting.{ahead_of, anchor_of, branch_tests, count_new, end_of, has_no_room, is_same_there, kept_to, place_tests, possible_to, rows_of_route, start_of, IsPlaceFor, KeepsWorth};
+ghost use Rattle.roll_session.specs.Grafting.{ahead_of, anchor_of, branch_tests, count_new, end_of, has_no_room, is_same_there, kept_to, place_tests, possible_to, rows_of_route, start_of, there_tests, IsPlaceFor, KeepsWorth};
 ghost use Rattle.roll_session.specs.Saves.{HaveValues};
 ghost use Rattle.roll_tree.specs.SavedStates.{paths_of, state_named};
 
@@ -220,9 +220,35 @@ pub fn branch_refusal<G: Game>(
         Ok(place) => place,
         Err(why) => return Some(why),
     };
-    if !is_same_there(game, saves, branch, route, &place) {
+    let same = is_same_there(game, saves, branch, route, &place);
+    refusal_there(saves, route, &place, most, same)
+}
+
+/// Why a branch along this route can't be grafted, if it can't. `same` is whether its state at its anchor is the saved one.
+pub fn route_refusal<S>(saves: &Saves<S>, route: &Route, most: usize, same: bool) -> Option<Refusal>
+    ensures { result ≡ first_refusal (place_tests saves.now route.now
+        ++ there_tests most same saves.now route.now) }
+{
+    match find_place(saves, route) {
+        Ok(place) => refusal_there(saves, route, &place, most, same),
+        Err(why) => Some(why),
+    }
+}
+
+/// Why a branch that runs there can't be grafted, if it can't.
+fn refusal_there<S>(
+    saves: &Saves<S>,
+    route: &Route,
+    place: &Place,
+    most: usize,
+    same: bool,
+) -> Option<Refusal>
+    requires { IsPlaceFor saves.now route.now place.now }
+    ensures { result ≡ first_refusal (there_tests most same saves.now route.now) }
+{
+    if !same {
         Some(Refusal::Stranger)
-    } else if has_no_room(saves, route, &place, most) {
+    } else if has_no_room(saves, route, place, most) {
         Some(Refusal::TreeFull)
     } else {
         None

@@ -13,9 +13,9 @@ ghost use Rattle.roll_laws.specs.Laws.{has_no_other};
 ghost use Rattle.roll_plan.specs.Plans.{planned_roll};
 ghost use Rattle.roll_tree.specs.SavedStates.{CanGrow, state_named, paths_of, with_state};
 ghost use Rattle.roll_tree.specs.Marks.{AreSameBut};
-ghost use Rattle.roll_session.specs.Calls.{entry_of};
+ghost use Rattle.roll_session.specs.Calls.{entry_of, judged};
 ghost use Rattle.roll_session.specs.Standing.{rows_from};
-ghost use Rattle.roll_session.specs.Saves.{deepest_toward, has_word, rows_to, settled_by, settling, stepped_inputs, taken_inputs, taken_states, with_gone_only, without_other, IsFree};
+ghost use Rattle.roll_session.specs.Saves.{deepest_toward, has_word, refusal_in, repeats, rows_to, settled_by, settling, stepped_inputs, taken_inputs, taken_states, with_gone_only, without_other, IsFree};
 ghost use Rattle.roll_session.specs.Ways.{IsGoing};
 
 use crate::event::Call;
@@ -138,6 +138,26 @@ impl<S> Saves<S> {
         self.board.disconnect(player).unwrap();
         change_rows(&mut self.tree, &self.board, player, count);
         cut_words(&mut self.tree, player, count);
+    }
+
+    /// What the rules say of a call, apart from a full log.
+    #[inline(always)]
+    pub fn judge(&self, call: Call) -> Result<Heard, Refusal>
+        ensures { result ≡ judged (repeats self.now.inputs (entry_of call))
+            (refusal_in self.now.inputs (entry_of call)) }
+    {
+        let refusal = match call {
+            Call::Local { player, .. } => self.board.local_refusal(player),
+            Call::Remote {
+                player,
+                frame,
+                word,
+            } => return self.remote_reply(player, frame, word),
+            Call::Disconnect { player } => self.board.disconnect_refusal(player),
+            Call::Advance if !self.board.ready() => Some(Refusal::LocalInputMissing),
+            Call::Sync | Call::Advance => None,
+        };
+        refusal.map_or(Ok(Heard::Taken), Err)
     }
 
     /// Takes a player's input.

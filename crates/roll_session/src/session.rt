@@ -352,19 +352,7 @@ impl<G: Game> Session<G> {
             (first_refusal (tests_of self.now.settings (game_of G.step self.now) self.now.core []
             (entry_of call))) }
     {
-        let board = self.saves.board();
-        let refusal = match call {
-            Call::Local { player, .. } => board.local_refusal(player),
-            Call::Remote {
-                player,
-                frame,
-                word,
-            } => return self.saves.remote_reply(player, frame, word),
-            Call::Disconnect { player } => board.disconnect_refusal(player),
-            Call::Advance if !board.ready() => Some(Refusal::LocalInputMissing),
-            Call::Sync | Call::Advance => None,
-        };
-        refusal.map_or(Ok(Heard::Taken), Err)
+        self.saves.judge(call)
     }
 
     /// Takes a player's input that the rules accept.

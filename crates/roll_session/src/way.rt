@@ -1,11 +1,14 @@
 //! A roll in progress, whoever runs the game.
-ghost use Rattle.std.specs.Prelude.{◌≡◌, ◌+◌, ◌<◌, IsSomeAnd};
+ghost use Rattle.std.specs.Prelude.{◌≡◌, ◌+◌, ◌-◌, ◌<◌, ◌≤◌, length, IsSomeAnd};
 ghost use Rattle.roll_frame.specs.Timeline.{row_at};
 ghost use Rattle.roll_tree.specs.SavedStates.{state_named, with_state};
+ghost use Rattle.roll_session.specs.Gameless.{KeepsRolled};
+ghost use Rattle.roll_session.specs.Saves.{GrowsBy};
 ghost use Rattle.roll_session.specs.Ways.{next_state, IsGoing};
 
 use crate::saves::Saves;
 use roll_frame::Row;
+use std::collections::VecDeque;
 
 /// A roll in progress: it stands at the deepest saved state on the timeline's way to a frame.
 #[derive(Clone, Copy, Debug)]
@@ -55,5 +58,23 @@ impl<S> Saves<S> {
         let row = self.told_row(way.frame);
         way.at = self.add_state(way.at, row, snapshot);
         way.frame += 1;
+    }
+}
+
+/// Saves the states of a roll, or the first of them.
+pub fn add_rolled<S: Drop>(saves: &mut Saves<S>, start: Way, states: Vec<S>)
+    requires going { IsGoing saves.old start }
+    requires few { length states.items ≤ start.to - start.frame }
+    ensures inputs { saves.new.inputs ≡ saves.old.inputs }
+    ensures room { saves.new.room ≡ saves.old.room }
+    ensures paths { GrowsBy saves.old saves.new start.to (length states.items) }
+    ensures kept { KeepsRolled saves.old saves.new start.frame states.items (length states.items) }
+{
+    let end = start.frame + states.len() as u32;
+    let mut way = start;
+    let mut left = VecDeque::from(states);
+    for frame in start.frame..end {
+        let snapshot = left.pop_front().unwrap();
+        saves.go_on(&mut way, snapshot);
     }
 }

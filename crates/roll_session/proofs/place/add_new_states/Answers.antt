@@ -2,7 +2,7 @@ use Rattle.std.proofs.Common.{◌≡◌, ◌-◌, ◌<◌, ◌∙◌, ap, sym, a
 use Rattle.roll_frame.specs.declared.limits.TheConstants.{TREE_LIMIT}
 use Rattle.roll_frame.specs.Cells.{Rows}
 use Rattle.roll_inputs.specs.Boards.{Inputs}
-use Rattle.roll_session.specs.Grafting.{ahead_of, kept_to, possible_to}
+use Rattle.roll_session.specs.Grafting.{ahead_of, possible_to}
 use Rattle.roll_session.proofs.NewStates.{hung_few, hung_fits, hung_more, hung_start, left_some, place_fits, rest_fits}
 use Rattle.roll_session.proofs.Rolling.{if_some}
 use Rattle.roll_session.proofs.place.add_new_states.Goals as goal

@@ -1,4 +1,4 @@
-use Rattle.std.proofs.Common.{◌≡◌, ◌≤◌, ◌-◌, ◌∙◌, ap, arith, Some, refl, subst}
+use Rattle.std.proofs.Common.{◌≡◌, ◌∙◌, Some, subst}
 use Rattle.std.specs.Prelude.{IsSomeAnd}
 use Rattle.roll_plan.specs.Plans.{planned_roll}
 use Rattle.roll_tree.specs.SavedStates.{state_named}

@@ -1,7 +1,7 @@
 use Rattle.std.proofs.Common.{◌≡◌, ◌+◌, ◌-◌, ◌≤◌, ◌∙◌, List, ap, arith, length, map, refl, subst, sym}
 use Rattle.roll_frame.specs.Paths.{longest}
 use Rattle.roll_frame.specs.declared.limits.TheConstants.{TREE_LIMIT}
-use Rattle.roll_tree.specs.SavedStates.{Saved, SavedStates, paths_of}
+use Rattle.roll_tree.specs.SavedStates.{Saved, SavedStates}
 use Rattle.roll_session.specs.Saves.{rows_to}
 use Rattle.roll_session.proofs.Steps.{deepest_is, longest_there, time_is}
 use Rattle.roll_session.proofs.Ways.{stands}
