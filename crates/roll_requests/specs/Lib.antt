@@ -3,3 +3,4 @@ pub mod Carried
 pub mod Slots
 pub mod Tables
 pub mod Leading
+pub mod Asked

@@ -1,6 +1,7 @@
 //! Games that are played elsewhere: what a session would do with a game becomes a list of requests.
 #![tactic(auto)]
 
+mod elsewhere;
 mod guesses;
 mod name;
 mod recorder;
@@ -8,6 +9,7 @@ mod request;
 mod shown;
 mod table;
 
+pub use elsewhere::Elsewhere;
 pub use guesses::{guess, limit_slots};
 pub use name::Name;
 pub use recorder::{Point, Recorder, Saved};
