@@ -186,7 +186,9 @@ comes 1 to L + 1 ticks late, P in 100 are lost, and 5 in 100 of the others come 
 `--stop M:FRAME` has machine M go silent for ever at that frame: the others notice after a second, let
 its player leave, and play on. Two tables have a line for each machine: what it played and sent, and what
 was measured. The last line says whether all that stay agree: the same settled rows, the same state, and
-each player gone at the same frame. There are no guesses then.
+each player gone at the same frame. With `--guesses best` each guesses the words of all others, `--jobs J`
+of them a tick, and the first table tells how many jobs it gave, how many of their branches were taken
+in, and how many frames were run ahead. The other guesses are for a match of two peers.
 
 With `--hostile SEED` 50 hostile datagrams come before each real one: noise, real ones with a bit
 changed, sealed for another match, or of machines that are gone, and old real ones again. The first table
