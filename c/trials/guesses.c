@@ -122,7 +122,7 @@ static void guess(world *self, guesser *by, uint32_t who, uint8_t player, const 
     job->is_out = code == FAZGROND_OK;
     by->refused += code == FAZGROND_NO_MEMORY;
     must(self,
-         code == FAZGROND_OK || code == FAZGROND_NOTHING || code == FAZGROND_TREE_FULL
+         code == FAZGROND_OK || code == FAZGROND_NOTHING || code == FAZGROND_TREE_FULL || code == FAZGROND_PLAYER_DISCONNECTED
              || (code == FAZGROND_NO_MEMORY && self->setup.slots != 0),
          "a guess is refused");
     if (job->is_out)
@@ -158,7 +158,7 @@ static void look_at_claim(world *self, guesser *by, machine *at) {
     by->claims++;
 }
 
-void guess_in_turn(world *self, uint32_t who) {
+static void guess_in_turn(world *self, uint32_t who) {
     guesser *by = &the_guesser;
     machine *at = &self->machine[who];
     if (by->openings[who] != at->opening)
@@ -173,6 +173,11 @@ void guess_in_turn(world *self, uint32_t who) {
     look_at_claim(self, by, at);
 }
 
+void trial_let_guess(world *self) {
+    memset(&the_guesser, 0, sizeof the_guesser);
+    self->after_turn = guess_in_turn;
+}
+
 /* ---- The same match twice. */
 
 typedef struct outcome {
@@ -184,8 +189,8 @@ typedef struct outcome {
 static outcome play(const setup *with, bool is_guessing, uint32_t milliseconds) {
     outcome made = { .frames = UINT32_MAX };
     world *self = world_begin(with);
-    memset(&the_guesser, 0, sizeof the_guesser);
-    self->after_turn = is_guessing ? guess_in_turn : NULL;
+    if (is_guessing)
+        trial_let_guess(self);
     world_open_all(self);
     world_run(self, milliseconds);
     trial_nothing_but(self, 0);
@@ -236,6 +241,33 @@ static void guesses(uint32_t machines, uint32_t slots, uint32_t delay, uint32_t 
     free(guessed.history);
 }
 
+/* One of three is silent, and leaves, while jobs are out that guess its words. */
+static void one_leaves(uint32_t seed) {
+    setup with = plain;
+    with.machines = 3;
+    with.delay = 40;
+    with.loss = 5;
+    with.silent_after = 2000;
+    with.is_button = true;
+    with.seed = seed;
+    trial_case("one of three leaves, whose words are guessed, seed %u", (unsigned)seed);
+    world *self = world_begin(&with);
+    trial_let_guess(self);
+    world_open_all(self);
+    trial_must(world_play(self, 120, 10000), "the match begins");
+    uint32_t frames = self->machine[0].settled;
+    self->machine[2].is_dead = true;
+    world_run(self, 6000);
+    uint32_t grafted = the_guesser.grafted;
+    world_run(self, 4000);
+    trial_only_of(self, 2, MAY_INTERRUPT | MAY_STALL | MAY_LEAVE);
+    for (uint32_t who = 0; who < 2; who++)
+        trial_must_of(world_told(self, who, FAZGROND_DISCONNECTED, NOBODY) == 1, who, "its player leaves");
+    trial_must(world_agree(self, 0, 1, frames + 300), "the match of the others goes on");
+    trial_must(the_guesser.grafted > grafted, "they guess on");
+    world_end(self);
+}
+
 void trial_guesses(uint32_t count, uint32_t seed) {
     for (uint32_t time = 0; time < count; time++, seed++) {
         guesses(2, 0, 30, 0, seed);
@@ -243,5 +275,6 @@ void trial_guesses(uint32_t count, uint32_t seed) {
         guesses(3, 0, 40, 5, seed);
         guesses(2, JUST_ENOUGH, 60, 5, seed);
         guesses(2, 24, 60, 5, seed);
+        one_leaves(seed);
     }
 }

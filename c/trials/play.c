@@ -119,7 +119,8 @@ int trial_play(int count, char **words) {
     setup with = setup_of();
     world *all = world_begin(&with);
     all->out = stdout;
-    all->after_turn = self.has_guesses ? guess_in_turn : NULL;
+    if (self.has_guesses)
+        trial_let_guess(all);
     world_open_all(all);
     uint32_t begin = world_millis(all);
     for (; at < count; at++)

@@ -44,8 +44,8 @@ void trial_viewers(uint32_t count, uint32_t seed);
 void trial_sessions(uint32_t count, uint32_t seed);
 void trial_guesses(uint32_t count, uint32_t seed);
 
-/* What a program that guesses does in a turn. */
-void guess_in_turn(world *self, uint32_t who);
+/* From now on each machine guesses the others' words in each turn. */
+void trial_let_guess(world *self);
 
 /* A match as the command line says, with what is told. */
 int trial_play(int count, char **words);

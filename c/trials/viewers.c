@@ -1,5 +1,5 @@
-/* A viewer of machine 0, on a line of its own that is as bad as those of the match. It has to come to the states of the players;
- * and each end has to see in time that the other is silent, and never else. */
+/* A viewer of machine 0, on a line of its own that is as bad as those of the match. It has to come to the states of the players, who
+ * guess or don't; and each end has to see in time that the other is silent, and never else. */
 #include "trials.h"
 
 #include <stdlib.h>
@@ -66,9 +66,12 @@ static scene *scene_begin(uint32_t machines, uint32_t delay, uint32_t loss, uint
     with.jitter = delay / 4;
     with.loss = loss;
     with.silent_after = silent_after;
+    with.is_button = seed % 2 == 0;
     with.seed = seed;
     memset(self, 0, sizeof *self);
     self->match = world_begin(&with);
+    if (with.is_button)
+        trial_let_guess(self->match);
     self->way = malloc(WAY * sizeof *self->way);
     self->kept = malloc(WAY * sizeof *self->kept);
     if (self->way == NULL || self->kept == NULL)
