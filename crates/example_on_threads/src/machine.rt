@@ -1,7 +1,5 @@
 //! What both machines of the match have alike.
-use fazgrond::{
-    MatchSettings, OpenRefusal, OtherSession, PeerRefusal, Refusal, Session, Settings,
-};
+use fazgrond::{MatchSettings, OpenRefusal, OtherSession, PeerRefusal, Refusal, Session, Settings};
 use game_fighter::{Fight, State};
 use std::alloc::{AllocError, Global};
 use thiserror::Error;

@@ -15,7 +15,6 @@ use fazgrond::{Crew, Host, Owner, Refusal, start_all};
 use game_fighter::{Fight, Fighter, State};
 use machine::{Fault, LAST_FRAME, open};
 use side::{PLAYER, Side};
-use wire::Wire;
 use std::alloc::{AllocError, AllocGlobal, Global};
 use std::process::ExitCode;
 use std::rt::Runtime;
@@ -23,6 +22,7 @@ use std::sync::atomic::{AtomicBool, Ordering};
 use std::sync::{Arc, Wait};
 use std::thread::{JoinHandle, Threads};
 use std::{io, thread};
+use wire::Wire;
 
 /// How many workers run guesses.
 const WORKERS: u8 = 2;
