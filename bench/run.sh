@@ -121,8 +121,8 @@ print(f"pages at 50000 frames: {pages[0]} and {pages[1]}, {pages[0] / pages[1]:.
 if shutil.which("valgrind"):
     counts = [instructions(program, work / "3000.roll") for program in (rollduel, work / "plain")]
     print(f"instructions at 3000 frames: {counts[0]:.2f} M and {counts[1]:.2f} M, {counts[0] / counts[1]:.2f}")
-took, _, most = used([rollduel, "match", "--frames", "120000", "--guesses", "turns"])
-print(f"a match of 120000 frames with turns: {took:.1f} s, {most / 1000:.0f} MB, {most / 240000:.1f} KB a frame and side")
+took, _, most = used([rollduel, "match", "--frames", "120000", "--guesses", "best", "--jobs", "16"])
+print(f"a match of 120000 frames with 16 guesses a tick: {took:.1f} s, {most / 1000:.0f} MB, {most / 240000:.1f} KB a frame and side")
 taken, ticks = (after - then for after, then in zip(stolen(), before))
 print(f"st {100 * taken / ticks:.1f}\n", flush=True)
 END

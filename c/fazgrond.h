@@ -118,8 +118,8 @@ typedef struct fazgrond_reached {
 } fazgrond_reached;
 
 /* An entry of the log, which has all accepted calls in their order. `player` is that of LOCAL, REMOTE and DISCONNECT, `word`
- * that of LOCAL and REMOTE, `frame` that of REMOTE. PARTIAL is a roll to `frame` that was refused after `word` new states were
- * saved. What isn't said is 0; a GRAFT says nothing more. */
+ * that of LOCAL and REMOTE, `frame` that of REMOTE. What isn't said is 0; a GRAFT says nothing more. PARTIAL is a roll to `frame` of
+ * which only `word` new states were saved: sessions of games in Rust can leave one, those of this header don't. */
 enum {
     FAZGROND_LOCAL = 1, FAZGROND_REMOTE = 2, FAZGROND_DISCONNECT = 3, FAZGROND_SYNC = 4, FAZGROND_ADVANCE = 5,
     FAZGROND_GRAFT = 6, FAZGROND_PARTIAL = 7
@@ -132,6 +132,7 @@ typedef struct fazgrond_entry {
     uint32_t word;
 } fazgrond_entry;
 
+/* What calls answer. c/numbers writes the list. */
 enum {
     FAZGROND_OK = 0,
     FAZGROND_INVALID_PLAYER = 2,
@@ -163,8 +164,8 @@ enum {
     FAZGROND_TOO_SHORT = 204,               /* the buffer has less room than what is to be written */
     FAZGROND_OTHER_VERSION = 205,           /* `size` isn't the one that this library knows: another version's header */
     /* From here on, of peers, lines and viewers alone. */
-    FAZGROND_NOT_SEALED = 301,              /* bytes that are not of this opening of the match or line, were changed on their
-                                             * way, or are too few or too many */
+    FAZGROND_NOT_SEALED = 301,              /* bytes that are not of this opening of the match or line, were changed on their way,
+                                             * or are too few or too many */
     FAZGROND_NO_DATAGRAM = 302,             /* they are sealed as they have to be, and no datagram of this version */
     FAZGROND_INVALID_MACHINE = 303,         /* there is no such machine in the match */
     FAZGROND_OWN_MACHINE = 304,             /* the machine is this one */
@@ -176,7 +177,8 @@ enum {
     FAZGROND_OTHER_SENDER = 309,            /* the other end of the line didn't send them */
     FAZGROND_NO_ROWS = 310,                 /* what the host sends are no rows of this match's players */
     FAZGROND_ROWS_MISSING = 311,            /* rows before those that the host sends have not come yet */
-    FAZGROND_OUTSIDE = 312,                 /* the sender tells of machines or players that the match hasn't */
+    FAZGROND_OUTSIDE = 312,                 /* the sender tells of machines or players that the match hasn't, or not alike of all
+                                             * words of an input */
     FAZGROND_OTHER_SESSION = 313            /* the session isn't the one that this peer plays: give it that one. Or it was told of
                                              * others past the peer: then the match is over for this machine */
 };
@@ -233,7 +235,9 @@ int32_t fazgrond_graft(fazgrond_session *session, uint32_t job, uint32_t *added)
 int32_t fazgrond_forget(fazgrond_session *session, uint32_t job);
 
 /* For a game with room for so many states: from now on nothing is saved in a slot from this one on. A call that would need one is
- * refused with FAZGROND_NO_MEMORY. Without jobs, the settings' threshold and three are enough. */
+ * refused with FAZGROND_NO_MEMORY. Without jobs, the settings' threshold and three are enough. With guesses more are needed: each
+ * job takes a slot for each of its rows until it is forgotten, or its states were grafted and are freed. If there are too few, it
+ * is a call that rolls back which is refused: frame and words are as before, and once jobs were forgotten it can be made again. */
 int32_t fazgrond_limit_slots(fazgrond_session *session, uint32_t slots);
 
 /* Makes room for so many more events: none of them is then refused for want of memory by the log. */
@@ -316,7 +320,7 @@ typedef struct fazgrond_peer {
 #define FAZGROND_MACHINES 8
 
 /* The players, limits and masks of the session are the same at each machine, and its local players are those that `me` owns; so
- * are `digest`, `machines` and `owners`, and the number of each two machines at both of them. Begin with
+ * are `digest`, `machines`, `owners` and `words`, and the number of each two machines at both of them. Begin with
  * fazgrond_match_for, so that members which a later version adds have a value too.
  *
  * The draw: 64 bits of the system's source of random bits (getrandom, BCryptGenRandom or the like), drawn anew for each opening
@@ -338,6 +342,9 @@ typedef struct fazgrond_match {
                                           * comes, and FAZGROND_STALLED of one that holds this one up; 0: neither is told */
     uint32_t stalled_after;              /* milliseconds after which a machine is gone that answers, and holds this one up since
                                           * it gives no words; 0: it never is, and the match may stand for good */
+    uint32_t words;                      /* of how many words a player's input is, 1 to 4: so many of the session's players in a row
+                                          * are one player of the match, with one owner. They leave together, and of no frame are some
+                                          * of their words taken and others not */
 } fazgrond_match;
 
 /* A match of so many machines, of which this one is `me`. Nobody is ever silent for too long, no player has an owner, and there
@@ -357,6 +364,7 @@ static inline fazgrond_match fazgrond_match_for(uint32_t machines, uint32_t me) 
     match.silent_after = 0;
     match.notify_after = 0;
     match.stalled_after = 0;
+    match.words = 1;
     return match;
 }
 
@@ -373,19 +381,20 @@ static inline void fazgrond_one_number(fazgrond_match *match, uint64_t number) {
  * INTERRUPTED: `machine` is silent, and gone in `disconnect_in` milliseconds. RESUMED: it was heard again.
  * LEFT: `machine` is gone for good. DESYNC: it has another state at the settled frame `frame`.
  * MISMATCH: `machine` means another match: `field` is 1 if it has another number of machines, 2 if other owners, 3 if another
- * digest. It may come in the middle of a match too. DROPPED: another machine regards this one as gone.
+ * digest, 4 if inputs of another number of words. It may come in the middle of a match too. DROPPED: another machine regards this one as gone.
  * RESTARTED: `machine` was opened anew. It can't come back into this match: its old opening is silent from now on, and gone by
  * that, and its new one waits until you open a match anew too. Told once for each opening.
  * STALLED: `machine` is heard, and holds this one up, since it gives no words. If it is to be gone for that, it is in
  * `disconnect_in` milliseconds, else that is 0. Told once, until it gives a word.
  * REFUSED: what `machine` sealed was refused, or a word of it was: its program is broken, or it lies. Told at the first of a run.
  * MISSING: `silent_after` has passed since this peer was opened, and `machine` isn't there yet. Told once. It is waited for, until
- * you disconnect it. */
+ * you disconnect it.
+ * c/numbers writes the list. */
 enum {
     FAZGROND_SYNCHRONIZING = 1001, FAZGROND_SYNCHRONIZED = 1002, FAZGROND_RUNNING = 1003, FAZGROND_DISCONNECTED = 1004,
-    FAZGROND_TIME_SYNC = 1005, FAZGROND_INTERRUPTED = 1006, FAZGROND_RESUMED = 1007, FAZGROND_LEFT = 1101,
-    FAZGROND_DESYNC = 1102, FAZGROND_MISMATCH = 1103, FAZGROND_DROPPED = 1104, FAZGROND_RESTARTED = 1105,
-    FAZGROND_STALLED = 1106, FAZGROND_REFUSED = 1107, FAZGROND_MISSING = 1108
+    FAZGROND_TIME_SYNC = 1005, FAZGROND_INTERRUPTED = 1006, FAZGROND_RESUMED = 1007, FAZGROND_LEFT = 1101, FAZGROND_DESYNC = 1102,
+    FAZGROND_MISMATCH = 1103, FAZGROND_DROPPED = 1104, FAZGROND_RESTARTED = 1105, FAZGROND_STALLED = 1106,
+    FAZGROND_REFUSED = 1107, FAZGROND_MISSING = 1108
 };
 
 /* What an event doesn't say is 0. */

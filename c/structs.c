@@ -55,6 +55,7 @@ AT(fazgrond_match, owners, 96);
 AT(fazgrond_match, silent_after, 128);
 AT(fazgrond_match, notify_after, 132);
 AT(fazgrond_match, stalled_after, 136);
+AT(fazgrond_match, words, 140);
 
 HAS(fazgrond_event, 36);
 AT(fazgrond_event, code, 0);

@@ -70,9 +70,9 @@ def packet(number, sender, kind, rest=b""):
 
 
 def hello(number, sender, match, draw, echo, patience):
-    """A hello: the match has `machines`, `owners` and `digest`."""
+    """A hello: the match has `machines`, `owners` and `digest`, and each input `words` if it hasn't one."""
     owners = bytes(match["owners"]) + b"\xff" * (8 - len(match["owners"]))
-    rest = [bytes([match["machines"]]), owners, fixed(match["digest"], 8), fixed(draw, 8), fixed(echo, 8), fixed(patience, 4), b"\0"]
+    rest = [bytes([match["machines"], match.get("words", 1)]), owners, fixed(match["digest"], 8), fixed(draw, 8), fixed(echo, 8), fixed(patience, 4), b"\0"]
     return packet(number, sender, HELLO, b"".join(rest))
 
 

@@ -317,7 +317,7 @@ typedef struct fazgrond_peer {
 #define FAZGROND_MACHINES 8
 
 /* The players, limits and masks of the session are the same at each machine, and its local players are those that `me` owns; so
- * are `digest`, `machines` and `owners`, and the number of each two machines at both of them. Begin with
+ * are `digest`, `machines`, `owners` and `words`, and the number of each two machines at both of them. Begin with
  * fazgrond_match_for, so that members which a later version adds have a value too.
  *
  * The draw: 64 bits of the system's source of random bits (getrandom, BCryptGenRandom or the like), drawn anew for each opening
@@ -339,6 +339,9 @@ typedef struct fazgrond_match {
                                           * comes, and FAZGROND_STALLED of one that holds this one up; 0: neither is told */
     uint32_t stalled_after;              /* milliseconds after which a machine is gone that answers, and holds this one up since
                                           * it gives no words; 0: it never is, and the match may stand for good */
+    uint32_t words;                      /* of how many words a player's input is, 1 to 4: so many of the session's players in a row
+                                          * are one player of the match, with one owner. They leave together, and of no frame are some
+                                          * of their words taken and others not */
 } fazgrond_match;
 
 /* A match of so many machines, of which this one is `me`. Nobody is ever silent for too long, no player has an owner, and there
@@ -358,6 +361,7 @@ static inline fazgrond_match fazgrond_match_for(uint32_t machines, uint32_t me) 
     match.silent_after = 0;
     match.notify_after = 0;
     match.stalled_after = 0;
+    match.words = 1;
     return match;
 }
 
@@ -374,7 +378,7 @@ static inline void fazgrond_one_number(fazgrond_match *match, uint64_t number) {
  * INTERRUPTED: `machine` is silent, and gone in `disconnect_in` milliseconds. RESUMED: it was heard again.
  * LEFT: `machine` is gone for good. DESYNC: it has another state at the settled frame `frame`.
  * MISMATCH: `machine` means another match: `field` is 1 if it has another number of machines, 2 if other owners, 3 if another
- * digest. It may come in the middle of a match too. DROPPED: another machine regards this one as gone.
+ * digest, 4 if inputs of another number of words. It may come in the middle of a match too. DROPPED: another machine regards this one as gone.
  * RESTARTED: `machine` was opened anew. It can't come back into this match: its old opening is silent from now on, and gone by
  * that, and its new one waits until you open a match anew too. Told once for each opening.
  * STALLED: `machine` is heard, and holds this one up, since it gives no words. If it is to be gone for that, it is in

@@ -1,4 +1,4 @@
-/* The turns of a program without a window: 60 a second, or so many times as many. */
+/* The clock, and the turns of a program without a window: 60 a second, or so many times as many. */
 #ifndef DUEL_CLOCK_H
 #define DUEL_CLOCK_H
 

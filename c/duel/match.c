@@ -2,6 +2,7 @@
 #define _POSIX_C_SOURCE 200809L
 #include "bot.h"
 #include "casting.h"
+#include "clock.h"
 #include "helpers.h"
 #include "options.h"
 #include "state.h"
@@ -11,7 +12,6 @@
 #include <stdio.h>
 #include <stdlib.h>
 #include <string.h>
-#include <time.h>
 
 static const char usage[] =
     "duel [OPTIONS] PORT PLAYER PLAYER [PLAYER [PLAYER]] [viewer:ADDRESS ..]    a duel of ships for two to four\n"
@@ -38,9 +38,9 @@ static struct {
     int players, locals, viewers;
     GGPOPlayerHandle local[DUEL_SHIPS], viewer[GGPO_MAX_SPECTATORS];
     int behind, most_behind; /* by how many frames this one is behind what it watches */
-    int wait;             /* turns to wait, since this machine is ahead */
-    bool is_over;         /* the match can't go on */
-    int again, all_again; /* frames that were played again: in this turn, and in all */
+    int wait;                /* turns to wait, since this machine is ahead */
+    bool is_over;            /* the match can't go on */
+    int again, all_again;    /* frames that were played again: in this turn, and in all */
     duel_bot bots[DUEL_SHIPS];
     char at_last[512]; /* the state at the frame of --frames */
     char told[DUEL_SHIPS][64];
@@ -186,11 +186,7 @@ static void draw(void) {
 }
 
 /* Microseconds, as --speed has them. */
-static uint64_t micros(void) {
-    struct timespec time;
-    clock_gettime(CLOCK_MONOTONIC, &time);
-    return ((uint64_t)time.tv_sec * 1000000 + (uint64_t)time.tv_nsec / 1000) * (uint64_t)self.speed;
-}
+static uint64_t micros(void) { return (uint64_t)clock_micros() * (uint64_t)self.speed; }
 
 /* Whether the frame of --frames is settled, here and elsewhere: who sent inputs of a much later frame has all of this one, and
  * viewers say how many they have. Who watches has it once it is played. */

@@ -1,4 +1,4 @@
-/* Options of a command line, each with a value. */
+/* Options of a command line, each with a value or without one. */
 #ifndef DUEL_OPTIONS_H
 #define DUEL_OPTIONS_H
 

@@ -32,9 +32,13 @@ static void tell_connected(GGPOSession *session, const fazgrond_event *event) {
     session->call.on_event(&told);
 }
 
-static void note_left(GGPOSession *session, uint32_t player) {
-    if (player >= 1 && player <= (uint32_t)session->players)
-        session->player[player - 1].has_left = true;
+/* A word of a player's input has left. Whether the player has, with all of them. */
+static bool note_left(GGPOSession *session, int word) {
+    if (word < 1 || word > ggponet_all_words(session))
+        return false;
+    player *of = &session->player[ggponet_handle_of_word(session, word) - 1];
+    of->has_left = ++of->words_gone == session->words;
+    return of->has_left;
 }
 
 /* An event as GGPO has it. */
@@ -50,7 +54,9 @@ static GGPOEvent told_of(const GGPOSession *session, const fazgrond_event *event
         told.u.synchronizing.count = (int)event->count;
         told.u.synchronizing.total = (int)event->total;
         break;
-    case GGPO_EVENTCODE_DISCONNECTED_FROM_PEER: told.u.disconnected.player = (int)event->player; break;
+    case GGPO_EVENTCODE_DISCONNECTED_FROM_PEER:
+        told.u.disconnected.player = ggponet_handle_of_word(session, (int)event->player);
+        break;
     case GGPO_EVENTCODE_TIMESYNC: told.u.timesync.frames_ahead = (int)event->frames_ahead; break;
     case GGPO_EVENTCODE_CONNECTION_INTERRUPTED:
         told.u.connection_interrupted.player = handle;
@@ -77,8 +83,8 @@ static void tell(GGPOSession *session, const fazgrond_event *event) {
         return;
     if (event->code == FAZGROND_SYNCHRONIZING || event->code == FAZGROND_SYNCHRONIZED)
         tell_connected(session, event);
-    if (event->code == FAZGROND_DISCONNECTED)
-        note_left(session, event->player);
+    if (event->code == FAZGROND_DISCONNECTED && !note_left(session, (int)event->player))
+        return;
     GGPOEvent told = told_of(session, event);
     session->call.on_event(&told);
 }

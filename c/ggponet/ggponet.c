@@ -3,7 +3,9 @@
 
 enum {
     MOST_AT_ONCE = 256, /* datagrams that are taken in one go */
-    SEND_EVERY = 16667  /* microseconds */
+    SEND_EVERY = 16667, /* microseconds */
+    WORD = 4,           /* bytes of a word */
+    MOST_BYTES = 16     /* of an input */
 };
 
 uint64_t ggponet_hash_bytes(uint64_t hash, const void *bytes, size_t count) {
@@ -18,6 +20,11 @@ static uint64_t hash_of(const char *name, int players, int input_size) {
     return ggponet_hash_bytes(ggponet_hash_bytes(0xcbf29ce484222325u, name, strlen(name)), text, (size_t)count);
 }
 
+/* How many words an input has: its last bytes may be none of the game's. */
+static int words_for(int input_size) {
+    return (input_size + WORD - 1) / WORD;
+}
+
 /* Why no session can be begun for such a game. */
 static GGPOErrorCode can_begin(const GGPOSessionCallbacks *cb, const char *game, int players, int input_size) {
     if (cb == NULL || game == NULL || cb->save_game_state == NULL || cb->load_game_state == NULL || cb->free_buffer == NULL
@@ -27,9 +34,13 @@ static GGPOErrorCode can_begin(const GGPOSessionCallbacks *cb, const char *game,
         return ggponet_refuse(NULL, GGPO_ERRORCODE_PLAYER_OUT_OF_RANGE, "%d players; 1 to 4 were expected", players);
     if (input_size < 1)
         return ggponet_refuse(NULL, GGPO_ERRORCODE_INVALID_REQUEST, "an input of %d bytes", input_size);
-    if (input_size > (int)sizeof(uint32_t))
-        return ggponet_refuse(NULL, GGPO_ERRORCODE_UNSUPPORTED, "an input of %d bytes; this library takes 4 at most",
+    if (input_size > MOST_BYTES)
+        return ggponet_refuse(NULL, GGPO_ERRORCODE_UNSUPPORTED, "an input of %d bytes; this library takes 16 at most",
                               input_size);
+    if (players * words_for(input_size) > FAZGROND_PLAYERS)
+        return ggponet_refuse(NULL, GGPO_ERRORCODE_UNSUPPORTED,
+                              "%d players with inputs of %d bytes; this library takes 32 bytes in all, each input rounded up to 4",
+                              players, input_size);
     return GGPO_OK;
 }
 
@@ -47,6 +58,7 @@ GGPOErrorCode ggponet_make_session(GGPOSession **session, const GGPOSessionCallb
     made->call = *cb;
     made->players = players;
     made->input_size = input_size;
+    made->words = words_for(input_size);
     made->digest = hash_of(game, players, input_size);
     made->number = made->digest;
     made->silent_after = 5000;
@@ -214,36 +226,62 @@ GGPOErrorCode ggpo_idle(GGPOSession *session, int timeout) {
     }
 }
 
-/* The word of an input: the first byte is the lowest. */
-static uint32_t word_of(const void *values, int size) {
-    uint32_t word = 0;
+/* The words of an input: of each the first byte is the lowest. Where the input ends within one, its other bytes are zeros. */
+static void read_words(const void *values, int size, uint32_t *words) {
+    memset(words, 0, MOST_BYTES);
     for (int at = 0; at < size; at++)
-        word |= (uint32_t)((const uint8_t *)values)[at] << (8 * at);
-    return word;
+        words[at / WORD] |= (uint32_t)((const uint8_t *)values)[at] << (8 * (at % WORD));
+}
+
+int ggponet_all_words(const GGPOSession *session) {
+    return session->players * session->words;
+}
+
+int ggponet_word_player(const GGPOSession *session, GGPOPlayerHandle handle, int word) {
+    return (handle - 1) * session->words + word + 1;
+}
+
+GGPOPlayerHandle ggponet_handle_of_word(const GGPOSession *session, int player) {
+    return (player - 1) / session->words + 1;
+}
+
+int ggponet_flags_of(const GGPOSession *session, const fazgrond_row *row) {
+    uint32_t all = (1u << session->words) - 1;
+    int flags = 0;
+    for (int at = 0; at < session->players; at++)
+        if ((row->gone >> (at * session->words) & all) == all)
+            flags |= 1 << at;
+    return flags;
+}
+
+static void write_input(const GGPOSession *session, const uint32_t *words, uint8_t *out) {
+    for (int at = 0; at < session->input_size; at++)
+        out[at] = (uint8_t)(words[at / WORD] >> (8 * (at % WORD)));
 }
 
 void ggponet_write_row(const GGPOSession *session, const fazgrond_row *row, uint8_t *out) {
-    for (int at = 0; at < session->players * session->input_size; at++)
-        out[at] = (uint8_t)(row->words[at / session->input_size] >> (8 * (at % session->input_size)));
+    for (int at = 0; at < session->players; at++)
+        write_input(session, &row->words[at * session->words], out + at * session->input_size);
 }
 
 static void give_row(const GGPOSession *session, void *values, int size, int *disconnect_flags) {
     memset(values, 0, (size_t)size);
     ggponet_write_row(session, &session->row, values);
     if (disconnect_flags != NULL)
-        *disconnect_flags = (int)session->row.gone;
+        *disconnect_flags = ggponet_flags_of(session, &session->row);
 }
 
-static GGPOErrorCode add_to_sync_test(GGPOSession *session, GGPOPlayerHandle handle, uint32_t word) {
+static GGPOErrorCode add_to_sync_test(GGPOSession *session, GGPOPlayerHandle handle, const uint32_t *words) {
     if (handle < 1 || handle > session->players)
         return ggponet_no_player(session, handle);
     if (!session->is_running)
         return ggponet_refuse(session, GGPO_ERRORCODE_NOT_SYNCHRONIZED, "ggpo_idle was not called yet");
-    session->row.words[handle - 1] = word;
+    for (int word = 0; word < session->words; word++)
+        session->row.words[ggponet_word_player(session, handle, word) - 1] = words[word];
     return GGPO_OK;
 }
 
-static GGPOErrorCode add_to_match(GGPOSession *session, GGPOPlayerHandle handle, uint32_t word) {
+static GGPOErrorCode add_to_match(GGPOSession *session, GGPOPlayerHandle handle, const uint32_t *words) {
     const player *of = ggponet_player_of(session, handle);
     if (of == NULL || of->type != GGPO_PLAYERTYPE_LOCAL)
         return ggponet_no_player(session, handle);
@@ -254,7 +292,7 @@ static GGPOErrorCode add_to_match(GGPOSession *session, GGPOPlayerHandle handle,
         return ggponet_refuse(session, GGPO_ERRORCODE_NOT_SYNCHRONIZED, "not all players are added");
     code = hear(session);
     if (code == GGPO_OK)
-        code = ggponet_give_word(session, handle, word);
+        code = ggponet_give_words(session, handle, words);
     if (code == GGPO_OK)
         send_if_due(session);
     return code;
@@ -267,8 +305,9 @@ GGPOErrorCode ggpo_add_local_input(GGPOSession *session, GGPOPlayerHandle handle
     if (values == NULL || size != session->input_size)
         return ggponet_refuse(session, GGPO_ERRORCODE_INVALID_REQUEST, "an input of %d bytes; %d were expected", size,
                               session->input_size);
-    return session->sync_frames != 0 ? add_to_sync_test(session, handle, word_of(values, size))
-                                     : add_to_match(session, handle, word_of(values, size));
+    uint32_t words[MOST_BYTES / WORD];
+    read_words(values, size, words);
+    return session->sync_frames != 0 ? add_to_sync_test(session, handle, words) : add_to_match(session, handle, words);
 }
 
 /* The row of the frame that the game plays next. */

@@ -3,7 +3,8 @@
  * Names, types and numbers are GGPO's, so such a game compiles with this header as it is; it links the C files of this folder and
  * libfazgrond.a.
  * docs/C.md, "A game that is written against GGPO", has a table of what is the same and what differs. What can't be had here is
- * refused, and ggpo_last_error says why: inputs of more than 4 bytes, and what has to be set before the match.
+ * refused, and ggpo_last_error says why: inputs of more than 16 bytes, or of more than 32 in
+ * all, and what has to be set before the match.
  * What GGPO hasn't got stands at the end.
  *
  * A session is used by one thread at a time. All times are milliseconds.
@@ -66,6 +67,7 @@ typedef struct GGPOLocalEndpoint {
     int player_num;
 } GGPOLocalEndpoint;
 
+/* c/numbers writes the list. */
 typedef enum {
     GGPO_OK = 0,
     GGPO_ERRORCODE_SUCCESS = 0,
@@ -85,7 +87,7 @@ typedef enum {
 
 #define GGPO_SUCCEEDED(result) ((result) == GGPO_ERRORCODE_SUCCESS)
 
-/* The codes of events are plain numbers, so that a switch over GGPO's own stays whole. */
+/* The codes of events are plain numbers, so that a switch over GGPO's own stays whole. c/numbers writes the list. */
 typedef int GGPOEventCode;
 
 enum {

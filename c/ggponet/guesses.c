@@ -11,7 +11,7 @@ enum { IDLE, WAITING, FETCHED, DONE };
 struct FazggpoJob {
     atomic_int stage;
 
-    /* The guess: the player goes on with its last word, and from this frame on with the word before. */
+    /* The guess: a word of an input stays as it was last, and from this frame on as it was before. */
     int player;
     uint32_t turn;
     uint32_t word;
@@ -24,7 +24,7 @@ struct FazggpoJob {
     int frame;
     int rows;
     int inputs_size;
-    uint8_t inputs[MOST_ROWS][GGPO_MAX_PLAYERS * sizeof(uint32_t)];
+    uint8_t inputs[MOST_ROWS][FAZGROND_PLAYERS * sizeof(uint32_t)];
     int gone[MOST_ROWS];
 
     /* And what it makes. */
@@ -32,7 +32,7 @@ struct FazggpoJob {
     saved made[MOST_ROWS];
 };
 
-/* The last two different words of a player. */
+/* The last two different values of a word. */
 typedef struct habit {
     uint32_t known; /* of how many words */
     uint32_t last;
@@ -42,7 +42,7 @@ typedef struct habit {
 
 struct guesses {
     int jobs; /* for each frame */
-    habit habit[GGPO_MAX_PLAYERS];
+    habit habit[FAZGROND_PLAYERS]; /* of each word of each player */
     FazggpoGuesses count;
     FazggpoJob job[MOST_JOBS];
 };
@@ -141,6 +141,11 @@ static void withdraw(GGPOSession *session) {
     }
 }
 
+/* Whether a player of the session of fazgrond.h is a word of a remote player's input. */
+static bool is_remote(const GGPOSession *session, int player) {
+    return session->player[ggponet_handle_of_word(session, player) - 1].type == GGPO_PLAYERTYPE_REMOTE;
+}
+
 static void note_words(GGPOSession *session, int player) {
     habit *seen = &session->guesses->habit[player - 1];
     uint32_t words = 0, word;
@@ -190,7 +195,7 @@ static bool note_request(GGPOSession *session, FazggpoJob *job, const fazgrond_r
         if (job->rows == MOST_ROWS)
             return false;
         ggponet_write_row(session, &request->row, job->inputs[job->rows]);
-        job->gone[job->rows] = (int)request->row.gone;
+        job->gone[job->rows] = ggponet_flags_of(session, &request->row);
         return true;
     case FAZGROND_JOB_SAVE:
         if (job->rows == MOST_ROWS || !ggponet_has_slot(session, request->slot))
@@ -244,12 +249,12 @@ void ggponet_make_jobs(GGPOSession *session) {
         return;
     int left = session->guesses->jobs;
     withdraw(session);
-    for (int player = 1; player <= session->players; player++)
-        if (session->player[player - 1].type == GGPO_PLAYERTYPE_REMOTE)
+    for (int player = 1; player <= ggponet_all_words(session); player++)
+        if (is_remote(session, player))
             note_words(session, player);
     for (uint32_t held = 0; held <= GGPO_MAX_PREDICTION_FRAMES; held++)
-        for (int player = 1; player <= session->players && left > 0; player++)
-            if (session->player[player - 1].type == GGPO_PLAYERTYPE_REMOTE && make_job(session, player, held))
+        for (int player = 1; player <= ggponet_all_words(session) && left > 0; player++)
+            if (is_remote(session, player) && make_job(session, player, held))
                 left--;
 }
 

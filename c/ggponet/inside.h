@@ -83,6 +83,7 @@ typedef struct player {
     struct sockaddr_in address;
     int machine;
     int delay;
+    int words_gone; /* how many of its words have left */
     bool has_left;
 } player;
 
@@ -90,6 +91,7 @@ struct GGPOSession {
     GGPOSessionCallbacks call;
     int players;
     int input_size;
+    int words; /* of an input: the session of fazgrond.h has so many players in a row for each player */
     player player[GGPO_MAX_PLAYERS];
     char error[160];
     bool is_broken; /* a callback failed: the states are no more what the library takes them for */
@@ -231,8 +233,8 @@ GGPOErrorCode ggponet_open_match(GGPOSession *session);
 void ggponet_close_match(GGPOSession *session);
 /* Sees who is silent, who has left, and whether the match begins. */
 GGPOErrorCode ggponet_poll(GGPOSession *session);
-/* Takes a local player's word, if the match has begun. */
-GGPOErrorCode ggponet_give_word(GGPOSession *session, int player, uint32_t word);
+/* Takes a local player's input, if the match has begun. */
+GGPOErrorCode ggponet_give_words(GGPOSession *session, GGPOPlayerHandle handle, const uint32_t *words);
 /* The row of this frame. */
 GGPOErrorCode ggponet_row_of_match(GGPOSession *session);
 /* Shows what came, as GGPO does while a frame has to wait. */
@@ -288,6 +290,13 @@ void ggponet_free_jobs(GGPOSession *session);
 
 /* ---- ggponet.c */
 
+/* How many players the session of fazgrond.h has, and which of them is a word of a player's input, the first of which is word 0. */
+int ggponet_all_words(const GGPOSession *session);
+int ggponet_word_player(const GGPOSession *session, GGPOPlayerHandle handle, int word);
+/* The player of whose input a player of the session of fazgrond.h is a word. */
+GGPOPlayerHandle ggponet_handle_of_word(const GGPOSession *session, int player);
+/* GGPO's flags of who has left: all words of their inputs have. */
+int ggponet_flags_of(const GGPOSession *session, const fazgrond_row *row);
 /* The inputs of all players, as the game is given them: of each word the lowest byte first. */
 void ggponet_write_row(const GGPOSession *session, const fazgrond_row *row, uint8_t *out);
 

@@ -73,7 +73,6 @@ GGPOErrorCode ggponet_broken(GGPOSession *session, const char *why) {
     return ggponet_refuse(session, GGPO_ERRORCODE_GENERAL_FAILURE, "%s", why);
 }
 
-/* Why a call can't be made now. */
 GGPOErrorCode ggponet_can_call(GGPOSession *session, const char *name) {
     if (session == NULL)
         return GGPO_ERRORCODE_INVALID_SESSION;
@@ -92,7 +91,6 @@ GGPOErrorCode ggponet_is_too_late(GGPOSession *session, const char *what) {
     return ggponet_refuse(session, GGPO_ERRORCODE_UNSUPPORTED, "%s has to be said before the match opens", what);
 }
 
-/* Why a call isn't for a session that watches, as in GGPO. */
 GGPOErrorCode ggponet_only_watches(GGPOSession *session, const char *name) {
     return ggponet_refuse(session, GGPO_ERRORCODE_UNSUPPORTED, "%s is not for a session that watches", name);
 }

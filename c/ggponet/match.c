@@ -36,21 +36,24 @@ static void place_players(GGPOSession *session) {
 }
 
 static fazgrond_settings the_settings(const GGPOSession *session) {
-    fazgrond_settings settings = fazgrond_settings_for((uint32_t)session->players);
+    fazgrond_settings settings = fazgrond_settings_for((uint32_t)ggponet_all_words(session));
     settings.threshold = GGPO_MAX_PREDICTION_FRAMES;
-    for (int at = 0; at < session->players; at++)
-        if (session->player[at].type == GGPO_PLAYERTYPE_LOCAL) {
+    for (int at = 0; at < ggponet_all_words(session); at++) {
+        const player *of = &session->player[at / session->words];
+        if (of->type == GGPO_PLAYERTYPE_LOCAL) {
             settings.local |= 1u << at;
-            settings.delays[at] = (uint32_t)session->player[at].delay;
+            settings.delays[at] = (uint32_t)of->delay;
         }
+    }
     return settings;
 }
 
 /* A machine that gives no inputs, and is heard, is waited for, as in GGPO. */
 static fazgrond_match the_match(const GGPOSession *session) {
     fazgrond_match match = fazgrond_match_for((uint32_t)session->machines, (uint32_t)session->me);
-    for (int at = 0; at < session->players; at++)
-        match.owners[at] = (uint32_t)session->player[at].machine;
+    for (int at = 0; at < ggponet_all_words(session); at++)
+        match.owners[at] = (uint32_t)session->player[at / session->words].machine;
+    match.words = (uint32_t)session->words;
     fazgrond_one_number(&match, session->number);
     match.digest = session->digest;
     match.silent_after = session->silent_after;
@@ -130,14 +133,17 @@ void ggponet_close_match(GGPOSession *session) {
     close_both(session);
 }
 
-GGPOErrorCode ggponet_give_word(GGPOSession *session, int player, uint32_t word) {
+GGPOErrorCode ggponet_give_words(GGPOSession *session, GGPOPlayerHandle handle, const uint32_t *words) {
     uint32_t is_running = 0;
     if (fazgrond_peer_is_running(&session->peer, &is_running) != FAZGROND_OK || is_running == 0)
         return ggponet_refuse(session, GGPO_ERRORCODE_NOT_SYNCHRONIZED, "the match has not begun");
-    int32_t answer = fazgrond_add_local_input(&session->rollback, (uint8_t)player, word);
-    /* Another input of this frame was taken already, as another local player's was refused: that one counts. */
-    if (answer != FAZGROND_OK && answer != FAZGROND_INPUT_TWICE)
-        return ggponet_refused(session, answer);
+    for (int word = 0; word < session->words; word++) {
+        int player = ggponet_word_player(session, handle, word);
+        int32_t answer = fazgrond_add_local_input(&session->rollback, (uint8_t)player, words[word]);
+        /* Another input of this frame was taken already, as another local player's was refused: that one counts. */
+        if (answer != FAZGROND_OK && answer != FAZGROND_INPUT_TWICE)
+            return ggponet_refused(session, answer);
+    }
     return ggponet_begin(session);
 }
 

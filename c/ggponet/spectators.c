@@ -42,7 +42,7 @@ static fazgrond_line_settings line_settings(const GGPOSession *session, unsigned
     settings.silent_after = session->silent_after;
     settings.machines = 2;
     for (int at = 0; at < FAZGROND_PLAYERS; at++)
-        settings.owners[at] = at < session->players ? (uint32_t)at % 2 : FAZGROND_NO_PLAYER;
+        settings.owners[at] = at < ggponet_all_words(session) ? (uint32_t)at % 2 : FAZGROND_NO_PLAYER;
     return settings;
 }
 

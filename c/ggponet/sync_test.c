@@ -27,7 +27,7 @@ GGPOErrorCode ggponet_begin_sync_test(GGPOSession *session) {
         return ggponet_refuse(session, GGPO_ERRORCODE_NOT_SYNCHRONIZED, "ggpo_idle was not called yet");
     if (!session->after[0].taken && !ggponet_save(session, &session->after[0]))
         return ggponet_broken(session, "save_game_state failed");
-    session->row.count = (uint32_t)session->players;
+    session->row.count = (uint32_t)ggponet_all_words(session);
     session->is_row_given = true;
     return GGPO_OK;
 }

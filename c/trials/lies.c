@@ -178,6 +178,7 @@ static bool is_hello(world *self, packet *made, uint32_t to) {
     made->sender = LIAR;
     made->kind = HELLO;
     made->machines = (uint8_t)self->setup.machines;
+    made->input_words = 1;
     for (uint32_t player = 0; player < FAZGROND_PLAYERS; player++)
         made->owners[player] = player < 3 ? (uint8_t)player : FAZGROND_NO_PLAYER;
     made->digest = 0x6d617463;

@@ -41,6 +41,7 @@ static void put_words(writer *out, const uint32_t *words, uint32_t count) {
 
 static void put_hello(writer *out, const packet *made) {
     put(out, made->machines);
+    put(out, made->input_words);
     for (int at = 0; at < 8; at++)
         put(out, made->owners[at]);
     put_fixed(out, made->digest, 8);
@@ -142,6 +143,7 @@ static void take_words(reader *in, uint32_t *words, uint32_t count) {
 
 static void take_hello(reader *in, packet *read) {
     read->machines = (uint8_t)take(in);
+    read->input_words = (uint8_t)take(in);
     for (int at = 0; at < 8; at++)
         read->owners[at] = (uint8_t)take(in);
     read->digest = take_fixed(in, 8);

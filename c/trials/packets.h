@@ -19,7 +19,7 @@ typedef struct packet_clocks {
 typedef struct packet {
     uint8_t sender, kind;
     /* a hello */
-    uint8_t machines, owners[8], abilities;
+    uint8_t machines, input_words, owners[8], abilities;
     uint64_t digest, draw, echo;
     uint32_t patience;
     /* a play */

@@ -1,4 +1,4 @@
-Matches of two peers. `value` gives what the last line of a match has under a name.
+Matches of two machines. `value` gives what the last line of a match has under a name.
 
   $ value() { tail -n 1 | tr ' ' '\n' | sed -n "s/^$1=//p"; }
 
@@ -15,7 +15,7 @@ A small match: the same seed prints the same, another one something else.
 
 What isn't given is as the help says.
 
-  $ rollduel match --frames 60 --seed 1 --late 8 --lost 0 --hold 10 --delay 0 --threshold 8 --guesses none --game tally | cmp - one
+  $ rollduel match --frames 60 --seed 1 --late 8 --lost 0 --hold 10 --delay 0 --threshold 8 --guesses none --game tally --peers 2 | cmp - one
   $ rollduel match > default
   $ rollduel match --frames 1000 | cmp - default
   $ rollduel match --frames=1 | value frames
@@ -26,34 +26,30 @@ Standard input isn't read.
   $ echo nothing | (rollduel match --frames 60 | cmp - one; cat)
   nothing
 
-The peers agree, and no claim is wrong: with each kind of guesses and each game, on a good line and on a bad one.
+The machines agree, and no claim is wrong: with guesses and without, with each game, on a good network and on a bad one.
 
-  $ for game in tally duel; do for guesses in none words turns; do for line in '--late 0' '--late 8 --lost 30'; do
+  $ for game in tally duel; do for guesses in none best; do for line in '--late 0' '--late 8 --lost 30'; do
   >   rollduel match --frames 50 --seed 7 $line --guesses $guesses --game $game > out || echo "status $?"
   >   echo "$(value agree < out) $(value wrong < out)"
   > done; done; done | sort | uniq -c | tr -s ' '
-   12 yes 0,0
+   8 yes 0,0
 
-Tables of four frames. In each of them the last word is predicted, and the word that comes differs: one frame is run again
-each time. `counts` gives what the last line of a match has from its rollbacks to its claims.
+Tables of four frames, on a network where each word is there in the next tick. In each of them the last word is predicted, and
+the word that comes differs: one frame is run again each time. Four of the six claims are of the steps. One is of the sync in the
+tick in which the match begins, whose word is given in the next; and one of that after the last step, when the word of the last
+frame comes. `counts` gives what the last line has from its rollbacks to its claims.
 
   $ counts() { tail -n 1 | sed 's/.* \(rollbacks=\)/\1/; s/ settled=.*//'; }
-  $ for late in 0 1; do
-  >   rollduel match --frames 4 --hold 1 --late $late > out || echo "status $?"
-  >   counts < out; grep "by GGPO's policy" out; tail -n 1 out | grep -o ' settled=4 agree=yes state='
-  > done
-  rollbacks=4,4 rerun=4,4 ggpo=4,4 deepest=1,1 waited=0,0 guessed=0,0 added=0,0 dropped=0,0 claims=8,8 wrong=0,0
-  by GGPO's policy                   4           4
-   settled=4 agree=yes state=
-  rollbacks=4,4 rerun=4,4 ggpo=4,4 deepest=1,1 waited=0,0 guessed=0,0 added=0,0 dropped=0,0 claims=8,8 wrong=0,0
-  by GGPO's policy                   4           4
-   settled=4 agree=yes state=
-
-Three guesses are run in each frame, since the fourth word is the predicted one. So each word that comes was guessed.
-
-  $ rollduel match --frames 4 --hold 1 --late 0 --guesses words > out
+  $ rollduel match --frames 4 --hold 1 --late 0 > out
   $ counts < out
-  rollbacks=0,0 rerun=0,0 ggpo=4,4 deepest=0,0 waited=0,0 guessed=12,12 added=12,12 dropped=0,0 claims=8,8 wrong=0,0
+  rollbacks=4,4 rerun=4,4 ggpo=4,4 deepest=1,1 waited=0,0 guessed=0,0 taken=0,0 ahead=0,0 claims=6,6 wrong=0,0
+  $ sed -n '/^machine rollbacks/,/^$/p' out
+  machine rollbacks  run again   by GGPO   deepest    claims     wrong
+  0               4          4         4         1         6         0
+  1               4          4         4         1         6         0
+  
+  $ tail -n 1 out | grep -o ' settled=4 agree=yes state='
+   settled=4 agree=yes state=
 
 With a delay of two frames each word is there before its frame. A word that is held on is predicted right, however late.
 
@@ -62,7 +58,7 @@ With a delay of two frames each word is there before its frame. A word that is h
   $ rollduel match --frames 4 --hold 1000000 --late 8 | counts | cut -d ' ' -f 1-4
   rollbacks=0,0 rerun=0,0 ggpo=0,0 deepest=0,0
 
-Without guesses no peer runs more frames again than by GGPO's policy, and none is guessed.
+Without guesses no machine runs more frames again than GGPO, and nothing is guessed.
 
   $ for seed in 1 2 3 4 5 6 7 8; do rollduel match --frames 200 --seed $seed --late 6 --lost 5 > out
   >   echo "$(value rerun < out),$(value ggpo < out)" | awk -F, '{ print ($1 <= $3), ($2 <= $4), ($3 > 0), ($4 > 0) }'
@@ -89,7 +85,7 @@ Settings that no session starts with are refused, and nothing else is written.
   $ rollduel match --delay 9 --game duel
   refused 11
   [1]
-  $ rollduel match --threshold 20 --delay 9 --guesses turns
+  $ rollduel match --threshold 20 --delay 9 --guesses best
   refused 11
   [1]
   $ rollduel match --threshold 20 2>&1 >/dev/null
@@ -129,7 +125,7 @@ Words that can't be understood.
   error: invalid value 'ten' for '--frames <N>': invalid digit found in string
   $ rollduel match --guesses some
   error: invalid value 'some' for '--guesses <GUESSES>'
-    [possible values: none, words, turns, best]
+    [possible values: none, best]
   
   For more information, try '--help'.
   [2]
@@ -149,11 +145,11 @@ The greatest seed is one, and the help's example prints what it says.
   $ rollduel match --frames 5 --seed 18446744073709551615 | value seed
   18446744073709551615
   $ rollduel match --help | sed -n 1p
-  Plays a match over a bad line, and prints what its rollbacks cost
+  Plays a match over a bad network, and prints what its rollbacks cost
   $ rollduel $(rollduel match --help | sed -n 's/^  rollduel //p') > example
   $ sed '/^$/d;$d' example > want
   $ rollduel match --help | sed -n '/^It prints/,/^Exit status/s/^  //p' | cmp - want
   $ wc -l < want
-  16
-  $ rollduel match --help | grep -cE '^  (frames|rollbacks|frames re-run|by GGPO.s policy|deepest rollback|frames waited|guesses|states added|branches dropped|claims checked|claims wrong)  +[a-z]'
-  11
+  13
+  $ rollduel match --help | grep -cE '^  (frames|settled|waited|silent at|left at|sent|rollbacks|run again|by GGPO|deepest|claims|wrong|jobs|taken|run ahead)  +[a-z]'
+  15

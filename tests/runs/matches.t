@@ -1,30 +1,26 @@
-Many matches of two peers over a bad line.
+Many matches of two machines over a bad network.
 
-The peers agree for each of 200 seeds, and no claim is wrong. `wells` counts how matches ended.
+The machines agree for each of 200 seeds, and no claim is wrong. `wells` counts how matches ended.
 
   $ wells() { sed -n 's/^match .* \(wrong=[^ ]*\) .* \(agree=[^ ]*\) .*/\1 \2/p; /^status/p' | sort | uniq -c | tr -s ' '; }
   $ seeds() { for seed in $(seq 0 199); do rollduel match --frames 60 --late 8 --lost 20 --seed $seed "$@" || echo "status $?"; done; }
   $ seeds | wells
-   200 wrong=0,0 agree=yes
-  $ seeds --guesses words | wells
-   200 wrong=0,0 agree=yes
-  $ seeds --guesses turns | wells
    200 wrong=0,0 agree=yes
   $ seeds --guesses best | wells
    200 wrong=0,0 agree=yes
   $ seeds --game duel --delay 1 | wells
    200 wrong=0,0 agree=yes
 
-The same seed prints the same, with each kind of guesses and each game.
+The same seed prints the same, with guesses and without, and with each game.
 
-  $ for game in tally duel; do for guesses in none words turns best; do
+  $ for game in tally duel; do for guesses in none best; do
   >   rollduel match --frames 60 --late 8 --lost 20 --guesses $guesses --game $game > once
   >   rollduel match --frames 60 --late 8 --lost 20 --guesses $guesses --game $game | cmp - once && echo same
   > done; done | uniq -c | tr -s ' '
-   8 same
+   4 same
 
-Over 20 seeds of 1,000 frames: without guesses neither side runs more frames again than GGPO does, and some are; with turns
-guessed, nine of ten are saved. `twenty` gives the frames that either side ran again, then those of GGPO.
+Over 20 seeds of 1,000 frames: without guesses neither machine runs more frames again than GGPO does, and some are. `reruns` gives
+the frames that either machine ran again, then those of GGPO.
 
   $ twenty() { for seed in $(seq 20); do rollduel match --seed $seed "$@" || echo "status $?"; done; }
   $ reruns() { sed -n 's/^match .* rerun=\([0-9]*\),\([0-9]*\) ggpo=\([0-9]*\),\([0-9]*\) .*/\1 \2 \3 \4/p'; }
@@ -33,14 +29,8 @@ guessed, nine of ten are saved. `twenty` gives the frames that either side ran a
    20 wrong=0,0 agree=yes
   $ reruns < none | awk '{ more += $1 > $3 || $2 > $4; ours += $1 + $2 } END { print NR, more, (ours > 0) }'
   20 0 1
-  $ twenty --guesses turns > turns
-  $ wells < turns
-   20 wrong=0,0 agree=yes
-  $ reruns < turns | awk '{ ours += $1 + $2; theirs += $3 + $4 } END { print NR, (10 * ours <= theirs) }'
-  20 1
-
-Of the best guesses four jobs a frame save four frames of five, and sixteen nine of ten. No frame has more jobs than that; after
-the last one the players wait for some more simulated frames.
+Of the best guesses four jobs a tick save four frames of five, and sixteen nine of ten. No tick has more jobs than that; after the
+last frame the machines wait for some more ticks.
 
   $ twenty --guesses best > four
   $ wells < four

@@ -1,8 +1,10 @@
-Matches of several machines. `ends` counts how the matches of the first seeds end, each with its status if that isn't 0.
+Matches of several machines. `agreement` gives the line on whether they agree, and `ends` counts how the matches of the first seeds
+end, each with its status if that isn't 0.
 
+  $ agreement() { sed -n '/^all\|^THE\|^A MACHINE/p'; }
   $ ends() { seeds=$1; shift; for seed in $(seq $seeds); do
   >   rollduel match --frames 60 --seed $seed "$@" > out || echo "status $?"
-  >   tail -n 1 out | sed 's/,.*//'
+  >   agreement < out | sed 's/,.*//'
   > done | sort | uniq -c | tr -s ' '; }
 
 The machines agree, however many there are, and however many datagrams are lost.
@@ -41,60 +43,68 @@ So do those that stay where others go silent.
 
 A machine that goes silent has told all its words where no datagram is lost.
 
-  $ rollduel match --peers 4 --frames 60 --stop 2:30 --stop 0:40 --seed 17 | tail -n 1 | sed 's/, state.*//'
+  $ rollduel match --peers 4 --frames 60 --stop 2:30 --stop 0:40 --seed 17 | agreement | sed 's/, state.*//'
   all 2 that stay agree: frame 60 settled, machine 0 left at 40, machine 2 left at 30
 
-The same seed prints the same. Hostile datagrams change neither the table of what was played nor the last line.
+The same seed prints the same. Hostile datagrams change neither what was played nor what it cost, nor the last lines.
 
   $ match="rollduel match --peers 3 --frames 60 --lost 30 --stop 1:30 --seed 5"
   $ $match > plain
   $ $match | cmp - plain
   $ $match --hostile 9 > attacked
-  $ played() { sed -n '/^machine  *frames/,/^$/p; $p' $1; }
+  $ played() { sed -n '/^machine  *frames/,/^machine  *bytes/p; /^all/,$p' $1; }
   $ played plain > want
   $ played attacked | cmp - want
   $ wc -l < want
-  6
+  14
   $ grep -c '^hostile datagrams: [1-9][0-9]*; ignored: [1-9][0-9]*; real ones heard again: [1-9][0-9]*; deceived: 0$' attacked
   1
   $ $match --hostile 9 | cmp - attacked
 
-Guesses change neither what is settled nor the states: the tables are those of a match without, but for the frames that are run
-again, and the last line is the same.
+Guesses change neither what is settled nor the states: all is printed as without them, but for what the rollbacks cost.
 
-  $ last() { rollduel match "$@" | tail -n 1; }
+  $ last() { rollduel match "$@" | agreement; }
   $ for machines in 2 3 4; do
   >   last --peers $machines --frames 60 --lost 10 > without
   >   last --peers $machines --frames 60 --lost 10 --guesses best | cmp - without
   > done
   $ last --peers 4 --game duel --frames 60 --hold 3 --delay 1 > without
   $ last --peers 4 --game duel --frames 60 --hold 3 --delay 1 --guesses best --jobs 32 | cmp - without
-  $ $match | sed -n '/^machine  *bytes/,$p' > without
-  $ $match --guesses best --jobs 1 | sed -n '/^machine  *bytes/,$p' | cmp - without
-  $ table() { rollduel match "$@" | sed -n '/^machine  *frames/,/^$/p' | sed '1d;$d'; }
-  $ table --peers 3 --frames 60 | awk '{ print $1, $2, $3, $5, $6, $7 }' > without
-  $ table --peers 3 --frames 60 --guesses best | awk '{ print $1, $2, $3, $8, $9, $10 }' | cmp - without
+  $ rest() { sed -n '/^machine  *frames/,/^$/p; /^machine  *bytes/,/^all/p'; }
+  $ $match | rest > without
+  $ $match --guesses best --jobs 1 | rest | cmp - without
 
 Fewer frames are run again. As many branches as jobs are taken in at most, and a job runs 1 to 8 frames.
 
-  $ again() { table "$@" | awk '{ sum += $4 } END { print sum }'; }
+  $ costs() { rollduel match "$@" | sed -n '/^machine  *rollbacks/,/^$/p' | sed '1d;$d'; }
+  $ again() { costs "$@" | awk '{ sum += $3 } END { print sum }'; }
   $ for machines in 2 3 4; do
   >   test $(again --peers $machines --frames 200 --guesses best) -lt $(again --peers $machines --frames 200) && echo fewer
   > done
   fewer
   fewer
   fewer
-  $ table --peers 3 --frames 60 --guesses best | awk '$6 < 1 || $5 < $6 || $7 < $5 || 8 * $5 < $7'
+  $ costs --peers 3 --frames 60 --guesses best | awk '$9 < 1 || $8 < $9 || $10 < $8 || 8 * $8 < $10'
 
-Standard input isn't read, and a session that doesn't start is refused as in a match of two peers.
+No machine runs more frames again than GGPO, however many there are, and also where one leaves.
+
+  $ costs --peers 5 --frames 200 --lost 10 --stop 1:100 | awk '{ more += $3 > $4; all += $4 } END { print NR, more, (all > 0) }'
+  5 0 1
+
+Standard input isn't read, and a session that doesn't start is refused.
 
   $ echo nothing | ($match | cmp - plain; cat)
   nothing
   $ rollduel match --peers 3 --delay 9
   refused 11
   [1]
-  $ rollduel match --peers 5 --frames 60 --threshold 15 | tail -n 1 | sed 's/,.*//'
+  $ rollduel match --peers 5 --frames 60 --threshold 15 | agreement | sed 's/,.*//'
   all 5 that stay agree: frame 60 settled
+
+Of two machines one may stop too, and they may be deceived.
+
+  $ rollduel match --frames 60 --stop 1:30 --hostile 1 | agreement | sed 's/, state.*//'
+  all 1 that stay agree: frame 60 settled, machine 1 left at 30
 
 What can't be.
 
@@ -128,16 +138,4 @@ What can't be.
   [2]
   $ rollduel match --peers 5 --game duel
   error: --game duel has ships for 4 machines at most
-  [2]
-  $ rollduel match --peers 3 --guesses turns
-  error: --guesses takes none or best with --peers
-  [2]
-  $ rollduel match --peers 3 --guesses words
-  error: --guesses takes none or best with --peers
-  [2]
-  $ rollduel match --stop 1:30
-  error: --stop and --hostile can't be used without --peers
-  [2]
-  $ rollduel match --hostile 1
-  error: --stop and --hostile can't be used without --peers
   [2]

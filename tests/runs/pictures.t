@@ -11,8 +11,8 @@ What is printed is what is printed without a picture, and so is the status. The 
   2
   $ rollduel match --frames 60 --lost 5 --picture match.svg > told
   $ rollduel match --frames 60 --lost 5 | cmp - told
-  $ rollduel match --peers 3 --frames 60 --lost 5 --picture peers.svg > told
-  $ rollduel match --peers 3 --frames 60 --lost 5 | cmp - told
+  $ rollduel match --peers 3 --frames 60 --lost 5 --stop 0:30 --picture peers.svg > told
+  $ rollduel match --peers 3 --frames 60 --lost 5 --stop 0:30 | cmp - told
 
 The deepest rollback is told, and whose word made it.
 
@@ -94,6 +94,10 @@ Each allocation is refused in turn: the play ends whole with its picture, or say
   $ each rollduel play ../examples/branch-ahead.roll --picture y.svg
   0 whole drawn 
   2 nothing undrawn rollduel: out of memory
+
+In a match what a machine has no memory to hear comes with a later datagram, so that what is measured may differ.
+
   $ each rollduel match --frames 3 --picture y.svg
+  0  drawn 
   0 whole drawn 
   2 nothing undrawn rollduel: out of memory

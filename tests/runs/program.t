@@ -317,7 +317,7 @@ Words that can't be understood, and help.
   Plays scripts and matches of rollback sessions, tests games, and checks the claims of rollbacks.
   Plays a script, and prints what the session answers to each line
   Plays a script on threads: a link, and workers that run guesses ahead
-  Plays a match over a bad line, and prints what its rollbacks cost
+  Plays a match over a bad network, and prints what its rollbacks cost
   Tests whether a game comes out the same twice, and prints what is found at each row
   Checks the claim of a rollback, and prints whether it is right
   $ rollduel --help 2>&1 >/dev/null

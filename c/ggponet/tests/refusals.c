@@ -150,8 +150,11 @@ static void refused_sessions(void) {
     GGPOSessionCallbacks less = calls;
     char host[] = "127.0.0.1";
     less.free_buffer = NULL;
-    MUST(ggpo_start_session(&game.session, &calls, name, 2, 5, 0) == GGPO_ERRORCODE_UNSUPPORTED && game.session == NULL);
-    MUST(strcmp(ggpo_last_error(NULL), "an input of 5 bytes; this library takes 4 at most") == 0);
+    MUST(ggpo_start_session(&game.session, &calls, name, 2, 17, 0) == GGPO_ERRORCODE_UNSUPPORTED && game.session == NULL);
+    MUST(strcmp(ggpo_last_error(NULL), "an input of 17 bytes; this library takes 16 at most") == 0);
+    MUST(ggpo_start_session(&game.session, &calls, name, 3, 9, 0) == GGPO_ERRORCODE_UNSUPPORTED && game.session == NULL);
+    MUST(strcmp(ggpo_last_error(NULL), "3 players with inputs of 9 bytes; this library takes 32 bytes in all, each input rounded up to 4")
+         == 0);
     MUST(ggpo_start_session(&game.session, &calls, name, 2, 0, 0) == GGPO_ERRORCODE_INVALID_REQUEST);
     MUST(ggpo_start_session(&game.session, &calls, name, 5, 4, 0) == GGPO_ERRORCODE_PLAYER_OUT_OF_RANGE);
     MUST(ggpo_start_session(&game.session, &less, name, 2, 4, 0) == GGPO_ERRORCODE_INVALID_REQUEST);
@@ -159,7 +162,7 @@ static void refused_sessions(void) {
     MUST(ggpo_start_synctest(&game.session, &calls, name, 2, 4, 0) == GGPO_ERRORCODE_INVALID_REQUEST);
     MUST(ggpo_start_synctest(&game.session, &calls, name, 2, 4, 65) == GGPO_ERRORCODE_INVALID_REQUEST);
     MUST(ggpo_start_spectating(NULL, &calls, name, 2, 4, 0, host, 9) == GGPO_ERRORCODE_INVALID_REQUEST);
-    MUST(ggpo_start_spectating(&game.session, &calls, name, 2, 5, 0, host, 9) == GGPO_ERRORCODE_UNSUPPORTED);
+    MUST(ggpo_start_spectating(&game.session, &calls, name, 2, 17, 0, host, 9) == GGPO_ERRORCODE_UNSUPPORTED);
     MUST(ggpo_start_spectating(&game.session, &calls, name, 2, 4, 0, NULL, 9) == GGPO_ERRORCODE_INVALID_REQUEST);
     MUST(ggpo_start_spectating(&game.session, &calls, name, 2, 4, 0, name, 9) == GGPO_ERRORCODE_INVALID_REQUEST);
     MUST(game.session == NULL && strcmp(ggpo_last_error(NULL), "the host has no IPv4 address") == 0);

@@ -60,6 +60,7 @@ pub fn the_match(me: u8) -> MatchSettings {
         silent_after: 0,
         notify_after: 0,
         stalled_after: 0,
+        words: 1,
     }
 }
 

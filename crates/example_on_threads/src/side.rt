@@ -172,7 +172,7 @@ impl Side {
         self.peer
             .note_settled(session, digest(session.settled_state()))?;
         if let Some(bytes) = self.peer.send(session, OTHER, now)? {
-            self.wire.send(self.turn, bytes);
+            self.wire.send(self.turn, &bytes)?;
         }
         Ok(())
     }

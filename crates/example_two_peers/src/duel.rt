@@ -1,4 +1,4 @@
-//! Both sides of a match, and the lines between them.
+//! Both sides of a match, and the line between them.
 use crate::line::Line;
 use crate::peer::{Fault, LAST_FRAME, Side};
 use std::alloc::Global;
@@ -6,13 +6,12 @@ use std::alloc::Global;
 /// After how many turns a match is broken off.
 const MOST_TURNS: u32 = 3 * LAST_FRAME;
 
-/// Two sides, and what is under way to each.
+/// Two sides, and what is under way between them.
 #[derive(Drop)]
 pub struct Duel {
     pub first: Side,
     pub second: Side,
-    to_first: Line,
-    to_second: Line,
+    line: Line,
 }
 
 impl Duel {
@@ -21,8 +20,7 @@ impl Duel {
         Ok(Duel {
             first: Side::new(alloc, 0, 2)?,
             second: Side::new(alloc, 1, 1)?,
-            to_first: Line::new(alloc),
-            to_second: Line::new(alloc),
+            line: Line::new(alloc),
         })
     }
 
@@ -33,11 +31,9 @@ impl Duel {
             if self.first.is_done() && self.second.is_done() {
                 break;
             }
-            self.first
-                .turn(turn, &mut self.to_first, &mut self.to_second)?;
+            self.first.turn(turn, &mut self.line)?;
             if turn >= late {
-                self.second
-                    .turn(turn, &mut self.to_second, &mut self.to_first)?;
+                self.second.turn(turn, &mut self.line)?;
             }
         }
         Ok(())

@@ -1,80 +1,65 @@
-//! The way from one side to the other: it stands for the network.
+//! The way between the sides: a simulated network.
 use arrayvec::ArrayVec;
 use fazgrond::DATAGRAM_LIMIT;
+use roll_simnet::{Conditions, Draws, Letter, Network, Route};
 use std::alloc::{AllocError, Global};
-use std::collections::VecDeque;
 
 /// A datagram.
 pub type Bytes = ArrayVec<u8, DATAGRAM_LIMIT>;
 
-#[derive(Drop)]
-struct UnderWay {
-    arrives: u32,
-    bytes: Bytes,
-}
+/// Datagrams come 1 to 6 turns late, so one may overtake another. One in five is lost, and one in twenty comes twice.
+const CONDITIONS: Conditions = Conditions {
+    late: 5,
+    lost: 20,
+    twice: 5,
+};
 
-/// Datagrams come 1 to 6 turns late, so one may overtake another, and about one in five is lost. Now and then one comes that
-/// nobody sent.
+/// Of how many datagrams one comes with another that nobody sent.
+const STRANGE: u32 = 7;
+
+/// A network on which now and then a datagram comes that nobody sent.
 #[derive(Drop)]
 pub struct Line {
-    under_way: VecDeque<UnderWay>,
+    network: Network,
+    draws: Draws,
 }
 
 impl Line {
     /// Nothing is under way.
     pub fn new(alloc: Global) -> Line {
         Line {
-            under_way: VecDeque::new(alloc),
+            network: Network::new(alloc, CONDITIONS, Draws::new(1, 0)),
+            draws: Draws::new(1, 1),
         }
     }
 
     /// Sends a datagram, which may be lost.
-    pub fn send(&mut self, turn: u32, bytes: Bytes) -> Result<(), AllocError> {
-        let drawn = turn.wrapping_mul(2_654_435_761) >> 16;
-        if drawn % 5 == 0 {
-            return Ok(());
+    pub fn send(&mut self, route: Route, turn: u32, bytes: &Bytes) -> Result<(), AllocError> {
+        if self.draws.below(STRANGE) == 0 {
+            let strange = self.strange(bytes)?;
+            self.network.send(route, turn, &strange)?;
         }
-        let arrives = turn.saturating_add(1 + drawn % 6);
-        if drawn % 7 == 0 {
-            let bytes = strange(drawn, &bytes)?;
-            self.under_way.push_back(UnderWay { arrives, bytes })?;
-        }
-        self.under_way.push_back(UnderWay { arrives, bytes })?;
-        Ok(())
+        self.network.send(route, turn, bytes)
     }
 
-    /// A datagram that has come, if there is one.
-    pub fn receive(&mut self, turn: u32) -> Option<Bytes> {
-        let place = self.come(turn)?;
-        let come = self.under_way.remove(place)?;
-        Some(come.bytes)
+    /// A datagram that has come to a machine, if there is one.
+    pub fn receive(&mut self, to: u8, turn: u32) -> Option<Letter> {
+        self.network.receive(to, turn)
     }
 
-    /// The place of the first one that has come.
-    fn come(&self, turn: u32) -> Option<usize> {
-        for place in 0..self.under_way.len() {
-            if self.under_way.get(place)?.arrives <= turn {
-                return Some(place);
+    /// A datagram that nobody sent: one of which a bit was changed, or as many bytes of no meaning.
+    fn strange(&mut self, sent: &Bytes) -> Result<Bytes, AllocError> {
+        let mut bytes = sent.clone()?;
+        if self.draws.below(2) == 0 {
+            let place = self.draws.below(DATAGRAM_LIMIT as u32) as usize % bytes.len().max(1);
+            if let Some(byte) = bytes.get_mut(place) {
+                *byte ^= 1;
             }
+            return Ok(bytes);
         }
-        None
-    }
-}
-
-/// A datagram that nobody sent: one of which a bit was changed, or as many bytes of no meaning.
-fn strange(drawn: u32, sent: &Bytes) -> Result<Bytes, AllocError> {
-    let mut bytes = sent.clone()?;
-    if drawn % 2 == 0 {
-        let place = drawn as usize % bytes.len().max(1);
-        if let Some(byte) = bytes.get_mut(place) {
-            *byte ^= 1;
+        for byte in &mut bytes {
+            *byte = self.draws.below(256) as u8;
         }
-        return Ok(bytes);
+        Ok(bytes)
     }
-    let mut number = drawn;
-    for byte in &mut bytes {
-        number = number.wrapping_mul(1_664_525).wrapping_add(1_013_904_223);
-        *byte = (number >> 24) as u8;
-    }
-    Ok(bytes)
 }

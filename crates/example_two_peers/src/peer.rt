@@ -7,6 +7,7 @@ use fazgrond::{
     Settings,
 };
 use game_fighter::{Fight, State};
+use roll_simnet::Route;
 use std::alloc::Global;
 use thiserror::Error;
 
@@ -48,8 +49,8 @@ pub struct Side {
     pub session: Session<Fight>,
     pub peer: Peer,
     player: u8,
-    // The other machine.
-    other: u8,
+    // The way to the other machine.
+    way: Route,
     // How many turns more this side waits for the other.
     wait: u32,
     /// How many turns this side waited, since it was ahead.
@@ -70,7 +71,10 @@ impl Side {
                 session,
                 peer,
                 player,
-                other: 1 - me,
+                way: Route {
+                    from: me,
+                    to: 1 - me,
+                },
                 wait: 0,
                 waited: 0,
                 byes: BYES,
@@ -83,28 +87,28 @@ impl Side {
     }
 
     /// A turn of the main loop: hears what has come, plays a frame if it may, and tells the other.
-    pub fn turn(&mut self, turn: u32, inbox: &mut Line, outbox: &mut Line) -> Result<(), Fault> {
+    pub fn turn(&mut self, turn: u32, line: &mut Line) -> Result<(), Fault> {
         let now = turn.wrapping_mul(TURN);
-        self.hear(turn, now, inbox);
+        self.hear(turn, now, line);
         self.note_events()?;
         self.press()?;
         self.peer.turn(&mut self.session, now)?;
         let digest = digest(self.session.settled_state());
         self.peer.note_settled(&self.session, digest)?;
         if let Some(bytes) = self.tell(now)? {
-            outbox.send(turn, bytes).map_err(Refusal::from)?;
+            line.send(self.way, turn, &bytes).map_err(Refusal::from)?;
         }
         Ok(())
     }
 
     /// Hears what has come.
-    fn hear(&mut self, turn: u32, now: u32, inbox: &mut Line) {
+    fn hear(&mut self, turn: u32, now: u32, line: &mut Line) {
         for _ in 0..MOST {
-            let Some(bytes) = inbox.receive(turn) else {
+            let Some(letter) = line.receive(self.way.from, turn) else {
                 return;
             };
             // What is ignored changed nothing of the match.
-            let _ = self.peer.receive(&mut self.session, &bytes, now);
+            let _ = self.peer.receive(&mut self.session, &letter.bytes, now);
         }
     }
 
@@ -148,18 +152,18 @@ impl Side {
     /// What to tell the other; at the end, that this side leaves.
     fn tell(&mut self, now: u32) -> Result<Option<Bytes>, OtherSession> {
         if !self.is_over() {
-            return self.peer.send(&self.session, self.other, now);
+            return self.peer.send(&self.session, self.way.to, now);
         }
         if self.byes == 0 {
             return Ok(None);
         }
         self.byes -= 1;
-        Ok(self.peer.bye(self.other))
+        Ok(self.peer.bye(self.way.to))
     }
 
     /// Whether the last frame is settled here, and nothing is left to tell: the other said that it has all words of this side.
     fn is_over(&self) -> bool {
-        match self.peer.stats(self.other) {
+        match self.peer.stats(self.way.to) {
             Some(stats) => self.is_settled() && stats.words_queued == 0,
             None => false,
         }
@@ -172,7 +176,7 @@ impl Side {
 
     /// Whether this side has no more to do: it said that it leaves, or heard it of the other.
     pub fn is_done(&self) -> bool {
-        self.is_settled() && (self.byes == 0 || self.peer.mesh().is_gone(self.other))
+        self.is_settled() && (self.byes == 0 || self.peer.mesh().is_gone(self.way.to))
     }
 }
 
@@ -204,6 +208,7 @@ fn the_match(me: u8) -> MatchSettings {
         silent_after: 5_000,
         notify_after: 750,
         stalled_after: 0,
+        words: 1,
     }
 }
 

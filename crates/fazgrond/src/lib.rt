@@ -39,14 +39,14 @@ pub use roll_link::{Finished, LINK_ROOM, Link, LinkSender, Remote, SendFault};
 pub use roll_member::{JoinRefusal, Taken};
 pub use roll_peer::{
     Field, Ignored, MatchSettings, OpenRefusal, OtherSession, Peer, PeerEvent, PeerRefusal,
-    Received, Stage, Stats,
+    Received, Stage, Stats, ends_in_roll,
 };
 pub use roll_pool::{
     Crew, Gate, IssueFault, JOBS_OUT, OpenGate, Outcome, Owner, WORKER_LIMIT, WorkerEnd, start_all,
 };
 pub use roll_session::{
-    Call, Grafted, Heard, Log, Logged, Parts, Plan, Reached, ReplayFault, Request, Session, Source,
-    StartFault,
+    Call, Grafted, Heard, Log, Logged, Networked, Parts, Plan, Reached, ReplayFault, Request,
+    Session, Source, StartFault,
 };
 pub use roll_spectate::{
     Feed, RING_ROWS, RowReceiver, RowStream, SPECTATOR_LIMIT, Spectator, SpectatorFault,

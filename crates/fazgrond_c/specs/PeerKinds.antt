@@ -2,11 +2,11 @@
 use Rattle.std.specs.Prelude.{◌≡◌, ℕ, is_some, unwrap_or, if◌then◌else◌, ◌⊎◌, ◌≤◌, slice_index}
 use Rattle.roll_frame.specs.Codes.{code_of}
 use Rattle.roll_contact.specs.declared.terms.Field.{Field}
-use Rattle.roll_contact.specs.declared.terms.Field.TheVariants.{Machines, Owners, Settings}
+use Rattle.roll_contact.specs.declared.terms.Field.TheVariants.{Machines, Owners, Settings, Words}
 use Rattle.roll_member.specs.declared.join.JoinRefusal.{JoinRefusal}
 use Rattle.roll_member.specs.declared.join.JoinRefusal.TheVariants.{InvalidSeat, Players, Started}
 use Rattle.roll_mesh.specs.declared.refusal.MeshRefusal.{MeshRefusal}
-use Rattle.roll_mesh.specs.declared.refusal.MeshRefusal.TheVariants.{CountFull, InvalidMachine as NoMachine, InvalidPlayer as NoPlayer, InvalidSeat as NoSeat, MachineGone as IsGone, Overstated as SaysMore, OwnMachine as ItsOwn}
+use Rattle.roll_mesh.specs.declared.refusal.MeshRefusal.TheVariants.{CountFull, InvalidMachine as NoMachine, InvalidPlayer as NoPlayer, InvalidSeat as NoSeat, MachineGone as IsGone, Overstated as SaysMore, Uneven as SaysParts, OwnMachine as ItsOwn}
 use Rattle.roll_peer.specs.declared.event.PeerEvent.{PeerEvent}
 use Rattle.roll_peer.specs.declared.event.PeerEvent.TheVariants.{Synchronizing, Synchronized, Running, DisconnectedFromPeer, TimeSync, Interrupted, Resumed, Desync, Mismatch, Dropped, Left, Restarted, Stalled, Refused, Missing}
 use Rattle.roll_peer.specs.declared.received.Ignored.{Ignored}
@@ -32,11 +32,13 @@ pub record AreMatched (given : MatchIn) (settings : MatchSettings) : Type 0 wher
   pub silent_after : settings.silent_after ≡ given.silent_after
   pub notify_after : settings.notify_after ≡ given.notify_after
   pub stalled_after : settings.stalled_after ≡ given.stalled_after
+  pub words : settings.words ≡ given.words
 
 -- a number of it has no room in 8 bits
 abbrev pub HasNoRoom : MatchIn → Type 0
 HasNoRoom given =
-    (256 ≤ given.me) ⊎ ((256 ≤ given.machines) ⊎ ((p : ℕ) × (256 ≤ slice_index given.owners p)))
+    (256 ≤ given.me) ⊎ ((256 ≤ given.machines) ⊎ ((256 ≤ given.words)
+    ⊎ ((p : ℕ) × (256 ≤ slice_index given.owners p))))
 
 -- an event that says nothing but its code
 abbrev pub bare : ℕ → EventOut
@@ -56,6 +58,7 @@ abbrev pub field_out : Field → ℕ
 field_out Machines = 1
 field_out Owners = 2
 field_out Settings = 3
+field_out Words = 4
 
 abbrev pub event_out : PeerEvent → EventOut
 event_out (Synchronizing machine count total) =
@@ -116,6 +119,7 @@ code_of_mesh IsGone = 305
 code_of_mesh NoPlayer = 2
 code_of_mesh CountFull = 105
 code_of_mesh SaysMore = 307
+code_of_mesh SaysParts = 312
 
 -- of who can't take a seat: no such machine, other players than the match's, words of others
 abbrev pub code_of_join : JoinRefusal → ℕ

@@ -22,15 +22,15 @@ session_text number =
 -- what a session answers of jobs and of what it keeps
 abbrev pub job_text : ℕ → List ℕ
 job_text number =
-    if number == 108 then codes "the branch is not of this session"
-    else (if number == 109 then codes "the branch goes too far"
-    else (if number == 110 then codes "the branch comes too late"
-    else (if number == 111 then codes "no kept state carries the branch"
-    else (if number == 112 then codes "the branch contradicts a confirmed input"
-    else (if number == 113 then codes "the tree is full"
+    if number == 108 then codes "the job's states are not of this session"
+    else (if number == 109 then codes "the job goes over 24 frames past the settled one"
+    else (if number == 110 then codes "the job comes too late: all its frames are settled"
+    else (if number == 111 then codes "the state that the job was run from is not kept any more"
+    else (if number == 112 then codes "the job's guess was wrong: another word has come"
+    else (if number == 113 then codes "as many states are kept as jobs may fill"
     else (if number == 114 then codes "the log is full"
-    else (if number == 117 then codes "there is no plan"
-    else (if number == 119 then codes "no place is free"
+    else (if number == 117 then codes "there is no rollback to make a claim of"
+    else (if number == 119 then codes "64 jobs are out"
     else (if number == 120 then codes "no such job"
     else [])))))))))
 

@@ -26,6 +26,7 @@ pub struct MatchIn {
     pub silent_after: u32,
     pub notify_after: u32,
     pub stalled_after: u32,
+    pub words: u32,
 }
 
 impl MatchIn {
@@ -35,6 +36,9 @@ impl MatchIn {
         ensures none { IfNone result (HasNoRoom self.now) }
     {
         let (Ok(me), Ok(machines)) = (u8::try_from(self.me), u8::try_from(self.machines)) else {
+            return None;
+        };
+        let Ok(words) = u8::try_from(self.words) else {
             return None;
         };
         let owners = bytes_of(&self.owners)?;
@@ -48,6 +52,7 @@ impl MatchIn {
             silent_after: self.silent_after,
             notify_after: self.notify_after,
             stalled_after: self.stalled_after,
+            words,
         })
     }
 }
@@ -185,6 +190,7 @@ fn number_of(field: Field) -> u32
         Field::Machines => 1,
         Field::Owners => 2,
         Field::Settings => 3,
+        Field::Words => 4,
     }
 }
 

@@ -47,6 +47,7 @@ pub fn code_of_mesh(why: MeshRefusal) -> i32
         MeshRefusal::InvalidPlayer => Refusal::InvalidPlayer.code(),
         MeshRefusal::CountFull => Refusal::QueueFull.code(),
         MeshRefusal::Overstated => 307,
+        MeshRefusal::Uneven => 312,
     }
 }
 

@@ -67,15 +67,15 @@ fn job_text(number: u32) -> &'static str
     ensures { result.now ≡ job_text number }
 {
     match number {
-        108 => "the branch is not of this session",
-        109 => "the branch goes too far",
-        110 => "the branch comes too late",
-        111 => "no kept state carries the branch",
-        112 => "the branch contradicts a confirmed input",
-        113 => "the tree is full",
+        108 => "the job's states are not of this session",
+        109 => "the job goes over 24 frames past the settled one",
+        110 => "the job comes too late: all its frames are settled",
+        111 => "the state that the job was run from is not kept any more",
+        112 => "the job's guess was wrong: another word has come",
+        113 => "as many states are kept as jobs may fill",
         114 => "the log is full",
-        117 => "there is no plan",
-        119 => "no place is free",
+        117 => "there is no rollback to make a claim of",
+        119 => "64 jobs are out",
         120 => "no such job",
         _ => "",
     }

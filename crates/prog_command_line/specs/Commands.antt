@@ -19,7 +19,7 @@ abbrev pub AreGames : Choices → Type 0
 AreGames games = texts games.now ≡ the_games
 
 abbrev pub the_guesses : List Text
-the_guesses = codes "none" ∷ codes "words" ∷ codes "turns" ∷ codes "best" ∷ []
+the_guesses = codes "none" ∷ codes "best" ∷ []
 
 abbrev pub AreGuesses : Choices → Type 0
 AreGuesses guesses = texts guesses.now ≡ the_guesses
@@ -110,7 +110,7 @@ play_app games = with_rules (with_rules (new_app (codes "play")) (file_rule ∷ 
 abbrev pub live_app : Choices → App
 live_app games = with_rules (new_app (codes "live")) (file_rule ∷ game_rule games ∷ number_rule (codes "workers") (codes "1") 1 4 ∷ [])
 
--- the command of a match, as far as the players' words and their line go
+-- the command of a match, as far as the players' words and the network go
 abbrev pub line_app : App
 line_app = with_rules (new_app (codes "match")) (
     number_rule (codes "frames") (codes "1000") 1 1048576 ∷
@@ -119,16 +119,16 @@ line_app = with_rules (new_app (codes "match")) (
     number_rule (codes "lost") (codes "0") 0 99 ∷
     number_rule (codes "hold") (codes "10") 1 1000000 ∷ [])
 
--- and as far as a match of two peers goes
-abbrev pub two_peers_app : Choices → Choices → App
-two_peers_app games guesses = with_rules line_app (
+-- and as far as its sessions go
+abbrev pub sessions_app : Choices → Choices → App
+sessions_app games guesses = with_rules line_app (
     number_rule (codes "delay") (codes "0") 0 255 ∷
     number_rule (codes "threshold") (codes "8") 0 255 ∷
     guesses_rule guesses ∷ number_rule (codes "jobs") (codes "4") 1 32 ∷ game_rule games ∷ [])
 
 abbrev pub match_app : Choices → Choices → App
-match_app games guesses = with_rules (with_rules (two_peers_app games guesses) (
-    free_number_rule (codes "peers") 2 8 ∷ stop_rule ∷
+match_app games guesses = with_rules (with_rules (sessions_app games guesses) (
+    number_rule (codes "peers") (codes "2") 2 8 ∷ stop_rule ∷
     free_number_rule (codes "hostile") 0 (2 ^ 64 - 1) ∷ [])) picture_rules
 
 abbrev pub synctest_app : Choices → App

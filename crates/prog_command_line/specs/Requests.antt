@@ -15,7 +15,7 @@ use Rattle.prog_command_line.specs.declared.picture.TheConstants.{FRAME_LIMIT}
 use Rattle.prog_command_line.specs.declared.request.Game.{Game}
 use Rattle.prog_command_line.specs.declared.request.Game.TheVariants.{Tally, Duel}
 use Rattle.prog_command_line.specs.declared.request.GuessOption.{GuessOption}
-use Rattle.prog_command_line.specs.declared.request.GuessOption.TheVariants.{Best, Off, Words, Turns}
+use Rattle.prog_command_line.specs.declared.request.GuessOption.TheVariants.{Best, Off}
 use Rattle.prog_command_line.specs.declared.request.Input.{Input}
 use Rattle.prog_command_line.specs.declared.request.Input.TheVariants.{Standard, File}
 use Rattle.prog_command_line.specs.declared.request.LiveOptions.{LiveOptions}
@@ -44,9 +44,7 @@ game_named (Some value) = if bytes_eq value (codes "duel") then Duel else Tally
 -- the guesses that the value of --guesses names
 abbrev pub guesses_named : Option Text → GuessOption
 guesses_named None = Off
-guesses_named (Some value) = if bytes_eq value (codes "words") then Words
-    else (if bytes_eq value (codes "turns") then Turns
-    else (if bytes_eq value (codes "best") then Best else Off))
+guesses_named (Some value) = if bytes_eq value (codes "best") then Best else Off
 
 -- the number that the value of --frames names in decimal; what names none below 256, and no parse takes, counts as 0
 abbrev pub frames_named : Option Text → ℕ
@@ -137,20 +135,17 @@ picture_fault value = if is_some (value (codes "picture"))
     else (if names_part value then Some NoPicture else None)
 
 -- what is asked for: something with a text, the path of which is none where it is standard input, and whether that is
--- to be explained; a script that is played live; a match of two peers; one of several machines; or nothing, for what is
--- said of a picture can't be followed
+-- to be explained; a script that is played live; a match; or nothing, for what is said of a picture can't be followed
 pub data Asked : Type 0 where
   on_text : Option Text → TextTask → Bool → Asked
   live : Option Text → LiveOptions → Asked
-  «match» : MatchRequest → Asked
-  peers : Asked
+  «match» : Asked
   refused : PictureFault → Asked
 
 abbrev pub asked_of : Request → Asked
 asked_of (request.Text asked) = on_text (path_of asked.input) asked.task asked.explain
 asked_of (request.Live input how) = live (path_of input) how
-asked_of (request.Match options) = «match» options
-asked_of (request.Peers options) = peers
+asked_of (request.Match options) = «match»
 asked_of (request.Refused fault) = refused fault
 
 -- there are 1 to 4 workers
@@ -158,33 +153,25 @@ abbrev pub HasWorkers : Request → Type 0
 HasWorkers (request.Live input how) = (1 ≤ how.workers) × (how.workers ≤ 4)
 HasWorkers _ = ⊤
 
--- whether the words name a match of several machines
-abbrev pub names_peers : (Text → Option Text) → Bool
-names_peers value =
-    is_some (value (codes "peers")) || (is_some (value (codes "stop")) || is_some (value (codes "hostile")))
-
-abbrev pub match_named : (Text → Option Text) → Asked
-match_named value = if names_peers value then peers else «match» (options_named value)
-
 -- the values of --stop
 abbrev pub stop_texts : List Row → List Text
 stop_texts rows = unwrap_or (all_of (codes "stop") rows) []
 
--- the options of a match of several machines are those that the arguments name
+-- the options of a match are those that the arguments name
 pub record AreAsked (rows : List Row) (options : PeersRequest) : Type 0 where
-  pub machines : options.machines ≡ option_map (number_in 8) (first_of (codes "peers") rows)
+  pub machines : options.machines ≡ number_named 8 (first_of (codes "peers") rows)
   pub common : options.common ≡ options_named (λ name. first_of name rows)
   pub stops : map (λ text. text.now) options.stops.items ≡ stop_texts rows
   pub hostile : options.hostile ≡ option_map (number_in 64) (first_of (codes "hostile") rows)
 
 abbrev pub HasOptions : List Row → Request → Type 0
-HasOptions rows (request.Peers options) = AreAsked rows options
+HasOptions rows (request.Match options) = AreAsked rows options
 HasOptions rows _ = ⊤
 
 -- what the command of this name asks for, but for a picture
 abbrev pub work_named : Text → (Text → Option Text) → Asked
 work_named name value = if bytes_eq name (codes "live") then live (path_named (value (codes "FILE"))) (live_named value)
-    else (if bytes_eq name (codes "match") then match_named value
+    else (if bytes_eq name (codes "match") then «match»
     else on_text (path_named (value (codes "FILE"))) (task_named name (value (codes "game")) (value (codes "frames"))) (is_named (value (codes "explain"))))
 
 -- the same, unless what is said of a picture can't be followed

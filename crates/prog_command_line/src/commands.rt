@@ -2,7 +2,7 @@
 ghost use Rattle.std.specs.Prelude.{◌≡◌, false, IfOk, IsOkAnd, map};
 ghost use Rattle.clap.specs.declared.builder.command.Command.TheViews.{out-Command as fields_of};
 ghost use Rattle.clap.specs.Words.{app_of, new_app, rule_of, with_subcommand};
-ghost use Rattle.prog_command_line.specs.Commands.{AreGames, AreGuesses, app_with, certify_app, line_app, live_app, match_app, play_app, synctest_app, two_peers_app, with_rules};
+ghost use Rattle.prog_command_line.specs.Commands.{AreGames, AreGuesses, app_with, certify_app, line_app, live_app, match_app, play_app, sessions_app, synctest_app, with_rules};
 ghost use Rattle.prog_command_line.specs.Commands.{explain_rule, file_rule, frame_rule, free_number_rule, game_rule, guesses_rule, number_rule, picture_rule, picture_rules, rule_for, stop_rule};
 
 use crate::help;
@@ -63,7 +63,7 @@ pub fn games() -> &'static [&'static str]
 pub fn guesses() -> &'static [&'static str]
     ensures { AreGuesses result }
 {
-    ["none", "words", "turns", "best"].as_slice()
+    ["none", "best"].as_slice()
 }
 
 /// An argument that a command takes.
@@ -162,22 +162,22 @@ fn match_command<'a>(
     ensures local { IfOk result (λ command. (fields_of command).has_globals ≡ false) }
 {
     let arguments = [
-        Argument::FreeNumber(PEERS, "N", 2, 8, help::PEERS),
+        Argument::Number(PEERS, "N", "2", 2, 8, help::PEERS),
         Argument::Stop,
         Argument::FreeNumber(HOSTILE, "SEED", 0, u64::MAX, help::HOSTILE),
     ];
-    let command = two_peers_command(alloc, games, guesses)?;
+    let command = sessions_command(alloc, games, guesses)?;
     let command = with_arguments(alloc, command, &arguments)?;
     with_picture(alloc, command)
 }
 
-/// The command of a match, as far as a match of two peers goes.
-fn two_peers_command<'a>(
+/// The command of a match, as far as its sessions go.
+fn sessions_command<'a>(
     alloc: Global,
     games: &'a [&'a str],
     guesses: &'a [&'a str],
 ) -> Result<Command<'a>, AllocError>
-    ensures app { IfOk result (λ command. app_of command ≡ two_peers_app games.entry guesses.entry) }
+    ensures app { IfOk result (λ command. app_of command ≡ sessions_app games.entry guesses.entry) }
     ensures local { IfOk result (λ command. (fields_of command).has_globals ≡ false) }
 {
     let arguments = [
@@ -191,7 +191,7 @@ fn two_peers_command<'a>(
     with_arguments(alloc, command, &arguments)
 }
 
-/// The command of a match, as far as the players' words and their line go.
+/// The command of a match, as far as the players' words and the network go.
 fn line_command<'a>(alloc: Global) -> Result<Command<'a>, AllocError>
     ensures app { IfOk result (λ command. app_of command ≡ line_app) }
     ensures local { IfOk result (λ command. (fields_of command).has_globals ≡ false) }
@@ -321,7 +321,7 @@ fn guesses_arg<'a>(alloc: Global, guesses: &'a [&'a str]) -> Arg<'a>
         .value_name("GUESSES")
         .value_parser(guesses)
         .default_value("none")
-        .help("Which words are guessed: none, words held from now on, turns too, or the best")
+        .help("Which of the others' next words are guessed: none, or the best guesses of them")
 }
 
 /// `--name N`, a number from `least` to `most`.

@@ -9,7 +9,7 @@ A rollback session keeps a game for several players going while inputs of remote
 under way: it predicts them, and where a prediction turns out wrong, it goes back and runs those
 frames again. A script stands for the players and the network, so that this can be followed line
 by line. Without a command a script is read from standard input, and the game is tally. A match is
-played without a script, by two peers with a bad line between them: `rollduel match --help` tells how.
+played without a script, by machines with a bad network between them: `rollduel match --help` tells how.
 
 A game for such a session has to come out the same each time that frames are run again. A sync test
 looks for one that doesn't: `rollduel synctest --help` tells how.
@@ -113,96 +113,93 @@ is unreadable, memory runs out, a thread can't be started, or the answers can't 
 
 pub const WORKERS: &str = "How many worker threads there are, from 1 to 4";
 
-pub const MATCH: &str = "Plays a match over a bad line, and prints what its rollbacks cost";
+pub const MATCH: &str = "Plays a match over a bad network, and prints what its rollbacks cost";
 
 pub const MATCH_TABLE: &str = "\
-Two peers play one game in this process, each by a session of its own in which the other is remote,
-as over a line on which words come late or are lost. The players' words and what becomes of them on
-the line are drawn from the seed. In each simulated frame a peer takes the words that have come, and
-runs frames again where one was predicted wrong. Then it gives its own word and advances, unless it is
-too far ahead of the other's words and has to wait. At last, where it is to guess, it runs ahead what
-the other player may do next: where the words come so, nothing needs to be run again.
+N machines play one game in this process, as over a network. They are numbered from 0, and machine M has
+player M + 1: its session has this player's words, and its peer tells them to the others by datagrams, and
+hears theirs. The players' words and what becomes of the datagrams are drawn from the seed. In each tick, of
+which there are 60 a second, a machine hears the datagrams that have come, and gives its own word, unless it
+is too far ahead of the others' words, or its peer advises it to wait for them. It runs frames again where a
+word had been predicted wrong, and goes on to the next frame. Then, if it is to guess, it runs ahead what the
+other players may do next: where the words come so, nothing needs to be run again. At last it
+sends a datagram to each other.
 
-A word is under way for 0 to L frames, and none overtakes another. One that is lost comes with the
-next that arrives. The guesses are:
+A datagram comes 1 to L + 1 ticks late, P in 100 are lost, and 5 in 100 of the others come twice, all out of
+order. What was in a lost one comes with the next that arrives. The guesses are:
 
   none     none
-  words    for each of four likely words, that the other player holds it from now on
-  turns    those too; and that the player holds the last word for 1 to 8 frames more, and then each
-           of the four
-  best     those that are likely to save the most frames, by what was seen of the player in this match:
-           `--jobs J` of them after each frame, for as long as it takes to run them
+  best     those of all others' words that are likely to save the most frames, by what was seen of the players
+           in this match: `--jobs J` of them a tick, for as long as it takes to run them
 
-A table is printed, with a column for each peer, of these numbers:
+Three tables are printed, with a line for each machine. The first says what it played:
 
-  frames            the frames that it played
-  rollbacks         how often it ran frames again, since a word had been predicted wrong
-  frames re-run     how many frames were run again in all of them
-  by GGPO's policy  how many GGPO runs again, from the first frame on that was predicted wrong
-  deepest rollback  the most frames that one rollback ran again
-  frames waited     how often it was too far ahead, and waited for a frame
-  guesses           how many guesses were run ahead
-  states added      how many states were saved for them
-  branches dropped  how many of them were out of date once they were run
-  claims checked    how many claims of rollbacks were checked: that none ran a frame too many
-  claims wrong      how many of those were wrong: none can be
+  frames         the frames that it played
+  settled        how many of them are settled: all words are known, so that they can't change any more
+  waited         in how many ticks it waited: too far ahead of the others' words, or as its peer advised
+  silent at      the frame at which it was to go silent
+  left at        the frame at which its player left
+  sent           how many datagrams it sent
 
-Then comes up to which frame the settled rows of both sides are the same, with the state after them,
-and at last a line of all numbers for scripts: name=value, or name=first,second for both peers.
+The second says what its rollbacks cost:
 
-A delay over 8, or a threshold of 0 or over 8, is answered by `refused 11`: no session starts with it.
+  rollbacks      how often it ran frames again, since a word had been predicted wrong
+  run again      how many frames were run again in all of them
+  by GGPO        how many GGPO runs again, from the first frame on that was predicted wrong
+  deepest        the most frames that one rollback ran again
+  claims         how many claims of rollbacks and steps were checked: that none ran a frame too many
+  wrong          how many of those were wrong: none can be
+  jobs           how many jobs its guesses gave
+  taken          how many of their branches were taken in
+  run ahead      how many frames were run ahead for them
 
-A match keeps all that it was told: 3 MB for 1,000 frames, and some 5 MB with `--guesses turns`. A log
-that is full, at 16777216 entries, is answered by `refused 114`.
+The third says what was measured of all others: the bytes that it sent to each of them in a second, the
+datagrams that it heard, that it missed, and that came and weren't heard, and the round trip. Then comes
+whether all machines that stay agree: the same settled rows, the same state, and each player gone at the same
+frame; and at last a line of all numbers for scripts: name=value, or name=first,second,.. for all machines.
+
+A delay over 8, or a threshold of 0 or over 8 (over 15 from five machines on), is answered by `refused 11`: no
+session starts with it. A log that is full, at 16777216 entries, is answered by `refused 114`.
 
 Example:
 
-  rollduel match --frames 60 --seed 3 --late 8 --lost 10 --guesses turns
+  rollduel match --frames 60 --seed 3 --lost 10 --guesses best
 
 It prints, and after it the line for scripts:
 
-  60 frames of tally, seed 3
-  words 0 to 8 frames late, 10 in 100 lost, held 10 frames on average
-  delay 0, threshold 8, guesses turns
+  2 machines, 60 frames of tally, seed 3
+  datagrams 1 to 9 ticks late, 10 in 100 lost; words held 10 frames on average
+  delay 0, threshold 8, guesses best, 4 jobs a tick
 
-                              player 1    player 2
-  frames                            60          60
-  rollbacks                          1           0
-  frames re-run                      5           0
-  by GGPO's policy                  19          35
-  deepest rollback                   5           0
-  frames waited                      1           1
-  guesses                          849         876
-  states added                     882        1068
-  branches dropped                   0           0
-  claims checked                    84          83
-  claims wrong                       0           0
+  machine    frames   settled    waited  silent at   left at      sent
+  0              60        60         0          -         -        82
+  1              60        60         7          -         -        82
 
-  both sides agree up to frame 60: 666666
+  machine rollbacks  run again   by GGPO   deepest    claims     wrong      jobs     taken  run ahead
+  0               1          1         8         1        63         0       151       151       1007
+  1               1          2        27         2        64         0       256       254       1795
 
-With `--peers N` it is a match of N machines with a player each, numbered from 0, as over a network: each
-hears datagrams, gives its word, takes a turn, and sends to each other, 60 times a second. A datagram
-comes 1 to L + 1 ticks late, P in 100 are lost, and 5 in 100 of the others come twice, all out of order.
-`--stop M:FRAME` has machine M go silent for ever at that frame: the others notice after a second, let
-its player leave, and play on. Two tables have a line for each machine: what it played and sent, and what
-was measured. The last line says whether all that stay agree: the same settled rows, the same state, and
-each player gone at the same frame. With `--guesses best` each guesses the words of all others, `--jobs J`
-of them a tick, and the first table tells how many jobs it gave, how many of their branches were taken
-in, and how many frames were run ahead. The other guesses are for a match of two peers.
+  machine  bytes/s to each  received      lost   ignored  round trip
+  0                   1865        77         4         1      167 ms
+  1                   1769        74         0         0      184 ms
+
+  all 2 that stay agree: frame 60 settled, state 111
+
+`--stop M:FRAME` has machine M go silent for ever at that frame: the others notice after some seconds, let its
+player leave, and play on.
 
 With `--hostile SEED` 50 hostile datagrams come before each real one: noise, real ones with a bit
-changed, sealed for another match, or of machines that are gone, and old real ones again. The first table
-and the last line are the same as without. Old ones of machines that stay are heard again, so what was
+changed, sealed for another match, or of machines that are gone, and old real ones again. The first two tables
+and the line on who agrees are the same as without. Old ones of machines that stay are heard again, so what was
 measured may differ.
 
-With `--picture OUT.svg` the match is drawn too, as one of its sessions saw it: the players' words frame by
-frame, its rollbacks, and the states that were saved at one of them.
+With `--picture OUT.svg` the match is drawn too, as the first machine that stays saw it: the players' words
+frame by frame, its rollbacks, and the states that were saved at one of them.
 
-Exit status: 0; 1 where the answer is `refused 11` or `refused 114`, where the peers differ or a claim is
-wrong, neither of which can be, or where machines that stay don't agree, or not in time; 2 where memory
-runs out, the table or the picture can't be written, or the words ask for no match.";
+Exit status: 0; 1 where the answer is `refused 11` or `refused 114`, or where machines that stay don't agree, or
+not in time; 2 where memory runs out, the tables or the picture can't be written, or the words ask for no match.";
 
-pub const PEERS: &str = "Plays a match of so many machines instead, 2 to 8, by datagrams";
+pub const PEERS: &str = "How many machines there are, 2 to 8; a duel has ships for 4";
 
 pub const STOP: &str =
     "Machine M goes silent for ever at this frame; for several machines it is given several times";
@@ -218,21 +215,21 @@ pub const TO: &str = "The frame after its last one; 600 frames at most";
 pub const TREE: &str =
     "Shows the states saved at this frame's rollback; if not given, at the deepest one";
 
-pub const LENGTH: &str = "How many frames each peer plays, up to 1048576";
+pub const LENGTH: &str = "How many frames each machine plays, up to 1048576";
 
-pub const SEED: &str = "What the words and the line are drawn from: the same seed prints the same";
+pub const SEED: &str = "What all is drawn from: the same seed prints the same";
 
-pub const LATE: &str = "The most frames that a word is under way, up to 60";
+pub const LATE: &str = "A datagram comes 1 to L + 1 ticks late; up to 60";
 
-pub const LOST: &str = "How many words of a hundred are lost, up to 99";
+pub const LOST: &str = "How many datagrams of a hundred are lost, up to 99";
 
 pub const HOLD: &str = "For how many frames a player holds a word on average, up to 1000000";
 
-pub const DELAY: &str = "Each peer's input delay in frames, up to 8";
+pub const DELAY: &str = "Each machine's input delay in frames, up to 8";
 
-pub const THRESHOLD: &str = "How many frames a peer may go past the confirmed ones, from 1 to 8";
+pub const THRESHOLD: &str = "How many frames a machine may go past the confirmed ones, from 1 to 8";
 
-pub const JOBS: &str = "How many of the best guesses are run after each frame, up to 32";
+pub const JOBS: &str = "How many of the best guesses are run in each tick, up to 32";
 
 pub const SYNCTEST: &str =
     "Tests whether a game comes out the same twice, and prints what is found at each row";

@@ -6,7 +6,7 @@ ghost use Rattle.clap.specs.Words.{first_value, found_of, kind_of, rows_of, take
 ghost use Rattle.clap.specs.Words.{subcommand_rows_of};
 ghost use Rattle.clap.specs.declared.error.kind.ErrorKind.TheVariants.{OutOfMemory};
 ghost use Rattle.prog_command_line.specs.Commands.{rollduel_app};
-ghost use Rattle.prog_command_line.specs.Requests.{AreAsked, HasOptions, HasWorkers, asked_by, asked_in, asked_named, asked_of, frames_named, game_named, guesses_named, is_named, live_named, match_named, number_in, number_named, options_named, path_named, path_of, picture_by, picture_in, picture_of, rows_by, rows_in, stop_texts, task_named, work_named, workers_named};
+ghost use Rattle.prog_command_line.specs.Requests.{AreAsked, HasOptions, HasWorkers, asked_by, asked_in, asked_named, asked_of, frames_named, game_named, guesses_named, is_named, live_named, number_in, number_named, options_named, path_named, path_of, picture_by, picture_in, picture_of, rows_by, rows_in, stop_texts, task_named, work_named, workers_named};
 
 use crate::commands::{
     DELAY, EXPLAIN, FILE, FRAMES, GAME, GUESSES, HOLD, HOSTILE, JOBS, LATE, LOST, PEERS, SEED,
@@ -92,7 +92,7 @@ fn work_of<'a>(alloc: Global, name: &str, found: &ArgMatches<'a>) -> Result<Requ
             input: input_of(found),
             live: live_of(found),
         }),
-        "match" => match_of(alloc, found),
+        "match" => Ok(Request::Match(peers_of(alloc, found)?)),
         _ => Ok(Request::Text(TextRequest {
             input: input_of(found),
             task: task_of(name, found),
@@ -124,32 +124,19 @@ fn live_of(found: &ArgMatches<'_>) -> LiveOptions
     }
 }
 
-/// The request of the command `match`.
-fn match_of<'a>(alloc: Global, found: &ArgMatches<'a>) -> Result<Request<'a>, AllocError>
-    ensures asked { IfOk result (λ request. asked_of request ≡ match_named (first_value (found_of found.now))) }
-    ensures options { IfOk result (HasOptions (rows_of (found_of found.now))) }
-    ensures workers { IfOk result HasWorkers }
-{
-    if is_given(found, PEERS) || is_given(found, STOP) || is_given(found, HOSTILE) {
-        Ok(Request::Peers(peers_of(alloc, found)?))
-    } else {
-        Ok(Request::Match(options_of(found)))
-    }
-}
-
 pub fn is_given(found: &ArgMatches<'_>, name: &str) -> bool
     ensures { result ≡ is_some (first_value (found_of found.now) name.now) }
 {
     found.get_str(name).is_some()
 }
 
-/// The options of a match of several machines.
+/// The options of a match.
 fn peers_of<'a>(alloc: Global, found: &ArgMatches<'a>) -> Result<PeersRequest<'a>, AllocError>
     ensures { IfOk result (AreAsked (rows_of (found_of found.now))) }
 {
     let stops = stops_of(alloc, found)?;
     Ok(PeersRequest {
-        machines: machines_of(found),
+        machines: byte_of(found, PEERS),
         common: options_of(found),
         stops,
         hostile: hostile_of(found),
@@ -162,15 +149,6 @@ fn stops_of<'a>(alloc: Global, found: &ArgMatches<'a>) -> Result<Vec<&'a str>, A
     match found.get_strs(STOP) {
         Some(texts) => Vec::from_slice(alloc, texts),
         None => Ok(Vec::new(alloc)),
-    }
-}
-
-fn machines_of(found: &ArgMatches<'_>) -> Option<u8>
-    ensures { result ≡ option_map (number_in 8) (first_value (found_of found.now) (codes "peers")) }
-{
-    match found.get_str(PEERS) {
-        Some(value) => Some(value.parse::<u8>().unwrap_or(0)),
-        None => None,
     }
 }
 
@@ -222,8 +200,6 @@ fn guesses_of(found: &ArgMatches<'_>) -> GuessOption
     ensures { result ≡ guesses_named (first_value (found_of found.now) (codes "guesses")) }
 {
     match found.get_str(GUESSES) {
-        Some("words") => GuessOption::Words,
-        Some("turns") => GuessOption::Turns,
         Some("best") => GuessOption::Best,
         _ => GuessOption::Off,
     }

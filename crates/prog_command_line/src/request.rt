@@ -17,10 +17,8 @@ pub enum Request<'a> {
     Text(TextRequest<'a>),
     /// A script is to be played live.
     Live { input: Input<'a>, live: LiveOptions },
-    /// A match of two peers is to be played, of which nothing is read.
-    Match(MatchRequest),
-    /// A match of several machines is to be played.
-    Peers(PeersRequest<'a>),
+    /// A match is to be played, of which nothing is read.
+    Match(PeersRequest<'a>),
     /// Nothing, for what is said of a picture can't be followed.
     Refused(PictureFault),
 }
@@ -72,12 +70,10 @@ pub struct LiveOptions {
 #[derive(Clone, Copy)]
 pub enum GuessOption {
     Off,
-    Words,
-    Turns,
     Best,
 }
 
-/// The options of a match of two peers, each by its name.
+/// How a match is played: its words, its network and its sessions, each option by its name.
 #[derive(Clone, Copy)]
 pub struct MatchRequest {
     pub frames: u32,
@@ -92,12 +88,11 @@ pub struct MatchRequest {
     pub game: Game,
 }
 
-/// The options of a match of several machines: `--peers`, `--stop` or `--hostile` is given.
+/// A match: who plays it, and how.
 #[derive(Drop)]
 pub struct PeersRequest<'a> {
-    /// How many machines there are, if `--peers` says it.
-    pub machines: Option<u8>,
-    /// The options that a match of two peers has too.
+    /// How many machines there are.
+    pub machines: u8,
     pub common: MatchRequest,
     /// Each text of `--stop`, in their order.
     pub stops: Vec<&'a str>,

@@ -1,7 +1,8 @@
 pub mod Agreement
 pub mod Digests
 pub mod Guessing
-pub mod Networks
+pub mod Totals
+pub mod Waiting
 pub mod Options
 pub mod Sights
 pub mod Stops

@@ -8,7 +8,7 @@ use Rattle.prog_parts.specs.declared.ending.GameName.{GameName}
 use Rattle.prog_parts.specs.declared.ending.GameName.TheVariants.{Duel, Tally}
 use Rattle.roll_mesh.specs.declared.limits.TheConstants.{MACHINE_LIMIT}
 use Rattle.prog_peers.specs.declared.options.PeersFault.{PeersFault}
-use Rattle.prog_peers.specs.declared.options.PeersFault.TheVariants.{Machines, Ships, Guesses as HasGuesses, NobodyStays, NoMachine, Frame}
+use Rattle.prog_peers.specs.declared.options.PeersFault.TheVariants.{Machines, Ships, NobodyStays, NoMachine, Frame}
 use Rattle.prog_peers.specs.declared.options.PeersOptions.{PeersOptions}
 use Rattle.prog_peers.specs.declared.options.TheConstants.{SHIP_LIMIT}
 
@@ -31,12 +31,6 @@ has_staying options = list_any (stays options) (range_with_len 0 options.machine
 abbrev pub makes_guesses : Guesses → Bool
 makes_guesses guesses.Off = false
 makes_guesses _ = true
-
--- whether guesses are to be made that only a match of two peers has
-abbrev pub has_other_guesses : Guesses → Bool
-has_other_guesses guesses.Words = true
-has_other_guesses guesses.Turns = true
-has_other_guesses _ = false
 
 abbrev pub lacks_ships : GameName → ℕ → Bool
 lacks_ships Duel machines = nat_lt SHIP_LIMIT machines
@@ -63,7 +57,6 @@ stop_fault_of options (Some machine) = Some (stop_fault_at options machine)
 abbrev pub fault_of : PeersOptions → Option PeersFault
 fault_of options =
     if nat_lt options.machines 2 || nat_lt MACHINE_LIMIT options.machines then Some Machines
-    else (if has_other_guesses options.common.guesses then Some HasGuesses
     else (if lacks_ships options.common.game options.machines then Some Ships
     else (if not (has_staying options) then Some NobodyStays
-    else stop_fault_of options (odd_stop_of options))))
+    else stop_fault_of options (odd_stop_of options)))

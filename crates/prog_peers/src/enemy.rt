@@ -1,14 +1,13 @@
 //! Datagrams that are made to deceive a machine.
 ghost use Rattle.std.specs.Prelude.{◌≢◌};
 
-use crate::network::Letter;
 use crate::options::PeersOptions;
 use crate::settings::{draw_of, match_number};
 use arrayvec::ArrayVec;
-use prog_sides::Draws;
 use roll_contact::Key;
 use roll_contact::seal::seal;
 use roll_mesh::MACHINE_LIMIT;
+use roll_simnet::{Draws, Letter};
 use roll_wire::DATAGRAM_LIMIT;
 use std::alloc::{AllocError, Global};
 
@@ -109,7 +108,7 @@ impl Enemy {
     /// The enemy of a machine, which has seen nothing yet.
     pub fn new(alloc: Global, seed: u64, options: &PeersOptions, me: u8) -> Enemy {
         Enemy {
-            draws: Draws::numbered(seed, FIRST_STREAM + u64::from(me)),
+            draws: Draws::new(seed, FIRST_STREAM + u64::from(me)),
             number: match_number(options),
             openings: openings(options),
             me,

@@ -1,12 +1,13 @@
-//! Matches of 2 to 8 machines in one process, over a bad network: each hears and sends datagrams as over a real one.
+//! Matches of 2 to 8 machines in one process, over a bad network: each hears and sends datagrams as over a real one. What their
+//! rollbacks cost is counted, their claims are checked, and a picture is drawn.
 #![tactic(auto)]
 
 mod agreement;
+mod claims;
 mod digest;
 mod enemy;
 mod guessing;
 mod machine;
-mod network;
 mod options;
 mod other;
 mod picture;
@@ -16,6 +17,7 @@ mod report;
 mod settings;
 mod stops;
 mod table;
+mod totals;
 
 pub use options::{PeersFault, PeersOptions};
 pub use program::run;

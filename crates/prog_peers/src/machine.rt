@@ -1,25 +1,29 @@
 //! One machine of a match, and what it does in a tick.
-ghost use Rattle.std.specs.Prelude.{◌≡◌, ◌↔◌, ◌+◌, ◌-◌, ◌^◌, [], IfOk, IfSome, IsTrue, OnOk, false, if◌then◌else◌, is_some, min};
+ghost use Rattle.std.specs.Prelude.{◌≡◌, ◌↔◌, ◌<◌, ◌+◌, ◌-◌, ◌^◌, [], IfOk, IsTrue, MatchOption, OnOk, false, if◌then◌else◌, is_some, min};
 ghost use Rattle.prog_sides.specs.Options.{IsPlayable};
 ghost use Rattle.prog_peers.specs.Agreement.{IsOver};
 ghost use Rattle.prog_peers.specs.Guessing.{HasMore};
 ghost use Rattle.prog_peers.specs.Options.{makes_guesses};
-ghost use Rattle.roll_frame.specs.Core.{end_of};
+ghost use Rattle.prog_peers.specs.Waiting.{waited_once};
+ghost use Rattle.prog_observer.specs.Observing.{after_watch, has_rolled, observed};
+ghost use Rattle.roll_frame.specs.declared.refusal.Refusal.TheVariants.{PredictionThreshold as TooFarAhead};
+ghost use Rattle.roll_session.specs.Changes.{after_local, local_refusal};
 
+use crate::claims::Claims;
 use crate::digest::digest_of;
 use crate::enemy::{Enemy, Trick};
 use crate::guessing::guess_best;
-use crate::network::{Letter, Network, Route};
 use crate::options::PeersOptions;
 use crate::other::Other;
 use crate::settings::match_settings;
 use prog_observer::{Observer, has_rolled};
-use prog_sides::{Draws, Engines, drawn, word_at};
+use prog_sides::{Engines, drawn, word_at};
 use roll_frame::{Refusal, Settings, SettingsFault};
 use roll_game::Shown;
 use roll_mesh::MACHINE_LIMIT;
 use roll_peer::{Ignored, MatchSettings, OpenRefusal, OtherSession, Peer, PeerEvent, PeerRefusal};
 use roll_session::Session;
+use roll_simnet::{Draws, Letter, Network, Route};
 use std::alloc::Global;
 
 /// The number of the stream from which the words of machine 0 are drawn; the others follow.
@@ -28,6 +32,8 @@ const FIRST_STREAM: u64 = 16;
 const HOSTILE: u32 = 50;
 /// The most events that wait at a peer.
 const EVENT_LIMIT: u32 = 64;
+/// The most datagrams that are heard in a tick.
+const LETTER_LIMIT: u32 = 4_096;
 
 /// What is counted of a machine.
 #[derive(Clone, Copy, Debug, Default, PartialEq, Eq)]
@@ -45,8 +51,8 @@ pub struct Counts {
     pub fooled: u64,
     /// How often another machine told of another state than this one had.
     pub desyncs: u64,
-    /// Frames that its game ran again.
-    pub rerun: u64,
+    /// Ticks in which it waited: it was too far ahead of the others' words, or of the others, as its peer advised.
+    pub waited: u64,
 }
 
 /// A machine: a session, and the network beside it.
@@ -61,14 +67,18 @@ pub struct Machine<G: Shown> {
     pub words: Vec<u32>,
     /// Whether it has gone silent.
     pub is_silent: bool,
+    /// How many ticks more it waits for the others, as its peer advised.
+    wait: u32,
     pub counts: Counts,
     /// How many frames are settled whose state was digested last.
     noted: u32,
     enemy: Option<Enemy>,
     /// What it saw of the other players, if it guesses their words.
     others: Vec<Other>,
-    /// What was seen of its session, if its view is to be shown.
-    pub observer: Option<Observer>,
+    /// What was seen of its session.
+    pub observer: Observer,
+    /// What came of the claims of its session's rolls.
+    pub claims: Claims,
 }
 
 /// What a machine is made of before its session.
@@ -86,7 +96,7 @@ impl<G: Shown + Drop> Machine<G> {
         options: &PeersOptions,
         me: u8,
         engines: Engines<G>,
-        observer: Option<Observer>,
+        observer: Observer,
     ) -> Result<Machine<G>, Refusal>
         ensures { IfOk result (λ machine. machine.me ≡ me) }
     {
@@ -115,11 +125,13 @@ impl<G: Shown + Drop> Machine<G> {
                 me,
                 words,
                 is_silent: false,
+                wait: 0,
                 counts: Counts::default(),
                 noted: 0,
                 enemy: enemy_of(alloc, options, me),
                 others,
                 observer,
+                claims: Claims::default(),
             }),
             Err(why) => {
                 drop(helper);
@@ -156,13 +168,13 @@ impl<G: Shown + Drop> Machine<G> {
         }
         let now = clock(tick);
         let before = self.session.log().len();
-        self.hear_all(alloc, options, network.letters(), tick)?;
+        self.hear_all(alloc, options, network, tick)?;
         self.play(now)?;
         self.watch(alloc, before)?;
         self.note_settled(alloc)?;
         self.guess(alloc, options)?;
         self.note_events();
-        self.send_all(alloc, options, network, tick)
+        self.send_all(options, network, tick)
     }
 
     /// Hears the datagrams for it that have come by a tick, and hostile ones before each.
@@ -170,16 +182,17 @@ impl<G: Shown + Drop> Machine<G> {
         &mut self,
         alloc: Global,
         options: &PeersOptions,
-        letters: &[Letter],
+        network: &mut Network,
         tick: u32,
     ) -> Result<(), Refusal>
         ensures { self.new.me ≡ self.old.me }
     {
-        for letter in letters {
-            if letter.route.to == self.me && letter.due <= tick {
-                self.hear_hostile(clock(tick))?;
-                self.hear(alloc, options, letter, clock(tick))?;
-            }
+        for _ in 0..LETTER_LIMIT {
+            let Some(letter) = network.receive(self.me, tick) else {
+                return Ok(());
+            };
+            self.hear_hostile(clock(tick))?;
+            self.hear(alloc, options, &letter, clock(tick))?;
         }
         Ok(())
     }
@@ -239,15 +252,8 @@ impl<G: Shown + Drop> Machine<G> {
         ensures { self.new.me ≡ self.old.me }
     {
         self.press()?;
-        let before = self.session.log().len();
         match self.peer.turn(&mut self.session, now) {
-            Ok(reached) => {
-                if has_rolled(self.session.log(), before) {
-                    self.counts
-                        .note_roll(ran_in_roll(&self.session), reached.is_some());
-                }
-                Ok(())
-            }
+            Ok(_) => Ok(()),
             Err(PeerRefusal::Session(why)) => Err(why),
             Err(PeerRefusal::OtherSession) => Err(Refusal::InvalidRequest),
         }
@@ -270,31 +276,64 @@ impl<G: Shown + Drop> Machine<G> {
         Ok(())
     }
 
-    /// Gives its word once the match has begun, unless the session is too far ahead, or has played its last frame.
+    /// Gives its word once the match has begun, unless it is to wait, or has played its last frame.
     fn press(&mut self) -> Result<(), Refusal>
         ensures { self.new.me ≡ self.old.me }
     {
         let last = self.session.settings().limit;
-        if !self.peer.is_running() || last <= self.session.frame() {
+        if !self.peer.is_running() || last <= self.session.frame() || self.is_to_wait() {
             return Ok(());
         }
         let player = self.me.saturating_add(1);
         let word = word_at(&self.words, self.session.confirmed(player).unwrap_or(0));
+        self.give(player, word)
+    }
+
+    /// Whether it waits for the others to catch up, which is counted.
+    fn is_to_wait(&mut self) -> bool
+        ensures me { self.new.me ≡ self.old.me }
+        ensures waits { IsTrue result ↔ (0 < self.old.wait) }
+        ensures counted { self.new.counts
+            ≡ (if result then waited_once self.old.counts else self.old.counts) }
+    {
+        if self.wait == 0 {
+            return false;
+        }
+        self.wait -= 1;
+        self.counts.note_wait();
+        true
+    }
+
+    /// Gives a word of its player, unless the session is too far ahead: then it waits, which is counted.
+    fn give(&mut self, player: u8, word: u32) -> Result<(), Refusal>
+        ensures me { self.new.me ≡ self.old.me }
+        ensures given { OnOk result (MatchOption (local_refusal self.old.session player)
+            ((self.new.session ≡ after_local self.old.session player word) × (self.new.counts ≡ self.old.counts))
+            (λ why. (why ≡ TooFarAhead) × (self.new.session ≡ self.old.session)
+            × (self.new.counts ≡ waited_once self.old.counts))) }
+    {
         match self.session.add_local_input(player, word) {
-            Ok(()) | Err(Refusal::PredictionThreshold) => Ok(()),
+            Ok(()) => Ok(()),
+            Err(Refusal::PredictionThreshold) => {
+                self.counts.note_wait();
+                Ok(())
+            }
             Err(why) => Err(why),
         }
     }
 
-    /// Has its observer note what became of its session, whose log had so many entries at the beginning of the tick.
+    /// Has its observer note what became of its session, whose log had so many entries at the beginning of the tick, and checks
+    /// the claim of its roll.
     fn watch(&mut self, alloc: Global, before: usize) -> Result<(), Refusal>
-        ensures { self.new.me ≡ self.old.me }
+        ensures me { self.new.me ≡ self.old.me }
+        ensures seen { let rolled = has_rolled self.old.session.log before in OnOk result
+            (observed self.new.observer ≡ after_watch (observed self.old.observer) self.old.session rolled) }
+        ensures checked { let rolled = has_rolled self.old.session.log before in OnOk result (self.new.claims.checked
+            ≡ (if rolled then min (self.old.claims.checked + 1) (2 ^ 64 - 1) else self.old.claims.checked)) }
     {
-        if let Some(observer) = &mut self.observer {
-            let rolled = has_rolled(self.session.log(), before);
-            observer.watch(alloc, &self.session, rolled)?;
-        }
-        Ok(())
+        let rolled = has_rolled(self.session.log(), before);
+        self.observer.watch(alloc, &self.session, rolled)?;
+        self.claims.check(alloc, &self.session, rolled)
     }
 
     /// Notes the digest of its settled state, if more is settled than before.
@@ -330,6 +369,7 @@ impl<G: Shown + Drop> Machine<G> {
         for _ in 0..EVENT_LIMIT {
             match self.peer.next_event() {
                 None => return,
+                Some(PeerEvent::TimeSync { frames_ahead }) => self.wait = frames_ahead,
                 Some(PeerEvent::Desync { .. }) => {
                     self.counts.desyncs = self.counts.desyncs.saturating_add(1);
                 }
@@ -341,7 +381,6 @@ impl<G: Shown + Drop> Machine<G> {
     /// Sends to each other machine.
     fn send_all(
         &mut self,
-        alloc: Global,
         options: &PeersOptions,
         network: &mut Network,
         tick: u32,
@@ -349,20 +388,13 @@ impl<G: Shown + Drop> Machine<G> {
         ensures { self.new.me ≡ self.old.me }
     {
         for to in 0..options.machines {
-            self.send(alloc, options, network, to, tick)?;
+            self.send(network, to, tick)?;
         }
         Ok(())
     }
 
     /// Sends to a machine.
-    fn send(
-        &mut self,
-        alloc: Global,
-        options: &PeersOptions,
-        network: &mut Network,
-        to: u8,
-        tick: u32,
-    ) -> Result<(), Refusal>
+    fn send(&mut self, network: &mut Network, to: u8, tick: u32) -> Result<(), Refusal>
         ensures { self.new.me ≡ self.old.me }
     {
         let Ok(sent) = self.peer.send(&self.session, to, clock(tick)) else {
@@ -371,7 +403,7 @@ impl<G: Shown + Drop> Machine<G> {
         if let Some(bytes) = sent {
             self.counts.note_sent(bytes.len() as u64);
             let route = Route { from: self.me, to };
-            network.send(alloc, &options.common, route, tick, &bytes)?;
+            network.send(route, tick, &bytes)?;
         }
         Ok(())
     }
@@ -384,16 +416,11 @@ impl Counts {
         self.bytes = self.bytes.saturating_add(bytes);
     }
 
-    /// A roll ran so many frames, of which the last is new where it went on to the next frame.
-    fn note_roll(&mut self, ran: u32, advanced: bool)
-        ensures { self.new ≡ record self.old {
-          rerun = min (self.old.rerun + (ran - (if advanced then 1 else 0))) (2 ^ 64 - 1);
-        } }
+    /// It waited for a tick.
+    fn note_wait(&mut self)
+        ensures { self.new ≡ waited_once self.old }
     {
-        let new = u32::from(advanced);
-        self.rerun = self
-            .rerun
-            .saturating_add(u64::from(ran.saturating_sub(new)));
+        self.waited = self.waited.saturating_add(1);
     }
 
     /// A hostile datagram came, and was heard or not.
@@ -421,16 +448,6 @@ fn who_is_gone(peer: &Peer) -> [bool; MACHINE_LIMIT] {
     gone
 }
 
-/// How many frames a session's last roll ran.
-fn ran_in_roll<G: Shown>(session: &Session<G>) -> u32
-    ensures { IfSome session.now.core.last (λ roll. result ≡ end_of roll - roll.from) }
-{
-    match session.last_plan() {
-        Some(plan) => plan.rerun,
-        None => 0,
-    }
-}
-
 /// Notes what was seen of other players since.
 fn note_all<G: Shown>(others: &mut [Other], session: &Session<G>) {
     for other in others {
@@ -443,7 +460,7 @@ fn prepare(alloc: Global, options: &PeersOptions, me: u8) -> Result<Prepared, Re
     ensures { OnOk result (IsPlayable options.now.common) }
 {
     let settings = session_settings(options, me)?;
-    let mut draws = Draws::numbered(options.common.seed, FIRST_STREAM + u64::from(me));
+    let mut draws = Draws::new(options.common.seed, FIRST_STREAM + u64::from(me));
     let words = drawn(alloc, &mut draws, &options.common)?;
     let others = others_of(alloc, options, me)?;
     Ok(Prepared {

@@ -1,7 +1,7 @@
 //! What a match of several machines is played with, and why one isn't played.
 ghost use Rattle.std.specs.Prelude.{◌≡◌, count_by};
 ghost use Rattle.std.specs.List.{range_with_len};
-ghost use Rattle.prog_peers.specs.Options.{fault_of, first_staying, has_other_guesses, has_staying, is_odd_stop, lacks_ships, makes_guesses, odd_stop_of, stays, stop_fault_at, stop_of};
+ghost use Rattle.prog_peers.specs.Options.{fault_of, first_staying, has_staying, is_odd_stop, lacks_ships, makes_guesses, odd_stop_of, stays, stop_fault_at, stop_of};
 
 use prog_parts::GameName;
 use prog_sides::{Guesses, MatchOptions};
@@ -16,7 +16,7 @@ const SHIP_LIMIT: u8 = 4;
 pub struct PeersOptions {
     /// How many machines there are, 2 to 8. Machine m, counted from 0, has player m + 1.
     pub machines: u8,
-    /// What is said as for a match of two peers, of datagrams in place of words. The guesses are the best, or none.
+    /// What the words are, how the network is, and what the sessions are opened with.
     pub common: MatchOptions,
     /// The frame at which a machine goes silent for ever, machine 0 first; none for one that stays.
     pub stops: [Option<u32>; MACHINE_LIMIT],
@@ -33,12 +33,6 @@ pub enum PeersFault {
     /// A duel has no ship for a fifth machine.
     #[error("--game duel has ships for 4 machines at most")]
     Ships,
-    /// In such a match the best guesses are made, or none.
-    #[error("--guesses takes none or best with --peers")]
-    Guesses,
-    /// There is nobody to go silent, or to be deceived.
-    #[error("--stop and --hostile can't be used without --peers")]
-    NoPeers,
     /// What is to stop has another form.
     #[error("--stop takes MACHINE:FRAME, as 2:30")]
     Unreadable,
@@ -115,8 +109,6 @@ impl PeersOptions {
     {
         if self.machines < 2 || usize::from(self.machines) > MACHINE_LIMIT {
             Some(PeersFault::Machines)
-        } else if has_other_guesses(self.common.guesses) {
-            Some(PeersFault::Guesses)
         } else if lacks_ships(self.common.game, self.machines) {
             Some(PeersFault::Ships)
         } else if !self.has_staying() {
@@ -163,13 +155,6 @@ impl PeersOptions {
             PeersFault::Frame { machine }
         }
     }
-}
-
-/// Whether guesses are to be made that only a match of two peers has.
-fn has_other_guesses(guesses: Guesses) -> bool
-    ensures { result ≡ has_other_guesses guesses }
-{
-    matches!(guesses, Guesses::Words | Guesses::Turns)
 }
 
 /// Whether a game hasn't room for so many machines.

@@ -1,6 +1,7 @@
 //! The picture of a match: what the first machine that stays saw of it.
-ghost use Rattle.std.specs.Prelude.{◌≡◌, IfOk, IsSome, None};
+ghost use Rattle.std.specs.Prelude.{◌≡◌, IfOk, IsSome, None, unwrap_or};
 ghost use Rattle.std.specs.String.{string_bytes};
+ghost use Rattle.prog_observer.specs.Observing.{nothing_seen, observed};
 ghost use Rattle.prog_peers.specs.Sights.{IsPictured};
 ghost use Rattle.prog_picture.specs.Pictures.{HasRolls};
 ghost use Rattle.prog_picture.specs.declared.scene.Scene.{Scene};
@@ -15,20 +16,25 @@ use roll_frame::Refusal;
 use roll_game::Shown;
 use std::alloc::{AllocError, Global};
 use std::fmt::Write;
+use std::mem;
 
-/// The observer of a machine, if a picture is asked for and it is this machine's view that is shown.
+/// What an observer shows if no picture is asked for: nothing.
+const NOTHING: Window = Window {
+    from: 0,
+    to: 0,
+    tree: None,
+};
+
+/// The observer of a machine, which has seen nothing yet.
 pub fn observer_of(
     alloc: Global,
     options: &PeersOptions,
     window: Option<Window>,
-    me: u8,
-) -> Result<Option<Observer>, AllocError> {
-    match window {
-        Some(window) if options.first_staying() == Some(me) => {
-            Ok(Some(Observer::new(alloc, options.machines, window)?))
-        }
-        _ => Ok(None),
-    }
+) -> Result<Observer, AllocError>
+    ensures { IfOk result (λ observer. observed observer
+        ≡ nothing_seen options.now.machines (unwrap_or window NOTHING)) }
+{
+    Observer::new(alloc, options.machines, window.unwrap_or(NOTHING))
 }
 
 /// The picture of a match that was played, if one is asked for.
@@ -47,7 +53,7 @@ pub fn picture_of<G: Shown + Drop>(
     }
 }
 
-/// The picture of what the first machine that stays saw, which had an observer.
+/// The picture of what the first machine that stays saw.
 fn view_of<G: Shown + Drop>(
     alloc: Global,
     options: &PeersOptions,
@@ -59,9 +65,8 @@ fn view_of<G: Shown + Drop>(
         return Err(Refusal::InvalidRequest);
     };
     let machine = &mut machines[place];
-    let Some(observer) = machine.observer.take() else {
-        return Err(Refusal::InvalidRequest);
-    };
+    let none = Observer::new(alloc, 0, NOTHING)?;
+    let observer = mem::replace(&mut machine.observer, none);
     Ok(draw_seen(alloc, options, machine, observer)?)
 }
 

@@ -6,15 +6,16 @@ ghost use Rattle.prog_peers.specs.declared.playing.End.TheVariants.{Over as IsEn
 ghost use Rattle.roll_peer.specs.Peered.{beside};
 
 use crate::machine::Machine;
-use crate::network::Network;
 use crate::options::PeersOptions;
-use prog_sides::Draws;
 use roll_frame::Refusal;
 use roll_game::Shown;
+use roll_simnet::{Conditions, Draws, Network};
 use std::alloc::Global;
 
 /// The number of the stream from which is drawn what becomes of datagrams.
 const NETWORK_STREAM: u64 = 32;
+/// Of how many datagrams in a hundred that aren't lost a second copy comes.
+const TWICE: u32 = 5;
 
 /// The machines of a match, machine 0 first, and the network between them.
 #[derive(Drop)]
@@ -37,10 +38,15 @@ impl<G: Shown + Drop> Table<G> {
     pub fn new(alloc: Global, options: &PeersOptions) -> Table<G>
         ensures { result.machines.items ≡ [] }
     {
-        let draws = Draws::numbered(options.common.seed, NETWORK_STREAM);
+        let conditions = Conditions {
+            late: options.common.late,
+            lost: options.common.lost,
+            twice: TWICE,
+        };
+        let draws = Draws::new(options.common.seed, NETWORK_STREAM);
         Table {
             machines: Vec::new(alloc),
-            network: Network::new(alloc, draws),
+            network: Network::new(alloc, conditions, draws),
         }
     }
 
@@ -75,7 +81,7 @@ impl<G: Shown + Drop> Table<G> {
         true
     }
 
-    /// A tick of all machines. What comes in it is gone from the network.
+    /// A tick of all machines.
     fn tick(&mut self, alloc: Global, options: &PeersOptions, tick: u32) -> Result<(), Refusal>
         ensures { OnOk result (map (λ m. m.me) self.new.machines.items
             ≡ map (λ m. m.me) self.old.machines.items) }
@@ -83,7 +89,6 @@ impl<G: Shown + Drop> Table<G> {
         for place in 0..self.machines.len() {
             self.machines[place].tick(alloc, options, &mut self.network, tick)?;
         }
-        self.network.pass(tick);
         Ok(())
     }
 }

@@ -185,7 +185,7 @@ fn seat<G: Shown + Drop>(
     ensures { OnOk result (map (λ m. m.me) table.new.machines.items
         ≡ map (λ m. m.me) table.old.machines.items ++ me ∷ []) }
 {
-    let observer = observer_of(alloc, options, window, me)?;
+    let observer = observer_of(alloc, options, window)?;
     let machine = Machine::new(alloc, options, me, engines, observer)?;
     table.machines.push(machine)?;
     Ok(())

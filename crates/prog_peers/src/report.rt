@@ -2,15 +2,19 @@
 ghost use Rattle.std.specs.Prelude.{◌≡◌, ◌<◌, ◌-◌, length, IfOk, IfSome, IsTrue};
 ghost use Rattle.std.specs.List.{All};
 ghost use Rattle.prog_peers.specs.Agreement.{AreAlike, IfStays};
+ghost use Rattle.prog_observer.specs.Observing.{observed};
 ghost use Rattle.prog_peers.specs.Guessing.{grafts_in, is_graft_at};
+ghost use Rattle.prog_peers.specs.Totals.{totals_of};
 ghost use Rattle.prog_peers.specs.declared.playing.End.TheVariants.{Over as IsEnded};
 ghost use Rattle.roll_member.specs.Joined.{Joined};
 ghost use Rattle.roll_peer.specs.Peered.{beside};
 
 use crate::agreement::all_agree;
+use crate::claims::Claims;
 use crate::machine::{Counts, Machine};
 use crate::options::PeersOptions;
 use crate::playing::{End, Table};
+use crate::totals::{self, Totals};
 use arrayvec::ArrayVec;
 use roll_frame::Refusal;
 use roll_game::Shown;
@@ -43,6 +47,9 @@ pub struct Outcome {
     /// The frame at which its player left, for the machines that stay.
     pub left: Option<u32>,
     pub counts: Counts,
+    /// What its rollbacks cost.
+    pub totals: Totals,
+    pub claims: Claims,
     pub measured: Measured,
 }
 
@@ -96,7 +103,7 @@ pub fn sum_up<G: Shown + Drop>(
     };
     let first = &table.machines[place];
     let agree = all_agree(options, &table.machines, first);
-    let outcomes = each_outcome(&table.machines, first);
+    let outcomes = each_outcome(&table.machines, first)?;
     let settled = first.session.settled();
     let staying = options.count_staying();
     let state = table.machines[place].settled_text(alloc)?;
@@ -126,24 +133,30 @@ pub fn first_that_stays<G: Shown>(options: &PeersOptions, machines: &[Machine<G>
 fn each_outcome<G: Shown>(
     machines: &[Machine<G>],
     first: &Machine<G>,
-) -> ArrayVec<Outcome, MACHINE_LIMIT> {
+) -> Result<ArrayVec<Outcome, MACHINE_LIMIT>, Refusal> {
     let mut outcomes = ArrayVec::new();
     for machine in machines {
-        let _ = outcomes.try_push(outcome_of(machine, first));
+        let _ = outcomes.try_push(outcome_of(machine, first)?);
     }
-    outcomes
+    Ok(outcomes)
 }
 
-/// What came of a machine.
-fn outcome_of<G: Shown>(machine: &Machine<G>, first: &Machine<G>) -> Outcome
-    ensures jobs { result.jobs ≡ machine.now.session.counts.copies - 1 }
-    ensures taken { result.taken ≡ grafts_in machine.now.session.log }
-    ensures ahead { result.ahead ≡ (G.call_counts machine.now.helper).turns }
-    ensures counts { result.counts ≡ machine.now.counts }
+/// What came of a machine: refused for want of memory if it rolled 4,294,967,296 times, for which there is none.
+fn outcome_of<G: Shown>(machine: &Machine<G>, first: &Machine<G>) -> Result<Outcome, Refusal>
+    ensures jobs { IfOk result (λ outcome. outcome.jobs ≡ machine.now.session.counts.copies - 1) }
+    ensures taken { IfOk result (λ outcome. outcome.taken ≡ grafts_in machine.now.session.log) }
+    ensures ahead { IfOk result (λ outcome. outcome.ahead ≡ (G.call_counts machine.now.helper).turns) }
+    ensures counts { IfOk result (λ outcome. outcome.counts ≡ machine.now.counts) }
+    ensures totals { IfOk result (λ outcome. outcome.totals ≡ totals_of (observed machine.now.observer).rolls) }
+    ensures claims { IfOk result (λ outcome. outcome.claims ≡ machine.now.claims) }
 {
+    let rolls = machine.observer.rolls.as_slice();
+    if rolls.len() > u32::MAX as usize {
+        return Err(Refusal::NoMemory);
+    }
     let session = &machine.session;
     let frames = session.frame();
-    Outcome {
+    Ok(Outcome {
         machine: machine.me,
         frames,
         settled: session.settled(),
@@ -152,8 +165,10 @@ fn outcome_of<G: Shown>(machine: &Machine<G>, first: &Machine<G>) -> Outcome
         ahead: machine.helper.counts().turns,
         left: first.peer.mesh().left(machine.me),
         counts: machine.counts,
+        totals: totals::sum_up(rolls),
+        claims: machine.claims,
         measured: measure(machine),
-    }
+    })
 }
 
 /// How many branches were taken in.

@@ -2,9 +2,9 @@
 ghost use Rattle.std.specs.Prelude.{◌≢◌};
 
 use crate::options::PeersOptions;
-use prog_sides::Draws;
 use roll_mesh::MACHINE_LIMIT;
 use roll_peer::MatchSettings;
+use roll_simnet::Draws;
 
 /// After how many milliseconds of silence a machine is regarded as gone.
 const SILENT_AFTER: u32 = 5_000;
@@ -22,7 +22,7 @@ pub fn match_number(options: &PeersOptions) -> u64 {
 pub fn draw_of(options: &PeersOptions, machine: u8) -> u64
     ensures { result ≢ 0 }
 {
-    let mut draws = Draws::numbered(options.common.seed, FIRST_STREAM + u64::from(machine));
+    let mut draws = Draws::new(options.common.seed, FIRST_STREAM + u64::from(machine));
     let high = u64::from(draws.below(u32::MAX));
     let low = u64::from(draws.below(u32::MAX));
     high * (1 << 32) + low + 1
@@ -46,5 +46,6 @@ pub fn match_settings(options: &PeersOptions, me: u8) -> MatchSettings {
         silent_after: SILENT_AFTER,
         notify_after: NOTIFY_AFTER,
         stalled_after: 0,
+        words: 1,
     }
 }

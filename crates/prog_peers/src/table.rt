@@ -3,6 +3,7 @@
 use crate::options::PeersOptions;
 use crate::playing::End;
 use crate::report::{Outcome, Report};
+use crate::totals::Totals;
 use prog_sides::{Guesses, game_name};
 use std::alloc::AllocError;
 use std::fmt::Write;
@@ -10,7 +11,7 @@ use std::fmt::Write;
 /// How many ticks a second has.
 const TICKS: u64 = 60;
 
-/// Writes the tables, and the line on whether the machines agree.
+/// Writes the tables, the line on whether the machines agree, and the line for scripts.
 pub fn push_report(
     out: &mut String,
     options: &PeersOptions,
@@ -18,11 +19,13 @@ pub fn push_report(
 ) -> Result<(), AllocError> {
     push_heading(out, options)?;
     push_played(out, options, report)?;
+    push_rolled(out, options, report)?;
     push_measured(out, report)?;
     if options.hostile.is_some() {
         push_hostile(out, report)?;
     }
-    push_end(out, report)
+    push_end(out, report)?;
+    push_line(out, options, report)
 }
 
 /// What the match was played with, in words.
@@ -54,11 +57,10 @@ fn push_played(
     options: &PeersOptions,
     report: &Report,
 ) -> Result<(), AllocError> {
-    write!(out, "machine    frames   settled  run again")?;
-    if options.makes_guesses() {
-        write!(out, "      jobs     taken  run ahead")?;
-    }
-    writeln!(out, "  silent at   left at      sent")?;
+    writeln!(
+        out,
+        "machine    frames   settled    waited  silent at   left at      sent"
+    )?;
     for outcome in &report.outcomes {
         push_outcome(out, options, outcome)?;
     }
@@ -78,15 +80,49 @@ fn push_outcome(
         counts,
         ..
     } = *outcome;
-    let rerun = counts.rerun;
-    write!(out, "{machine:<7}{frames:>10}{settled:>10}{rerun:>11}")?;
-    if options.makes_guesses() {
-        push_guesses(out, outcome)?;
-    }
+    let waited = counts.waited;
+    write!(out, "{machine:<7}{frames:>10}{settled:>10}{waited:>10}")?;
     push_frame(out, options.stop(machine), 11)?;
     push_frame(out, left, 10)?;
     let sent = counts.sent;
     writeln!(out, "{sent:>10}")
+}
+
+/// What rollbacks cost, a line for each machine.
+fn push_rolled(
+    out: &mut String,
+    options: &PeersOptions,
+    report: &Report,
+) -> Result<(), AllocError> {
+    write!(
+        out,
+        "machine rollbacks  run again   by GGPO   deepest    claims     wrong"
+    )?;
+    if options.makes_guesses() {
+        write!(out, "      jobs     taken  run ahead")?;
+    }
+    out.push('\n')?;
+    for outcome in &report.outcomes {
+        push_rolls(out, outcome)?;
+        if options.makes_guesses() {
+            push_guesses(out, outcome)?;
+        }
+        out.push('\n')?;
+    }
+    out.push('\n')
+}
+
+fn push_rolls(out: &mut String, outcome: &Outcome) -> Result<(), AllocError> {
+    let (machine, claims) = (outcome.machine, outcome.claims);
+    let Totals {
+        rollbacks,
+        rerun,
+        ggpo,
+        deepest,
+    } = outcome.totals;
+    let (checked, wrong) = (claims.checked, claims.wrong);
+    write!(out, "{machine:<7}{rollbacks:>10}{rerun:>11}{ggpo:>10}")?;
+    write!(out, "{deepest:>10}{checked:>10}{wrong:>10}")
 }
 
 /// What its guesses came to.
@@ -115,12 +151,12 @@ fn push_measured(out: &mut String, report: &Report) -> Result<(), AllocError> {
         "machine  bytes/s to each  received      lost   ignored  round trip"
     )?;
     for outcome in &report.outcomes {
-        push_line(out, outcome)?;
+        push_measures(out, outcome)?;
     }
     out.push('\n')
 }
 
-fn push_line(out: &mut String, outcome: &Outcome) -> Result<(), AllocError> {
+fn push_measures(out: &mut String, outcome: &Outcome) -> Result<(), AllocError> {
     let (machine, counts, measured) = (outcome.machine, &outcome.counts, &outcome.measured);
     let bytes = counts.bytes.saturating_mul(TICKS) / counts.sent.max(1);
     let (received, lost, ignored) = (measured.received, measured.lost, counts.ignored);
@@ -165,7 +201,8 @@ fn push_end(out: &mut String, report: &Report) -> Result<(), AllocError> {
     }
     write!(out, "all {count} that stay agree: frame {settled} settled")?;
     push_lefts(out, report)?;
-    push_state(out, &report.state)
+    out.push_str(", state ")?;
+    push_text(out, &report.state)
 }
 
 /// At which frame each player left.
@@ -179,10 +216,62 @@ fn push_lefts(out: &mut String, report: &Report) -> Result<(), AllocError> {
     Ok(())
 }
 
-fn push_state(out: &mut String, state: &[u8]) -> Result<(), AllocError> {
-    out.push_str(", state ")?;
+/// The text of a state.
+fn push_text(out: &mut String, state: &[u8]) -> Result<(), AllocError> {
     match std::str::from_utf8(state) {
         Ok(text) => writeln!(out, "{text}"),
         Err(_) => writeln!(out, "?"),
     }
+}
+
+/// The line for scripts: what was asked for, and what came of each machine.
+fn push_line(out: &mut String, options: &PeersOptions, report: &Report) -> Result<(), AllocError> {
+    push_options(out, options)?;
+    push_each(out, "rollbacks", report, |outcome| outcome.totals.rollbacks)?;
+    push_each(out, "rerun", report, |outcome| outcome.totals.rerun)?;
+    push_each(out, "ggpo", report, |outcome| outcome.totals.ggpo)?;
+    push_each(out, "deepest", report, |outcome| {
+        u64::from(outcome.totals.deepest)
+    })?;
+    push_each(out, "waited", report, |outcome| outcome.counts.waited)?;
+    push_each(out, "guessed", report, |outcome| outcome.jobs)?;
+    push_each(out, "taken", report, |outcome| outcome.taken)?;
+    push_each(out, "ahead", report, |outcome| outcome.ahead)?;
+    push_each(out, "claims", report, |outcome| outcome.claims.checked)?;
+    push_each(out, "wrong", report, |outcome| outcome.claims.wrong)?;
+    let agree = if report.is_well() { "yes" } else { "no" };
+    write!(out, " settled={} agree={agree} state=", report.settled)?;
+    push_text(out, &report.state)
+}
+
+fn push_options(out: &mut String, options: &PeersOptions) -> Result<(), AllocError> {
+    let common = &options.common;
+    write!(out, "\nmatch peers={}", options.machines)?;
+    write!(out, " frames={} seed={}", common.frames, common.seed)?;
+    write!(out, " late={} lost={}", common.late, common.lost)?;
+    write!(out, " hold={} delay={}", common.hold, common.delay)?;
+    write!(out, " threshold={}", common.threshold)?;
+    match common.guesses {
+        Guesses::Off => write!(out, " guesses=none")?,
+        Guesses::Best => write!(out, " guesses=best jobs={}", common.jobs)?,
+    }
+    write!(out, " game={}", game_name(common.game))
+}
+
+/// A count of each machine under a name.
+fn push_each<F: Fn(&Outcome) -> u64>(
+    out: &mut String,
+    name: &str,
+    report: &Report,
+    count: F,
+) -> Result<(), AllocError>
+    requires { F.IsAlwaysCallable count }
+{
+    write!(out, " {name}")?;
+    let mut before = '=';
+    for outcome in &report.outcomes {
+        write!(out, "{before}{}", count(outcome))?;
+        before = ',';
+    }
+    Ok(())
 }

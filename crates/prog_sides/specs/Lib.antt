@@ -1,5 +1,4 @@
 pub mod Options
-pub mod Drawing
 pub mod Words
 pub mod Agreement
 pub mod Endings

@@ -2,9 +2,9 @@
 ghost use Rattle.std.specs.Prelude.{◌≡◌, ◌<◌, ◌++◌, IfOk, OnOk, replicate};
 ghost use Rattle.prog_sides.specs.Words.{word_at, BeginWith};
 
-use crate::draws::Draws;
 use crate::options::MatchOptions;
 use prog_parts::GameName;
+use roll_simnet::Draws;
 use std::alloc::{AllocError, Global};
 
 /// How many words a player chooses among.

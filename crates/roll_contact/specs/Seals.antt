@@ -4,6 +4,7 @@ use Rattle.std.specs.Int.{w64, to_be_bytes}
 use Rattle.std.specs.Str.{bytes_eq}
 use Rattle.sha2.specs.Sha256.{sha256}
 use Rattle.roll_wire.specs.declared.limits.TheConstants.{DATAGRAM_LIMIT}
+use Rattle.roll_wire.specs.Spelling.{spelling, Content}
 use Rattle.roll_contact.specs.Keys.{padded}
 use Rattle.roll_contact.specs.declared.key.Key.{Key}
 use Rattle.roll_contact.specs.declared.seal.TheConstants.{INNER, OUTER}
@@ -31,6 +32,13 @@ tag key text = take 8 (hmac key text)
 -- what is sent for a datagram: its tag stands in the place of its number
 abbrev pub sealed : Key → List ℕ → List ℕ
 sealed key text = with_field (tag key text) text
+
+-- the bytes by which a sender says something to who has the key
+unfoldable pub said_by : Key → ℕ → Content → List ℕ
+said_by key sender what = sealed key (spelling (record {
+  envelope = record { match_number = key.number; sender = sender };
+  content = what;
+}))
 
 -- a datagram with this number
 abbrev pub HasNumber : ℕ → List ℕ → Type 0

@@ -1,13 +1,14 @@
 //! Datagrams as they are on the network: where the number was, a tag stands that only who knows the key can make: HMAC with
 //! SHA-256. Takes no memory.
-ghost use Rattle.std.specs.Prelude.{◌≡◌, ◌≤◌, ◌++◌, ℕ, length, option_map, Some, IfSome};
+ghost use Rattle.std.specs.Prelude.{◌≡◌, ◌≤◌, ◌++◌, ℕ, length, option_map, true, Some, IfSome};
 ghost use Rattle.std.specs.Str.{bytes_eq};
 ghost use Rattle.sha2.specs.Sha256.{sha256};
-ghost use Rattle.roll_contact.specs.Seals.{HasNumber, IsSealed, field, hmac, named, sealed, tag, unsealed, with_field};
+ghost use Rattle.roll_contact.specs.Seals.{HasNumber, IsSealed, field, hmac, named, said_by, sealed, tag, unsealed, with_field};
+ghost use Rattle.roll_wire.specs.Spelling.{content, is_whole};
 
 use crate::key::Key;
 use arrayvec::ArrayVec;
-use roll_wire::DATAGRAM_LIMIT;
+use roll_wire::{Body, DATAGRAM_LIMIT, Datagram, Envelope, encode};
 use sha2::{Digest, Sha256};
 
 type Bytes = ArrayVec<u8, DATAGRAM_LIMIT>;
@@ -87,6 +88,24 @@ pub fn seal(datagram: &mut ArrayVec<u8, DATAGRAM_LIMIT>, key: &Key)
 {
     let tag = tag_of(key, datagram);
     put_field(datagram, tag);
+}
+
+/// The bytes by which a sender says something to who has the key: a datagram with the key's number, sealed.
+pub fn say(key: &Key, sender: u8, body: Body) -> ArrayVec<u8, DATAGRAM_LIMIT>
+    requires { is_whole (content body) ≡ true }
+    ensures { result.items ≡ said_by key.now sender (content body) }
+{
+    let envelope = Envelope {
+        match_number: key.number,
+        sender,
+    };
+    match encode(&Datagram { envelope, body }) {
+        Some(mut bytes) => {
+            seal(&mut bytes, key);
+            bytes
+        }
+        None => unreachable!(),
+    }
 }
 
 /// The datagram that was sealed by this key as these bytes. None if there is no such datagram: they are too few or too many, or

@@ -15,6 +15,8 @@ pub struct Terms {
     pub owners: [u8; PLAYER_LIMIT],
     /// A digest of all else that must be alike: the game, its opening, the session's limits.
     pub digest: u64,
+    /// How many words an input has, 1 to 4; 1 at both ends of a viewer's line.
+    pub words: u8,
 }
 
 /// What two ends have otherwise.
@@ -26,6 +28,8 @@ pub enum Field {
     Owners,
     /// The digest of all else that must be alike.
     Settings,
+    /// How many words an input has.
+    Words,
 }
 
 impl Terms {
@@ -35,6 +39,7 @@ impl Terms {
     {
         Hello {
             machines: self.machines,
+            words: self.words,
             owners: self.owners,
             settings: self.digest,
             draw: opening.draw,
@@ -55,6 +60,8 @@ impl Terms {
             Some(Field::Owners)
         } else if hello.settings != self.digest {
             Some(Field::Settings)
+        } else if hello.words != self.words {
+            Some(Field::Words)
         } else {
             None
         }

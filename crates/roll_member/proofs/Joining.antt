@@ -10,9 +10,10 @@ use Rattle.roll_mesh.specs.Meshes.{stepped, Seated}
 use Rattle.roll_mesh.specs.Worlds.{first_machine}
 use Rattle.roll_mesh.specs.declared.limits.TheConstants.{PLAYER_LIMIT}
 use Rattle.roll_mesh.specs.declared.seat.Seat.{Seat}
+use Rattle.roll_member.proofs.Tied.{same_bools}
 use Rattle.roll_session.specs.Headline.{words_of}
 use Rattle.roll_session.specs.Seen.{Seen}
-use Rattle.roll_member.specs.Joined.{are_fresh, are_seated, is_fresh_at, is_gone_at, is_local_at, is_seated_at}
+use Rattle.roll_member.specs.Joined.{are_fresh, are_seated, is_fresh_at, is_gone_at, is_local_at, is_seated_at, known}
 
 -- a mesh whose machine has so many words of a player
 abbrev pub with_count : Seated → ℕ → ℕ → Seated
@@ -38,9 +39,9 @@ if_done (Ok x) e h = h
 if_done (Err why) e h = absurd (false≢true (sym e))
 
 -- of the players before a place there are as many words as in the session, and of the others none
-pub record IsGivenTo (s : Seen) (has : List ℕ) (place : ℕ) : Type 0 where
+pub record IsGivenTo (s : Seen) (seat : Seat) (has : List ℕ) (place : ℕ) : Type 0 where
   pub all : length has ≡ PLAYER_LIMIT
-  pub given : (p : ℕ) → p < place → slice_index has p ≡ length (words_of s (p + 1))
+  pub given : (p : ℕ) → p < place → slice_index has p ≡ known s seat p
   pub none : (p : ℕ) → place ≤ p → slice_index has p ≡ 0
 
 -- a mesh that was told nothing still wasn't once it has other numbers of words
@@ -54,18 +55,18 @@ still_first old mid new has first e =
     (sym (ap (λ (m : Seated). m.machine.has) e))
 
 -- the words of an own player
-pub given_own : (s : Seen) (has : List ℕ) (place : ℕ) → place < PLAYER_LIMIT → IsGivenTo s has place
-    → IsGivenTo s (slice_set has place (length (words_of s (place + 1)))) (place + 1)
-given_own s has place l i = record {
+pub given_own : (s : Seen) (seat : Seat) (has : List ℕ) (place : ℕ) → place < PLAYER_LIMIT → IsGivenTo s seat has place
+    → IsGivenTo s seat (slice_set has place (known s seat place)) (place + 1)
+given_own s seat has place l i = record {
   all = length-set has place count ∙ i.all;
-  given = below_more (λ p. slice_index new p ≡ length (words_of s (p + 1))) place
+  given = below_more (λ p. slice_index new p ≡ known s seat p) place
       (λ p h. other p (λ e. omega arith) ∙ i.given p h)
       (get_or-set_same has place count 0 (omega (arith, i.all)));
   none = λ p h. other p (λ e. omega arith) ∙ i.none p (omega arith);
 }
   where
     count : ℕ
-    count = length (words_of s (place + 1))
+    count = known s seat place
 
     new : List ℕ
     new = slice_set has place count
@@ -74,11 +75,11 @@ given_own s has place l i = record {
     other p apart = get_or-set_other has place p count 0 apart
 
 -- a player without words
-pub given_other : (s : Seen) (has : List ℕ) (place : ℕ) → length (words_of s (place + 1)) ≡ 0
-    → IsGivenTo s has place → IsGivenTo s has (place + 1)
-given_other s has place e i = record {
+pub given_other : (s : Seen) (seat : Seat) (has : List ℕ) (place : ℕ) → known s seat place ≡ 0
+    → IsGivenTo s seat has place → IsGivenTo s seat has (place + 1)
+given_other s seat has place e i = record {
   all = i.all;
-  given = below_more (λ p. slice_index has p ≡ length (words_of s (p + 1))) place i.given
+  given = below_more (λ p. slice_index has p ≡ known s seat p) place i.given
       (i.none place (omega arith) ∙ sym e);
   none = λ p h. i.none p (omega arith);
 }
@@ -98,6 +99,16 @@ own_of s seat p l seated here =
     same_true : (b : Bool) → beq true b ≡ true → b ≡ true
     same_true true e = refl
     same_true false e = e
+
+-- another machine owns a player that isn't local
+pub other_of : (s : Seen) (seat : Seat) (p : ℕ) → p < PLAYER_LIMIT → are_seated s seat ≡ true
+    → is_local_at s p ≡ false → (owner_of seat p == seat.me) ≡ false
+unfolding are_seated
+other_of s seat p l seated away =
+    let at = and_parts (beq (is_local_at s p) (owner_of seat p == seat.me))
+    (beq (nat_lt p (length s.core.players)) (nat_lt (owner_of seat p) seat.machines))
+    (all_below (is_seated_at s seat) PLAYER_LIMIT p seated l) in
+    sym (same_bools (is_local_at s p) (owner_of seat p == seat.me) at.0) ∙ away
 
 -- a player that isn't local has no words yet
 pub no_words : (s : Seen) (p : ℕ) → p < PLAYER_LIMIT → are_fresh s ≡ true

@@ -1,6 +1,10 @@
 pub mod Joining
+pub mod Inputs
+pub mod Known
+pub mod Fair
 pub mod Players
 pub mod Taking
+pub mod Leading
 pub mod Tied
 pub mod Rooms
 pub mod Partings

@@ -17,6 +17,7 @@ use Rattle.roll_session.specs.Headline.{words_of}
 use Rattle.roll_session.specs.Seen.{Seen}
 use Rattle.roll_member.specs.Joined.{is_gone_at, is_local_at}
 use Rattle.roll_member.specs.Leaving.{disconnected, has_left, Disconnects, DisconnectsAll, IsWaiting}
+use Rattle.roll_member.proofs.Players.{length_changed}
 use Rattle.roll_member.specs.declared.leaving.Left.{Left}
 use Rattle.roll_member.specs.declared.leaving.Parted.{Parted}
 
@@ -69,6 +70,16 @@ locals_kept true s place p =
     same_at (λ o. option_map_or (λ player. player.local) o false) (λ x. refl) s.core.players
     (place + 1) (p + 1)
 locals_kept false s place p = refl
+
+many_kept : (goes : Bool) (s : Seen) (place : ℕ)
+    → length (after_parting goes s place).core.players ≡ length s.core.players
+many_kept true s place = go (player_at s.core.players (place + 1)) refl
+  where
+    go : (o : Option Player) → player_at s.core.players (place + 1) ≡ o
+        → length (changed with_gone s.core.players (place + 1)) ≡ length s.core.players
+    go None e = ap (λ (ps : List Player). length ps) (unchanged s.core.players (place + 1) e)
+    go (Some x) e = length_changed with_gone s.core.players (place + 1) x e
+many_kept false s place = refl
 
 others_kept : (goes : Bool) (s : Seen) (place p : ℕ) → p ≢ place
     → is_gone_at (after_parting goes s place) p ≡ is_gone_at s p
@@ -196,6 +207,12 @@ locals_left [] place s p = refl
 locals_left (goes ∷ players) place s p =
     locals_left players (place + 1) (after_parting goes s place) p ∙ locals_kept goes s place p
 
+many_left : (players : List Bool) (place : ℕ) (s : Seen)
+    → length (disconnected players place s).core.players ≡ length s.core.players
+many_left [] place s = refl
+many_left (goes ∷ players) place s =
+    many_left players (place + 1) (after_parting goes s place) ∙ many_kept goes s place
+
 -- one who doesn't leave is there as before
 others_left : (players : List Bool) (place : ℕ) (s : Seen) (p : ℕ)
     → ((k : ℕ) → place + k ≡ p → slice_index_or players k false ≡ false)
@@ -221,6 +238,11 @@ pub locals_stay : (old new : Seen) (machine : Machine) (who : Left)
     → DisconnectsAll old machine new who → (p : ℕ) → is_local_at new p ≡ is_local_at old p
 locals_stay old new machine who d p =
     ap (λ s. is_local_at s p) d.session ∙ locals_left who.players 0 old p
+
+pub many_stay : (old new : Seen) (machine : Machine) (who : Left) → DisconnectsAll old machine new who
+    → length new.core.players ≡ length old.core.players
+many_stay old new machine who d =
+    ap (λ (s : Seen). length s.core.players) d.session ∙ many_left who.players 0 old
 
 -- who is gone was so before, or has left the mesh
 pub gone_only : (old new : Seen) (machine : Machine) (who : Left)

@@ -1,11 +1,12 @@
 -- What a change of one player's words leaves of all players.
-use Rattle.std.proofs.Common.{◌≡◌, ◌≢◌, ◌⊎◌, ◌∙◌, ℕ, List, [], ◌++◌, ap, sym, Bool, true, false, cond, inl, inr, Option, Some, eqb, append-nil}
+use Rattle.std.proofs.Common.{◌≡◌, ◌≢◌, ◌⊎◌, ◌∙◌, ℕ, List, [], ◌++◌, ◌-◌, length, ap, sym, Bool, true, false, cond, inl, inr, Option, Some, eqb, append-nil}
 use Rattle.std.specs.Prelude.{◌==◌}
 use Rattle.std.specs.Option.{option_map_or}
+use Rattle.std.proofs.lemmas.List.{length-set}
 use Rattle.std.proofs.lemmas.Bool.{cases_Bool, eqb-true, eq-eqb, false≢true}
 use Rattle.roll_frame.specs.Inputs.{changed, of_player, player_at}
 use Rattle.roll_frame.specs.Timeline.{Player}
-use Rattle.roll_inputs.proofs.Players.{at_changed, at_other}
+use Rattle.roll_inputs.proofs.Players.{at_changed, at_other, changed_at}
 
 -- the confirmed words of a player
 abbrev pub words_in : Option Player → List ℕ
@@ -49,3 +50,10 @@ test_changed test change players p x e keeps q = go (cases_Bool (eqb q p))
     go (inr other) =
         let apart : q ≢ p = λ f. false≢true (sym other ∙ eq-eqb q p f) in
         ap (λ o. option_map_or test o false) (at_other change players p q x e apart)
+
+-- a change leaves as many players
+pub length_changed : (change : Player → Player) (players : List Player) (p : ℕ) (x : Player)
+    → player_at players p ≡ Some x → length (changed change players p) ≡ length players
+length_changed change players p x e =
+    ap (λ (ps : List Player). length ps) (changed_at change players p x e)
+    ∙ length-set players (p - 1) (change x)

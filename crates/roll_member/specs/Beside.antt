@@ -1,14 +1,12 @@
 -- A mesh beside a session. The session's own players may have more words than the mesh knows of yet.
-use Rattle.std.specs.Prelude.{◌≡◌, ℕ, ◌+◌, ◌<◌, Bool, true, false, not, ◌==◌, ◌&&◌, ◌||◌, nat_le, length, is_some, Some, slice_index}
-use Rattle.std.specs.Bool.{beq}
+use Rattle.std.specs.Prelude.{◌≡◌, ℕ, ◌<◌, Bool, true, false, not, ◌==◌, ◌&&◌, ◌||◌, nat_le, length, is_some, Some, slice_index}
 use Rattle.std.specs.List.{list_all, range_with_len}
 use Rattle.roll_frame.specs.declared.settings.Settings.{Settings}
 use Rattle.roll_mesh.specs.declared.limits.TheConstants.{PLAYER_LIMIT}
 use Rattle.roll_mesh.specs.Machines.{at_places, is_in, left_at, owner_of}
 use Rattle.roll_mesh.specs.Meshes.{Seated}
-use Rattle.roll_session.specs.Headline.{words_of}
 use Rattle.roll_session.specs.Seen.{Seen}
-use Rattle.roll_member.specs.Joined.{is_gone_at, is_local_at}
+use Rattle.roll_member.specs.Joined.{is_gone_at, is_seated_at, known, IsWhole}
 
 -- what a mesh keeps by itself: who has left has as many words as it left at, and isn't the machine's own
 pub record IsSteadyAt (mesh : Seated) (p : ℕ) : Type 0 where
@@ -17,6 +15,7 @@ pub record IsSteadyAt (mesh : Seated) (p : ℕ) : Type 0 where
       → (owner_of mesh.seat p == mesh.seat.me) ≡ false
 
 pub record IsSteady (mesh : Seated) : Type 0 where
+  pub whole : IsWhole mesh
   pub here : is_in mesh.machine.gone mesh.seat.me ≡ false
   pub sized : length mesh.machine.has ≡ PLAYER_LIMIT
   pub players : (p : ℕ) → p < PLAYER_LIMIT → IsSteadyAt mesh p
@@ -24,10 +23,10 @@ pub record IsSteady (mesh : Seated) : Type 0 where
 -- whether a session may be the mesh's, as far as the player at a place tells
 abbrev pub is_near_at : Seen → Seated → ℕ → Bool
 is_near_at s mesh p =
-    beq (is_local_at s p) (owner_of mesh.seat p == mesh.seat.me)
-    && (nat_le (slice_index mesh.machine.has p) (length (words_of s (p + 1)))
+    is_seated_at s mesh.seat p
+    && (nat_le (slice_index mesh.machine.has p) (known s mesh.seat p)
     && (((owner_of mesh.seat p == mesh.seat.me)
-    || (slice_index mesh.machine.has p == length (words_of s (p + 1))))
+    || (slice_index mesh.machine.has p == known s mesh.seat p))
     && (not (is_gone_at s p) || is_some (left_at mesh.machine p))))
 
 unfoldable pub is_near : Seen → Seated → Bool
@@ -37,7 +36,7 @@ is_near s mesh = list_all (is_near_at s mesh) (range_with_len 0 PLAYER_LIMIT)
 abbrev pub caught_up : Seen → Seated → Seated
 caught_up s mesh = record mesh {
   machine = record mesh.machine {
-    has = at_places (λ p. length (words_of s (p + 1))) mesh.machine.has;
+    has = at_places (known s mesh.seat) mesh.machine.has;
   };
 }
 

@@ -7,19 +7,21 @@ use Rattle.roll_mesh.specs.Meshes.{heard_as, stepped}
 use Rattle.roll_mesh.specs.Words.{hear_words}
 use Rattle.roll_session.specs.Seen.{Step}
 use Rattle.roll_member.specs.Joined.{held, Joined}
-use Rattle.roll_member.specs.Taking.{shares, TakesAll}
+use Rattle.roll_member.specs.Taking.{shares, words_heard, TakesAll}
 use Rattle.roll_member.specs.declared.member.Taken.{Taken}
 
--- the words that the mesh believes were taken, player by player, as far as the session took them; the mesh heard the packet up to
--- there
+-- the words that the mesh believes were taken, player by player, as far as the session took them, of each input all words of a frame
+-- or none; the mesh heard the packet up to there
 pub record HearsPacket (step : Step) (old new : Joined) (packet : Packet) (words : List ℕ)
     (taken : Taken) : Type 0 where
+  pub led : ℕ
   pub session : TakesAll step (record {
+    input = old.mesh.seat.words;
     offers = packet.offers;
-    words = shares packet.offers words;
+    words = shares packet.offers (words_heard old.mesh.seat.words packet.offers words);
     has = old.mesh.machine.has;
     most = (hear old.mesh.seat packet old.mesh.machine).has;
-  }) old.session PLAYER_LIMIT new.session taken.refusal
+  }) old.session PLAYER_LIMIT new.session led taken.refusal
   pub mesh : new.mesh
       ≡ stepped (λ seat machine. hear seat (trimmed new.mesh.machine.has packet) machine) old.mesh
   pub heard : taken.heard ≡ heard_as old.mesh packet
@@ -27,5 +29,5 @@ pub record HearsPacket (step : Step) (old new : Joined) (packet : Packet) (words
   pub step_is : held new
       ≡ hear_words old.mesh.seat new.mesh.machine.has (record {
         packet = packet;
-        words = shares packet.offers words;
+        words = shares packet.offers (words_heard old.mesh.seat.words packet.offers words);
       }) (held old)

@@ -1,7 +1,12 @@
-//! A law, the contract of a function that makes no call.
-ghost use Rattle.roll_member.specs.Laws.{OwnWordsAreGiven};
+//! Laws, each the contract of a function that makes no call.
+ghost use Rattle.roll_member.specs.Laws.{InputsAreWhole, OwnWordsAreGiven};
 
 /// A word that a session takes of a local player is one that its machine gives, once it meets the session again.
 pub fn own_words_are_given()
     ensures { OwnWordsAreGiven }
+{}
+
+/// Of another machine's player a session that is tied to its mesh has all words of a frame or none, and so it leaves.
+pub fn inputs_are_whole()
+    ensures { InputsAreWhole }
 {}

@@ -4,9 +4,8 @@ ghost use Rattle.roll_member.specs.Leaving.{Disconnects, DisconnectsAll};
 ghost use Rattle.roll_mesh.specs.declared.limits.TheConstants.{PLAYER_LIMIT};
 
 use roll_frame::Refusal;
-use roll_game::Game;
 use roll_mesh::{Mesh, PLAYER_LIMIT};
-use roll_session::Session;
+use roll_session::Networked;
 
 /// Who left the session.
 #[derive(Clone, Copy, Debug)]
@@ -25,9 +24,10 @@ pub(crate) struct Parted {
 }
 
 /// Disconnects the player at a place if it has left the mesh.
-fn disconnect<G: Game>(session: &mut Session<G>, mesh: &Mesh, place: u8) -> Parted
+fn disconnect<S: Networked>(session: &mut S, mesh: &Mesh, place: u8) -> Parted
     requires { place < PLAYER_LIMIT }
-    ensures { Disconnects session.old mesh.now.machine place session.new result }
+    ensures parted { Disconnects (S.seen session.old) mesh.now.machine place (S.seen session.new) result }
+    ensures keeps { S.keeps session.old session.new }
 {
     let nothing = Parted {
         left: false,
@@ -50,8 +50,9 @@ fn disconnect<G: Game>(session: &mut Session<G>, mesh: &Mesh, place: u8) -> Part
 }
 
 /// Disconnects each player that has left the mesh.
-pub(crate) fn disconnect_all<G: Game>(session: &mut Session<G>, mesh: &Mesh) -> Left
-    ensures { DisconnectsAll session.old mesh.now.machine session.new result }
+pub(crate) fn disconnect_all<S: Networked>(session: &mut S, mesh: &Mesh) -> Left
+    ensures left { DisconnectsAll (S.seen session.old) mesh.now.machine (S.seen session.new) result }
+    ensures keeps { S.keeps session.old session.new }
 {
     let mut players = [false; PLAYER_LIMIT];
     let mut refusal = None;

@@ -10,7 +10,7 @@ mod telling;
 mod words;
 
 pub use join::JoinRefusal;
-pub use laws::own_words_are_given;
+pub use laws::{inputs_are_whole, own_words_are_given};
 pub use leaving::Left;
 pub use member::{Member, Taken};
 pub use telling::Told;

@@ -12,11 +12,10 @@ ghost use Rattle.roll_mesh.specs.Meshes.{hear_refusal, leave_refusal, stepped};
 use crate::join::{JoinRefusal, catch_up, give_all, is_near, join_refusal};
 use crate::leaving::{Left, disconnect_all};
 use crate::telling::{Told, queued, room_for, words_of};
-use crate::words::{counts, take_all};
+use crate::words::{counts, take_all, words_heard};
 use roll_frame::{Refusal, Settings};
-use roll_game::Game;
 use roll_mesh::{Heard, Mesh, MeshRefusal, Packet, Seat};
-use roll_session::Session;
+use roll_session::Networked;
 use std::marker::Model;
 
 /// What became of a packet that wasn't refused.
@@ -56,13 +55,13 @@ impl Member {
     /// The first of these that holds: `InvalidSeat` if there are fewer than 2 or more than 8 machines, or this one is none of
     /// them; `Players` if the local players aren't those of the seat, or the players aren't those that some machine owns;
     /// `Started` if the session has words of another machine's player, or a player has left.
-    pub fn join<G: Game>(session: &Session<G>, seat: Seat) -> Result<Member, JoinRefusal>
-        ensures joined { IfOk result (λ member. IsJoinedAs session.now seat
-            (record { session = session.now; mesh = member.mesh })) }
-        ensures limits { IfOk result (λ member. member.limits ≡ session.now.settings) }
-        ensures tied { IfOk result (λ member. IsTied session.now member.mesh) }
-        ensures accepted { OnOk result (join_refusal session.now seat ≡ None) }
-        ensures refused { IfErr result (λ why. join_refusal session.now seat ≡ Some why) }
+    pub fn join<S: Networked>(session: &S, seat: Seat) -> Result<Member, JoinRefusal>
+        ensures joined { IfOk result (λ member. IsJoinedAs (S.seen session.now) seat
+            (record { session = S.seen session.now; mesh = member.mesh })) }
+        ensures limits { IfOk result (λ member. member.limits ≡ (S.seen session.now).settings) }
+        ensures tied { IfOk result (λ member. IsTied (S.seen session.now) member.mesh) }
+        ensures accepted { OnOk result (join_refusal (S.seen session.now) seat ≡ None) }
+        ensures refused { IfErr result (λ why. join_refusal (S.seen session.now) seat ≡ Some why) }
     {
         if let Some(why) = join_refusal(session, &seat) {
             return Err(why);
@@ -81,10 +80,10 @@ impl Member {
     /// the words that the match told it, and no others, and of each own player no fewer than it had; and nobody has left it who
     /// hasn't left the match. Of two sessions of which all this is true it doesn't tell one from the other. If it is, what this
     /// machine's own players have given since is known from now on.
-    pub fn meet<G: Game>(&mut self, session: &Session<G>) -> bool
-        ensures met { IsTrue result ↔ IsOf session.now self.old }
-        ensures known { IsTrue result → self.new ≡ met session.now self.old }
-        ensures tied { IsTrue result → IsTied session.now self.new.mesh }
+    pub fn meet<S: Networked>(&mut self, session: &S) -> bool
+        ensures met { IsTrue result ↔ IsOf (S.seen session.now) self.old }
+        ensures known { IsTrue result → self.new ≡ met (S.seen session.now) self.old }
+        ensures tied { IsTrue result → IsTied (S.seen session.now) self.new.mesh }
         ensures unchanged { IsFalse result → self.new ≡ self.old }
     {
         if *session.settings() != self.limits || !is_near(session, &self.mesh) {
@@ -100,31 +99,34 @@ impl Member {
     /// # Errors
     ///
     /// Those of the mesh. Nothing is changed then.
-    pub fn hear<G: Game>(
+    pub fn hear<S: Networked>(
         &mut self,
-        session: &mut Session<G>,
+        session: &mut S,
         packet: &Packet,
         words: &[u32],
     ) -> Result<Taken, MeshRefusal>
-        requires { IsTied session.old self.old.mesh }
-        ensures taken { IfOk result (HearsPacket G.step
-            (record { session = session.old; mesh = self.old.mesh })
-            (record { session = session.new; mesh = self.new.mesh }) packet.now words.now) }
-        ensures tied { IsTied session.new self.new.mesh }
+        requires { IsTied (S.seen session.old) self.old.mesh }
+        ensures taken { IfOk result (HearsPacket S.step
+            (record { session = S.seen session.old; mesh = self.old.mesh })
+            (record { session = S.seen session.new; mesh = self.new.mesh }) packet.now words.now) }
+        ensures tied { IsTied (S.seen session.new) self.new.mesh }
         ensures limits { self.new.limits ≡ self.old.limits }
         ensures accepted { OnOk result (hear_refusal self.old.mesh packet.now ≡ None) }
         ensures refused { IfErr result
             (λ why. hear_refusal self.old.mesh packet.now ≡ Some why) }
         ensures unchanged { OnErr result (self.new ≡ self.old) }
         ensures session { OnErr result (session.new ≡ session.old) }
+        ensures keeps { S.keeps session.old session.new }
     {
         if let Some(why) = self.mesh.hear_refusal(packet) {
             return Err(why);
         }
+        let seat = *self.mesh.seat();
         let has = *self.mesh.has();
         let most = self.mesh.counts_after(packet);
-        let refusal = take_all(session, &packet.offers, words, &has, &most);
-        let reached = counts(session);
+        let words = words_heard(seat.words, &packet.offers, words);
+        let refusal = take_all(session, &seat, &packet.offers, words, &has, &most);
+        let reached = counts(session, &seat);
         match self.mesh.hear(&packet.trimmed(&reached)) {
             Ok(heard) => Ok(Taken { heard, refusal }),
             Err(_) => unreachable!(),
@@ -149,24 +151,25 @@ impl Member {
 
     /// Lets the players of the machines that are gone leave, if they may, and disconnects each that has left and isn't
     /// disconnected yet.
-    pub fn let_leave<G: Game>(&mut self, session: &mut Session<G>) -> Left
-        requires { IsTied session.old self.old.mesh }
-        ensures left { Leaves (record { session = session.old; mesh = self.old.mesh })
-            (record { session = session.new; mesh = self.new.mesh }) result }
-        ensures tied { IsTied session.new self.new.mesh }
+    pub fn let_leave<S: Networked>(&mut self, session: &mut S) -> Left
+        requires { IsTied (S.seen session.old) self.old.mesh }
+        ensures left { Leaves (record { session = S.seen session.old; mesh = self.old.mesh })
+            (record { session = S.seen session.new; mesh = self.new.mesh }) result }
+        ensures tied { IsTied (S.seen session.new) self.new.mesh }
         ensures limits { self.new.limits ≡ self.old.limits }
-        ensures words { held (record { session = session.new; mesh = self.new.mesh })
+        ensures words { held (record { session = S.seen session.new; mesh = self.new.mesh })
             ≡ with_machine (left self.old.mesh.seat)
-            (held (record { session = session.old; mesh = self.old.mesh })) }
+            (held (record { session = S.seen session.old; mesh = self.old.mesh })) }
+        ensures keeps { S.keeps session.old session.new }
     {
         self.mesh.let_leave();
         disconnect_all(session, &self.mesh)
     }
 
     /// What to tell a machine: what this one knows, and the words that the machine hasn't said that it has, as many as fit.
-    pub fn tell<G: Game>(&self, session: &Session<G>, machine: u8) -> Told
-        requires { IsTied session.now self.now.mesh }
-        ensures { IsTold (record { session = session.now; mesh = self.now.mesh }) machine
+    pub fn tell<S: Networked>(&self, session: &S, machine: u8) -> Told
+        requires { IsTied (S.seen session.now) self.now.mesh }
+        ensures { IsTold (record { session = S.seen session.now; mesh = self.now.mesh }) machine
             result.packet result.words.items }
     {
         let room = room_for(&self.mesh, machine);

@@ -1,7 +1,7 @@
 -- Who holds up a match.
-use Rattle.std.proofs.Common.{◌≡◌, ◌∙◌, ◌≤◌, ◌+◌, ℕ, suc, List, Bool, true, false, Option, Some, None, refl, sym, ap, arith}
+use Rattle.std.proofs.Common.{◌≡◌, ◌∙◌, ◌≤◌, ◌+◌, ℕ, suc, List, Bool, true, false, Some, None, refl, arith}
 use Rattle.std.specs.List.{list_all, range_with_len}
-use Rattle.std.specs.Prelude.{◌==◌, ◌&&◌, ◌||◌, not, is_none, is_some, max, min, if◌then◌else◌, nat_lt, slice_index}
+use Rattle.std.specs.Prelude.{◌==◌, ◌&&◌, not, is_none, is_some, max, min, if◌then◌else◌, nat_lt, slice_index}
 use Rattle.std.proofs.lemmas.Bool.{and_right, le-ltb, not_from_true, or_from}
 use Rattle.roll_mesh.specs.HoldingUp.{could_give, fewest_of, given_by, held_up_by, holds_up, is_open_at, keeps_open, least_some, most_of, Waits, WaitersHoldUpNobody}
 use Rattle.roll_mesh.specs.Machines.{is_fenced, left_at, owner_of, told_by}

@@ -1,4 +1,5 @@
 pub mod Places
+pub mod Groups
 pub mod Changes
 pub mod Trimmed
 pub mod Moves

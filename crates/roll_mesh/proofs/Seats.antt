@@ -10,7 +10,7 @@ use Rattle.roll_mesh.proofs.Changes.{give_changes, leave_changes, left_changes, 
 
 -- the match of a seat
 abbrev pub match_of : Seat → Match
-match_of seat = record { owners = seat.owners; machines = seat.machines }
+match_of seat = record { owners = seat.owners; machines = seat.machines; words = seat.words }
 
 seated : (seat : Seat) (old new : Machine) → IsSeated seat old
     → (is_in old.gone seat.me ≡ false → is_in new.gone seat.me ≡ false) → IsSeated seat new
@@ -20,6 +20,9 @@ seated seat old new s here = record {
   mine = s.mine;
   here =
       here s.here;
+  word = s.word;
+  words = s.words;
+  grouped = s.grouped;
 }
 
 pub give_seated : (seat : Seat) (p : ℕ) (machine : Machine) → IsSeated seat machine

@@ -1,7 +1,7 @@
 -- What a machine takes of a packet that it trims: what the whole packet gives and tells, and just
 -- as many words as it has room for.
 use Rattle.std.proofs.Common.{◌≡◌, ℕ, ◌<◌, ◌≤◌, List, [], ◌∷◌, length, get_or, refl, sym, ◌∙◌, ap, Bool, true, false, arith, inl, inr, subst, Some, None}
-use Rattle.std.specs.Prelude.{◌⊎◌, slice_index, if◌then◌else◌, ◌&&◌, ◌||◌, ◌==◌, nat_le, is_none, max, min}
+use Rattle.std.specs.Prelude.{◌⊎◌, slice_index, if◌then◌else◌, ◌&&◌, ◌||◌, ◌==◌, nat_le, is_none, max, min, not}
 use Rattle.std.proofs.Math.Nat.{zero-min}
 use Rattle.std.proofs.lemmas.Bool.{cases_lt, le-leb, leb-true}
 use Rattle.std.proofs.lemmas.List.{get_or_past}
@@ -9,12 +9,14 @@ use Rattle.roll_mesh.specs.declared.machine.Machine.{Machine}
 use Rattle.roll_mesh.specs.declared.packet.Offer.{Offer}
 use Rattle.roll_mesh.specs.declared.packet.Packet.{Packet}
 use Rattle.roll_mesh.specs.declared.packet.View.{View}
-use Rattle.roll_mesh.specs.declared.refusal.MeshRefusal.TheVariants.{InvalidMachine, OwnMachine, MachineGone, Overstated}
+use Rattle.roll_mesh.specs.declared.refusal.MeshRefusal.TheVariants.{InvalidMachine, OwnMachine, MachineGone, Overstated, Uneven}
 use Rattle.roll_mesh.specs.declared.seat.Seat.{Seat}
+use Rattle.roll_mesh.specs.Groups.{first_of, is_even, AreAlike}
 use Rattle.roll_mesh.specs.Laws.{owner_in}
 use Rattle.roll_mesh.specs.Machines.{at_places, hear, is_fenced, is_in, left_at, owner_of, is_orphan, told_by, none_offered, offer_at, trimmed_offer, trimmed, is_believed, gone_after, has_after, taken}
 use Rattle.roll_mesh.specs.Meshes.{Seated, hear_refusal, is_had}
 use Rattle.roll_mesh.specs.Worlds.{Match}
+use Rattle.roll_mesh.proofs.Groups.{evenly, even_of}
 use Rattle.roll_mesh.proofs.Places.{at_place, past_places, all_places, at_each, filled}
 use Rattle.roll_mesh.proofs.Changes.{Sent, Gives, Tells, Change, none_some}
 
@@ -181,24 +183,65 @@ trimmed_had most packet h =
           packet.view.has p h l),
     )))))
 
+pub trimmed_even : (seat : Seat) (most : List ℕ) (packet : Packet)
+    → AreAlike seat.words (slice_index most) → is_even seat packet ≡ true
+    → is_even seat (trimmed most packet) ≡ true
+trimmed_even seat most packet alike h =
+    let e = evenly seat packet h in
+    even_of seat (trimmed most packet) (record {
+      counts = λ p lt. ap (λ (v : View). slice_index v.has p) (trimmed_view most packet)
+          ∙ (e.counts p lt ∙ ap (λ (v : View). slice_index v.has (first_of seat.words p))
+          (sym (trimmed_view most packet)));
+      firsts = λ p lt. firsts p ∙ (e.firsts p lt ∙ sym (firsts (first_of seat.words p)));
+      ends = λ p lt. trimmed_end most packet p
+          ∙ (ap (λ n. min n (slice_index most p)) (e.ends p lt)
+          ∙ (ap (λ n. min (offer_at packet (first_of seat.words p)).end n) (alike p lt)
+          ∙ sym (trimmed_end most packet (first_of seat.words p))));
+    })
+  where
+    firsts : (p : ℕ) → (offer_at (trimmed most packet) p).first ≡ (offer_at packet p).first
+    firsts p = ap (λ (o : Offer). o.first) (trimmed_at most packet p)
+
 pub trimmed_refusal : (mesh : Seated) (most : List ℕ) (packet : Packet)
+    → AreAlike mesh.seat.words (slice_index most)
     → hear_refusal mesh packet ≡ None → hear_refusal mesh (trimmed most packet) ≡ None
 unfolding trimmed
-trimmed_refusal mesh most packet h =
+trimmed_refusal mesh most packet alike h =
     go (nat_le mesh.seat.machines packet.sender) (packet.sender == mesh.seat.me)
-    (is_in mesh.machine.gone packet.sender) (is_had packet) refl h
+    (is_in mesh.machine.gone packet.sender) (is_had packet) (is_even mesh.seat packet) refl refl h
   where
-    go : (a b c d : Bool) → is_had packet ≡ d → (if a then Some InvalidMachine else
+    go : (a b c d f : Bool) → is_had packet ≡ d → is_even mesh.seat packet ≡ f
+        → (if a then Some InvalidMachine else
         (if b then Some OwnMachine else (if c then Some MachineGone else
-        (if d then None else Some Overstated)))) ≡ None
+        (if not d then Some Overstated else (if f then None else Some Uneven))))) ≡ None
         → (if a then Some InvalidMachine else (if b then Some OwnMachine else
         (if c then Some MachineGone else
-        (if is_had (trimmed most packet) then None else Some Overstated)))) ≡ None
-    go false false false true e n = rw (trimmed_had most packet e) refl
-    go false false false false e n = absurd (none_some Overstated (sym n))
-    go false false true d e n = absurd (none_some MachineGone (sym n))
-    go false true c d e n = absurd (none_some OwnMachine (sym n))
-    go true b c d e n = absurd (none_some InvalidMachine (sym n))
+        (if not (is_had (trimmed most packet)) then Some Overstated else
+        (if is_even mesh.seat (trimmed most packet) then None else Some Uneven))))) ≡ None
+    go false false false true true e g n =
+        rw (trimmed_had most packet e, trimmed_even mesh.seat most packet alike g) refl
+    go false false false true false e g n = absurd (none_some Uneven (sym n))
+    go false false false false f e g n = absurd (none_some Overstated (sym n))
+    go false false true d f e g n = absurd (none_some MachineGone (sym n))
+    go false true c d f e g n = absurd (none_some OwnMachine (sym n))
+    go true b c d f e g n = absurd (none_some InvalidMachine (sym n))
+
+-- a packet that isn't refused has the same of all words of an input
+pub heard_even : (mesh : Seated) (packet : Packet) → hear_refusal mesh packet ≡ None
+    → is_even mesh.seat packet ≡ true
+heard_even mesh packet h =
+    go (nat_le mesh.seat.machines packet.sender) (packet.sender == mesh.seat.me)
+    (is_in mesh.machine.gone packet.sender) (is_had packet) (is_even mesh.seat packet) h
+  where
+    go : (a b c d f : Bool) → (if a then Some InvalidMachine else
+        (if b then Some OwnMachine else (if c then Some MachineGone else
+        (if not d then Some Overstated else (if f then None else Some Uneven))))) ≡ None → f ≡ true
+    go false false false true true n = refl
+    go false false false true false n = absurd (none_some Uneven (sym n))
+    go false false false false f n = absurd (none_some Overstated (sym n))
+    go false false true d f n = absurd (none_some MachineGone (sym n))
+    go false true c d f n = absurd (none_some OwnMachine (sym n))
+    go true b c d f n = absurd (none_some InvalidMachine (sym n))
 
 -- ---- how many words there are then
 
@@ -254,7 +297,8 @@ listened mesh packet h = go (nat_le mesh.seat.machines packet.sender)
   where
     go : (a b c : Bool) → (if a then Some InvalidMachine else (if b then Some OwnMachine else
         (if c then Some MachineGone else
-        (if is_had packet then None else Some Overstated)))) ≡ None → (b || c) ≡ false
+        (if not (is_had packet) then Some Overstated else
+        (if is_even mesh.seat packet then None else Some Uneven))))) ≡ None → (b || c) ≡ false
     go false false false n = refl
     go false false true n = absurd (none_some MachineGone (sym n))
     go false true c n = absurd (none_some OwnMachine (sym n))

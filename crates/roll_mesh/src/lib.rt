@@ -20,7 +20,7 @@ pub use laws::{
     owners_have_what_they_gave, shortened_is_heard_alike, they_agree, they_get_on,
     they_have_what_was_given, waiters_hold_up_nobody, who_stays_has_as_many,
 };
-pub use limits::{MACHINE_LIMIT, PLAYER_LIMIT};
+pub use limits::{INPUT_LIMIT, MACHINE_LIMIT, PLAYER_LIMIT};
 pub use machine::Machine;
 pub use mesh::Mesh;
 pub use packet::{Offer, Packet, View};

@@ -1,11 +1,12 @@
 //! What one machine knows of the others.
 ghost use Rattle.std.specs.Prelude.{◌≡◌, ◌<◌, Some, None, true, false, OnOk, OnErr, IfOk, IfErr};
 ghost use Rattle.roll_mesh.specs.Machines.{give, hear, is_in, leave, left, left_at, may_leave, taken, tell};
+ghost use Rattle.roll_mesh.specs.Groups.{is_even, AreEven};
 ghost use Rattle.roll_mesh.specs.Meshes.{give_refusal, hear_refusal, heard_as, is_had, is_seat, leave_refusal, stepped};
 ghost use Rattle.roll_mesh.specs.Worlds.{first_machine};
 
 use crate::heard::Heard;
-use crate::limits::{MACHINE_LIMIT, PLAYER_LIMIT};
+use crate::limits::PLAYER_LIMIT;
 use crate::machine::Machine;
 use crate::packet::Packet;
 use crate::refusal::MeshRefusal;
@@ -36,7 +37,8 @@ impl Mesh {
     ///
     /// # Errors
     ///
-    /// `InvalidSeat` if there are fewer than 2 or more than 8 machines, or this one is none of them.
+    /// `InvalidSeat` if there are fewer than 2 or more than 8 machines, or this one is none of them; or if an input has fewer than 1 or
+    /// more than 4 words, or several owners, or more words than there are players left.
     pub fn new(seat: Seat) -> Result<Mesh, MeshRefusal>
         ensures seated { IfOk result
             (λ mesh. mesh ≡ record { seat = seat; machine = first_machine }) }
@@ -44,10 +46,7 @@ impl Mesh {
         ensures refused { IfErr result (λ why. why ≡ MeshRefusal.InvalidSeat) }
         ensures strange { OnErr result (is_seat seat ≡ false) }
     {
-        if seat.machines < 2
-            || usize::from(seat.machines) > MACHINE_LIMIT
-            || seat.me >= seat.machines
-        {
+        if !seat.is_seat() {
             return Err(MeshRefusal::InvalidSeat);
         }
         Ok(Mesh {
@@ -109,6 +108,7 @@ impl Mesh {
     pub fn tell(&self, machine: u8, room: &[u32; PLAYER_LIMIT]) -> Packet
         ensures told { result ≡ tell self.now.seat machine room.now self.now.machine }
         ensures had { is_had result ≡ true }
+        ensures even { AreEven self.now.seat self.now.machine room.now → is_even self.now.seat result ≡ true }
     {
         self.machine.tell(&self.seat, machine, room)
     }
@@ -121,13 +121,14 @@ impl Mesh {
     ///
     /// The first of these that holds: `InvalidMachine` if there is no such sender, `OwnMachine` if it is this machine,
     /// `MachineGone` if it is regarded as gone, `Overstated` if the packet has words that its sender doesn't say that
-    /// it has. The mesh is then unchanged.
+    /// it has, `Uneven` if it has other frames or another count of one word of an input than of another. The mesh is then unchanged.
     pub fn hear(&mut self, packet: &Packet) -> Result<Heard, MeshRefusal>
         ensures heard { IfOk result (λ heard. heard ≡ heard_as self.old packet.now) }
         ensures taken { OnOk result (self.new
             ≡ stepped (λ seat machine. hear seat packet.now machine) self.old) }
         // A packet that a mesh of this match told is a step of the laws, whether it is taken or refused.
-        ensures step { is_had packet.now ≡ true → packet.now.sender < self.old.seat.machines
+        ensures step { is_had packet.now ≡ true → is_even self.old.seat packet.now ≡ true
+            → packet.now.sender < self.old.seat.machines
             → self.new ≡ stepped (λ seat machine. hear seat packet.now machine) self.old }
         ensures accepted { OnOk result (hear_refusal self.old packet.now ≡ None) }
         ensures refused { IfErr result (λ why. hear_refusal self.old packet.now ≡ Some why) }
@@ -157,6 +158,8 @@ impl Mesh {
             Some(MeshRefusal::MachineGone)
         } else if !packet.is_had() {
             Some(MeshRefusal::Overstated)
+        } else if !packet.is_even(&self.seat) {
+            Some(MeshRefusal::Uneven)
         } else {
             None
         }

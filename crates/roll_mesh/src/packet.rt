@@ -1,9 +1,12 @@
 //! What machines tell each other.
-ghost use Rattle.std.specs.Prelude.{◌≡◌};
+ghost use Rattle.std.specs.Prelude.{◌≡◌, ◌<◌};
+ghost use Rattle.roll_mesh.specs.Groups.{is_even, is_even_at};
+ghost use Rattle.roll_mesh.specs.declared.limits.TheConstants.{PLAYER_LIMIT};
 ghost use Rattle.roll_mesh.specs.Meshes.{is_had};
 ghost use Rattle.roll_mesh.specs.Machines.{covers, keeps, kept_offer, reaches, shortened, trimmed, trimmed_offer};
 
 use crate::limits::{MACHINE_LIMIT, PLAYER_LIMIT};
+use crate::seat::Seat;
 
 /// What a machine tells of itself. Machines and players are counted from 0.
 #[derive(Clone, Copy, Debug)]
@@ -101,6 +104,29 @@ impl Packet {
             }
         }
         true
+    }
+
+    /// Whether it has the same count and the same frames of all words of an input.
+    pub fn is_even(&self, seat: &Seat) -> bool
+        ensures { result ≡ is_even seat.now self.now }
+    {
+        for player in 0..PLAYER_LIMIT {
+            if !self.is_even_at(seat, player) {
+                return false;
+            }
+        }
+        true
+    }
+
+    /// Whether it has the same count and the same frames of a player as of the first word of the same input.
+    fn is_even_at(&self, seat: &Seat, player: usize) -> bool
+        requires { player < PLAYER_LIMIT }
+        ensures { result ≡ is_even_at seat.now self.now player }
+    {
+        let first = seat.first_of(player);
+        self.view.has[player] == self.view.has[first]
+            && self.offers[player].first == self.offers[first].first
+            && self.offers[player].end == self.offers[first].end
     }
 
     /// The packet with each player's words before a frame alone, for a machine that has no room for more: the rest come

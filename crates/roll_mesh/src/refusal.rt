@@ -4,7 +4,8 @@ use thiserror::Error;
 /// Why a call of a mesh is refused. Machines and players are counted from 0.
 #[derive(Clone, Copy, Debug, PartialEq, Eq, Error)]
 pub enum MeshRefusal {
-    /// There are fewer than 2 or more than 8 machines, or this machine is none of them.
+    /// There are fewer than 2 or more than 8 machines, or this machine is none of them; or an input has no words or more than 4, or
+    /// several owners, or more words than there are players left.
     #[error("no such seat")]
     InvalidSeat,
     /// There is no such machine in the match.
@@ -25,4 +26,7 @@ pub enum MeshRefusal {
     /// A packet has words that its sender doesn't say that it has.
     #[error("the packet has more words than its sender")]
     Overstated,
+    /// A packet has other frames, or another count, of one word of an input than of another.
+    #[error("the packet has only some words of an input")]
+    Uneven,
 }

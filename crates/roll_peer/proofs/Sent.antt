@@ -1,19 +1,12 @@
--- What is told, as it is sent.
-use Rattle.std.proofs.Common.{◌≡◌, ◌∙◌, ◌-◌, ℕ, List, [], ◌∷◌, Bool, true, false, map, refl, sym, ap, subst, arith}
+-- What is told, as it is sent: offers of no words are left out.
+use Rattle.std.proofs.Common.{◌≡◌, ◌-◌, ℕ, List, [], ◌∷◌, Bool, true, false, map, refl, arith}
 use Rattle.std.specs.Prelude.{◌==◌, ◌&&◌, length, nat_le, if◌then◌else◌}
 use Rattle.std.proofs.lemmas.Bool.{and_from, and_parts, eqb-true}
 use Rattle.std.proofs.lemmas.List.Sums.{sum_by-cons}
-use Rattle.roll_contact.specs.Seals.{sealed}
-use Rattle.roll_contact.specs.declared.key.Key.{Key}
 use Rattle.roll_mesh.specs.Machines.{kept_offer, none_offered}
 use Rattle.roll_mesh.specs.declared.packet.Offer.{Offer}
-use Rattle.roll_wire.specs.Spelling.{are_offers, count_of, is_offer, spelling, Content, Greets, Leaves, Plays}
+use Rattle.roll_wire.specs.Spelling.{are_offers, count_of, is_offer}
 use Rattle.roll_wire.specs.declared.limits.TheConstants.{WORD_LIMIT}
-use Rattle.roll_peer.specs.Peered.{Peered}
-use Rattle.roll_peer.specs.Sending.{key_for, text_for}
-use Rattle.roll_peer.specs.Settings.{number_for}
-
--- ---- offers of no words are left out
 
 abbrev size : Offer → ℕ
 size o = o.end - o.first
@@ -62,27 +55,3 @@ still_whole os words h =
     (nat_le (length words) WORD_LIMIT)
     (and_from (are_offers (map kept_offer os)) (count_of os == length words) (still_offers os inner.0) inner.1)
     outer.1)
-
--- ---- what is sealed
-
-pub number_is : (peer : Peered) (m : ℕ) (what : Content)
-    → (key_for peer m what).number ≡ number_for peer.settings m
-number_is peer m (Greets hello) = refl
-number_is peer m (Plays t) = refl
-number_is peer m Leaves = refl
-
--- a datagram that is sealed by its key is what is sent
-pub sealed_as : (peer : Peered) (m : ℕ) (what : Content) (key : Key) (text : List ℕ)
-    → key ≡ key_for peer m what
-    → text ≡ spelling (record {
-      envelope = record { match_number = key.number; sender = peer.settings.me };
-      content = what;
-    }) → sealed key text ≡ text_for peer m what
-unfolding text_for
-sealed_as peer m what key text k =
-    let named : ℕ → List ℕ = λ n. spelling (record {
-      envelope = record { match_number = n; sender = peer.settings.me };
-      content = what;
-    }) in
-    subst (λ (by : Key). text ≡ named by.number → sealed by text ≡ text_for peer m what) (sym k)
-    (λ t. ap (sealed (key_for peer m what)) (t ∙ ap named (number_is peer m what)))

@@ -1,6 +1,7 @@
 -- What a play may speak of.
 use Rattle.std.specs.Prelude.{ℕ, List, Bool, not, ◌&&◌, ◌||◌, ◌==◌, nat_lt, nat_le, slice_index}
 use Rattle.std.specs.List.{list_all, range_with_len}
+use Rattle.roll_mesh.specs.Groups.{is_even}
 use Rattle.roll_mesh.specs.Machines.{is_in, offer_at}
 use Rattle.roll_mesh.specs.declared.limits.TheConstants.{MACHINE_LIMIT, PLAYER_LIMIT}
 use Rattle.roll_mesh.specs.declared.packet.Packet.{Packet}
@@ -29,9 +30,10 @@ unfoldable pub are_its_players : Seat → Packet → Bool
 are_its_players seat packet =
     list_all (is_its_player seat packet) (range_with_len 0 PLAYER_LIMIT)
 
--- whether a packet speaks of machines and players of the match alone
+-- whether a packet speaks of machines and players of the match alone, and has the same count and frames of all words of an input
 abbrev pub is_inside : Seat → Packet → Bool
-is_inside seat packet = are_its_machines seat packet && are_its_players seat packet
+is_inside seat packet =
+    are_its_machines seat packet && are_its_players seat packet && is_even seat packet
 
 -- whether its sender says that it has no more words of a player of this machine's own than this machine has
 abbrev pub is_no_more : Seat → List ℕ → Packet → ℕ → Bool

@@ -12,7 +12,7 @@ use Rattle.roll_contact.specs.declared.contact.Contact.{Contact}
 use Rattle.roll_contact.specs.declared.contact.Stage.{Stage}
 use Rattle.roll_contact.specs.declared.contact.Stage.TheVariants.{Silent, Greeted, Playing, Mismatched}
 use Rattle.roll_contact.specs.declared.terms.Field.{Field}
-use Rattle.roll_contact.specs.declared.terms.Field.TheVariants.{Machines, Owners, Settings}
+use Rattle.roll_contact.specs.declared.terms.Field.TheVariants.{Machines, Owners, Settings, Words}
 use Rattle.roll_peer.specs.declared.digests.Digests.{Digests}
 use Rattle.roll_peer.specs.declared.event.PeerEvent.{PeerEvent}
 use Rattle.roll_peer.specs.declared.event.PeerEvent.TheVariants.{Synchronizing, Synchronized, DisconnectedFromPeer, Interrupted, Resumed, Desync, Mismatch, Dropped, Restarted, Refused}
@@ -59,6 +59,7 @@ abbrev pub place_of : Field → ℕ
 place_of Machines = 0
 place_of Owners = 1
 place_of Settings = 2
+place_of Words = 3
 
 -- a field by which a machine is found to mean another match, unless it was so before
 abbrev pub newly : Option Field → Option Field → Option Field

@@ -6,12 +6,20 @@ use Rattle.roll_mesh.specs.declared.seat.Seat.{Seat}
 use Rattle.roll_peer.specs.declared.settings.MatchSettings.{MatchSettings}
 
 abbrev pub seat_of : MatchSettings → Seat
-seat_of settings =
-    record { owners = settings.owners; machines = settings.machines; me = settings.me }
+seat_of settings = record {
+  owners = settings.owners;
+  machines = settings.machines;
+  words = settings.words;
+  me = settings.me;
+}
 
 abbrev pub terms_of : MatchSettings → Terms
-terms_of settings =
-    record { machines = settings.machines; owners = settings.owners; digest = settings.digest }
+terms_of settings = record {
+  machines = settings.machines;
+  owners = settings.owners;
+  digest = settings.digest;
+  words = settings.words;
+}
 
 abbrev pub opening_of : MatchSettings → Opening
 opening_of settings = record { draw = settings.draw; silent_after = settings.silent_after }

@@ -1,7 +1,7 @@
 -- A turn: silent machines are gone, players leave, and the session rolls.
-use Rattle.std.specs.Prelude.{◌≡◌, ◌⊎◌, ℕ, zero, suc, ℤ, ◌+◌, ◌-◌, List, length, slice_get, Bool, true, false, not, ◌&&◌, ◌||◌, ◌==◌, nat_lt, Option, Some, None, is_none, Result, Ok, Err, if◌then◌else◌, slice_set}
+use Rattle.std.specs.Prelude.{◌≡◌, ◌⊎◌, ℕ, zero, suc, ℤ, ◌+◌, ◌-◌, List, filter, Bool, true, false, not, ◌&&◌, ◌||◌, ◌==◌, nat_lt, Option, Some, None, is_none, Result, Ok, Err, if◌then◌else◌, slice_set}
 use Rattle.std.specs.Option.{option_map, option_map_or}
-use Rattle.std.specs.List.{list_all, range_with_len}
+use Rattle.std.specs.List.{last_or, list_all, range_with_len}
 use Rattle.roll_frame.specs.Timeline.{timeline}
 use Rattle.roll_frame.specs.declared.entry.Entry.{Entry}
 use Rattle.roll_frame.specs.declared.entry.Entry.TheVariants.{Local, Remote, Disconnect, Sync, Advance, Graft, Partial}
@@ -214,15 +214,27 @@ is_roll (Disconnect player) = false
 is_roll (Graft ticket route) = false
 is_roll (Partial to made) = false
 
--- whether nothing was accepted since one
+-- whether an entry took in a branch, which changes nothing of what is shown
+abbrev pub is_graft : Entry → Bool
+is_graft Sync = false
+is_graft Advance = false
+is_graft (Local player word) = false
+is_graft (Remote player frame word) = false
+is_graft (Disconnect player) = false
+is_graft (Graft ticket route) = true
+is_graft (Partial to made) = false
+
+-- whether nothing was accepted since one, but branches: the last entry that is none is a roll that went to its end
 abbrev pub ends_in_roll : List Entry → Bool
-ends_in_roll log = option_map_or is_roll (slice_get log (length log - 1)) false
+ends_in_roll log =
+    option_map_or is_roll (last_or None (filter (λ entry. not (is_graft entry)) log)) false
 
 -- the state shown is that of what is known of the players, and of the predictions for the rest
 abbrev pub IsUpToDate : Seen → Type 0
 IsUpToDate s = s.core.shown ≡ Some (timeline s.core.players s.core.frame)
 
--- the session goes to the next frame, if its words are there; else it rolls back, unless nothing was accepted since it did
+-- the session goes to the next frame, if its words are there; else it rolls back, unless nothing but branches was accepted since
+-- it did
 abbrev pub Plays : (before after : Seen) → Result (Option Reached) Refusal → Type 0
 Plays before after (Ok (Some reached)) =
     (advance_refusal before ≡ None) × (reached ≡ reached_by before.core)

@@ -5,11 +5,11 @@ ghost use Rattle.roll_mesh.specs.declared.limits.TheConstants.{MACHINE_LIMIT, PL
 
 use roll_mesh::{MACHINE_LIMIT, PLAYER_LIMIT, Packet, Seat};
 
-/// Whether a packet speaks of machines and players of the match alone.
+/// Whether a packet speaks of machines and players of the match alone, and alike of all words of an input.
 pub(crate) fn is_inside(seat: &Seat, packet: &Packet) -> bool
     ensures { result ≡ is_inside seat.now packet.now }
 {
-    are_its_machines(seat, packet) && are_its_players(seat, packet)
+    are_its_machines(seat, packet) && are_its_players(seat, packet) && packet.is_even(seat)
 }
 
 /// Whether all machines that a packet calls gone are of the match.

@@ -25,3 +25,4 @@ pub use refusal::{OpenRefusal, OtherSession, PeerRefusal};
 pub use roll_contact::{Field, Stage};
 pub use settings::MatchSettings;
 pub use stats::Stats;
+pub use turning::ends_in_roll;

@@ -103,6 +103,7 @@ fn place_of(field: Field) -> u8
         Field::Machines => 0,
         Field::Owners => 1,
         Field::Settings => 2,
+        Field::Words => 3,
     }
 }
 

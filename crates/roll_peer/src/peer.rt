@@ -19,15 +19,15 @@ use crate::refusal::{OpenRefusal, OtherSession};
 use crate::settings::MatchSettings;
 use crate::stall::Stall;
 use roll_contact::{Clock, Contact, Stage};
-use roll_game::Game;
 use roll_member::Member;
 use roll_mesh::{MACHINE_LIMIT, Mesh, MeshRefusal};
-use roll_session::Session;
+use roll_session::Networked;
 use std::alloc::Global;
 use std::marker::Model;
 
 /// The network of a match at one machine: what it knows of the other machines, and what it has to tell its program. The session
-/// stands beside it, and is lent to the calls that need it: give always the same one, and tell it of others by these calls alone.
+/// stands beside it, with its game or without one, and is lent to the calls that need it: give always the same one, and tell it of
+/// others by these calls alone.
 ///
 /// A program calls `receive` for each datagram that came, gives its players' words to the session once `is_running` says that the
 /// match has begun, makes a `turn`, and sends what `send` makes for each other machine: all this some 60 times a second. All moments
@@ -82,16 +82,16 @@ impl Peer {
     /// # Errors
     ///
     /// If the settings have no draw, there is no memory, or the session can't take its seat.
-    pub fn open<G: Game>(
+    pub fn open<S: Networked>(
         alloc: Global,
-        session: &Session<G>,
+        session: &S,
         settings: MatchSettings,
     ) -> Result<Peer, OpenRefusal>
-        ensures opened { IfOk result (IsOpenedAs session.now settings) }
-        ensures tied { IfOk result (λ peer. IsTied session.now peer.member.mesh) }
-        ensures accepted { OnOk result (join_refusal session.now (seat_of settings) ≡ None) }
+        ensures opened { IfOk result (IsOpenedAs (S.seen session.now) settings) }
+        ensures tied { IfOk result (λ peer. IsTied (S.seen session.now) peer.member.mesh) }
+        ensures accepted { OnOk result (join_refusal (S.seen session.now) (seat_of settings) ≡ None) }
         ensures drawn { OnOk result (settings.draw ≢ 0) }
-        ensures refused { IfErr result (IsWhyNot session.now settings) }
+        ensures refused { IfErr result (IsWhyNot (S.seen session.now) settings) }
     {
         if settings.draw == 0 {
             return Err(OpenRefusal::NoDraw);
@@ -142,16 +142,16 @@ impl Peer {
     /// # Errors
     ///
     /// If the session isn't this match's. Nothing is changed then.
-    pub fn note_settled<G: Game>(
+    pub fn note_settled<S: Networked>(
         &mut self,
-        session: &Session<G>,
+        session: &S,
         digest: u64,
     ) -> Result<(), OtherSession>
-        ensures noted { OnOk result (self.new ≡ record (meeting session.now self.old) {
-          digests = noted (settled session.now.core) digest self.old.digests;
+        ensures noted { OnOk result (self.new ≡ record (meeting (S.seen session.now) self.old) {
+          digests = noted (settled (S.seen session.now).core) digest self.old.digests;
         }) }
-        ensures accepted { OnOk result (IsOf session.now self.old.member) }
-        ensures other { OnErr result (IsOther session.now self.old) }
+        ensures accepted { OnOk result (IsOf (S.seen session.now) self.old.member) }
+        ensures other { OnErr result (IsOther (S.seen session.now) self.old) }
         ensures unchanged { OnErr result (self.new ≡ self.old) }
     {
         if !self.member.meet(session) {

@@ -15,10 +15,9 @@ use crate::peer::Peer;
 use crate::received::{Ignored, Received};
 use roll_contact::seal::unseal;
 use roll_contact::{Contact, Key};
-use roll_game::Game;
 use roll_member::Taken;
 use roll_mesh::Packet;
-use roll_session::Session;
+use roll_session::Networked;
 use roll_wire::{Body, Clocks, DATAGRAM_LIMIT, Hello, Play, decode};
 
 /// Where a datagram has its sender's number, and its kind.
@@ -37,21 +36,22 @@ impl Peer {
     ///
     /// Why they weren't heard. Then nothing changed but the clock; and of what its sender sealed it is counted and told that it was
     /// refused.
-    pub fn receive<G: Game>(
+    pub fn receive<S: Networked>(
         &mut self,
-        session: &mut Session<G>,
+        session: &mut S,
         bytes: &[u8],
         now: u32,
     ) -> Result<Received, Ignored>
-        ensures received { IfOk result (Receives G.step session.old session.new
-            (meeting session.old (ticking now self.old)) self.new bytes.now) }
-        ensures tied { OnOk result (IsTied session.new self.new.member.mesh) }
-        ensures accepted { OnOk result (IsOf session.old self.old.member) }
+        ensures received { IfOk result (Receives S.step (S.seen session.old) (S.seen session.new)
+            (meeting (S.seen session.old) (ticking now self.old)) self.new bytes.now) }
+        ensures tied { OnOk result (IsTied (S.seen session.new) self.new.member.mesh) }
+        ensures accepted { OnOk result (IsOf (S.seen session.old) self.old.member) }
         ensures fine { OnOk result
-            (ignored (meeting session.old (ticking now self.old)) bytes.now ≡ None) }
+            (ignored (meeting (S.seen session.old) (ticking now self.old)) bytes.now ≡ None) }
         ensures refused { IfErr result
-            (IsIgnored session.old (ticking now self.old) self.new bytes.now) }
+            (IsIgnored (S.seen session.old) (ticking now self.old) self.new bytes.now) }
         ensures session { OnErr result (session.new ≡ session.old) }
+        ensures keeps { S.keeps session.old session.new }
     {
         self.clock.tick(now);
         if !self.member.meet(session) {
@@ -65,20 +65,21 @@ impl Peer {
 
     /// Hears bytes that are as many as a datagram has, at the moment that the clock shows.
     #[tactic(auto, using(crate::proofs::Said::ignored_is))]
-    fn receive_sized<G: Game>(
+    fn receive_sized<S: Networked>(
         &mut self,
-        session: &mut Session<G>,
+        session: &mut S,
         bytes: &[u8],
     ) -> Result<Received, Ignored>
-        requires tied { IsTied session.old self.old.member.mesh }
+        requires tied { IsTied (S.seen session.old) self.old.member.mesh }
         ensures received { IfOk result
-            (Receives G.step session.old session.new self.old self.new bytes.now) }
-        ensures tied { OnOk result (IsTied session.new self.new.member.mesh) }
+            (Receives S.step (S.seen session.old) (S.seen session.new) self.old self.new bytes.now) }
+        ensures tied { OnOk result (IsTied (S.seen session.new) self.new.member.mesh) }
         ensures accepted { OnOk result (ignored_sized self.old bytes.now ≡ None) }
         ensures ignored { IfErr result (λ why. ignored_sized self.old bytes.now ≡ Some why) }
         ensures refused { IfErr result
             (λ why. self.new ≡ after_ignored (sender_of bytes.now) why self.old) }
         ensures session { OnErr result (session.new ≡ session.old) }
+        ensures keeps { S.keeps session.old session.new }
     {
         let sender = byte_of(bytes, SENDER_AT);
         if let Some(why) = self.deaf_to(sender) {
@@ -167,19 +168,20 @@ impl Peer {
     }
 
     /// What was opened is heard, at the moment that the clock shows.
-    fn hear<G: Game>(
+    fn hear<S: Networked>(
         &mut self,
-        session: &mut Session<G>,
+        session: &mut S,
         sender: u8,
         body: Body,
     ) -> Result<Received, Ignored>
-        requires tied { IsTied session.old self.old.member.mesh }
+        requires tied { IsTied (S.seen session.old) self.old.member.mesh }
         requires place { sender < MACHINE_LIMIT }
         requires listened { deaf_to self.old sender ≡ None }
         ensures heard { IfOk result
-            (Hears G.step session.old session.new self.old self.new sender (content body)) }
-        ensures tied { OnOk result (IsTied session.new self.new.member.mesh) }
+            (Hears S.step (S.seen session.old) (S.seen session.new) self.old self.new sender (content body)) }
+        ensures tied { OnOk result (IsTied (S.seen session.new) self.new.member.mesh) }
         ensures session { OnErr result (session.new ≡ session.old) }
+        ensures keeps { S.keeps session.old session.new }
         ensures accepted { OnOk result (unheard self.old sender (content body) ≡ None) }
         ensures refused { IfErr result (λ why. unheard self.old sender (content body) ≡ Some why) }
         ensures counted { IfErr result (λ why. self.new ≡ after_ignored sender why self.old) }
@@ -212,19 +214,20 @@ impl Peer {
     }
 
     /// A play is heard, unless it is refused.
-    fn hear_play<G: Game>(
+    fn hear_play<S: Networked>(
         &mut self,
-        session: &mut Session<G>,
+        session: &mut S,
         sender: u8,
         play: &Play,
     ) -> Result<Received, Ignored>
-        requires tied { IsTied session.old self.old.member.mesh }
+        requires tied { IsTied (S.seen session.old) self.old.member.mesh }
         requires place { sender < MACHINE_LIMIT }
         requires listened { deaf_to self.old sender ≡ None }
         ensures heard { IfOk result
-            (Hears G.step session.old session.new self.old self.new sender (Plays (turn play.now))) }
-        ensures tied { OnOk result (IsTied session.new self.new.member.mesh) }
+            (Hears S.step (S.seen session.old) (S.seen session.new) self.old self.new sender (Plays (turn play.now))) }
+        ensures tied { OnOk result (IsTied (S.seen session.new) self.new.member.mesh) }
         ensures session { OnErr result (session.new ≡ session.old) }
+        ensures keeps { S.keeps session.old session.new }
         ensures accepted { OnOk result (unheard self.old sender (Plays (turn play.now)) ≡ None) }
         ensures refused { IfErr result
             (λ why. unheard self.old sender (Plays (turn play.now)) ≡ Some why) }
@@ -259,23 +262,25 @@ impl Peer {
     }
 
     /// A turn is heard. None if it has words that its sender doesn't say that it has: nothing changed then.
-    fn hear_turn<G: Game>(
+    fn hear_turn<S: Networked>(
         &mut self,
-        session: &mut Session<G>,
+        session: &mut S,
         sender: u8,
         play: &Play,
         packet: &Packet,
     ) -> Option<Taken>
-        requires tied { IsTied session.old self.old.member.mesh }
+        requires tied { IsTied (S.seen session.old) self.old.member.mesh }
         requires place { sender < MACHINE_LIMIT }
         requires listened { deaf_to self.old sender ≡ None }
+        requires played { unplayed self.old (packet_of sender (turn play.now)) ≡ None }
         requires same { packet.now ≡ packet_of sender (turn play.now) }
         ensures heard { IfSome result
-            (HearsTurn G.step session.old session.new self.old self.new sender (turn play.now)) }
-        ensures tied { IsTied session.new self.new.member.mesh }
+            (HearsTurn S.step (S.seen session.old) (S.seen session.new) self.old self.new sender (turn play.now)) }
+        ensures tied { IsTied (S.seen session.new) self.new.member.mesh }
         ensures had { is_some result ≡ is_had (packet_of sender (turn play.now)) }
         ensures unchanged { IsNone result → self.new ≡ self.old }
         ensures session { IsNone result → session.new ≡ session.old }
+        ensures keeps { S.keeps session.old session.new }
     {
         let frame = session.frame();
         let taken = self.take_turn(session, sender, play, packet)?;
@@ -285,24 +290,26 @@ impl Peer {
     }
 
     /// Session and mesh hear a turn. None if it has words that its sender doesn't say that it has: nothing changed then.
-    fn take_turn<G: Game>(
+    fn take_turn<S: Networked>(
         &mut self,
-        session: &mut Session<G>,
+        session: &mut S,
         sender: u8,
         play: &Play,
         packet: &Packet,
     ) -> Option<Taken>
-        requires tied { IsTied session.old self.old.member.mesh }
+        requires tied { IsTied (S.seen session.old) self.old.member.mesh }
         requires listened { deaf_to self.old sender ≡ None }
+        requires played { unplayed self.old (packet_of sender (turn play.now)) ≡ None }
         requires same { packet.now ≡ packet_of sender (turn play.now) }
-        ensures heard { IfSome result (HearsPacket G.step (beside session.old self.old)
-            (beside session.new self.new) (packet_of sender (turn play.now)) play.now.words.items) }
-        ensures tied { IsTied session.new self.new.member.mesh }
+        ensures heard { IfSome result (HearsPacket S.step (beside (S.seen session.old) self.old)
+            (beside (S.seen session.new) self.new) (packet_of sender (turn play.now)) play.now.words.items) }
+        ensures tied { IsTied (S.seen session.new) self.new.member.mesh }
         ensures rest { self.new ≡ record self.old { member = self.new.member } }
         ensures limits { self.new.member.limits ≡ self.old.member.limits }
         ensures had { is_some result ≡ is_had (packet_of sender (turn play.now)) }
         ensures unchanged { IsNone result → self.new ≡ self.old }
         ensures session { IsNone result → session.new ≡ session.old }
+        ensures keeps { S.keeps session.old session.new }
     {
         match self.member.hear(session, packet, &play.words) {
             Ok(taken) => Some(taken),

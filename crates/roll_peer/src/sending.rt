@@ -1,26 +1,24 @@
 //! What is sent.
 ghost use Rattle.std.specs.Prelude.{◌≡◌, ◌<◌, ◌%◌, ◌==◌, ◌||◌, not, true, false, is_none, nat_lt, Some, None, IfOk, IfSome, OnErr, OnOk, if◌then◌else◌};
 ghost use Rattle.roll_contact.specs.Contacts.{clocks_for, is_playing};
-ghost use Rattle.roll_contact.specs.Seals.{sealed};
 ghost use Rattle.roll_member.specs.Beside.{IsOf};
 ghost use Rattle.roll_member.specs.Joined.{IsTied};
 ghost use Rattle.roll_mesh.specs.declared.limits.TheConstants.{MACHINE_LIMIT};
 ghost use Rattle.roll_peer.specs.Peered.{contact_at};
 ghost use Rattle.roll_peer.specs.Receiving.{meeting, moment_of, ticking, IsOther};
 ghost use Rattle.roll_peer.specs.Sending.{after_send, clocks_in, is_lost, key_for, settled_in, stats_of, text_for, IsContentFor, IsPlayFor, IsSent};
-ghost use Rattle.roll_wire.specs.Spelling.{content, is_turn, is_whole, spelling, turn, Leaves};
+ghost use Rattle.roll_wire.specs.Spelling.{content, is_turn, is_whole, turn, Leaves};
 
 use crate::peer::Peer;
 use crate::refusal::OtherSession;
 use crate::stats::Stats;
 use arrayvec::ArrayVec;
-use roll_contact::seal::seal;
+use roll_contact::seal::say;
 use roll_contact::{Contact, Key};
-use roll_game::Game;
 use roll_member::Told;
 use roll_mesh::Packet;
-use roll_session::Session;
-use roll_wire::{Body, Clocks, DATAGRAM_LIMIT, Datagram, Envelope, Head, Play, Settled, encode};
+use roll_session::Networked;
+use roll_wire::{Body, Clocks, DATAGRAM_LIMIT, Head, Play, Settled};
 
 /// In how many datagrams to a machine one tells the digest of a settled state.
 const SETTLED_EVERY: u32 = 64;
@@ -33,19 +31,19 @@ impl Peer {
     ///
     /// If the session isn't this match's. Nothing changed then but the clock.
     #[tactic(auto, using(crate::proofs::Said::after_send_is))]
-    pub fn send<G: Game>(
+    pub fn send<S: Networked>(
         &mut self,
-        session: &Session<G>,
+        session: &S,
         machine: u8,
         now: u32,
     ) -> Result<Option<ArrayVec<u8, DATAGRAM_LIMIT>>, OtherSession>
         ensures sent { IfOk result (λ sent. IfSome sent (λ bytes.
-            IsSent session.now (meeting session.now (ticking now self.old)) machine bytes.items)) }
+            IsSent (S.seen session.now) (meeting (S.seen session.now) (ticking now self.old)) machine bytes.items)) }
         ensures lost { IfOk result (λ sent. is_none sent ≡ is_lost self.old machine) }
         ensures counted { OnOk result
-            (self.new ≡ after_send (meeting session.now (ticking now self.old)) machine) }
-        ensures accepted { OnOk result (IsOf session.now self.old.member) }
-        ensures other { OnErr result (IsOther session.now self.old) }
+            (self.new ≡ after_send (meeting (S.seen session.now) (ticking now self.old)) machine) }
+        ensures accepted { OnOk result (IsOf (S.seen session.now) self.old.member) }
+        ensures other { OnErr result (IsOther (S.seen session.now) self.old) }
         ensures unchanged { OnErr result (self.new ≡ ticking now self.old) }
     {
         self.clock.tick(now);
@@ -76,10 +74,10 @@ impl Peer {
     }
 
     /// The bytes for a machine.
-    fn bytes_for<G: Game>(&self, session: &Session<G>, machine: u8) -> ArrayVec<u8, DATAGRAM_LIMIT>
-        requires tied { IsTied session.now self.now.member.mesh }
+    fn bytes_for<S: Networked>(&self, session: &S, machine: u8) -> ArrayVec<u8, DATAGRAM_LIMIT>
+        requires tied { IsTied (S.seen session.now) self.now.member.mesh }
         requires place { machine < MACHINE_LIMIT }
-        ensures { IsSent session.now self.now machine result.items }
+        ensures { IsSent (S.seen session.now) self.now machine result.items }
     {
         let contact = self.contacts[usize::from(machine)];
         if contact.says_hello() {
@@ -115,18 +113,7 @@ impl Peer {
         requires whole { is_whole (content body) ≡ true }
         ensures { result.items ≡ text_for self.now machine (content body) }
     {
-        let key = self.key_for(machine, &body);
-        let envelope = Envelope {
-            match_number: key.number,
-            sender: self.settings.me,
-        };
-        match encode(&Datagram { envelope, body }) {
-            Some(mut bytes) => {
-                seal(&mut bytes, &key);
-                bytes
-            }
-            None => unreachable!(),
-        }
+        say(&self.key_for(machine, &body), self.settings.me, body)
     }
 
     /// Whether nothing is sent to a machine.
@@ -160,10 +147,10 @@ impl Peer {
     }
 
     /// A turn for a machine.
-    fn play_for<G: Game>(&self, session: &Session<G>, machine: u8) -> Play
-        requires tied { IsTied session.now self.now.member.mesh }
+    fn play_for<S: Networked>(&self, session: &S, machine: u8) -> Play
+        requires tied { IsTied (S.seen session.now) self.now.member.mesh }
         requires place { machine < MACHINE_LIMIT }
-        ensures told { IsPlayFor session.now self.now machine (turn result) }
+        ensures told { IsPlayFor (S.seen session.now) self.now machine (turn result) }
         ensures whole { is_turn (turn result) ≡ true }
     {
         let Told { packet, words } = self.member.tell(session, machine);

@@ -6,7 +6,7 @@ ghost use Rattle.roll_peer.specs.Settings.{first_moment, number_for, opening_of,
 use roll_contact::{Opening, Terms};
 use roll_mesh::{MACHINE_LIMIT, PLAYER_LIMIT, Seat};
 
-/// A match, as one of its machines plays it. How many machines there are, the owners and the digest are the same at each of them;
+/// A match, as one of its machines plays it. How many machines there are, the owners, the number of words and the digest are the same at each of them;
 /// `me`, the draw and the times are each machine's own. Take the same times at all: who waits for less than another asks for answers
 /// more often.
 #[derive(Clone, Copy, Debug)]
@@ -30,6 +30,9 @@ pub struct MatchSettings {
     pub notify_after: u32,
     /// After how many milliseconds a machine that others wait for, and that could give its next word, is regarded as gone; 0: never.
     pub stalled_after: u32,
+    /// How many words an input has, 1 to 4: so many of the session's players in a row are one player of the match, with one owner. They
+    /// leave together, and of no frame are some of their words taken and others not.
+    pub words: u8,
 }
 
 impl MatchSettings {
@@ -40,6 +43,7 @@ impl MatchSettings {
         Seat {
             owners: self.owners,
             machines: self.machines,
+            words: self.words,
             me: self.me,
         }
     }
@@ -52,6 +56,7 @@ impl MatchSettings {
             machines: self.machines,
             owners: self.owners,
             digest: self.digest,
+            words: self.words,
         }
     }
 

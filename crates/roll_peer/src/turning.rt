@@ -1,10 +1,11 @@
 //! A turn: silent machines are gone, players leave, and the session goes on.
-ghost use Rattle.std.specs.Prelude.{◌≡◌, ◌<◌, ◌≤◌, true, false, None, Some, IfErr, OnOk, if◌then◌else◌};
+ghost use Rattle.std.specs.Prelude.{◌≡◌, ◌<◌, ◌≤◌, true, false, None, Some, IfErr, OnOk, if◌then◌else◌, slice_get};
+ghost use Rattle.std.specs.Option.{option_map_or};
 ghost use Rattle.roll_member.specs.Joined.{IsTied};
 ghost use Rattle.roll_mesh.specs.declared.limits.TheConstants.{MACHINE_LIMIT};
 ghost use Rattle.roll_peer.specs.Receiving.{meeting, moment_of, ticking};
 ghost use Rattle.roll_session.specs.Changes.{after_sync, sync_refusal, IsRollRefused};
-ghost use Rattle.roll_peer.specs.Turning.{are_ready, begun, ends_in_roll, farewell_at, farewell_until, has_waited, held_up_by, hushed_at, hushed_until, is_missed, is_ready_at, looked_after, missed_at, missed_until, moved_to, over, silenced_at, silenced_until, stall_told, watched_at, watched_until, IsParted, IsPolled, IsUpToDate, Plays, Polls, Turns};
+ghost use Rattle.roll_peer.specs.Turning.{are_ready, begun, ends_in_roll, farewell_at, farewell_until, has_waited, held_up_by, hushed_at, hushed_until, is_graft, is_missed, is_ready_at, is_roll, looked_after, missed_at, missed_until, moved_to, over, silenced_at, silenced_until, stall_told, watched_at, watched_until, IsParted, IsPolled, IsUpToDate, Plays, Polls, Turns};
 
 use crate::event::PeerEvent;
 use crate::peer::Peer;
@@ -12,11 +13,11 @@ use crate::refusal::PeerRefusal;
 use roll_contact::since;
 use roll_frame::Refusal;
 use roll_game::Game;
-use roll_session::{Call, Log, Logged, Reached, Session};
+use roll_session::{Call, Log, Logged, Networked, Reached, Session};
 
 impl Peer {
     /// A turn of the main loop, at a moment: a `poll`, and once the match has begun, the session goes to its next frame if its local
-    /// words are there, and says so; else it rolls back, if anything was accepted since it last did.
+    /// words are there, and says so; else it rolls back, if anything but branches was accepted since it last did.
     ///
     /// # Errors
     ///
@@ -49,8 +50,9 @@ impl Peer {
     ///
     /// `OtherSession` if the session isn't this match's: nothing changed then but the clock. `LogFull` or `NoMemory` if a player who
     /// is to leave is still in the session: all else is done, and the next poll tries it again.
-    pub fn poll<G: Game>(&mut self, session: &mut Session<G>, now: u32) -> Result<(), PeerRefusal>
-        ensures { IsPolled session.old session.new (ticking now self.old) self.new result }
+    pub fn poll<S: Networked>(&mut self, session: &mut S, now: u32) -> Result<(), PeerRefusal>
+        ensures polled { IsPolled (S.seen session.old) (S.seen session.new) (ticking now self.old) self.new result }
+        ensures keeps { S.keeps session.old session.new }
     {
         self.clock.tick(now);
         if !self.member.meet(session) {
@@ -63,10 +65,11 @@ impl Peer {
     }
 
     /// A poll at the moment that the clock shows. Why a player who is to leave is still there, if so.
-    fn poll_now<G: Game>(&mut self, session: &mut Session<G>) -> Option<Refusal>
-        requires { IsTied session.old self.old.member.mesh }
-        ensures polled { Polls session.old session.new self.old self.new result }
-        ensures tied { IsTied session.new self.new.member.mesh }
+    fn poll_now<S: Networked>(&mut self, session: &mut S) -> Option<Refusal>
+        requires { IsTied (S.seen session.old) self.old.member.mesh }
+        ensures polled { Polls (S.seen session.old) (S.seen session.new) self.old self.new result }
+        ensures tied { IsTied (S.seen session.new) self.new.member.mesh }
+        ensures keeps { S.keeps session.old session.new }
     {
         self.look_after(session.frame());
         let refusal = self.part(session);
@@ -260,10 +263,11 @@ impl Peer {
     }
 
     /// The players of who is gone leave, if they may. Why one who is to leave is still there, if so.
-    fn part<G: Game>(&mut self, session: &mut Session<G>) -> Option<Refusal>
-        requires { IsTied session.old self.old.member.mesh }
-        ensures parted { IsParted session.old session.new self.old self.new result }
-        ensures tied { IsTied session.new self.new.member.mesh }
+    fn part<S: Networked>(&mut self, session: &mut S) -> Option<Refusal>
+        requires { IsTied (S.seen session.old) self.old.member.mesh }
+        ensures parted { IsParted (S.seen session.old) (S.seen session.new) self.old self.new result }
+        ensures tied { IsTied (S.seen session.new) self.new.member.mesh }
+        ensures keeps { S.keeps session.old session.new }
     {
         let left = self.member.let_leave(session);
         self.events.left(&left);
@@ -313,7 +317,7 @@ impl Peer {
     }
 }
 
-/// Goes to the next frame, or rolls back unless nothing was accepted since it last did.
+/// Goes to the next frame, or rolls back unless nothing but branches was accepted since it last did.
 fn play<G: Game>(session: &mut Session<G>) -> Result<Option<Reached>, Refusal>
     ensures played { Plays session.old session.new result }
     ensures shown { OnOk result (IsUpToDate session.new) }
@@ -328,7 +332,7 @@ fn play<G: Game>(session: &mut Session<G>) -> Result<Option<Reached>, Refusal>
     }
 }
 
-/// Rolls back, unless nothing was accepted since the last roll.
+/// Rolls back, unless nothing but branches was accepted since the last roll.
 fn roll_back<G: Game>(session: &mut Session<G>) -> Result<(), Refusal>
     ensures rolled { OnOk result (session.new
         ≡ (if ends_in_roll session.old.log then session.old else after_sync session.old)) }
@@ -343,15 +347,32 @@ fn roll_back<G: Game>(session: &mut Session<G>) -> Result<(), Refusal>
     Ok(())
 }
 
-/// Whether nothing was accepted since the last roll that went to its end.
-fn ends_in_roll(log: &Log) -> bool
+/// Whether nothing but branches was accepted since the last roll that went to its end. So the state shown is up to date: a branch
+/// changes nothing of it.
+pub fn ends_in_roll(log: &Log) -> bool
     ensures { result ≡ ends_in_roll log.now.entries }
 {
-    let Some(last) = log.len().checked_sub(1) else {
-        return false;
-    };
+    for place in (0..log.len()).rev() {
+        if !is_graft(log, place) {
+            return is_roll(log, place);
+        }
+    }
+    false
+}
+
+/// Whether the entry of a place took in a branch.
+fn is_graft(log: &Log, place: usize) -> bool
+    ensures { result ≡ option_map_or is_graft (slice_get log.now.entries place) false }
+{
+    matches!(log.get(place), Some(Logged::Graft { .. }))
+}
+
+/// Whether it is a roll that went to its end.
+fn is_roll(log: &Log, place: usize) -> bool
+    ensures { result ≡ option_map_or is_roll (slice_get log.now.entries place) false }
+{
     matches!(
-        log.get(last),
+        log.get(place),
         Some(Logged::Call(Call::Sync | Call::Advance))
     )
 }

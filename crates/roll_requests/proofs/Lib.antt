@@ -1,6 +1,8 @@
-pub mod Slots
-pub mod Tables
-pub mod Leading
-pub mod Asking
-pub mod Coded
-pub mod Free
+pub mod Carrying
+pub mod Stays
+pub mod Filling
+pub mod Numbering
+pub mod Holding
+pub mod Counting
+pub mod Leads
+pub mod Made

@@ -1,21 +1,34 @@
 -- A session of a game elsewhere as its callers see it, and where its requests lead, for every game.
-use Rattle.std.specs.Prelude.{◌≡◌, ◌≢◌, ◌⊎◌, ◌==◌, ℕ, ◌+◌, ◌<◌, List, [], ◌∷◌, ◌++◌, length, slice_index_or, All, IfSome, Some, if◌then◌else◌}
+use Rattle.std.specs.Prelude.{◌≡◌, ◌≢◌, ◌⊎◌, ◌≤◌, ◌^◌, ℕ, ◌+◌, ◌<◌, List, [], ◌∷◌, ◌++◌, length, take, slice_index_or, All, IfSome, IsSomeAnd, Option, Some, None, Result, Ok, Err, option_map}
+use Rattle.std.specs.Option.{option_map_or}
+use Rattle.roll_branch.specs.Routed.{Routed}
+use Rattle.roll_frame.specs.Cells.{Rows}
+use Rattle.roll_frame.specs.Core.{cost, depth}
+use Rattle.roll_frame.specs.Events.{branch_of}
 use Rattle.roll_frame.specs.Games.{Value}
+use Rattle.roll_frame.specs.Grafts.{new_paths}
 use Rattle.roll_frame.specs.Paths.{run}
-use Rattle.roll_frame.specs.Timeline.{timeline}
-use Rattle.roll_requests.specs.Carried.{Elsewhere, carried_all, carried_out}
-use Rattle.roll_requests.specs.declared.request.Request.{Request}
-use Rattle.roll_requests.specs.declared.request.Request.TheVariants.{Load}
+use Rattle.roll_frame.specs.Timeline.{Player, timeline}
 use Rattle.roll_frame.specs.declared.refusal.Refusal.{Refusal}
-use Rattle.roll_frame.specs.declared.refusal.Refusal.TheVariants.{NoMemory}
+use Rattle.roll_frame.specs.declared.refusal.Refusal.TheVariants.{Full, NoJob, NoMemory}
 use Rattle.roll_frame.specs.declared.reply.Reply.TheVariants.{Refused}
+use Rattle.roll_frame.specs.declared.route.Route.{Route}
 use Rattle.roll_session.specs.Answered.{IsReplied}
-use Rattle.roll_session.specs.Calls.{event_of}
-use Rattle.roll_session.specs.Gameless.{still}
-use Rattle.roll_session.specs.declared.event.Call.{Call}
+use Rattle.roll_session.specs.Calls.{event_of, IsRollTo}
+use Rattle.roll_session.specs.Changes.{after_graft, graft_refusal, IsRefused, IsWhy}
+use Rattle.roll_session.specs.Gameless.{bare_branch, still}
 use Rattle.roll_session.specs.Saves.{Standing}
-use Rattle.roll_session.specs.Seen.{Seen, Step}
-use Rattle.roll_tree.specs.SavedStates.{Saved}
+use Rattle.roll_session.specs.Seen.{IsLeast, Seen, Step}
+use Rattle.roll_session.specs.declared.event.Call.{Call}
+use Rattle.roll_session.specs.declared.event.Grafted.{Grafted}
+use Rattle.roll_session.specs.declared.event.Reached.{Reached}
+use Rattle.roll_tree.specs.SavedStates.{Saved, SavedStates, state_named}
+use Rattle.slab.specs.Slab.{Slab, get, slab_len, SameValues, Updates}
+use Rattle.roll_requests.specs.Carried.{Elsewhere, carried_out}
+use Rattle.roll_requests.specs.Requests.{Adds}
+use Rattle.roll_requests.specs.Slotted.{Guessed}
+use Rattle.roll_requests.specs.declared.job.TheConstants.{JOBS_OUT}
+use Rattle.roll_requests.specs.declared.request.Request.{Request}
 
 pub record Asked : Type 0 where
   pub seen : Seen
@@ -25,17 +38,32 @@ pub record Asked : Type 0 where
   pub at : ℕ
   -- what is still to be handed out
   pub requests : List Request
+  -- new states are saved only in slots below this one
+  pub limit : ℕ
+  -- the jobs that are out, by their numbers
+  pub jobs : Slab Guessed
 
 -- each kept slot has the run of its path, and the slot of the current state has it
 pub record IsThere (step : Step) (opening : Value) (saves : Standing ℕ) (at : ℕ) (there : Elsewhere Value) : Type 0 where
   pub held : All (λ u. there.slots u.snapshot ≡ Some (run step opening (timeline saves.inputs.players saves.inputs.settled ++ u.path))) saves.tree.states
   pub at_is : there.slots at ≡ Some there.current
 
+-- the rows that lead to a job's state after so many of its rows, from frame 0
+abbrev pub rows_of_job : List Player → Route → ℕ → Rows
+rows_of_job players route n =
+    timeline players route.path.base ++ (route.path.rows.items ++ take n route.rows.items)
+
+-- each slot of a job has the run of the rows up to its state; they start from settled ones
+pub record HasJob (step : Step) (opening : Value) (saves : Standing ℕ) (slots : ℕ → Option Value) (job : Guessed) : Type 0 where
+  pub base : job.route.path.base ≤ saves.inputs.settled
+  pub held : (k d : ℕ) → k < length job.slots → slots (slice_index_or job.slots k d) ≡ Some (run step opening (rows_of_job saves.inputs.players job.route (k + 1)))
+
 -- so it is for every game once what was handed out and what is to be handed out is carried out, and the current state is the
 -- serial run of the rows that are shown
 pub record Leads (past : List Request) (e : Asked) : Type 0 where
   pub there : (step : Step) (opening : Value) → IsThere step opening e.saves e.at (carried_out step opening (past ++ e.requests))
   pub shown : (step : Step) (opening : Value) → IfSome e.seen.core.shown (λ rows. (carried_out step opening (past ++ e.requests)).current ≡ run step opening rows)
+  pub jobs : (step : Step) (opening : Value) (n : ℕ) (job : Guessed) → get e.jobs n ≡ Some job → HasJob step opening e.saves (carried_out step opening (past ++ e.requests)).slots job
 
 -- nothing is changed, but that more is reserved and the tree was told more of the timeline
 pub record IsIdle (old new : Asked) : Type 0 where
@@ -43,32 +71,56 @@ pub record IsIdle (old new : Asked) : Type 0 where
   pub saves : new.saves ≡ record old.saves { tree = record old.saves.tree { time = new.saves.tree.time } }
   pub at : new.at ≡ old.at
   pub requests : new.requests ≡ old.requests
+  pub limit : new.limit ≡ old.limit
+  pub jobs : new.jobs ≡ old.jobs
 
 -- a call is refused by the rules, or memory or slots ran out
 abbrev pub IsRefusedRoll : Seen → Call → Refusal → Type 0
 IsRefusedRoll s call why = IsReplied still s s (event_of call) (Refused why) ⊎ (why ≡ NoMemory)
 
--- no state has the slot
-abbrev pub IsUnused : List (Saved ℕ) → ℕ → Type 0
-IsUnused states slot = All (λ u. u.snapshot ≢ slot) states
+-- a roll led there: it started from the frame of the deepest state on its way, and asks for the frames from there on, which are
+-- the fewest that any plan runs
+pub record Rolls (old new : Asked) (call : Call) (reached : Reached) : Type 0 where
+  pub is_to : IsRollTo old.seen.core call reached.frame
+  pub from_is : reached.from ≡ depth old.seen.core reached.frame
+  pub rerun_is : reached.rerun ≡ cost old.seen.core reached.frame
+  pub least : IsLeast old.seen.core reached.frame
+  pub adds : Adds old.limit (cost old.seen.core reached.frame) 0 old.requests new.requests
 
--- no state has one of the slots, and each is past those before it
-pub record AreUnused (states : List (Saved ℕ)) (slots : List ℕ) : Type 0 where
-  pub unused : All (IsUnused states) slots
-  pub rising : (i k d : ℕ) → i < k → k < length slots → slice_index_or slots i d < slice_index_or slots k d
+-- a job has this route, and a slot for the state after each row
+pub record IsJob (job : Routed) (guessed : Guessed) : Type 0 where
+  pub route : guessed.route ≡ job.route
+  pub many : length guessed.slots ≡ length job.route.rows.items
 
--- the request for the state of a slot to be current, where that of another is
-abbrev pub reaching : ℕ → ℕ → List Request
-reaching at slot = if at == slot then [] else Load slot ∷ []
+-- a job was given a number that none had; there is none if there is nothing to run
+abbrev pub IsNumbered : Option Routed → Slab Guessed → Slab Guessed → Option ℕ → Type 0
+IsNumbered None old new number = (number ≡ None) × SameValues old new
+IsNumbered (Some job) old new number =
+    IsSomeAnd number (λ n. (get old n ≡ None)
+    × ((guessed : Guessed) × IsJob job guessed × Updates old new n (Some guessed)))
 
--- after the first k states of a roll from a frame on: they are in these slots too, and the last is current
-pub record IsMade (step : Step) (opening : Value) (saves : Standing ℕ) (from k : ℕ) (slots : List ℕ) (at : ℕ) (there : Elsewhere Value) : Type 0 where
-  pub is_there : IsThere step opening saves at there
-  pub current : there.current ≡ run step opening (timeline saves.inputs.players (from + k))
-  pub made : (i d : ℕ) → i < k → there.slots (slice_index_or slots i d) ≡ Some (run step opening (timeline saves.inputs.players (from + i + 1)))
+-- how many rows a job runs, if there is one
+abbrev pub rows_to_run : Option Routed → ℕ
+rows_to_run job = option_map_or (λ j. length j.route.rows.items) job 0
 
--- requests were added that lead there
-pub record IsAsked (saves : Standing ℕ) (at now : ℕ) (from k : ℕ) (slots : List ℕ) (old new : List Request) : Type 0 where
-  pub more : List Request
-  pub list_is : new ≡ old ++ more
-  pub leads : (step : Step) (opening : Value) (there : Elsewhere Value) → IsThere step opening saves at there → IsMade step opening saves from k slots now (carried_all step more there)
+-- why there is no job: 64 are out, or the next number has no room in 32 bits, or the guess is refused, or memory or slots ran
+-- out
+abbrev pub IsNotGuessed : Option Refusal → Slab Guessed → Refusal → Type 0
+IsNotGuessed refusal jobs why =
+    ((why ≡ Full) × ((JOBS_OUT ≤ slab_len jobs) ⊎ (2 ^ 32 ≤ jobs.vacant_key)))
+    ⊎ IsWhy refusal why
+
+-- a job's branch was taken in, or refused, or there is no such job
+abbrev pub IsHandedIn : Seen → Seen → Option Guessed → Result Grafted Refusal → Type 0
+IsHandedIn old new None result = (result ≡ Err NoJob) × (new ≡ old)
+IsHandedIn old new (Some job) (Ok grafted) =
+    (graft_refusal still old (bare_branch 0 job.route) ≡ None)
+    × (new ≡ after_graft old (bare_branch 0 job.route))
+    × (grafted.added ≡ length (new_paths old.core (branch_of job.route)))
+IsHandedIn old new (Some job) (Err why) =
+    IsRefused (graft_refusal still old (bare_branch 0 job.route)) old new why
+
+-- the slot of the saved state that has no rows past the settled frame
+abbrev pub IsSettledSlot : SavedStates ℕ → ℕ → Type 0
+IsSettledSlot tree slot =
+    IsSomeAnd (state_named tree tree.root) (λ u. (u.path ≡ []) × (u.snapshot ≡ slot))

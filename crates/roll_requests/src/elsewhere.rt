@@ -1,150 +1,96 @@
 //! A session whose game is played elsewhere.
-ghost use Rattle.std.specs.Prelude.{◌≡◌, ◌==◌, ◌≤◌, ◌+◌, ◌-◌, ◌*◌, ◌++◌, ◌∷◌, [], drop, length, min, take, vec_capacity, All, IfErr, IfOk, List, OnErr, OnOk, false};
-ghost use Rattle.roll_frame.specs.Events.{applied};
-ghost use Rattle.roll_game.specs.Counts.{no_calls};
-ghost use Rattle.roll_session.specs.Started.{first_seen};
+ghost use Rattle.std.specs.Prelude.{◌≡◌, ◌==◌, ◌≤◌, ◌<◌, ◌++◌, ◌∷◌, [], drop, false, is_none, is_some, length, max, min, take, IfErr, IfOk, IfSome, List, None, OnErr, OnOk, Some, if◌then◌else◌};
+ghost use Rattle.roll_frame.specs.Claims.{claim_of, IsRight};
 ghost use Rattle.roll_frame.specs.Settings.{start_refusal};
-ghost use Rattle.roll_session.specs.Calls.{entry_of, event_of, input_reply, IsInput, IsRoll};
-ghost use Rattle.roll_session.specs.Answered.{replied, IsAnswered};
-ghost use Rattle.roll_session.specs.Changes.{IsWhy};
+ghost use Rattle.roll_frame.specs.Timeline.{row_at};
+ghost use Rattle.roll_game.specs.Counts.{no_calls};
+ghost use Rattle.roll_session.specs.Answered.{replied, with_entries, IsAnswered};
+ghost use Rattle.roll_session.specs.Calls.{entry_of, event_of, input_reply, IsAllowed, IsInput, IsRoll};
+ghost use Rattle.roll_session.specs.Changes.{reserve_refusal, FitsLog, IsWhy};
 ghost use Rattle.roll_session.specs.Gameless.{still};
-ghost use Rattle.roll_session.specs.Ways.{IsGoing};
-ghost use Rattle.roll_requests.specs.Asked.{reaching, AreUnused, IsAsked, IsIdle, IsRefusedRoll, IsUnused, Leads};
+ghost use Rattle.roll_session.specs.Guessing.{guess_job_of, guess_refusal_of};
+ghost use Rattle.roll_session.specs.Headline.{last_claim};
+ghost use Rattle.roll_session.specs.Started.{first_seen};
+ghost use Rattle.slab.specs.Slab.{get, SameValues, Updates};
+ghost use Rattle.roll_requests.specs.Asked.{rows_to_run, IsHandedIn, IsIdle, IsNotGuessed, IsNumbered, IsRefusedRoll, IsSettledSlot, Leads, Rolls};
+ghost use Rattle.roll_requests.specs.Requests.{Adds};
 ghost use Rattle.roll_requests.specs.declared.request.Request.{Request as Asks};
 
+use crate::asking::{ask_job, ask_roll};
+use crate::job::{Job, free_number};
+use crate::plans::{RollPlan, Room, plan_job, plan_roll};
+use crate::queue::Queue;
 use crate::request::Request;
-use roll_frame::{Refusal, Row, Settings};
-use roll_session::{Call, Core, Heard, Way};
-use roll_tree::Tree;
-use std::alloc::{AllocError, Global};
+use crate::taken::Taken;
+use roll_frame::{Claim, Refusal, Row, Settings};
+use roll_session::{Call, Core, Grafted, Heard, Reached};
+use slab::Slab;
+use std::alloc::Global;
 use std::marker::Model;
 
 /// A session whose game is played elsewhere: what it would do with the game becomes a list of requests, which are handed out in
-/// order. Each saved state is in a slot elsewhere.
+/// order. Each state that is saved, or that a job has, is in a slot elsewhere.
 #[derive(Drop)]
 pub struct Elsewhere {
     alloc: Global,
     core: Core<u32>,
-    // The requests, of which so many were handed out.
-    list: Vec<Request>,
-    given: usize,
+    queue: Queue,
+    // The slot of the current state.
     at: u32,
+    taken: Taken,
     limit: u32,
+    jobs: Slab<Job>,
 }
 
 impl Model for Elsewhere {
-    ghost use Rattle.std.specs.Prelude.{◌≤◌, drop, length};
     ghost use Rattle.roll_requests.specs.Asked.{Asked};
+    ghost use Rattle.roll_requests.specs.Slotted.{IsSlotted};
 
     ghost Value = { Asked };
 
-    ghost view = { λ e. record { seen = e.core.seen; saves = e.core.saves; at = e.at; requests = drop e.given e.list.items } };
+    ghost view = { λ e. record { seen = e.core.seen; saves = e.core.saves; at = e.at; requests = e.queue.requests; limit = e.limit; jobs = e.jobs } };
 
-    ghost invariant = { λ e. e.given ≤ length e.list.items };
-}
-
-/// Asks for a state to be current, unless it is.
-fn reach(list: &mut Vec<Request>, at: &mut u32, slot: u32)
-    requires { length list.old.items + 1 ≤ vec_capacity list.old }
-    ensures slot { at.new ≡ slot }
-    ensures asked { list.new.items ≡ list.old.items ++ reaching at.old slot }
-    ensures room { vec_capacity list.new ≡ vec_capacity list.old }
-{
-    if *at != slot {
-        list.push_reserved(Request::Load { slot });
-        *at = slot;
-    }
-}
-
-/// Asks for the next state of a roll, and for it to be saved.
-fn turn(list: &mut Vec<Request>, at: &mut u32, row: Row, slot: u32)
-    requires { length list.old.items + 2 ≤ vec_capacity list.old }
-    ensures slot { at.new ≡ slot }
-    ensures asked { list.new.items ≡ list.old.items ++ Request.Advance row ∷ Request.Save slot ∷ [] }
-    ensures room { vec_capacity list.new ≡ vec_capacity list.old }
-{
-    list.push_reserved(Request::Advance { row });
-    list.push_reserved(Request::Save { slot });
-    *at = slot;
-}
-
-/// Asks for the states of a roll, and for each to be saved in its slot.
-fn ask(list: &mut Vec<Request>, at: &mut u32, core: &Core<u32>, way: &Way, slots: &[u32])
-    requires going { IsGoing core.now.saves way.now }
-    requires many { length slots.now ≡ way.now.to - way.now.frame }
-    requires unused { AreUnused core.now.saves.tree.states slots.now }
-    requires room { length list.old.items + 1 + 2 * length slots.now ≤ vec_capacity list.old }
-    ensures { IsAsked core.now.saves at.old at.new way.now.frame (length slots.now) slots.now
-        list.old.items list.new.items }
-{
-    reach(list, at, *core.reached(way));
-    for frame in way.frame..way.to {
-        let slot = slots[(frame - way.frame) as usize];
-        turn(list, at, core.row(frame), slot);
-    }
-}
-
-/// Whether a saved state has this slot.
-fn is_taken(tree: &Tree<u32>, slot: u32) -> bool
-    ensures { result ≡ false → IsUnused tree.now.states slot }
-{
-    tree.laws();
-    let names = tree.names();
-    for place in 0..names.len() {
-        if *tree.get(names[place]) == slot {
-            return true;
-        }
-    }
-    false
-}
-
-/// The first slots below a limit that no saved state has.
-fn free_slots(
-    alloc: Global,
-    tree: &Tree<u32>,
-    count: usize,
-    limit: u32,
-) -> Result<Vec<u32>, AllocError>
-    ensures many { IfOk result (λ slots. length slots.items ≡ count) }
-    ensures unused { IfOk result (λ slots. AreUnused tree.now.states slots.items) }
-{
-    let mut slots = Vec::with_capacity(alloc, count)?;
-    for slot in 0..limit {
-        if slots.len() == count {
-            break;
-        }
-        if !is_taken(tree, slot) {
-            slots.push_reserved(slot);
-        }
-    }
-    if slots.len() == count {
-        Ok(slots)
-    } else {
-        Err(AllocError)
-    }
+    ghost invariant = { λ e. IsSlotted e.core.saves.tree.states e.jobs e.at e.taken };
 }
 
 impl Elsewhere {
-    /// A session at its start, whose opening is the current state elsewhere, and is in slot 0. It uses only slots below the limit.
+    /// A session at its start, whose opening is the current state elsewhere, and is in slot 0. It may use any slot.
     ///
     /// # Errors
     ///
     /// What is wrong with the settings, else `NoMemory` if the allocator has no room.
-    pub fn start(alloc: Global, settings: Settings, limit: u32) -> Result<Elsewhere, Refusal>
+    pub fn start(alloc: Global, settings: Settings) -> Result<Elsewhere, Refusal>
         ensures seen { IfOk result (λ e. e.seen ≡ first_seen settings [] no_calls) }
+        ensures at { IfOk result (λ e. e.at ≡ 0) }
+        ensures requests { IfOk result (λ e. e.requests ≡ []) }
+        ensures limit { IfOk result (λ e. e.limit ≡ u32.MAX) }
+        ensures jobs { IfOk result (λ e. e.jobs.slots ≡ []) }
         ensures leads { IfOk result (Leads []) }
         ensures refused { IfErr result (IsWhy (start_refusal settings)) }
     {
+        if let Some(why) = settings.refusal() {
+            return Err(why);
+        }
+        let taken = Taken::opening(alloc)?;
         let core = Core::new(alloc, 0, settings)?;
         core.laws();
         Ok(Elsewhere {
             alloc,
             core,
-            list: Vec::new(alloc),
-            given: 0,
+            queue: Queue::new(alloc),
             at: 0,
-            limit,
+            taken,
+            limit: u32::MAX,
+            jobs: Slab::new(alloc),
         })
+    }
+
+    /// From now on new states are saved only in slots below this one. Where there is none, a call is refused for want of memory.
+    pub fn set_limit(&mut self, slots: u32)
+        ensures limit { self.new ≡ record self.old { limit = slots } }
+        ensures leads { (past : List Asks) → Leads past self.old → Leads past self.new }
+    {
+        self.limit = slots;
     }
 
     /// Takes a player's input, or sees that it was taken before.
@@ -156,67 +102,227 @@ impl Elsewhere {
         requires input { IsInput call }
         ensures answered { IsAnswered still self.old.seen self.new.seen (event_of call)
             (replied (λ heard. input_reply call heard) result) }
+        ensures rest { self.new
+            ≡ record self.old { seen = self.new.seen; saves = self.new.saves } }
         ensures leads { (past : List Asks) → Leads past self.old → Leads past self.new }
     {
-        self.core.take(call)
+        self.core.laws();
+        let outcome = self.core.take(call);
+        self.core.laws();
+        outcome
     }
 
-    /// Goes to the frame of a call that rolls, by requests.
+    /// Goes to the frame of a call that rolls, by requests, and answers where that led.
     ///
     /// # Errors
     ///
     /// As of the call of a session; `NoMemory` too where no slot is left. Nothing is changed, but for what is reserved.
-    pub fn roll(&mut self, call: Call) -> Result<(), Refusal>
+    pub fn roll(&mut self, call: Call) -> Result<Reached, Refusal>
         requires { IsRoll call }
-        ensures log { OnOk result (self.new.seen.log ≡ self.old.seen.log ++ entry_of call ∷ []) }
-        ensures core { OnOk result
-            (self.new.seen.core ≡ applied self.old.seen.core (entry_of call)) }
+        ensures allowed { OnOk result (IsAllowed still self.old.seen call) }
+        ensures entered { OnOk result (self.new.seen
+            ≡ with_entries self.old.seen (entry_of call ∷ []) self.old.seen.counts) }
+        ensures rolls { IfOk result (Rolls self.old self.new call) }
+        ensures jobs { self.new.jobs ≡ self.old.jobs }
+        ensures limit { self.new.limit ≡ self.old.limit }
         ensures leads { (past : List Asks) → Leads past self.old → Leads past self.new }
         ensures refused { IfErr result (IsRefusedRoll self.old.seen call) }
         ensures unchanged { OnErr result (IsIdle self.old self.new) }
     {
-        let way = self.core.look(call)?;
-        let count = (way.to - way.frame) as usize;
-        let slots = free_slots(self.alloc, self.core.saved(), count, self.limit)?;
-        self.list.reserve(1 + 2 * count)?;
+        let plan = plan_roll(
+            self.alloc,
+            &mut self.core,
+            &mut self.queue,
+            &self.taken,
+            &self.jobs,
+            self.limit,
+            call,
+        )?;
+        let RollPlan { way, room } = plan;
+        let Room { mut held, slots } = room;
         self.core.laws();
-        ask(&mut self.list, &mut self.at, &self.core, &way, &slots);
+        self.at = ask_roll(
+            &mut self.queue,
+            self.at,
+            &self.core,
+            &way,
+            &self.taken,
+            &held,
+            &slots,
+        );
+        held.fill_all(&slots);
+        self.taken = held;
         self.core.enter(call, way, slots);
+        self.core.laws();
+        Ok(Reached {
+            frame: way.to,
+            from: way.frame,
+            rerun: way.to - way.frame,
+        })
+    }
+
+    /// A guess: if this player gave these words next. Has the timeline that this would make run elsewhere, aside of the current
+    /// state, from the deepest saved state on its way up to a frame, at most 8 rows, and answers the number of this job. Once
+    /// that is carried out, the job can be grafted. None if all of it is kept.
+    ///
+    /// # Errors
+    ///
+    /// `Full` if 64 jobs are out, else what the tests of a guess say, in their order, else `NoMemory` if the allocator has no
+    /// room, or no slot is left.
+    pub fn guess(&mut self, player: u8, words: &[u32], until: u32) -> Result<Option<u32>, Refusal>
+        ensures job { IfOk result (IsNumbered
+            (guess_job_of still self.old.seen player words.now until) self.old.jobs self.new.jobs) }
+        ensures accepted { OnOk result
+            (guess_refusal_of self.old.seen player words.now until ≡ None) }
+        ensures adds { OnOk result (Adds self.old.limit 0
+            (rows_to_run (guess_job_of still self.old.seen player words.now until))
+            self.old.requests self.new.requests) }
+        ensures rest { self.new
+            ≡ record self.old { requests = self.new.requests; jobs = self.new.jobs } }
+        ensures leads { (past : List Asks) → Leads past self.old → Leads past self.new }
+        ensures refused { IfErr result (IsNotGuessed
+            (guess_refusal_of self.old.seen player words.now until) self.old.jobs) }
+        ensures unasked { OnErr result (self.new.requests ≡ self.old.requests) }
+        ensures unchanged { OnErr result (SameValues self.old.jobs self.new.jobs) }
+    {
+        let Some(number) = free_number(&self.jobs) else {
+            return Err(Refusal::Full);
+        };
+        let Some((node, route)) = self.core.guess(player, words, until)? else {
+            return Ok(None);
+        };
+        let job = plan_job(
+            self.alloc,
+            &mut self.queue,
+            &mut self.taken,
+            &mut self.jobs,
+            &route,
+            self.limit,
+        )?;
+        self.core.laws();
+        let start = *self.core.saved().get(node);
+        ask_job(&mut self.queue, start, route.rows.as_slice(), job.slots());
+        self.taken.fill_all(job.slots());
+        self.jobs.insert_reserved(job);
+        Ok(Some(number))
+    }
+
+    /// Takes in the branch of a job, which must have been carried out. The job is gone in any case.
+    ///
+    /// # Errors
+    ///
+    /// `NoJob` if there is none of this number, else what the tests of a graft say, in their order, else `NoMemory` if the
+    /// allocator has no room.
+    pub fn graft(&mut self, job: u32) -> Result<Grafted, Refusal>
+        ensures grafted { IsHandedIn self.old.seen self.new.seen (get self.old.jobs job) result }
+        ensures jobs { Updates self.old.jobs self.new.jobs job None }
+        ensures rest { self.new ≡ record self.old {
+          seen = self.new.seen;
+          saves = self.new.saves;
+          jobs = self.new.jobs;
+        } }
+        ensures leads { (past : List Asks) → Leads past self.old → Leads past self.new }
+    {
+        let Some(job) = self.jobs.try_remove(job as usize) else {
+            return Err(Refusal::NoJob);
+        };
+        self.core.laws();
+        let outcome = self.core.graft(0, job.route, job.slots, true);
+        self.core.laws();
+        outcome
+    }
+
+    /// Gives a job up, and says whether there was one of this number.
+    pub fn forget(&mut self, job: u32) -> bool
+        ensures there { result ≡ is_some (get self.old.jobs job) }
+        ensures jobs { Updates self.old.jobs self.new.jobs job None }
+        ensures rest { self.new ≡ record self.old { jobs = self.new.jobs } }
+        ensures leads { (past : List Asks) → Leads past self.old → Leads past self.new }
+    {
+        self.jobs.try_remove(job as usize).is_some()
+    }
+
+    /// Makes room for so many more events, as a session's `reserve_log` does.
+    ///
+    /// # Errors
+    ///
+    /// `LogFull` if the log would pass its limit, else `NoMemory` if the allocator has no room.
+    pub fn reserve_log(&mut self, events: u32) -> Result<(), Refusal>
+        ensures fits { OnOk result (FitsLog self.old.seen events) }
+        ensures reserved { OnOk result (self.new ≡ record self.old {
+          seen = record self.old.seen { reserved = max self.old.seen.reserved events };
+        }) }
+        ensures refused { IfErr result (IsWhy (reserve_refusal self.old.seen events)) }
+        ensures short { OnErr result
+            (FitsLog self.old.seen events → self.old.seen.reserved < events) }
+        ensures unchanged { OnErr result (self.new ≡ self.old) }
+        ensures leads { (past : List Asks) → Leads past self.old → Leads past self.new }
+    {
+        self.core.reserve_log(events)?;
         Ok(())
     }
 
-    /// Hands out the next requests, in order, as many as there is room for, and says how many.
-    pub fn take_requests(&mut self, out: &mut [Request]) -> usize
-        ensures count { result ≡ min (length out.old) (length self.old.requests) }
-        ensures handed { out.new ≡ take result self.old.requests ++ drop result out.old }
-        ensures left { self.new ≡ record self.old {
-          requests = drop result self.old.requests;
-        } }
-        ensures leads { (past : List Asks) → Leads past self.old
-            → Leads (past ++ take result self.old.requests) self.new }
+    /// The claim of the last roll: what was kept before it, and why it started where it did.
+    ///
+    /// # Errors
+    ///
+    /// `NoPlan` if there was none, else `NoMemory` if the allocator has no room.
+    pub fn claim(&self, alloc: Global) -> Result<Claim, Refusal>
+        ensures claim { IfOk result (λ claim. IfSome self.now.seen.core.last
+            (λ roll. claim ≡ claim_of self.now.seen.settings.players roll)) }
+        ensures last { IfOk result (λ claim. last_claim self.now.seen ≡ Some claim) }
+        ensures right { IfOk result (λ claim. IsRight claim) }
+        ensures made { OnOk result (is_none self.now.seen.core.last ≡ false) }
+        ensures refused { IfErr result (λ why. why
+            ≡ (if is_none self.now.seen.core.last then Refusal.NoPlan else Refusal.NoMemory)) }
     {
-        let count = out.len().min(self.list.len() - self.given);
-        let end = self.given + count;
-        out[..count].copy_from_slice(&self.list[self.given..end]);
-        self.given = end;
-        self.forget_given();
-        count
+        self.core.claim(alloc)
     }
 
-    /// Drops what was handed out, once all was.
-    fn forget_given(&mut self)
-        ensures { self.new ≡ self.old }
+    /// The session itself, without its requests.
+    pub fn core(&self) -> &Core<u32>
+        ensures seen { result.now.seen ≡ self.now.seen }
+        ensures saves { result.now.saves ≡ self.now.saves }
     {
-        if self.given == self.list.len() {
-            self.list.clear();
-            self.given = 0;
-        }
+        &self.core
+    }
+
+    /// The slot of the state at the settled frame.
+    pub fn settled_slot(&self) -> u32
+        ensures { IsSettledSlot self.now.saves.tree result }
+    {
+        let tree = self.core.saved();
+        *tree.get(tree.root())
+    }
+
+    /// The timeline's row of a frame from the settled one on.
+    pub fn row(&self, frame: u32) -> Row
+        requires { self.now.saves.inputs.settled ≤ frame }
+        ensures { result ≡ row_at self.now.saves.inputs.players frame }
+    {
+        self.core.row(frame)
+    }
+
+    /// The requests that are still to be handed out, in their order.
+    pub fn requests(&self) -> &[Request]
+        ensures { result.now ≡ self.now.requests }
+    {
+        self.queue.requests()
+    }
+
+    /// The next requests are handed out, so many of them, or all if there are fewer.
+    pub fn hand_out(&mut self, count: usize)
+        ensures left { self.new ≡ record self.old { requests = drop count self.old.requests } }
+        ensures leads { (past : List Asks) → Leads past self.old
+            → Leads (past ++ take count self.old.requests) self.new }
+    {
+        self.queue.hand_out(count);
     }
 
     /// Whether all requests were handed out.
     pub fn is_done(&self) -> bool
         ensures { result ≡ (length self.now.requests == 0) }
     {
-        self.given == self.list.len()
+        self.queue.is_done()
     }
 }

@@ -1,4 +1,5 @@
 pub mod Grafting
+pub mod BranchRows
 pub mod NewStates
 pub mod Guessing
 pub mod Judging

@@ -91,6 +91,14 @@ module _ {S : Type 0} where
       → value (slice_index_or states (frame - start_of route) d) ≡ run step opening (timeline old.inputs.players old.inputs.settled ++ take (frame + 1 - old.inputs.settled) (ahead_of old.inputs route)))
       → HaveValues value step opening (timeline new.inputs.players new.inputs.settled) new.tree.states
 
+  -- and so it is where each state of the branch has the value that the rows up to it lead to, from frame 0 on
+  abbrev pub KeepsBranch : Standing S → Standing S → Route → List S → Type 0
+  KeepsBranch old new route states =
+      (value : S → Value) (step : Step) (opening : Value)
+      → HaveValues value step opening (timeline old.inputs.players old.inputs.settled) old.tree.states
+      → ((k : ℕ) (d : S) → k < length states → value (slice_index_or states k d) ≡ run step opening (timeline old.inputs.players route.path.base ++ (route.path.rows.items ++ take (k + 1) route.rows.items)))
+      → HaveValues value step opening (timeline new.inputs.players new.inputs.settled) new.tree.states
+
   -- why a branch along a route is refused, if it is: by all tests where its state at its anchor is the saved one, else at the
   -- latest since it isn't
   abbrev pub route_refusal_of : Bool → Bare S → Route → Option Refusal

@@ -1,5 +1,6 @@
 //! A session without a game.
-ghost use Rattle.std.specs.Prelude.{◌≡◌, ◌≤◌, ◌<◌, ◌-◌, ◌∷◌, [], length, max, IfOk, IfErr, IfSome, IsSomeAnd, None, OnOk, OnErr, option_map, Some};
+ghost use Rattle.std.specs.Prelude.{◌≡◌, ◌≤◌, ◌<◌, ◌-◌, ◌∷◌, [], false, is_none, length, max, IfOk, IfErr, IfSome, IsSomeAnd, None, OnOk, OnErr, option_map, Some, if◌then◌else◌};
+ghost use Rattle.roll_frame.specs.Claims.{claim_of, IsRight};
 ghost use Rattle.roll_frame.specs.Core.{depth, kept};
 ghost use Rattle.roll_frame.specs.Events.{branch_of, is_repeat, tests_of};
 ghost use Rattle.roll_frame.specs.Grafts.{new_paths};
@@ -10,8 +11,9 @@ ghost use Rattle.roll_game.specs.Counts.{no_calls};
 ghost use Rattle.roll_session.specs.Answered.{replied, with_entries, IsAnswered};
 ghost use Rattle.roll_session.specs.Calls.{entry_of, event_of, input_reply, judged, IsAdmitted, IsAllowed, IsInput, IsRoll, IsRollTo};
 ghost use Rattle.roll_session.specs.Changes.{after_graft, graft_refusal, reserve_refusal, FitsLog, IsRefused, IsWhy};
-ghost use Rattle.roll_session.specs.Gameless.{bare_branch, route_refusal_of, still, CanEnter, IsLooked, KeepsAll, KeepsGiven, KeepsGrafted};
+ghost use Rattle.roll_session.specs.Gameless.{bare_branch, route_refusal_of, still, CanEnter, IsLooked, KeepsAll, KeepsBranch, KeepsGiven, KeepsGrafted};
 ghost use Rattle.roll_session.specs.Guessing.{guess_job_of, guess_refusal_of};
+ghost use Rattle.roll_session.specs.Headline.{last_claim};
 ghost use Rattle.roll_session.specs.Held.{inputs_of};
 ghost use Rattle.roll_session.specs.Seen.{game_of, FollowsLog};
 ghost use Rattle.roll_session.specs.Standing.{from_start, settled_rows};
@@ -27,7 +29,7 @@ use crate::room::Room;
 use crate::saves::Saves;
 use crate::way::{Way, add_rolled};
 use roll_branch::PackedRoute;
-use roll_frame::{Refusal, Reply, Route, Row, Settings};
+use roll_frame::{Claim, Refusal, Reply, Route, Row, Settings};
 use roll_inputs::{Board, Heard};
 use roll_plan::Planner;
 use roll_tree::Tree;
@@ -38,8 +40,8 @@ use std::marker::Model;
 /// path.
 #[derive(Drop)]
 pub struct Core<S> {
-    settings: Settings,
-    saves: Saves<S>,
+    pub(crate) settings: Settings,
+    pub(crate) saves: Saves<S>,
     planner: Planner,
     log: Log,
     room: Room,
@@ -198,6 +200,8 @@ impl<S> Core<S> {
             (self.new.seen ≡ after_graft self.old.seen (bare_branch ticket route)) }
         ensures keeps { OnOk result
             (KeepsGrafted self.old.saves self.new.saves route states.items) }
+        ensures branch { OnOk result
+            (KeepsBranch self.old.saves self.new.saves route states.items) }
         ensures refused { IfErr result (IsRefused (route_refusal_of same self.old route)
             self.old.seen self.new.seen) }
         ensures unchanged { OnErr result (self.new ≡ self.old) }
@@ -240,6 +244,23 @@ impl<S> Core<S> {
         Ok(start_along(&self.saves, rows.as_slice()))
     }
 
+    /// The claim of the last roll: what was kept before it, and why it started where it did.
+    ///
+    /// # Errors
+    ///
+    /// `NoPlan` if there is no last plan, else `NoMemory` if the allocator has no room.
+    pub fn claim(&self, alloc: Global) -> Result<Claim, Refusal>
+        ensures claim { IfOk result (λ claim. IfSome self.now.seen.core.last
+            (λ roll. claim ≡ claim_of self.now.seen.settings.players roll)) }
+        ensures last { IfOk result (λ claim. last_claim self.now.seen ≡ Some claim) }
+        ensures right { IfOk result (λ claim. IsRight claim) }
+        ensures made { OnOk result (is_none self.now.seen.core.last ≡ false) }
+        ensures refused { IfErr result (λ why. why ≡ (if is_none self.now.seen.core.last
+            then Refusal.NoPlan else Refusal.NoMemory)) }
+    {
+        self.planner.claim(alloc)
+    }
+
     /// Makes room for so many more events, as a session's `reserve_log` does.
     ///
     /// # Errors
@@ -269,6 +290,7 @@ impl<S> Core<S> {
             ≡ inputs_of self.now.seen.settings self.now.seen.core }
         ensures kept { from_start (settled_rows self.now.seen.core)
             (paths_of self.now.saves.tree) ≡ kept self.now.seen.core }
+        ensures within { self.now.saves.inputs.settled ≤ self.now.seen.core.frame }
     {
         self.saves.laws();
     }
@@ -349,6 +371,7 @@ impl<S> Core<S> {
         ensures added { result.added
             ≡ length (new_paths self.old.seen.core (branch_of route)) }
         ensures keeps { KeepsGrafted self.old.saves self.new.saves route states.items }
+        ensures branch { KeepsBranch self.old.saves self.new.saves route states.items }
     {
         self.saves.laws();
         let added = add_new_states(&mut self.saves, along, states);

@@ -9,8 +9,7 @@ ghost use Rattle.roll_spectate.specs.declared.limits.TheConstants.{RING_ROWS as 
 
 use crate::limits::RING_ROWS;
 use roll_frame::Row;
-use roll_game::Game;
-use roll_session::Session;
+use roll_session::Networked;
 use rtrb::{Consumer, Producer, Protocol, RingBuffer};
 use std::alloc::{AllocError, Global};
 use std::marker::Model;
@@ -85,8 +84,8 @@ pub fn open_ring(alloc: Global) -> Result<(RowSender, RowReceiver), AllocError>
 
 impl RowSender {
     /// Sends the settled rows that were not sent before, until the ring is full, and says how many.
-    pub fn push<G: Game>(&mut self, session: &Session<G>) -> u32
-        ensures pushed { IsFed (settled_rows session.now.core) self.old self.new }
+    pub fn push<S: Networked>(&mut self, session: &S) -> u32
+        ensures pushed { IsFed (settled_rows (S.seen session.now).core) self.old self.new }
         ensures count { length self.new.rows ≡ length self.old.rows + result }
         ensures few { length self.new.rows ≤ FRAME_LIMIT }
     {
@@ -101,9 +100,9 @@ impl RowSender {
     }
 
     /// The first settled row that was not sent. None if all were.
-    fn next<G: Game>(&self, session: &Session<G>) -> Option<Row>
-        ensures { result ≡ (if nat_lt (length self.now.rows) (settled session.now.core) then Some
-            (row_at session.now.core.players (length self.now.rows)) else None) }
+    fn next<S: Networked>(&self, session: &S) -> Option<Row>
+        ensures { result ≡ (if nat_lt (length self.now.rows) (settled (S.seen session.now).core) then Some
+            (row_at (S.seen session.now).core.players (length self.now.rows)) else None) }
     {
         session.settled_row(self.count)
     }

@@ -3,7 +3,7 @@ use Rattle.std.specs.Prelude.{◌≡◌, ℕ, ◌%◌, ◌^◌, List, length, sl
 use Rattle.roll_contact.specs.Clocks.{first_clock, ticked}
 use Rattle.roll_contact.specs.Contacts.{after_hello as hello_heard, after_play as play_heard, clocks_for, hello_echo, hello_sent, is_playing, is_silent as is_silent_at, opened_contact, play_sent, refused, says_hello, unanswered_for, wants_clocks}
 use Rattle.roll_contact.specs.Keys.{greeting_key}
-use Rattle.roll_contact.specs.Seals.{named, sealed, unsealed, IsSealed}
+use Rattle.roll_contact.specs.Seals.{named, said_by, unsealed, IsSealed}
 use Rattle.roll_contact.specs.Terms.{hello_of, mismatch_of}
 use Rattle.roll_contact.specs.declared.contact.Contact.{Contact}
 use Rattle.roll_contact.specs.declared.contact.Opening.{Opening}
@@ -11,7 +11,7 @@ use Rattle.roll_contact.specs.declared.key.Key.{Key}
 use Rattle.roll_contact.specs.declared.terms.Terms.{Terms}
 use Rattle.roll_mesh.specs.declared.limits.TheConstants.{MACHINE_LIMIT}
 use Rattle.roll_wire.specs.Reading.{all_of}
-use Rattle.roll_wire.specs.Spelling.{spelling, Content, Greets, Leaves, Message, Plays}
+use Rattle.roll_wire.specs.Spelling.{Content, Greets, Leaves, Message, Plays}
 use Rattle.roll_wire.specs.declared.datagram.Clocks.{Clocks}
 use Rattle.roll_wire.specs.declared.datagram.Hello.{Hello}
 use Rattle.roll_wire.specs.declared.fault.WireFault.{WireFault}
@@ -26,12 +26,13 @@ use Rattle.roll_viewer.specs.declared.settings.LineSettings.{LineSettings}
 
 -- ---- what both ends are told
 
--- what the two ends compare
+-- what the two ends compare: rows are of words, whosever inputs these are of
 abbrev pub terms_of : LineSettings → Terms
 terms_of settings = record {
   machines = settings.machines;
   owners = settings.owners;
   digest = settings.digest;
+  words = 1;
 }
 
 -- what an end says of itself
@@ -204,10 +205,7 @@ key_for line Leaves = own_key line
 
 -- the bytes by which one end says something
 unfoldable pub said : Line → ℕ → Content → List ℕ
-said line sender what = sealed (key_for line what) (spelling (record {
-  envelope = record { match_number = line.settings.number; sender = sender };
-  content = what;
-}))
+said line sender what = said_by (key_for line what) sender what
 
 -- which match this end means, and which draw of the other end it says back
 abbrev pub greeting : Line → Content

@@ -14,9 +14,8 @@ use crate::settings::LineSettings;
 use crate::telling::{room_after, tells_rows, told_to};
 use arrayvec::ArrayVec;
 use roll_contact::Stage;
-use roll_game::Game;
 use roll_mesh::PLAYER_LIMIT;
-use roll_session::Session;
+use roll_session::Networked;
 use roll_wire::{Body, DATAGRAM_LIMIT, Play};
 use std::marker::Model;
 
@@ -123,15 +122,15 @@ impl ViewerLine {
     /// The bytes to send to the viewer in this turn of the match's session, at a moment: a hello, until its draw is believed, and
     /// then now and again until its first play comes; else the settled rows that it hasn't said that it has, as many as fit.
     /// None once the line has ended.
-    pub fn send<G: Game>(
+    pub fn send<S: Networked>(
         &mut self,
-        session: &Session<G>,
+        session: &S,
         now: u32,
     ) -> Option<ArrayVec<u8, DATAGRAM_LIMIT>>
         ensures sent { option_map (λ bytes. bytes.items) result
-            ≡ host_sends self.old session.now.core now }
-        ensures told { self.new ≡ host_told self.old session.now.core now }
-        ensures rows { TellsRows session.now.core self.old.had }
+            ≡ host_sends self.old (S.seen session.now).core now }
+        ensures told { self.new ≡ host_told self.old (S.seen session.now).core now }
+        ensures rows { TellsRows (S.seen session.now).core self.old.had }
     {
         tells_rows(session, self.had);
         if self.line.ended {
@@ -146,12 +145,12 @@ impl ViewerLine {
     }
 
     /// The next rows, which the viewer is told from now on.
-    fn tell<G: Game>(&mut self, session: &Session<G>, now: u32) -> Play
+    fn tell<S: Networked>(&mut self, session: &S, now: u32) -> Play
         ensures play { turn result ≡ with_clocks
-            (clocks_at self.old.line (with_told self.old session.now.core).told now)
-            (told_to session.now.core self.old.had) }
+            (clocks_at self.old.line (with_told self.old (S.seen session.now).core).told now)
+            (told_to (S.seen session.now).core self.old.had) }
         ensures whole { is_turn (turn result) ≡ true }
-        ensures told { self.new ≡ with_told self.old session.now.core }
+        ensures told { self.new ≡ with_told self.old (S.seen session.now).core }
     {
         let end = self.had + room_after(session, self.had);
         self.told = self.told.max(end);

@@ -7,9 +7,9 @@ ghost use Rattle.roll_viewer.specs.Lines.{after_bye, after_hello, after_play, af
 use crate::refusal::LineRefusal;
 use crate::settings::LineSettings;
 use arrayvec::ArrayVec;
-use roll_contact::seal::{seal, unseal};
+use roll_contact::seal::{say, unseal};
 use roll_contact::{Clock, Contact, Key};
-use roll_wire::{Body, Clocks, DATAGRAM_LIMIT, Datagram, Envelope, Hello, Play, decode, encode};
+use roll_wire::{Body, Clocks, DATAGRAM_LIMIT, Hello, Play, decode};
 
 /// Whom a viewer names as the sender: no machine of a match has this number.
 pub(crate) const VIEWER: u8 = 255;
@@ -248,17 +248,6 @@ impl Line {
         requires { is_whole (content body) ≡ true }
         ensures { result.items ≡ said self.now sender (content body) }
     {
-        let key = self.key_for(&body);
-        let envelope = Envelope {
-            match_number: self.settings.number,
-            sender,
-        };
-        match encode(&Datagram { envelope, body }) {
-            Some(mut bytes) => {
-                seal(&mut bytes, &key);
-                bytes
-            }
-            None => unreachable!(),
-        }
+        say(&self.key_for(&body), sender, body)
     }
 }

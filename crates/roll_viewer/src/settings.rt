@@ -50,6 +50,7 @@ impl LineSettings {
             machines: self.machines,
             owners: self.owners,
             digest: self.digest,
+            words: 1,
         }
     }
 

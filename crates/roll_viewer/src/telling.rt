@@ -14,16 +14,15 @@ ghost use Rattle.roll_viewer.specs.Telling.{has_by, has_of, room_after, said_as,
 
 use crate::rows::has_words;
 use arrayvec::ArrayVec;
-use roll_game::Game;
 use roll_mesh::{MACHINE_LIMIT, Offer, PLAYER_LIMIT, View};
-use roll_session::Session;
+use roll_session::Networked;
 use roll_wire::{Clocks, Head, Play, WORD_LIMIT};
 
 const NONE: Offer = Offer { first: 0, end: 0 };
 
 /// How many rows more are told a viewer who has so many.
-pub(crate) fn room_after<G: Game>(session: &Session<G>, had: u32) -> u32
-    ensures room { result ≡ room_after session.now.core had }
+pub(crate) fn room_after<S: Networked>(session: &S, had: u32) -> u32
+    ensures room { result ≡ room_after (S.seen session.now).core had }
     ensures fits { had + result ≤ u32.MAX }
 {
     let players = u32::from(session.players().max(1));
@@ -34,10 +33,10 @@ pub(crate) fn room_after<G: Game>(session: &Session<G>, had: u32) -> u32
 }
 
 /// In how many settled rows the player at a place has a word. None if there is no such player.
-fn has_of<G: Game>(session: &Session<G>, place: usize) -> Option<u32>
+fn has_of<S: Networked>(session: &S, place: usize) -> Option<u32>
     requires { place < PLAYER_LIMIT }
-    ensures { result ≡ option_map (has_of (settled session.now.core))
-        (slice_get session.now.core.players place) }
+    ensures { result ≡ option_map (has_of (settled (S.seen session.now).core))
+        (slice_get (S.seen session.now).core.players place) }
 {
     session
         .confirmed(place as u8 + 1)
@@ -45,8 +44,8 @@ fn has_of<G: Game>(session: &Session<G>, place: usize) -> Option<u32>
 }
 
 /// In how many settled rows each player has a word.
-fn counts<G: Game>(session: &Session<G>) -> [u32; PLAYER_LIMIT]
-    ensures { result ≡ has_by session.now.core }
+fn counts<S: Networked>(session: &S) -> [u32; PLAYER_LIMIT]
+    ensures { result ≡ has_by (S.seen session.now).core }
 {
     let mut counts = [0; PLAYER_LIMIT];
     for place in 0..PLAYER_LIMIT {
@@ -56,10 +55,10 @@ fn counts<G: Game>(session: &Session<G>) -> [u32; PLAYER_LIMIT]
 }
 
 /// Where the words of the player at a place stand in so many rows from those on that a viewer has.
-fn span_of<G: Game>(session: &Session<G>, place: usize, had: u32, room: u32) -> Offer
+fn span_of<S: Networked>(session: &S, place: usize, had: u32, room: u32) -> Offer
     requires { place < PLAYER_LIMIT }
-    ensures { result ≡ option_map_or (span_of (settled session.now.core) had room)
-        (slice_get session.now.core.players place) none_offered }
+    ensures { result ≡ option_map_or (span_of (settled (S.seen session.now).core) had room)
+        (slice_get (S.seen session.now).core.players place) none_offered }
 {
     match has_of(session, place) {
         Some(count) => Offer {
@@ -71,8 +70,8 @@ fn span_of<G: Game>(session: &Session<G>, place: usize, had: u32, room: u32) -> 
 }
 
 /// Each player's words in the rows that are told a viewer.
-fn spans_to<G: Game>(session: &Session<G>, had: u32) -> [Offer; PLAYER_LIMIT]
-    ensures { result ≡ spans_to session.now.core had }
+fn spans_to<S: Networked>(session: &S, had: u32) -> [Offer; PLAYER_LIMIT]
+    ensures { result ≡ spans_to (S.seen session.now).core had }
 {
     let room = room_after(session, had);
     let mut spans = [NONE; PLAYER_LIMIT];
@@ -112,15 +111,15 @@ fn said_once(spans: &[Offer; PLAYER_LIMIT]) -> [Offer; PLAYER_LIMIT]
 }
 
 /// Adds a player's words of a span.
-fn push_words<G: Game>(
+fn push_words<S: Networked>(
     words: &mut ArrayVec<u32, WORD_LIMIT>,
-    session: &Session<G>,
+    session: &S,
     player: u8,
     span: Offer,
 )
     requires { length words.old.items + (span.end - span.first) ≤ WORD_LIMIT }
     ensures { words.new.items
-        ≡ words.old.items ++ words_at (words_of session.now player) span }
+        ≡ words.old.items ++ words_at (words_of (S.seen session.now) player) span }
 {
     for frame in span.first..span.end {
         if let Some(word) = session.confirmed_word(player, frame) {
@@ -130,10 +129,10 @@ fn push_words<G: Game>(
 }
 
 /// The words in these spans.
-fn words_in<G: Game>(session: &Session<G>, spans: &[Offer]) -> ArrayVec<u32, WORD_LIMIT>
+fn words_in<S: Networked>(session: &S, spans: &[Offer]) -> ArrayVec<u32, WORD_LIMIT>
     requires players { length spans.now ≤ PLAYER_LIMIT }
     requires room { count_of spans.now ≤ WORD_LIMIT }
-    ensures { result.items ≡ words_in session.now.core.players spans.now }
+    ensures { result.items ≡ words_in (S.seen session.now).core.players spans.now }
 {
     let mut words = ArrayVec::new();
     for (place, span) in spans.iter().enumerate() {
@@ -143,8 +142,8 @@ fn words_in<G: Game>(session: &Session<G>, spans: &[Offer]) -> ArrayVec<u32, WOR
 }
 
 /// What a host tells a viewer who has so many rows, with these clocks.
-pub(crate) fn told_to<G: Game>(session: &Session<G>, had: u32, clocks: Option<Clocks>) -> Play
-    ensures told { turn result ≡ with_clocks clocks (told_to session.now.core had) }
+pub(crate) fn told_to<S: Networked>(session: &S, had: u32, clocks: Option<Clocks>) -> Play
+    ensures told { turn result ≡ with_clocks clocks (told_to (S.seen session.now).core had) }
     ensures whole { is_turn (turn result) ≡ true }
 {
     session.laws();
@@ -188,8 +187,8 @@ pub(crate) fn acknowledged(players: usize, rows: u32, clocks: Option<Clocks>) ->
 }
 
 /// What a host tells is its settled rows.
-pub(crate) fn tells_rows<G: Game>(session: &Session<G>, had: u32)
-    ensures { TellsRows session.now.core had }
+pub(crate) fn tells_rows<S: Networked>(session: &S, had: u32)
+    ensures { TellsRows (S.seen session.now).core had }
 {
     session.laws();
 }

@@ -83,26 +83,27 @@ opening_field =
     (both_field IsLong long (number_at w64) Last last last_at long_field last_field)
 
 abbrev HelloParts : Type 0
-HelloParts = ℕ × (List ℕ × (ℕ × (ℕ × (ℕ × (ℕ × ℕ)))))
+HelloParts = ℕ × (ℕ × (List ℕ × (ℕ × (ℕ × (ℕ × (ℕ × ℕ))))))
 
 abbrev hello_parts : List ℕ → Result (HelloParts × List ℕ) WireFault
-hello_parts = both_at byte_at
-    (both_at (repeated byte_at PLAYER_LIMIT) (both_at (number_at w64) opening_at))
+hello_parts = both_at byte_at (both_at byte_at
+    (both_at (repeated byte_at PLAYER_LIMIT) (both_at (number_at w64) opening_at)))
 
 abbrev hello_of : HelloParts → Hello
 hello_of x = record {
   machines = x.0;
-  owners = x.1.0;
-  settings = x.1.1.0;
-  draw = x.1.1.1.0;
-  echo = x.1.1.1.1.0;
-  patience = x.1.1.1.1.1.0;
-  abilities = x.1.1.1.1.1.1;
+  words = x.1.0;
+  owners = x.1.1.0;
+  settings = x.1.1.1.0;
+  draw = x.1.1.1.1.0;
+  echo = x.1.1.1.1.1.0;
+  patience = x.1.1.1.1.1.1.0;
+  abilities = x.1.1.1.1.1.1.1;
 }
 
 abbrev parts_of_hello : Hello → HelloParts
 parts_of_hello h =
-    (h.machines, (h.owners, (h.settings, (h.draw, (h.echo, (h.patience, h.abilities))))))
+    (h.machines, (h.words, (h.owners, (h.settings, (h.draw, (h.echo, (h.patience, h.abilities)))))))
 
 hello_same : (bytes : List ℕ) → hello_at bytes ≡ seen_at hello_of hello_parts bytes
 unfolding hello_at
@@ -112,16 +113,22 @@ pub hello_field : IsField IsHello hello hello_at
 hello_field =
     same_field IsHello hello hello_at (seen_at hello_of hello_parts) hello_same
     (seen_field hello_of parts_of_hello
-    (λ x. IsByte x.0 × (AreBytes x.1.0 × (IsLong x.1.1.0 × Opening x.1.1.1)))
-    (λ x. byte x.0 ++ (flat_map byte x.1.0 ++ (long x.1.1.0 ++ opening x.1.1.1))) hello_parts
+    (λ x. IsByte x.0 × (IsByte x.1.0 × (AreBytes x.1.1.0 × (IsLong x.1.1.1.0 × Opening x.1.1.1.1))))
+    (λ x. byte x.0
+    ++ (byte x.1.0 ++ (flat_map byte x.1.1.0 ++ (long x.1.1.1.0 ++ opening x.1.1.1.1)))) hello_parts
     (λ x. refl) (λ h. refl)
+    (both_field IsByte byte byte_at
+    (λ x. IsByte x.0 × (AreBytes x.1.0 × (IsLong x.1.1.0 × Opening x.1.1.1)))
+    (λ x. byte x.0 ++ (flat_map byte x.1.0 ++ (long x.1.1.0 ++ opening x.1.1.1)))
+    (both_at byte_at (both_at (repeated byte_at PLAYER_LIMIT) (both_at (number_at w64) opening_at)))
+    byte_field
     (both_field IsByte byte byte_at (λ x. AreBytes x.0 × (IsLong x.1.0 × Opening x.1.1))
     (λ x. flat_map byte x.0 ++ (long x.1.0 ++ opening x.1.1))
     (both_at (repeated byte_at PLAYER_LIMIT) (both_at (number_at w64) opening_at)) byte_field
     (both_field AreBytes (λ ns. flat_map byte ns) (repeated byte_at PLAYER_LIMIT)
     (λ x. IsLong x.0 × Opening x.1) (λ x. long x.0 ++ opening x.1)
     (both_at (number_at w64) opening_at) (repeated_field IsByte byte byte_at PLAYER_LIMIT byte_field)
-    (both_field IsLong long (number_at w64) Opening opening opening_at long_field opening_field))))
+    (both_field IsLong long (number_at w64) Opening opening opening_at long_field opening_field)))))
 
 -- ---- clocks
 

@@ -164,7 +164,8 @@ repeated read (suc n) bytes = do
 unfoldable pub hello_at : List ℕ → Result (Hello × List ℕ) WireFault
 hello_at bytes = do
   machines ← byte_at bytes
-  owners ← repeated byte_at PLAYER_LIMIT machines.1
+  words ← byte_at machines.1
+  owners ← repeated byte_at PLAYER_LIMIT words.1
   settings ← number_at w64 owners.1
   draw ← number_at w64 settings.1
   echo ← number_at w64 draw.1
@@ -173,6 +174,7 @@ hello_at bytes = do
   Ok (
     record {
       machines = machines.0;
+      words = words.0;
       owners = owners.0;
       settings = settings.0;
       draw = draw.0;

@@ -93,8 +93,8 @@ envelope e = long e.match_number ++ byte e.sender
 abbrev pub hello : Hello → List ℕ
 hello h =
     byte h.machines
-    ++ (flat_map byte h.owners ++ (long h.settings
-    ++ (long h.draw ++ (long h.echo ++ (number h.patience ++ byte h.abilities)))))
+    ++ (byte h.words ++ (flat_map byte h.owners ++ (long h.settings
+    ++ (long h.draw ++ (long h.echo ++ (number h.patience ++ byte h.abilities))))))
 
 abbrev pub clocks : Clocks → List ℕ
 clocks c =
@@ -197,9 +197,9 @@ IsEnvelope e = IsLong e.match_number × IsByte e.sender
 abbrev pub IsHello : Hello → Type 0
 IsHello h =
     IsByte h.machines
-    × (((length h.owners ≡ PLAYER_LIMIT) × AllByRecursion IsByte h.owners)
+    × (IsByte h.words × (((length h.owners ≡ PLAYER_LIMIT) × AllByRecursion IsByte h.owners)
     × (IsLong h.settings × (IsLong h.draw × (IsLong h.echo
-    × (IsNumber h.patience × IsByte h.abilities)))))
+    × (IsNumber h.patience × IsByte h.abilities))))))
 
 abbrev pub IsClocks : Clocks → Type 0
 IsClocks c =

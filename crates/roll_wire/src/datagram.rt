@@ -19,6 +19,8 @@ pub struct Envelope {
 pub struct Hello {
     /// How many machines the match has, 2 to 8.
     pub machines: u8,
+    /// How many words an input has, 1 to 4.
+    pub words: u8,
     /// The machine that owns each player, player 0 first; 255 if there is no such player.
     pub owners: [u8; PLAYER_LIMIT],
     /// A digest of all else that both sides have to have alike: the game, its opening, the session's limits.

@@ -315,6 +315,7 @@ fn hello_of(bytes: &[u8]) -> Result<(Hello, &[u8]), WireFault>
     ensures { Gives (λ x. (x.0, x.1.now)) result (hello_at bytes.now) }
 {
     let (machines, rest) = byte_of(bytes)?;
+    let (words, rest) = byte_of(rest)?;
     let (owners, rest) = owners_of(rest)?;
     let (settings, rest) = u64_at(rest)?;
     let (draw, rest) = u64_at(rest)?;
@@ -323,6 +324,7 @@ fn hello_of(bytes: &[u8]) -> Result<(Hello, &[u8]), WireFault>
     let (abilities, rest) = byte_of(rest)?;
     let hello = Hello {
         machines,
+        words,
         owners,
         settings,
         draw,

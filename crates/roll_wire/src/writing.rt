@@ -303,11 +303,12 @@ fn put_owners(out: &mut Bytes, owners: &[u8; PLAYER_LIMIT])
 }
 
 fn put_hello(out: &mut Bytes, h: &Hello)
-    requires { length out.old.items + 38 ≤ DATAGRAM_LIMIT }
+    requires { length out.old.items + 39 ≤ DATAGRAM_LIMIT }
     ensures items { out.new.items ≡ out.old.items ++ hello h.now }
     ensures fits { IsHello h.now }
 {
     put_byte(out, h.machines);
+    put_byte(out, h.words);
     put_owners(out, &h.owners);
     put_u64(out, h.settings);
     put_u64(out, h.draw);

@@ -7,8 +7,6 @@ use Rattle.prog_parts.specs.declared.fault.PlayFault.{PlayFault}
 use Rattle.prog_parts.specs.declared.fault.PlayFault.TheVariants.{NoMemory, Read, Write}
 use Rattle.prog_parts.specs.declared.ending.Ending.{Ending}
 use Rattle.clap.specs.Walk.{Row, Text}
-use Rattle.prog_sides.specs.Options.{IsPlayable}
-use Rattle.prog_sides.specs.declared.options.MatchOptions.{MatchOptions}
 use Rattle.prog_peers.specs.Agreement.{HasAgreed}
 use Rattle.prog_peers.specs.declared.options.PeersOptions.{PeersOptions}
 use Rattle.std.specs.declared.alloc.Global.{Global}
@@ -32,13 +30,9 @@ misused = record { status = 2; fault = None }
 abbrev pub HasStatus : Ending → Type 0
 HasStatus ending = MatchOption ending.fault (ending.status ≤ 2) (λ fault. ending.status ≡ 2)
 
--- a match ends well only where it could be played
-abbrev pub EndsMatch : Ending → MatchOptions → Type 0
-EndsMatch ending options = ending.status ≡ 0 → IsPlayable options
-
--- a match of several machines ends well only where it is one that these arguments name, and its machines have agreed
-abbrev pub EndsPeers : List Row → Ending → Type 0
-EndsPeers rows ending = ending.status ≡ 0
+-- a match ends well only where it is one that these arguments name, and its machines have agreed
+abbrev pub EndsMatch : List Row → Ending → Type 0
+EndsMatch rows ending = ending.status ≡ 0
     → (options : PeersOptions) × AreNamed rows options × HasAgreed options
 
 -- how the program ends at words of which the picture can't be drawn

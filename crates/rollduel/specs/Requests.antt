@@ -21,7 +21,7 @@ use Rattle.prog_parts.specs.declared.task.Task.{Task}
 use Rattle.prog_parts.specs.declared.task.Task.TheVariants.{Play, SyncTest, Certify}
 use Rattle.roll_live.specs.declared.program.Live.{Live}
 use Rattle.prog_sides.specs.declared.options.Guesses.{Guesses}
-use Rattle.prog_sides.specs.declared.options.Guesses.TheVariants.{Best, Off, Words, Turns}
+use Rattle.prog_sides.specs.declared.options.Guesses.TheVariants.{Best, Off}
 use Rattle.prog_sides.specs.declared.options.MatchOptions.{MatchOptions}
 use Rattle.prog_peers.specs.Options.{fault_of}
 use Rattle.prog_peers.specs.Stops.{no_stops, NamesStops}
@@ -51,8 +51,6 @@ live_as live = record { game = game_as live.game; workers = live.workers }
 
 abbrev pub guesses_as : GuessOption → Guesses
 guesses_as guess.Off = Off
-guesses_as guess.Words = Words
-guesses_as guess.Turns = Turns
 guesses_as guess.Best = Best
 
 abbrev pub options_as : MatchRequest → MatchOptions
@@ -72,29 +70,26 @@ options_as asked = record {
 abbrev pub window_as : PictureWindow → Window
 window_as window = record { from = window.from; to = window.to; tree = window.tree }
 
--- the options of a match of several machines are those that were asked for, and such a match is played
+-- the options of a match are those that were asked for, and such a match is played
 pub record IsOf (asked : PeersRequest) (options : PeersOptions) : Type 0 where
-  pub machines : Some options.machines ≡ asked.machines
+  pub machines : options.machines ≡ asked.machines
   pub common : options.common ≡ options_as asked.common
   pub stops : NamesStops no_stops (map (λ text. text.now) asked.stops.items) options.stops
   pub hostile : options.hostile ≡ asked.hostile
   pub fine : fault_of options ≡ None
 
 -- what is asked for: something with a text, the path of which is none where it is standard input, and whether that is
--- to be explained; a script that is played live; a match of two peers; one of several machines; or nothing, for what is
--- said of a picture can't be followed
+-- to be explained; a script that is played live; a match; or nothing, for what is said of a picture can't be followed
 pub data Asked : Type 0 where
   on_text : Option Text → Task → Bool → Asked
   live : Option Text → Live → Asked
-  «match» : MatchOptions → Asked
-  peers : Asked
+  «match» : Asked
   refused : PictureFault → Asked
 
 abbrev pub asked_of : Request → Asked
 asked_of (request.Text asked) = on_text (path_of asked.input) asked.task asked.explain
 asked_of (request.Live input how) = live (path_of input) how
-asked_of (request.Match options) = «match» options
-asked_of (request.Peers options) = peers
+asked_of (request.Match options) = «match»
 asked_of (request.Refused fault) = refused fault
 
 -- there are 1 to 4 workers
@@ -106,8 +101,7 @@ HasWorkers _ = ⊤
 abbrev pub asked_as : line.Asked → Asked
 asked_as (line.on_text path task explain) = on_text path (task_as task) explain
 asked_as (line.live path how) = live path (live_as how)
-asked_as (line.«match» options) = «match» (options_as options)
-asked_as line.peers = peers
+asked_as line.«match» = «match»
 asked_as (line.refused fault) = refused fault
 
 abbrev pub asked_by : List Text → Asked
@@ -131,7 +125,7 @@ picture_by words = picture_as (line.picture_by words)
 abbrev pub window_by : List Text → Option Window
 window_by words = option_map (λ picture. picture.1) (picture_by words)
 
--- the options of a match of several machines are those that the arguments name, and such a match is played
+-- the options of a match are those that the arguments name, and such a match is played
 pub record AreNamed (rows : List Row) (options : PeersOptions) : Type 0 where
   pub machines : options.machines ≡ number_named 8 (first_of (codes "peers") rows)
   pub common : options.common ≡ options_as (options_named (λ name. first_of name rows))
@@ -140,7 +134,7 @@ pub record AreNamed (rows : List Row) (options : PeersOptions) : Type 0 where
   pub fine : fault_of options ≡ None
 
 abbrev pub HasOptions : List Row → Request → Type 0
-HasOptions rows (request.Peers options) = IfOk options (AreNamed rows)
+HasOptions rows (request.Match options) = IfOk options (AreNamed rows)
 HasOptions rows _ = ⊤
 
 -- a fact where something with a text is asked for
@@ -154,14 +148,9 @@ IfLive (live path how) P = P path how
 IfLive _ P = ⊤
 
 -- a fact where a match is asked for
-abbrev pub IfMatch : Asked → (MatchOptions → Type 0) → Type 0
-IfMatch («match» options) P = P options
+abbrev pub IfMatch : Asked → Type 0 → Type 0
+IfMatch «match» P = P
 IfMatch _ P = ⊤
-
--- a fact where a match of several machines is asked for
-abbrev pub IfPeers : Asked → Type 0 → Type 0
-IfPeers peers P = P
-IfPeers _ P = ⊤
 
 -- a fact where what is said of a picture can't be followed
 abbrev pub IfRefused : Asked → (PictureFault → Type 0) → Type 0

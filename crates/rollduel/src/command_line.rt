@@ -15,10 +15,10 @@ use prog_command_line::{
     PictureRequest as AskedPicture, PictureWindow, Request as Asked, TextRequest as AskedText,
     TextTask,
 };
-use prog_match::{Guesses, MatchOptions};
 use prog_parts::{GameName, Task};
 use prog_peers::{PeersFault, PeersOptions, read_stops};
 use prog_picture::Window;
+use prog_sides::{Guesses, MatchOptions};
 use roll_live::Live;
 use std::alloc::Global;
 
@@ -40,10 +40,8 @@ pub enum Request<'a> {
     Text(TextRequest<'a>),
     /// A script is to be played live.
     Live { input: Input<'a>, live: Live },
-    /// A match of two peers is to be played, of which nothing is read.
-    Match(MatchOptions),
-    /// A match of several machines is to be played, or why it can't be.
-    Peers(Result<PeersOptions, PeersFault>),
+    /// A match is to be played, of which nothing is read, or why it can't be.
+    Match(Result<PeersOptions, PeersFault>),
     /// Nothing, for what is said of a picture can't be followed.
     Refused(PictureFault),
 }
@@ -89,8 +87,7 @@ fn request_of<'a>(asked: &Asked<'a>) -> Request<'a>
             input: *input,
             live: live_of(live),
         },
-        Asked::Match(asked) => Request::Match(options_of(asked)),
-        Asked::Peers(asked) => Request::Peers(peers_of(asked)),
+        Asked::Match(asked) => Request::Match(peers_of(asked)),
         Asked::Refused(fault) => Request::Refused(*fault),
     }
 }
@@ -156,16 +153,13 @@ fn options_of(asked: &MatchRequest) -> MatchOptions
     }
 }
 
-/// The options of a match of several machines, or why none is played so.
+/// The options of a match, or why none is played so.
 fn peers_of(asked: &PeersRequest<'_>) -> Result<PeersOptions, PeersFault>
     ensures { IfOk result (IsOf asked.now) }
 {
-    let Some(machines) = asked.machines else {
-        return Err(PeersFault::NoPeers);
-    };
     let stops = read_stops(&asked.stops)?;
     let options = PeersOptions {
-        machines,
+        machines: asked.machines,
         common: options_of(&asked.common),
         stops,
         hostile: asked.hostile,
@@ -200,8 +194,6 @@ fn guesses_of(guesses: GuessOption) -> Guesses
 {
     match guesses {
         GuessOption::Off => Guesses::Off,
-        GuessOption::Words => Guesses::Words,
-        GuessOption::Turns => Guesses::Turns,
         GuessOption::Best => Guesses::Best,
     }
 }

@@ -3,122 +3,125 @@ use std::fmt;
 
 /// Why a call was refused.
 #[derive(Clone, Copy, PartialEq, Eq, Hash, Debug)]
+// c/numbers writes the list.
+#[repr(i32)]
 pub enum Error {
     /// There is no such player, or the player isn't of this kind (local, remote).
-    InvalidPlayer,
+    InvalidPlayer = 2,
     /// The settings have no players, or too many.
-    PlayerOutOfRange,
+    PlayerOutOfRange = 3,
     /// The session is as far ahead as it may be: wait for the others' words.
-    PredictionThreshold,
+    PredictionThreshold = 4,
     /// The player has left.
-    PlayerDisconnected,
-    /// The settings are out of range (a limit, a delay, or no player is local), or a guess is: it has no words or over 24,
-    /// or it doesn't end 1 to 24 frames past the settled one.
-    InvalidRequest,
+    PlayerDisconnected = 9,
+    /// The settings are out of range (a limit, a delay, or no player is local), or a guess is: it has no words or over 24, or it
+    /// doesn't end 1 to 24 frames past the settled one.
+    InvalidRequest = 11,
     /// A local player's word of this frame is missing.
-    LocalInputMissing,
+    LocalInputMissing = 101,
     /// The local player's word of this frame was given already.
-    InputTwice,
+    InputTwice = 102,
     /// A word before this one has not come yet.
-    Gap,
+    Gap = 103,
     /// Another word was taken for this frame.
-    Conflict,
+    Conflict = 104,
     /// The player is 128 words past the settled frame.
-    QueueFull,
+    QueueFull = 105,
     /// The last frame is reached.
-    FrameLimit,
+    FrameLimit = 106,
     /// There was no memory, or no slot below the limit.
-    NoMemory,
+    NoMemory = 107,
     /// The job's states are not of this session.
-    Stranger,
+    Stranger = 108,
     /// The job ends over 24 frames past the settled one.
-    TooFar,
+    TooFar = 109,
     /// The job has nothing past the settled frame.
-    Late,
+    Late = 110,
     /// The state that the job was run from is not kept any more.
-    Orphan,
+    Orphan = 111,
     /// A word has come that is not the guessed one.
-    Dead,
+    Dead = 112,
     /// As many states are kept as jobs may fill.
-    TreeFull,
+    TreeFull = 113,
     /// The log is full.
-    LogFull,
+    LogFull = 114,
     /// There was no rollback yet.
-    NoPlan,
+    NoPlan = 117,
     /// 64 jobs are out.
-    Full,
+    Full = 119,
     /// There is no such job.
-    NoJob,
+    NoJob = 120,
     /// Requests of the last roll were not taken, or not all of them were carried out.
-    Pending,
+    Pending = 202,
     /// The library is of another version than this crate.
-    OtherVersion,
+    OtherVersion = 205,
     /// Bytes that are not of this opening of the match or line, were changed on their way, or are too few or too many.
-    NotSealed,
+    NotSealed = 301,
     /// Bytes that are sealed as they have to be, and no datagram of this version.
-    NoDatagram,
+    NoDatagram = 302,
     /// There is no such machine in the match.
-    InvalidMachine,
+    InvalidMachine = 303,
     /// The machine is this one.
-    OwnMachine,
+    OwnMachine = 304,
     /// The sender is gone.
-    MachineGone,
+    MachineGone = 305,
     /// The other end of the line means another match.
-    Mismatched,
+    Mismatched = 306,
     /// The sender sends words that it does not say that it has, or says that it has words that it was never given.
-    Overstated,
+    Overstated = 307,
     /// The line has ended.
-    Ended,
+    Ended = 308,
     /// The other end of the line didn't send it.
-    OtherSender,
+    OtherSender = 309,
     /// What the host sends are no rows of this match's players.
-    NoRows,
+    NoRows = 310,
     /// Rows before those that the host sends have not come yet.
-    RowsMissing,
-    /// The sender tells of machines or players that the match hasn't.
-    Outside,
+    RowsMissing = 311,
+    /// The sender tells of machines or players that the match hasn't, or not alike of all words of an input.
+    Outside = 312,
     /// The session isn't the one that the peer plays, or was told of others past it.
-    OtherSession,
+    OtherSession = 313,
 }
 
-const ALL: [(Error, i32); 37] = [
-    (Error::InvalidPlayer, 2),
-    (Error::PlayerOutOfRange, 3),
-    (Error::PredictionThreshold, 4),
-    (Error::PlayerDisconnected, 9),
-    (Error::InvalidRequest, 11),
-    (Error::LocalInputMissing, 101),
-    (Error::InputTwice, 102),
-    (Error::Gap, 103),
-    (Error::Conflict, 104),
-    (Error::QueueFull, 105),
-    (Error::FrameLimit, 106),
-    (Error::NoMemory, 107),
-    (Error::Stranger, 108),
-    (Error::TooFar, 109),
-    (Error::Late, 110),
-    (Error::Orphan, 111),
-    (Error::Dead, 112),
-    (Error::TreeFull, 113),
-    (Error::LogFull, 114),
-    (Error::NoPlan, 117),
-    (Error::Full, 119),
-    (Error::NoJob, 120),
-    (Error::Pending, 202),
-    (Error::OtherVersion, 205),
-    (Error::NotSealed, 301),
-    (Error::NoDatagram, 302),
-    (Error::InvalidMachine, 303),
-    (Error::OwnMachine, 304),
-    (Error::MachineGone, 305),
-    (Error::Mismatched, 306),
-    (Error::Overstated, 307),
-    (Error::Ended, 308),
-    (Error::OtherSender, 309),
-    (Error::NoRows, 310),
-    (Error::RowsMissing, 311),
-    (Error::Outside, 312),
-    (Error::OtherSession, 313),
+/// All of them. c/numbers writes the list.
+const ALL: [Error; 37] = [
+    Error::InvalidPlayer,
+    Error::PlayerOutOfRange,
+    Error::PredictionThreshold,
+    Error::PlayerDisconnected,
+    Error::InvalidRequest,
+    Error::LocalInputMissing,
+    Error::InputTwice,
+    Error::Gap,
+    Error::Conflict,
+    Error::QueueFull,
+    Error::FrameLimit,
+    Error::NoMemory,
+    Error::Stranger,
+    Error::TooFar,
+    Error::Late,
+    Error::Orphan,
+    Error::Dead,
+    Error::TreeFull,
+    Error::LogFull,
+    Error::NoPlan,
+    Error::Full,
+    Error::NoJob,
+    Error::Pending,
+    Error::OtherVersion,
+    Error::NotSealed,
+    Error::NoDatagram,
+    Error::InvalidMachine,
+    Error::OwnMachine,
+    Error::MachineGone,
+    Error::Mismatched,
+    Error::Overstated,
+    Error::Ended,
+    Error::OtherSender,
+    Error::NoRows,
+    Error::RowsMissing,
+    Error::Outside,
+    Error::OtherSession,
 ];
 
 /// Longer than each sentence of the library.
@@ -127,7 +130,7 @@ const SENTENCE: usize = 256;
 impl Error {
     /// The code that the C library answers.
     pub fn code(self) -> i32 {
-        ALL[self as usize].1
+        self as i32
     }
 }
 
@@ -147,8 +150,8 @@ pub(crate) fn said(code: i32) -> Result<(), Error> {
     if code == 0 {
         return Ok(());
     }
-    match ALL.iter().find(|(_, known)| *known == code) {
-        Some((error, _)) => Err(*error),
+    match ALL.iter().find(|error| error.code() == code) {
+        Some(error) => Err(*error),
         None => unreachable!("a call answered {code}"),
     }
 }
@@ -159,15 +162,11 @@ mod tests {
 
     #[test]
     fn each_error_has_its_code() {
-        for (error, code) in ALL {
-            assert_eq!(said(code), Err(error));
-            assert_eq!(error.code(), code);
+        for error in ALL {
+            assert_eq!(said(error.code()), Err(error));
             let text = error.to_string();
-            assert!(text.len() > 5 && text.len() < SENTENCE && text.is_ascii(), "{code}: {text:?}");
-            assert!(
-                ALL.iter().all(|(other, _)| *other == error || other.to_string() != text),
-                "{text:?} is said twice"
-            );
+            assert!(text.len() > 5 && text.len() < SENTENCE && text.is_ascii(), "{error:?}: {text:?}");
+            assert!(ALL.iter().all(|other| *other == error || other.to_string() != text), "{text:?} is said twice");
         }
     }
 }

@@ -28,6 +28,7 @@ pub struct Match {
     silent_after: u32,
     notify_after: u32,
     stalled_after: u32,
+    words: u32,
 }
 
 impl Match {
@@ -52,6 +53,7 @@ impl Match {
             silent_after: 0,
             notify_after: 0,
             stalled_after: 0,
+            words: 1,
         }
     }
 
@@ -84,6 +86,12 @@ impl Match {
     /// After how many milliseconds a machine is gone that answers, and holds this one up since it gives no words. 0: it never is.
     pub fn stalled_after(self, milliseconds: u32) -> Match {
         Match { stalled_after: milliseconds, ..self }
+    }
+
+    /// Of how many words a player's input is, 1 to 4: so many of the session's players in a row are one player of the match, with one
+    /// owner. They leave together, and of no frame are some of their words taken and others not.
+    pub fn words(self, words: u32) -> Match {
+        Match { words, ..self }
     }
 }
 
@@ -140,6 +148,8 @@ pub enum Field {
     Owners,
     /// The digest.
     Digest,
+    /// The number of words of an input.
+    Words,
 }
 
 /// Something that a peer tells its program.
@@ -233,21 +243,21 @@ impl Event {
         let machine = told.machine as u8;
         let disconnect_in = told.disconnect_in;
         match told.code {
-            1001 => Event::Synchronizing { machine, count: told.count, total: told.total },
-            1002 => Event::Synchronized { machine },
-            1003 => Event::Running,
-            1004 => Event::Disconnected { player: told.player as u8 },
-            1005 => Event::TimeSync { frames_ahead: told.frames_ahead },
-            1006 => Event::Interrupted { machine, disconnect_in },
-            1007 => Event::Resumed { machine },
-            1101 => Event::Left { machine },
-            1102 => Event::Desync { machine, frame: told.frame },
-            1103 => Event::Mismatch { machine, field: field_of(told.field) },
-            1104 => Event::Dropped,
-            1105 => Event::Restarted { machine },
-            1106 => Event::Stalled { machine, disconnect_in },
-            1107 => Event::Refused { machine },
-            1108 => Event::Missing { machine },
+            raw::SYNCHRONIZING => Event::Synchronizing { machine, count: told.count, total: told.total },
+            raw::SYNCHRONIZED => Event::Synchronized { machine },
+            raw::RUNNING => Event::Running,
+            raw::DISCONNECTED => Event::Disconnected { player: told.player as u8 },
+            raw::TIME_SYNC => Event::TimeSync { frames_ahead: told.frames_ahead },
+            raw::INTERRUPTED => Event::Interrupted { machine, disconnect_in },
+            raw::RESUMED => Event::Resumed { machine },
+            raw::LEFT => Event::Left { machine },
+            raw::DESYNC => Event::Desync { machine, frame: told.frame },
+            raw::MISMATCH => Event::Mismatch { machine, field: field_of(told.field) },
+            raw::DROPPED => Event::Dropped,
+            raw::RESTARTED => Event::Restarted { machine },
+            raw::STALLED => Event::Stalled { machine, disconnect_in },
+            raw::REFUSED => Event::Refused { machine },
+            raw::MISSING => Event::Missing { machine },
             code => unreachable!("an event of the code {code}"),
         }
     }
@@ -258,6 +268,7 @@ fn field_of(field: u32) -> Field {
         1 => Field::Machines,
         2 => Field::Owners,
         3 => Field::Digest,
+        4 => Field::Words,
         field => unreachable!("a field of the number {field}"),
     }
 }

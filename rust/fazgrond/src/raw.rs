@@ -74,8 +74,24 @@ pub struct LineState {
     pub is_silent: u32,
 }
 
+// c/numbers writes the list.
 pub const NOTHING: i32 = 203;
 pub const TOO_SHORT: i32 = 204;
+pub const SYNCHRONIZING: u32 = 1001;
+pub const SYNCHRONIZED: u32 = 1002;
+pub const RUNNING: u32 = 1003;
+pub const DISCONNECTED: u32 = 1004;
+pub const TIME_SYNC: u32 = 1005;
+pub const INTERRUPTED: u32 = 1006;
+pub const RESUMED: u32 = 1007;
+pub const LEFT: u32 = 1101;
+pub const DESYNC: u32 = 1102;
+pub const MISMATCH: u32 = 1103;
+pub const DROPPED: u32 = 1104;
+pub const RESTARTED: u32 = 1105;
+pub const STALLED: u32 = 1106;
+pub const REFUSED: u32 = 1107;
+pub const MISSING: u32 = 1108;
 
 pub const LOAD: u32 = 1;
 pub const SAVE: u32 = 2;

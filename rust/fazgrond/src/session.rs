@@ -164,7 +164,9 @@ impl<G: Game> Session<G> {
     }
 
     /// From now on at most so many states are saved, in the slots below this one: a call that would need one more is refused
-    /// with [`Error::NoMemory`]. Without guesses, the prediction threshold and three are enough.
+    /// with [`Error::NoMemory`]. Without guesses, the prediction threshold and three are enough. With guesses more are needed: each
+    /// job takes a slot for each of its rows until it is dropped, or its states were grafted and nothing needs them any more. A roll
+    /// that finds none leaves frame and words as they were, and can be made again once jobs were dropped.
     pub fn limit_slots(&mut self, slots: u32) {
         self.handle.limit_slots(slots);
     }

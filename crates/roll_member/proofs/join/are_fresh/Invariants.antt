@@ -3,4 +3,4 @@ use Rattle.roll_member.specs.Joined.{is_fresh_at}
 use Rattle.roll_member.proofs.join.are_fresh.Given as goal
 
 abbrev pub invariant-loop-place : goal.invariant-loop-place
-invariant-loop-place g l = (p : ℕ) → p < l.place → is_fresh_at l.session p ≡ true
+invariant-loop-place g l = (p : ℕ) → p < l.place → is_fresh_at (g.S.Networked.seen l.session) p ≡ true

@@ -7,5 +7,5 @@ invariant-loop-place g l = record {
   rest : l.mesh ≡ record l.fn.mesh {
     machine = record l.fn.mesh.machine { has = l.mesh.machine.has };
   };
-  caught : IsCaughtUp l.session l.fn.mesh.machine.has l.mesh.machine.has l.place;
+  caught : IsCaughtUp (g.S.Networked.seen l.session) l.fn.mesh.seat l.fn.mesh.machine.has l.mesh.machine.has l.place;
 }

@@ -8,5 +8,5 @@ invariant-loop-place g l = record {
   has : l.mesh ≡ record l.fn.mesh {
     machine = record first_machine { has = l.mesh.machine.has };
   };
-  given : IsGivenTo l.session l.mesh.machine.has l.place;
+  given : IsGivenTo (g.S.Networked.seen l.session) l.fn.mesh.seat l.mesh.machine.has l.place;
 }

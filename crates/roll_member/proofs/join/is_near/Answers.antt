@@ -7,15 +7,15 @@ use Rattle.roll_member.proofs.join.is_near.Goals as goal
 pub returns-then-not-is_near_at : goal.returns-then-not-is_near_at
 unfolding is_near
 returns-then-not-is_near_at g c =
-    sym (not_all_below (is_near_at c.args.session.now c.args.mesh.now) PLAYER_LIMIT
+    sym (not_all_below (is_near_at (g.S.Networked.seen c.args.session.now) c.args.mesh.now) PLAYER_LIMIT
     c.loop-place.place (omega arith) (sym c.is_near_at.ensures ∙ c.if-not-is_near_at.true))
 
 pub returns : goal.returns
 unfolding is_near
-returns g c = sym (all_until (is_near_at c.args.session.now c.args.mesh.now) PLAYER_LIMIT
+returns g c = sym (all_until (is_near_at (g.S.Networked.seen c.args.session.now) c.args.mesh.now) PLAYER_LIMIT
     c.loop-place.place (omega arith) c.loop-place.invariant)
 
 pub loop-place-preserved : goal.loop-place-preserved
 loop-place-preserved g c =
-    below_more (λ (p : ℕ). is_near_at c.args.session.now c.args.mesh.now p ≡ true) c.loop-place.place
+    below_more (λ (p : ℕ). is_near_at (g.S.Networked.seen c.args.session.now) c.args.mesh.now p ≡ true) c.loop-place.place
     c.loop-place.invariant (sym c.is_near_at.ensures ∙ c.if-not-is_near_at.false)

@@ -6,4 +6,4 @@ abbrev pub invariant-loop-frame : goal.invariant-loop-frame
 invariant-loop-frame g l =
     l.words.items
     ≡ l.fn.words.items
-    ++ take (l.frame - l.fn.offer.first) (drop l.fn.offer.first (words_of l.session l.player))
+    ++ take (l.frame - l.fn.offer.first) (drop l.fn.offer.first (words_of (g.S.Networked.seen l.session) l.player))

@@ -6,7 +6,7 @@ use Rattle.roll_member.proofs.telling.words_of.Given as goal
 
 abbrev pub invariant-loop-place : goal.invariant-loop-place
 invariant-loop-place g l = record {
-  so_far : l.words.items ++ words_told l.session (drop l.place l.packet.offers) l.place
-      ≡ words_told l.session l.packet.offers 0;
+  so_far : l.words.items ++ words_told (g.S.Networked.seen l.session) (drop l.place l.packet.offers) l.place
+      ≡ words_told (g.S.Networked.seen l.session) l.packet.offers 0;
   room : length l.words.items + count_of (drop l.place l.packet.offers) ≤ WORD_LIMIT;
 }

@@ -1,9 +1,12 @@
 use Rattle.std.proofs.Common.{◌≡◌, take}
-use Rattle.roll_member.specs.Taking.{IsTaken}
+use Rattle.roll_member.specs.Taking.{IsLed, IsTaken}
 use Rattle.roll_member.proofs.words.take_words.Given as goal
 
 abbrev pub invariant-loop-word : goal.invariant-loop-word
 invariant-loop-word g l = record {
   count : l.count ≡ l.word-index;
-  taken : IsTaken g.G.Game.step l.fn.session l.session l.player l.first (take l.word-index l.words);
+  led : IsLed (g.S.Networked.seen l.session) l.player l.first l.count;
+  taken : IsTaken g.S.Networked.step (g.S.Networked.seen l.fn.session) (g.S.Networked.seen l.session)
+      l.player l.first (take l.word-index l.words);
+  keeps : g.S.Networked.keeps l.fn.session l.session;
 }

@@ -8,15 +8,16 @@ use Rattle.roll_viewer.proofs.telling.counts.Goals as goal
 
 pub returns : goal.returns
 returns g c =
-    let core = c.args.session.now.core in
+    let core = (g.S.Networked.seen c.args.session.now).core in
     filled_up 0 (map (has_of (settled core)) core.players) c.loop-place.counts c.loop-place.invariant.all
     (λ k l. c.loop-place.invariant.so_far k (omega (arith, l, c.loop-place-test.false))
     ∙ at_players (has_of (settled core)) core.players k 0)
 
 pub loop-place-preserved : goal.loop-place-preserved
 loop-place-preserved g c =
-    let players = c.args.session.now.core.players in
-    let has = has_of (settled c.args.session.now.core) in
+    let core = (g.S.Networked.seen c.args.session.now).core in
+    let players = core.players in
+    let has = has_of (settled core) in
     let counts = c.loop-place.counts in
     let place = c.loop-place.place in
     let count = c.unwrap_or.result in

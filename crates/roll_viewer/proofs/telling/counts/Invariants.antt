@@ -10,5 +10,7 @@ abbrev pub invariant-loop-place : goal.invariant-loop-place
 invariant-loop-place g l = record {
   all : length l.counts ≡ PLAYER_LIMIT;
   so_far : (k : ℕ) → k < l.place
-      → get_or l.counts k 0 ≡ option_map_or (has_of (settled l.session.core)) (slice_get l.session.core.players k) 0;
+      → get_or l.counts k 0
+      ≡ option_map_or (has_of (settled (g.S.Networked.seen l.session).core))
+      (slice_get (g.S.Networked.seen l.session).core.players k) 0;
 }

@@ -7,7 +7,7 @@ pub push-requires : goal.push-requires
 push-requires g c =
     let first = c.args.span.first in
     let frame = c.loop-frame.frame in
-    let told = drop first (words_of c.args.session.now c.args.player) in
+    let told = drop first (words_of (g.S.Networked.seen c.args.session.now) c.args.player) in
     let n : length c.loop-frame.words.items ≤ length c.args.words.now.items + (frame - first) =
     omega (
       arith,
@@ -21,7 +21,7 @@ pub returns : goal.returns
 returns g c =
     let first = c.args.span.first in
     let end = c.args.span.end in
-    let told = drop first (words_of c.args.session.now c.args.player) in
+    let told = drop first (words_of (g.S.Networked.seen c.args.session.now) c.args.player) in
     let n : c.loop-frame.frame - first ≡ end - first =
     omega (arith, c.loop-frame.invariant.within, c.loop-frame-test.false) in
     c.loop-frame.invariant.so_far ∙ ap (λ n. c.args.words.now.items ++ take n told) n

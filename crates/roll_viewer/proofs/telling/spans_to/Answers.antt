@@ -9,7 +9,7 @@ use Rattle.roll_viewer.proofs.telling.spans_to.Goals as goal
 
 pub returns : goal.returns
 returns g c =
-    let core = c.args.session.now.core in
+    let core = (g.S.Networked.seen c.args.session.now).core in
     let offer = span_of (settled core) c.args.had c.room_after-room.result in
     filled_up none_offered (map offer core.players) c.loop-place.spans c.loop-place.invariant.all
     (λ k l. c.loop-place.invariant.so_far k (omega (arith, l, c.loop-place-test.false))
@@ -18,7 +18,7 @@ returns g c =
 
 pub loop-place-preserved : goal.loop-place-preserved
 loop-place-preserved g c =
-    let core = c.args.session.now.core in
+    let core = (g.S.Networked.seen c.args.session.now).core in
     let spans = c.loop-place.spans in
     let place = c.loop-place.place in
     let one = c.span_of.result in

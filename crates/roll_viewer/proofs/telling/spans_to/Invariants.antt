@@ -12,5 +12,6 @@ invariant-loop-place g l = record {
   all : length l.spans ≡ PLAYER_LIMIT;
   so_far : (k : ℕ) → k < l.place
       → get_or l.spans k none_offered
-      ≡ option_map_or (span_of (settled l.session.core) l.had l.room) (slice_get l.session.core.players k) none_offered;
+      ≡ option_map_or (span_of (settled (g.S.Networked.seen l.session).core) l.had l.room)
+      (slice_get (g.S.Networked.seen l.session).core.players k) none_offered;
 }

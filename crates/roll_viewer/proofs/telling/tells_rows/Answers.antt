@@ -5,7 +5,7 @@ use Rattle.roll_viewer.proofs.telling.tells_rows.Goals as goal
 
 pub returns : goal.returns
 returns g c =
-    let s = c.args.session.now in
+    let s = g.S.Networked.seen c.args.session.now in
     tells s.core c.args.had
-    (subst Known (sym c.laws.ensures.log.core)
-    (known_log s.settings (game_of g.G.Game.step s) s.log c.laws.ensures.log.log))
+    (subst Known (sym c.laws.ensures.core)
+    (known_log s.settings (game_of g.S.Networked.step s) s.log c.laws.ensures.log))

@@ -9,10 +9,10 @@ use Rattle.roll_viewer.proofs.telling.told_to.Goals as goal
 
 pub words_in-requires-clause-room : goal.words_in-requires-clause-room
 words_in-requires-clause-room g c =
-    let s = c.args.session.now in
+    let s = g.S.Networked.seen c.args.session.now in
     let known : Known s.core =
-    subst Known (sym c.laws.ensures.log.core)
-    (known_log s.settings (game_of g.G.Game.step s) s.log c.laws.ensures.log.log) in
+    subst Known (sym c.laws.ensures.core)
+    (known_log s.settings (game_of g.S.Networked.step s) s.log c.laws.ensures.log) in
     subst (λ (os : List Offer). count_of os ≤ WORD_LIMIT) (sym c.spans_to-spans.ensures)
     (told_fits s.core c.args.had known)
 
@@ -22,8 +22,8 @@ returns-clause-told g c = rw (c.counts.ensures, c.words_in.ensures, c.said_once.
 
 pub returns-clause-whole : goal.returns-clause-whole
 returns-clause-whole g c =
-    let s = c.args.session.now in
+    let s = g.S.Networked.seen c.args.session.now in
     let known : Known s.core =
-    subst Known (sym c.laws.ensures.log.core)
-    (known_log s.settings (game_of g.G.Game.step s) s.log c.laws.ensures.log.log) in
+    subst Known (sym c.laws.ensures.core)
+    (known_log s.settings (game_of g.S.Networked.step s) s.log c.laws.ensures.log) in
     rw (c.words_in.ensures, c.said_once.ensures, c.spans_to-spans.ensures) (told_whole s.core c.args.had known)

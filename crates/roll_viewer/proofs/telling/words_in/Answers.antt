@@ -41,12 +41,13 @@ next_player (p ∷ ps) (suc k) = next_player ps k
 
 pub loop-place-preserved : goal.loop-place-preserved
 loop-place-preserved g c =
-    let ps = c.args.session.now.core.players in
+    let s = g.S.Networked.seen c.args.session.now in
+    let ps = s.core.players in
     let offers = c.args.spans.now in
     let place = c.loop-place.place in
     let offer : Offer = get_or offers place none_offered in
     let rest : List Offer = drop (place + 1) offers in
-    let said : List ℕ = words_at (words_of c.args.session.now (place + 1)) offer in
+    let said : List ℕ = words_at (words_of s (place + 1)) offer in
     let there = at_drop_more (λ os. words_in (drop place ps) os) offers place none_offered c.loop-place-test.true in
     let next : words_in (drop place ps) (drop place offers) ≡ said ++ words_in (drop (place + 1) ps) rest =
     there ∙ first_words (drop place ps) offer rest
@@ -57,7 +58,7 @@ loop-place-preserved g c =
     at_drop_more count_of offers place none_offered c.loop-place-test.true
     ∙ sum_by-cons (λ (o : Offer). o.end - o.first) offer rest in
     let ended : length (said) ≤ offer.end - offer.first =
-    omega (arith, length-take (offer.end - offer.first) (drop offer.first (words_of c.args.session.now (place + 1)))) in
+    omega (arith, length-take (offer.end - offer.first) (drop offer.first (words_of s (place + 1)))) in
     let more : c.push_words.new.words.items ≡ c.loop-place.words.items ++ said = c.push_words.ensures in
     record {
       so_far = ap (λ ws. ws ++ words_in (drop (place + 1) ps) rest) more
@@ -80,7 +81,8 @@ nothing_offered (p ∷ ps) = refl
 
 pub returns : goal.returns
 returns g c =
-    let ps = c.args.session.now.core.players in
+    let s = g.S.Networked.seen c.args.session.now in
+    let ps = s.core.players in
     let place = c.loop-place.place in
     sym (append-nil c.loop-place.words.items)
     ∙ ap (λ ws. c.loop-place.words.items ++ ws)

@@ -6,7 +6,7 @@ use Rattle.roll_viewer.proofs.telling.words_in.Given as goal
 
 abbrev pub invariant-loop-place : goal.invariant-loop-place
 invariant-loop-place g l = record {
-  so_far : l.words.items ++ words_in (drop l.place l.session.core.players) (drop l.place l.spans)
-      ≡ words_in l.session.core.players l.spans;
+  so_far : l.words.items ++ words_in (drop l.place (g.S.Networked.seen l.session).core.players) (drop l.place l.spans)
+      ≡ words_in (g.S.Networked.seen l.session).core.players l.spans;
   room : length l.words.items + count_of (drop l.place l.spans) ≤ WORD_LIMIT;
 }

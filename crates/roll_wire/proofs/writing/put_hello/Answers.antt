@@ -7,9 +7,9 @@ use Rattle.roll_wire.proofs.writing.put_hello.Goals as goal
 pub returns-clause-items : goal.returns-clause-items
 returns-clause-items c =
     let h = c.args.h.now in
-    let all = c.put_byte-2.new.out.items in
+    let all = c.put_byte-3.new.out.items in
     let last = joined c.put_u64-3.new.out.items c.put_u32.new.out.items all (number h.patience)
-    (byte h.abilities) c.put_u32.ensures.items c.put_byte-2.ensures.items in
+    (byte h.abilities) c.put_u32.ensures.items c.put_byte-3.ensures.items in
     let fifth = joined c.put_u64-2.new.out.items c.put_u64-3.new.out.items all (long h.echo)
     (number h.patience ++ byte h.abilities) c.put_u64-3.ensures.items last in
     let fourth = joined c.put_u64.new.out.items c.put_u64-2.new.out.items all (long h.draw)
@@ -17,9 +17,12 @@ returns-clause-items c =
     let third = joined c.put_owners.new.out.items c.put_u64.new.out.items all (long h.settings)
     (long h.draw ++ (long h.echo ++ (number h.patience ++ byte h.abilities))) c.put_u64.ensures.items
     fourth in
-    let second = joined c.put_byte.new.out.items c.put_owners.new.out.items all
+    let second = joined c.put_byte-2.new.out.items c.put_owners.new.out.items all
     (flat_map byte h.owners) (long h.settings ++ (long h.draw ++
     (long h.echo ++ (number h.patience ++ byte h.abilities)))) c.put_owners.ensures.items third in
-    joined c.args.out.now.items c.put_byte.new.out.items all (byte h.machines)
+    let first = joined c.put_byte.new.out.items c.put_byte-2.new.out.items all (byte h.words)
     (flat_map byte h.owners ++ (long h.settings ++ (long h.draw ++
-    (long h.echo ++ (number h.patience ++ byte h.abilities))))) c.put_byte.ensures.items second
+    (long h.echo ++ (number h.patience ++ byte h.abilities))))) c.put_byte-2.ensures.items second in
+    joined c.args.out.now.items c.put_byte.new.out.items all (byte h.machines)
+    (byte h.words ++ (flat_map byte h.owners ++ (long h.settings ++ (long h.draw ++
+    (long h.echo ++ (number h.patience ++ byte h.abilities)))))) c.put_byte.ensures.items first

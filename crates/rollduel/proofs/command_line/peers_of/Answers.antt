@@ -4,7 +4,7 @@ use Rattle.rollduel.proofs.command_line.peers_of.Goals as goal
 
 pub returns-in-None : goal.returns-in-None
 returns-in-None c = record {
-  machines = sym c.in-Some.is;
+  machines = refl;
   common = c.options_of.ensures;
   stops = subst (λ texts. NamesStops no_stops (map (λ text. text.now) texts) c.in_ok-stops.stops) c.deref.ensures.value c.in_ok-stops.ensures;
   hostile = refl;

@@ -4,6 +4,6 @@ use Rattle.prog_command_line.specs.Requests.{HasOptions}
 use Rattle.rollduel.proofs.AskedLemmas.{named_by}
 use Rattle.rollduel.proofs.command_line.request_of.Goals as goal
 
-pub returns-in-Peers-clause-options : goal.returns-in-Peers-clause-options
-returns-in-Peers-clause-options c = λ rows are.
-    IfOk-weaker c.peers_of.result _ _ (λ options is. named_by rows _ options (subst (HasOptions rows) c.in-Peers.is are) is) c.peers_of.ensures
+pub returns-in-Match-clause-options : goal.returns-in-Match-clause-options
+returns-in-Match-clause-options c = λ rows are.
+    IfOk-weaker c.peers_of.result _ _ (λ options is. named_by rows _ options (subst (HasOptions rows) c.in-Match.is are) is) c.peers_of.ensures

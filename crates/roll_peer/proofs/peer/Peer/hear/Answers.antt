@@ -6,5 +6,6 @@ use Rattle.roll_peer.proofs.peer.Peer.hear.Goals as goal
 
 pub returns-in-Bye-clause-tied : goal.returns-in-Bye-clause-tied
 returns-in-Bye-clause-tied g c =
-    subst (λ (p : Peered). IsTied c.args.session.now p.member.mesh) (sym c.hear_bye.ensures)
-    (leave_tied c.args.session.now c.args.self.now.member.mesh c.args.sender c.requires.tied)
+    let s = g.S.Networked.seen c.args.session.now in
+    subst (λ (p : Peered). IsTied s p.member.mesh) (sym c.hear_bye.ensures)
+    (leave_tied s c.args.self.now.member.mesh c.args.sender c.requires.tied)

@@ -7,6 +7,8 @@ use Rattle.roll_peer.proofs.peer.Peer.hear_turn.Goals as goal
 
 pub returns-clause-heard : goal.returns-clause-heard
 returns-clause-heard g c =
+    let s = g.S.Networked.seen c.args.session.now in
+    let after = g.S.Networked.seen c.take_turn.new.session in
     let old : Peered = c.args.self.now in
     let mid : Peered = c.take_turn.new.self in
     let clocks = c.args.play.now.head.clocks in
@@ -16,8 +18,8 @@ returns-clause-heard g c =
     c.frame-frame.ensures c.know_turn.ensures in
     let known = subst (λ (b : Bool). c.know_turn.new.self
     ≡ knowing (turn c.args.play.now) c.args.sender
-    (after_words b clocks c.args.session.now.core.frame (moment_of mid) (contact_at mid c.args.sender)) mid)
+    (after_words b clocks s.core.frame (moment_of mid) (contact_at mid c.args.sender)) mid)
     c.is_some.ensures by_frame in
-    turn_heard g.G.Game.step c.args.session.now c.take_turn.new.session old mid c.know_turn.new.self _ c.args.sender
+    turn_heard g.S.Networked.step s after old mid c.know_turn.new.self _ c.args.sender
     (turn c.args.play.now) c.in_ok-taken.taken c.in_ok-taken.ensures.heard c.take_turn.ensures.rest
     c.take_turn.ensures.limits known (rw (← c.self.view_is, c.dropped.ensures) refl)

@@ -5,8 +5,8 @@ use Rattle.roll_peer.proofs.peer.Peer.open.Goals as goal
 
 pub returns-in-Ok-join-clause-opened : goal.returns-in-Ok-join-clause-opened
 returns-in-Ok-join-clause-opened g c = record {
-  member = subst (λ (seat : Seat). IsJoinedAs c.args.session.now seat
-      (record { session = c.args.session.now; mesh = c.in-Ok-join.member.mesh }))
+  member = subst (λ (seat : Seat). IsJoinedAs (g.S.Networked.seen c.args.session.now) seat
+      (record { session = g.S.Networked.seen c.args.session.now; mesh = c.in-Ok-join.member.mesh }))
       c.seat.ensures c.in-Ok-join.ensures.joined;
   limits = c.in-Ok-join.ensures.limits;
   settings_are = refl;

@@ -18,7 +18,7 @@ returns-clause-told g c =
       view = ap (λ (p : Packet). p.view) c.shortened.ensures;
       offers = ap (λ (p : Packet). p.offers) c.shortened.ensures;
       clocks = c.clocks_for.ensures ∙ ap (λ n. clocks_in n peer (slice_index_or c.self.inside.contacts c.from.result opened_contact)) c.frame.ensures
-          ∙ ap (clocks_in c.args.session.now.core.frame peer) contact;
+          ∙ ap (clocks_in (g.S.Networked.seen c.args.session.now).core.frame peer) contact;
       settled = c.settled_for.ensures ∙ ap (settled_in peer) contact;
     }
 

@@ -15,7 +15,7 @@ returns-clause-had g c =
     let packet : Packet = packet_of c.args.sender (turn c.args.play.now) in
     let same = ap (λ (p : Packet). hear_refusal c.self.inside.member.mesh p) c.requires.same in
     let why = subst (λ (peer : Peered). is_some (hear_refusal peer.member.mesh packet) ≡ not (is_had packet))
-    (sym c.self.view_is) (heard_of c.args.self.now packet c.requires.listened) in
+    (sym c.self.view_is) (heard_of c.args.self.now packet c.requires.listened c.requires.played) in
     elim c.match-hear.branch [
       | in-Ok w ↦ ap (λ o. is_some o) w.result-is
           ∙ sym (not-false (is_had packet) (sym why ∙ ap (λ o. is_some o) (sym same ∙ w.in-Ok.ensures.accepted)))

@@ -1,36 +1,140 @@
-use Rattle.std.proofs.Common.{ap, drop, length, refl}
-use Rattle.roll_session.specs.Seen.{Seen}
+use Rattle.std.proofs.Common.{◌≡◌, ◌++◌, ◌∷◌, ◌∙◌, ◌+◌, ◌-◌, [], ℕ, List, Some, ap, arith, length, max, refl, subst, sym}
+use Rattle.roll_frame.specs.Core.{Core, cost}
+use Rattle.roll_frame.specs.declared.entry.Entry.{Entry}
+use Rattle.roll_frame.specs.Timeline.{row_at}
+use Rattle.roll_session.specs.Answered.{with_entries}
+use Rattle.roll_session.specs.Calls.{entry_of, IsAllowed, IsRollTo}
+use Rattle.roll_session.specs.Gameless.{still}
+use Rattle.roll_session.specs.Seen.{IsLeast, Seen, game_of}
+use Rattle.roll_session.proofs.Holding.{least_of}
+use Rattle.roll_session.proofs.Rolling.{some_is}
+use Rattle.roll_tree.specs.SavedStates.{Saved, state_named}
 use Rattle.roll_requests.specs.Asked.{Asked}
-use Rattle.roll_requests.proofs.Asking.{asked_dropped}
-use Rattle.roll_requests.proofs.Coded.{leads_looked, leads_rolled}
+use Rattle.roll_requests.specs.Requests.{last_or, roll_requests}
+use Rattle.roll_requests.specs.declared.request.Request.{Request}
+use Rattle.roll_requests.proofs.Counting.{roll_adds}
+use Rattle.roll_requests.proofs.Leads.{done_leads, done_taken, leads_looked, slotted_told, IsDone}
 use Rattle.roll_requests.proofs.elsewhere.Elsewhere.roll.Goals as goal
 
-pub returns-in_err-slots-clause-leads : goal.returns-in_err-slots-clause-leads
-returns-in_err-slots-clause-leads c =
-    let i = c.self.inside in
-    let looked = c.in_ok-way.ensures.looked in
-    rw (← c.self.view_is)
-    (leads_looked (record { seen = i.core.seen; saves = i.core.saves; at = i.at; requests = drop i.given i.list.items }) (record { seen = c.look.new.self.seen; saves = c.look.new.self.saves; at = i.at; requests = drop i.given i.list.items }) looked.saves refl refl (ap (λ (s : Seen). s.core.shown) looked.seen))
+pub plan_roll-requires-clause-roll : goal.plan_roll-requires-clause-roll
+plan_roll-requires-clause-roll c = c.requires
 
-pub returns-in_err-reserve-clause-leads : goal.returns-in_err-reserve-clause-leads
-returns-in_err-reserve-clause-leads c =
+pub plan_roll-requires-clause-taken : goal.plan_roll-requires-clause-taken
+plan_roll-requires-clause-taken c = c.self.invariant.are
+
+pub invariant_of-self : goal.invariant_of-self
+invariant_of-self c =
     let i = c.self.inside in
-    let looked = c.in_ok-way.ensures.looked in
+    slotted_told i.core.saves c.plan_roll.new.core.saves i.jobs i.at i.taken c.plan_roll.ensures.hardly.saves c.self.invariant
+
+pub returns-in_err-plan-clause-leads : goal.returns-in_err-plan-clause-leads
+returns-in_err-plan-clause-leads c =
+    let i = c.self.inside in
+    let mid = c.plan_roll.new.core in
+    let hardly = c.plan_roll.ensures.hardly in
     rw (← c.self.view_is)
-    (leads_looked (record { seen = i.core.seen; saves = i.core.saves; at = i.at; requests = drop i.given i.list.items }) (record { seen = c.look.new.self.seen; saves = c.look.new.self.saves; at = i.at; requests = drop i.given c.reserve.new.self.items }) looked.saves refl (ap (drop i.given) c.reserve.ensures.items) (ap (λ (s : Seen). s.core.shown) looked.seen))
+    (leads_looked (record { seen = i.core.seen; saves = i.core.saves; at = i.at; requests = i.queue.requests; limit = i.limit; jobs = i.jobs }) (record { seen = mid.seen; saves = mid.saves; at = i.at; requests = c.plan_roll.new.queue.requests; limit = i.limit; jobs = i.jobs })
+    hardly.saves refl c.plan_roll.ensures.requests refl (ap (λ (s : Seen). s.core.shown) hardly.seen))
+
+pub ask_roll-self-inside-requires-clause-going : goal.ask_roll-self-inside-requires-clause-going
+ask_roll-self-inside-requires-clause-going c = c.in_ok-plan.ensures.can.going
+
+pub ask_roll-self-inside-requires-clause-many : goal.ask_roll-self-inside-requires-clause-many
+ask_roll-self-inside-requires-clause-many c = rw c.deref.ensures.value c.in_ok-plan.ensures.many
+
+pub ask_roll-self-inside-requires-clause-room : goal.ask_roll-self-inside-requires-clause-room
+ask_roll-self-inside-requires-clause-room c = rw c.deref.ensures.value c.in_ok-plan.ensures.space
+
+pub fill_all-requires : goal.fill_all-requires
+fill_all-requires c = rw c.deref-2.ensures.value c.in_ok-plan.ensures.room.within
+
+pub enter-requires-clause-can : goal.enter-requires-clause-can
+enter-requires-clause-can c = c.in_ok-plan.ensures.can
+
+pub enter-requires-clause-all : goal.enter-requires-clause-all
+enter-requires-clause-all c = c.in_ok-plan.ensures.many
+
+pub enter-requires-clause-room : goal.enter-requires-clause-room
+enter-requires-clause-room c = c.in_ok-plan.ensures.reserved
+
+-- what the session says of the roll
+done_of : (c : goal.After-laws-2) → IsDone c.plan_roll.new.core c.enter.new.self c.args.call c.in_ok-plan.plan.way c.in_ok-plan.plan.room c.self.inside.limit c.self.inside.jobs
+done_of c =
+    let e = c.in_ok-plan.ensures in
+    record {
+      can = e.can;
+      room_is = e.room;
+      many = e.many;
+      log = c.laws.ensures.log;
+      before = c.laws.ensures.inputs;
+      after = c.laws-2.ensures.inputs;
+      core = ap (λ (s : Seen). s.core) c.enter.ensures.entered;
+      keeps = c.enter.ensures.keeps;
+    }
+
+-- the state that it starts from, and what is asked
+asked_of : (c : goal.After-laws-2) → (u : Saved ℕ) × (state_named c.plan_roll.new.core.saves.tree c.in_ok-plan.plan.way.at ≡ Some u)
+    × ((c.ask_roll-self-inside.result ≡ last_or u.snapshot c.in_ok-plan.plan.room.slots.items)
+    × (c.ask_roll-self-inside.new.queue.requests ≡ c.plan_roll.new.queue.requests ++ roll_requests c.self.inside.at u.snapshot c.self.inside.taken c.in_ok-plan.plan.room.held (λ k. row_at c.plan_roll.new.core.saves.inputs.players (c.in_ok-plan.plan.way.frame + k)) c.in_ok-plan.plan.room.slots.items))
+asked_of c =
+    let P : Saved ℕ → Type 0 = λ u.
+    (c.ask_roll-self-inside.result ≡ last_or u.snapshot c.in_ok-plan.plan.room.slots.items)
+    × (c.ask_roll-self-inside.new.queue.requests ≡ c.plan_roll.new.queue.requests ++ roll_requests c.self.inside.at u.snapshot c.self.inside.taken c.in_ok-plan.plan.room.held (λ k. row_at c.plan_roll.new.core.saves.inputs.players (c.in_ok-plan.plan.way.frame + k)) c.in_ok-plan.plan.room.slots.items) in
+    some_is (state_named c.plan_roll.new.core.saves.tree c.in_ok-plan.plan.way.at) P (rw c.deref.ensures.value at c.ask_roll-self-inside.ensures)
+
+pub invariant_of-self-2 : goal.invariant_of-self-2
+invariant_of-self-2 c =
+    let a = asked_of c in
+    let f = c.fill_all.ensures in
+    done_taken c.plan_roll.new.core c.enter.new.self c.args.call c.in_ok-plan.plan.way c.in_ok-plan.plan.room c.self.inside.limit c.self.inside.jobs (done_of c) c.fill_all.new.self c.ask_roll-self-inside.result a.0 a.1 a.2.0 f.kept
+    (rw c.deref-2.ensures.value at f.taken)
+
+pub returns-clause-allowed : goal.returns-clause-allowed
+returns-clause-allowed c =
+    let allowed = subst (λ (s : Seen). IsAllowed still s c.args.call) c.in_ok-plan.ensures.looked c.in_ok-plan.ensures.can.allowed in
+    rw (← c.self.view_is) (record { new = allowed.new; accepted = allowed.accepted })
+
+pub returns-clause-entered : goal.returns-clause-entered
+returns-clause-entered c =
+    let old = c.self.inside.core.seen in
+    let entries : List Entry = entry_of c.args.call ∷ [] in
+    let left : max old.reserved 1 - 1 ≡ old.reserved - 1 = omega arith in
+    rw (← c.self.view_is)
+    (c.enter.ensures.entered
+    ∙ (ap (λ (s : Seen). with_entries s entries s.counts) c.in_ok-plan.ensures.looked
+    ∙ ap (λ n. record (with_entries old entries old.counts) { reserved = n }) left))
+
+pub returns-clause-rolls : goal.returns-clause-rolls
+returns-clause-rolls c =
+    let i = c.self.inside in
+    let mid = c.plan_roll.new.core in
+    let e = c.in_ok-plan.ensures in
+    let way = c.in_ok-plan.plan.way in
+    let room = c.in_ok-plan.plan.room in
+    let a = asked_of c in
+    let core : mid.seen.core ≡ i.core.seen.core = ap (λ (s : Seen). s.core) c.plan_roll.ensures.hardly.seen in
+    let log = c.laws.ensures.log in
+    let least : IsLeast mid.seen.core way.to = subst (λ (k : Core). IsLeast k way.to) (sym log.core) (least_of mid.seen.settings (game_of still mid.seen) mid.seen.log log.log way.to) in
+    let many : length room.slots.items ≡ cost i.core.seen.core way.to = omega (arith, e.many, e.from) in
+    let list = a.2.1 ∙ ap (λ (l : List Request). l ++ roll_requests i.at a.0.snapshot i.taken room.held (λ k. row_at mid.saves.inputs.players (way.frame + k)) room.slots.items) c.plan_roll.ensures.requests in
+    rw (← c.self.view_is)
+    (record {
+      is_to = subst (λ (k : Core). IsRollTo k c.args.call way.to) core e.can.to;
+      from_is = e.from;
+      rerun_is = ap (λ n. way.to - n) e.from;
+      least = subst (λ (k : Core). IsLeast k way.to) core least;
+      adds = roll_adds i.limit i.at a.0.snapshot i.taken room.held (λ k. row_at mid.saves.inputs.players (way.frame + k)) room.slots.items (cost i.core.seen.core way.to) i.queue.requests c.ask_roll-self-inside.new.queue.requests e.room.free.below many list;
+    })
 
 pub returns-clause-leads : goal.returns-clause-leads
 returns-clause-leads c =
     let i = c.self.inside in
-    let looked = c.in_ok-way.ensures.looked in
-    let can = c.in_ok-way.ensures.way in
-    let way = c.in_ok-way.way in
-    let slots = c.in_ok-slots.slots.items in
-    let mid = c.look.new.self in
-    let old : Asked = record { seen = i.core.seen; saves = i.core.saves; at = i.at; requests = drop i.given i.list.items } in
-    let here : Asked = record { seen = mid.seen; saves = mid.saves; at = i.at; requests = drop i.given i.list.items } in
-    let new : Asked = record { seen = c.enter.new.self.seen; saves = c.enter.new.self.saves; at = c.ask.new.at; requests = drop i.given c.ask.new.list.items } in
-    let asked = asked_dropped mid.saves i.at c.ask.new.at way.frame (length slots) slots i.given i.list.items c.ask.new.list.items c.self.invariant (rw (c.deref.ensures.value, c.reserve.ensures.items) at c.ask.ensures) in
-    rw (← c.self.view_is) (λ past l.
-    leads_rolled here new c.args.call way slots can.going.within can.to c.in_ok-slots.ensures.many asked c.enter.ensures.keeps (ap (λ (s : Seen). s.core) c.enter.ensures.entered) (rw c.laws.ensures.inputs refl) past
-    (leads_looked old here looked.saves refl refl (ap (λ (s : Seen). s.core.shown) looked.seen) past l))
+    let mid = c.plan_roll.new.core in
+    let a = asked_of c in
+    let hardly = c.plan_roll.ensures.hardly in
+    let old : Asked = record { seen = i.core.seen; saves = i.core.saves; at = i.at; requests = i.queue.requests; limit = i.limit; jobs = i.jobs } in
+    let here : Asked = record { seen = mid.seen; saves = mid.saves; at = i.at; requests = c.plan_roll.new.queue.requests; limit = i.limit; jobs = i.jobs } in
+    rw (← c.self.view_is)
+    (λ past l.
+    done_leads mid c.enter.new.self c.args.call c.in_ok-plan.plan.way c.in_ok-plan.plan.room i.limit i.jobs (done_of c) i.taken i.at c.ask_roll-self-inside.result a.0 c.plan_roll.new.queue.requests c.ask_roll-self-inside.new.queue.requests a.1 a.2.0 a.2.1 past
+    (leads_looked old here hardly.saves refl c.plan_roll.ensures.requests refl (ap (λ (s : Seen). s.core.shown) hardly.seen) past l))

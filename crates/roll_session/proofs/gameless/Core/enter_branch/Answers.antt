@@ -2,6 +2,7 @@ use Rattle.std.proofs.Common.{◌∙◌, ap, arith, refl, sym}
 use Rattle.roll_frame.specs.declared.entry.Entry.TheVariants.{Graft}
 use Rattle.roll_laws.proofs.Glue.{replay-push}
 use Rattle.roll_inputs.specs.Boards.{Inputs}
+use Rattle.roll_session.proofs.BranchRows.{keeps_branch}
 use Rattle.roll_session.proofs.Entering.{room_next}
 use Rattle.roll_session.proofs.Grafting.{can_graft, grafted_count, grafted_session, grafted_settles}
 use Rattle.roll_session.specs.Gameless.{bare_branch}
@@ -68,3 +69,11 @@ pub returns-clause-keeps : goal.returns-clause-keeps
 returns-clause-keeps g c =
     let e = rw c.requires.along at c.add_new_states-added.ensures in
     rw (← c.self.view_is) (keeps_grafted c.self.inside.saves c.add_new_states-added.new.saves c.settle.new.self c.args.route c.args.states.items e.values e.inputs c.settle.ensures.inputs c.settle.ensures.states)
+
+pub returns-clause-branch : goal.returns-clause-branch
+returns-clause-branch g c =
+    let e = rw c.requires.along at c.add_new_states-added.ensures in
+    let old = c.self.inside.saves in
+    rw (← c.self.view_is)
+    (keeps_branch c.self.inside.settings c.self.inside.log.entries old c.self.inside.planner c.self.inside.room.promised c.args.route c.settle.new.self c.args.states.items c.self.invariant.0 (rw (← c.self.view_is) at c.requires.accepted) c.requires.many
+    (keeps_grafted old c.add_new_states-added.new.saves c.settle.new.self c.args.route c.args.states.items e.values e.inputs c.settle.ensures.inputs c.settle.ensures.states))

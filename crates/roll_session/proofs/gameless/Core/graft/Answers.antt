@@ -22,6 +22,7 @@ returns g c =
       grafted = c.enter_branch.ensures.added ∙ ap (λ (s : Seen). length (new_paths s.core (branch_of c.args.route))) reserved;
       taken = c.enter_branch.ensures.entered ∙ ap (λ (s : Seen). after_graft s (bare_branch c.args.ticket c.args.route)) reserved ∙ graft_reserved old (bare_branch c.args.ticket c.args.route);
       keeps = rw c.in_ok-reserve_log.ensures.reserved at c.enter_branch.ensures.keeps;
+      branch = rw c.in_ok-reserve_log.ensures.reserved at c.enter_branch.ensures.branch;
       refused = tt;
       unchanged = tt;
     }

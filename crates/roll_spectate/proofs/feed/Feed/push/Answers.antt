@@ -15,4 +15,5 @@ pub loop-sender-preserved : goal.loop-sender-preserved
 loop-sender-preserved g c =
     let there : c.loop-sender.sender-index < length c.args.self.now = omega (arith, c.loop-sender-test.true, ap length (c.deref_mut-sender-items.ensures.value ∙ c.self.view_is)) in
     let few : c.push-count.result ≤ FRAME_LIMIT = omega (arith, c.push-count.ensures.count, c.push-count.ensures.few) in
-    one_more (settled_rows c.args.session.now.core) _ _ _ _ c.loop-sender.invariant there c.sender-item.result c.push-count.new.self c.push-count.result c.push-count.ensures.pushed c.push-count.ensures.count few
+    let rows = settled_rows (g.S.Networked.seen c.args.session.now).core in
+    one_more rows _ _ _ _ c.loop-sender.invariant there c.sender-item.result c.push-count.new.self c.push-count.result c.push-count.ensures.pushed c.push-count.ensures.count few

@@ -13,17 +13,19 @@ loop-row-init g c =
 
 pub send-requires : goal.send-requires
 send-requires g c =
-    let there = row_read c.args.session.now.core.players (settled c.args.session.now.core) (length c.loop-row.self.rows) c.in-Some.row (sym c.in-Some.is ∙ c.next.ensures) in
-    let few = few_settled _ _ _ c.laws.ensures.log.log in
-    omega (arith, there.0, few, ap (λ (core : Core). settled core) c.laws.ensures.log.core)
+    let core = (g.S.Networked.seen c.args.session.now).core in
+    let there = row_read core.players (settled core) (length c.loop-row.self.rows) c.in-Some.row (sym c.in-Some.is ∙ c.next.ensures) in
+    let few = few_settled _ _ _ c.laws.ensures.log in
+    omega (arith, there.0, few, ap (λ (core : Core). settled core) c.laws.ensures.core)
 
 pub loop-row-preserved : goal.loop-row-preserved
 loop-row-preserved g c =
-    let players = c.args.session.now.core.players in
-    let there = row_read players (settled c.args.session.now.core) (length c.loop-row.self.rows) c.in-Some.row (sym c.in-Some.is ∙ c.next.ensures) in
+    let core = (g.S.Networked.seen c.args.session.now).core in
+    let players = core.players in
+    let there = row_read players (settled core) (length c.loop-row.self.rows) c.in-Some.row (sym c.in-Some.is ∙ c.next.ensures) in
     let sent : c.send.new.self.rows ≡ c.loop-row.self.rows ++ c.in-Some.row ∷ [] = ap (λ f. f.rows) (c.if-not-send.ensures.sent refl) in
     let n = one_longer c.loop-row.self.rows c.in-Some.row c.send.new.self.rows sent in (
-      (λ first. next_part players (settled c.args.session.now.core) c.loop-row.self.rows c.in-Some.row c.send.new.self.rows there.0 there.1 sent (c.loop-row.invariant.0 first)),
+      (λ first. next_part players (settled core) c.loop-row.self.rows c.in-Some.row c.send.new.self.rows there.0 there.1 sent (c.loop-row.invariant.0 first)),
       part_more c.args.self.now.rows c.loop-row.self.rows c.in-Some.row c.send.new.self.rows c.loop-row.invariant.1 sent,
       c.loop-row.invariant.2,
       omega (arith, c.loop-row.invariant.3, n),
@@ -32,8 +34,9 @@ loop-row-preserved g c =
 
 pub returns-clause-pushed : goal.returns-clause-pushed
 returns-clause-pushed g c =
-    let at = settled c.args.session.now.core in
-    let players = c.args.session.now.core.players in
+    let core = (g.S.Networked.seen c.args.session.now).core in
+    let at = settled core in
+    let players = core.players in
     let inv = c.loop-row.invariant in
     elim c.match-next.branch [
       | in-Some+then-not-send w ↦

@@ -6,8 +6,9 @@ use Rattle.roll_spectate.proofs.ring.RowSender.push.Given as goal
 
 abbrev pub invariant-loop-row : goal.invariant-loop-row
 invariant-loop-row g l =
-    (IsFirstPart l.fn.self.rows (settled_rows l.session.core) → IsFirstPart l.self.rows (settled_rows l.session.core))
+    (IsFirstPart l.fn.self.rows (settled_rows (g.S.Networked.seen l.session).core)
+    → IsFirstPart l.self.rows (settled_rows (g.S.Networked.seen l.session).core))
     × IsFirstPart l.fn.self.rows l.self.rows × (l.from ≡ length l.fn.self.rows) × (l.from ≤ length l.self.rows) × (l.self.ring ≡ l.fn.self.ring)
 
 abbrev pub decreases-loop-row : goal.decreases-loop-row
-decreases-loop-row g l = settled l.session.core - length l.self.rows
+decreases-loop-row g l = settled (g.S.Networked.seen l.session).core - length l.self.rows

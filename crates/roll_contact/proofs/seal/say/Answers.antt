@@ -1,0 +1,7 @@
+use Rattle.std.proofs.Common.{◌∙◌, ap}
+use Rattle.roll_contact.specs.Seals.{said_by, sealed}
+use Rattle.roll_contact.proofs.seal.say.Goals as goal
+
+pub returns : goal.returns
+unfolding said_by
+returns c = c.seal.ensures.sealed ∙ ap (sealed c.args.key.now) c.in-Some.ensures.spelled.1

@@ -1,0 +1,110 @@
+-- Guesses whose jobs run elsewhere.
+use Rattle.std.proofs.Common.{◌≡◌, ◌≢◌, ◌⊎◌, ℕ, List, [], ◌++◌, length, get_or, refl, ap, sym, subst, ◌∙◌, arith, inl, inr, Option, Some, None, Bool, true, false, unwrap_or, append_assoc, append-nil}
+use Rattle.std.specs.Prelude.{◌==◌, All, IfSome, IsSomeAnd, option_map, if◌then◌else◌}
+use Rattle.std.proofs.lemmas.Bool.{cases_eq}
+use Rattle.slab.specs.Slab.{Slab, get, Updates}
+use Rattle.roll_branch.specs.Routed.{Routed}
+use Rattle.roll_frame.specs.declared.refusal.Refusal.{Refusal}
+use Rattle.roll_frame.specs.declared.refusal.Refusal.TheVariants.{NoMemory}
+use Rattle.roll_frame.specs.declared.route.Route.{Route}
+use Rattle.roll_frame.specs.Cells.{Rows}
+use Rattle.roll_frame.specs.Core.{Core, kept, settled}
+use Rattle.roll_frame.specs.Games.{Game, Value}
+use Rattle.roll_frame.specs.Guess.{guessed_time, job_of}
+use Rattle.roll_frame.specs.Paths.{contains, run}
+use Rattle.roll_frame.specs.Timeline.{timeline}
+use Rattle.roll_session.specs.Gameless.{bare_branch}
+use Rattle.roll_session.specs.Guessing.{guess_job, job_from}
+use Rattle.roll_session.specs.Saves.{Standing}
+use Rattle.roll_session.specs.Seen.{Step}
+use Rattle.roll_session.proofs.Rolling.{all_held, snapshot_is, some_is}
+use Rattle.roll_tree.specs.SavedStates.{Saved, state_named}
+use Rattle.roll_requests.specs.Asked.{rows_of_job, rows_to_run, Asked, HasJob, IsNotGuessed, IsNumbered, Leads}
+use Rattle.roll_requests.specs.Carried.{Elsewhere, carried_out, first}
+use Rattle.roll_requests.specs.Requests.{job_requests, Adds}
+use Rattle.roll_requests.specs.Slotted.{AreFree, Guessed, IsSlotted, IsTaken}
+use Rattle.roll_requests.specs.declared.request.Request.{Request}
+use Rattle.roll_requests.proofs.Carrying.{carried_append}
+use Rattle.roll_requests.proofs.Counting.{nothing_added}
+use Rattle.roll_requests.proofs.Holding.{guessed, Holds, IsAside}
+use Rattle.roll_requests.proofs.Leads.{hold_of}
+
+pub none_numbered : (job : Option Routed) → None ≡ job → (jobs : Slab Guessed) → IsNumbered job jobs jobs None
+none_numbered None e jobs = (refl, λ key. refl)
+none_numbered (Some job) e jobs = absurd cc
+
+pub none_adds : (job : Option Routed) → None ≡ job → (limit : ℕ) (requests : List Request) → Adds limit 0 (rows_to_run job) requests requests
+none_adds None e limit requests = nothing_added limit requests
+none_adds (Some job) e limit requests = absurd cc
+
+pub numbered : (job : Option Routed) (route : Route) → Some (bare_branch 0 route) ≡ job → (old new : Slab Guessed) (n : ℕ) (guessed : Guessed) → guessed.route ≡ route → length guessed.slots ≡ length route.rows.items → get old n ≡ None → Updates old new n (Some guessed) → IsNumbered job old new (Some n)
+numbered None route e old new n guessed is_route many vacant u = absurd cc
+numbered (Some job) route e old new n guessed is_route many vacant u =
+    let same : bare_branch 0 route ≡ job = cc e in
+    (vacant, (guessed, record { route = is_route ∙ ap (λ (b : Routed). b.route) same; many = many ∙ ap (λ (b : Routed). length b.route.rows.items) same }, u))
+
+-- a guess that no test is against has no job for want of memory
+pub no_memory : (refusal : Option Refusal) (jobs : Slab Guessed) (why : Refusal) → refusal ≡ None → why ≡ NoMemory → IsNotGuessed refusal jobs why
+no_memory refusal jobs why none is = inr (is ∙ ap (λ (o : Option Refusal). unwrap_or o NoMemory) (sym none))
+
+-- a job starts from the settled frame on
+pub base_of : (game : Game) (core : Core) (p until : ℕ) (words : List ℕ) (route : Route) → Some (bare_branch 0 route) ≡ guess_job game core p words until → route.path.base ≡ settled core
+base_of game core p until words route = go (contains (kept core) (guessed_time core.players p words until))
+  where
+    go : (b : Bool) → Some (bare_branch 0 route) ≡ option_map (job_from game core) (if b then None else Some (job_of core (guessed_time core.players p words until))) → route.path.base ≡ settled core
+    go true e = absurd cc
+    go false e =
+        let same : bare_branch 0 route ≡ job_from game core (job_of core (guessed_time core.players p words until)) = cc e in
+        ap (λ (b : Routed). b.route.path.base) same
+
+-- the state that a job starts from is in its slot
+pub starts_here : (saves : Standing ℕ) (node slot : ℕ) (route : Route) → route.path.base ≡ saves.inputs.settled → IsSomeAnd (state_named saves.tree node) (λ u. u.path ≡ route.path.rows.items) → option_map (λ u. u.snapshot) (state_named saves.tree node) ≡ Some slot
+    → (step : Step) (opening : Value) (there : ℕ → Option Value) → Holds step opening saves there → there slot ≡ Some (run step opening (rows_of_job saves.inputs.players route 0))
+starts_here saves node slot route base found told step opening there h =
+    let x = some_is (state_named saves.tree node) (λ (u : Saved ℕ). u.path ≡ route.path.rows.items) found in
+    let T : Rows = timeline saves.inputs.players saves.inputs.settled in
+    let is_slot : x.0.snapshot ≡ slot = snapshot_is (state_named saves.tree node) x.0 slot told x.1 in
+    ap there (sym is_slot)
+    ∙ all_held (λ (v : Saved ℕ). there v.snapshot ≡ Some (run step opening (T ++ v.path))) (λ v. v.name == node) saves.tree.states x.0 h x.1
+    ∙ ap (λ (q : Rows). Some (run step opening q)) (ap (λ (q : Rows). T ++ q) (x.2 ∙ sym (append-nil route.path.rows.items)) ∙ ap (λ n. timeline saves.inputs.players n ++ (route.path.rows.items ++ [])) (sym base))
+
+-- one job more
+pub job_more : (old new : Slab Guessed) (n : ℕ) (job : Guessed) → Updates old new n (Some job) → (P : Guessed → Type 0) → P job → ((m : ℕ) (other : Guessed) → get old m ≡ Some other → P other) → (m : ℕ) (other : Guessed) → get new m ≡ Some other → P other
+job_more old new n job u P now before m other there = go (cases_eq m n)
+  where
+    go : (m ≡ n) ⊎ (m ≢ n) → P other
+    go (inl same) =
+        let both : Some job ≡ Some other = sym u.changed ∙ ap (get new) (sym same) ∙ there in
+        let is : job ≡ other = cc both in
+        subst P is now
+    go (inr apart) = before m other (sym (u.others m apart) ∙ there)
+
+pub taken_guessed : (states : List (Saved ℕ)) (old new : Slab Guessed) (at n : ℕ) (job : Guessed) (before after : List Bool) → IsSlotted states old at before → Updates old new n (Some job) → ((k : ℕ) → IsTaken before k → IsTaken after k) → All (IsTaken after) job.slots → IsSlotted states new at after
+taken_guessed states old new at n job before after s u kept all =
+    record {
+      are = record { saved = λ k d few. kept _ (s.are.saved k d few); out = job_more old new n job u (λ j. All (IsTaken after) j.slots) all (λ m other there. λ k d few. kept _ (s.are.out m other there k d few)) };
+      current = kept at s.current;
+    }
+
+pub leads_guessed : (e : Asked) (requests : List Request) (jobs : Slab Guessed) (taken : List Bool) (start n : ℕ) (job : Guessed) → IsSlotted e.saves.tree.states e.jobs e.at taken → AreFree e.limit taken job.slots → length job.slots ≡ length job.route.rows.items → job.route.path.base ≡ e.saves.inputs.settled
+    → ((step : Step) (opening : Value) (there : ℕ → Option Value) → Holds step opening e.saves there → there start ≡ Some (run step opening (rows_of_job e.saves.inputs.players job.route 0)))
+    → requests ≡ e.requests ++ job_requests start (λ k. get_or job.route.rows.items k []) job.slots → Updates e.jobs jobs n (Some job) → (past : List Request) → Leads past e → Leads past (record e { requests = requests; jobs = jobs })
+leads_guessed e requests jobs taken start n job s free many base here list u past l =
+    record {
+      there = λ step opening.
+          let m = made step opening in
+          record { held = m.hold.saved; at_is = m.others e.at s.current ∙ (l.there step opening).at_is ∙ ap Some (sym m.current) };
+      shown = λ step opening. subst (λ v. IfSome e.seen.core.shown (λ rows. v ≡ run step opening rows)) (sym (made step opening).current) (l.shown step opening);
+      jobs = λ step opening.
+          let m = made step opening in
+          job_more e.jobs jobs n job u (HasJob step opening e.saves (carried_out step opening (past ++ requests)).slots) m.job_held m.hold.out;
+    }
+  where
+    made : (step : Step) (opening : Value) → IsAside step opening e.saves e.jobs e.limit taken job s.are free (carried_out step opening (past ++ e.requests)) (carried_out step opening (past ++ requests))
+    made step opening =
+        let before : Elsewhere Value = carried_out step opening (past ++ e.requests) in
+        let more : List Request = job_requests start (λ k. get_or job.route.rows.items k []) job.slots in
+        let whole : past ++ requests ≡ (past ++ e.requests) ++ more = ap (λ (q : List Request). past ++ q) list ∙ sym (append_assoc past e.requests more) in
+        subst (IsAside step opening e.saves e.jobs e.limit taken job s.are free before)
+        (sym (ap (carried_out step opening) whole ∙ carried_append step (past ++ e.requests) more (first opening)))
+        (guessed step opening e.saves e.jobs e.limit taken job s.are free start before (omega (arith, base)) many (here step opening before.slots (l.there step opening).held) (hold_of past e l step opening))

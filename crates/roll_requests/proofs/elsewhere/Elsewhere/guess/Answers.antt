@@ -1,0 +1,150 @@
+use Rattle.std.proofs.Common.{◌≡◌, ◌∙◌, ◌++◌, [], ℕ, List, Option, Some, None, ap, get_or, length, lit<, refl, subst, sym}
+use Rattle.std.specs.Prelude.{option_map, IfErr, IsSomeAnd}
+use Rattle.slab.specs.Slab.{Slab, Updates}
+use Rattle.roll_branch.specs.Routed.{Routed}
+use Rattle.roll_frame.specs.declared.route.Route.{Route}
+use Rattle.roll_inputs.specs.Boards.{Inputs}
+use Rattle.roll_session.specs.Gameless.{bare_branch, still}
+use Rattle.roll_session.specs.Guessing.{guess_job_of, guess_refusal_of}
+use Rattle.roll_session.specs.Seen.{game_of}
+use Rattle.roll_tree.specs.SavedStates.{Saved, state_named}
+use Rattle.roll_requests.specs.Asked.{rows_to_run, Asked, IsNotGuessed, IsNumbered}
+use Rattle.roll_requests.specs.Requests.{job_requests, Adds}
+use Rattle.roll_requests.specs.Slotted.{Guessed}
+use Rattle.roll_requests.specs.declared.request.Request.{Request}
+use Rattle.roll_requests.proofs.Counting.{job_adds}
+use Rattle.roll_requests.proofs.Filling.{are_kept}
+use Rattle.roll_requests.proofs.Leads.{leads_same}
+use Rattle.roll_requests.proofs.Numbering.{base_of, leads_guessed, no_memory, none_adds, none_numbered, numbered, starts_here, taken_guessed}
+use Rattle.roll_session.proofs.Bares.{handed_on}
+use Rattle.roll_session.proofs.Rolling.{some_is, some_there}
+use Rattle.roll_requests.proofs.elsewhere.Elsewhere.guess.Goals as goal
+
+-- there is nothing to run
+none_of : (c : goal.In_default-2) → None ≡ guess_job_of still c.self.inside.core.seen c.args.player c.args.words.now c.args.until
+none_of c =
+    ap (option_map (λ (s : ℕ × Route). bare_branch 0 s.1)) (sym c.in_default-2.is) ∙ c.in_ok-node.ensures.job
+
+pub returns-in_default-2-clause-job : goal.returns-in_default-2-clause-job
+returns-in_default-2-clause-job c =
+    subst (λ (a : Asked). IsNumbered (guess_job_of still a.seen c.args.player c.args.words.now c.args.until) a.jobs a.jobs None) c.self.view_is
+    (none_numbered (guess_job_of still c.self.inside.core.seen c.args.player c.args.words.now c.args.until) (none_of c) c.self.inside.jobs)
+
+pub returns-in_default-2-clause-adds : goal.returns-in_default-2-clause-adds
+returns-in_default-2-clause-adds c =
+    let i = c.self.inside in
+    subst (λ (a : Asked). Adds a.limit 0 (rows_to_run (guess_job_of still a.seen c.args.player c.args.words.now c.args.until)) a.requests a.requests) c.self.view_is
+    (none_adds (guess_job_of still i.core.seen c.args.player c.args.words.now c.args.until) (none_of c) i.limit i.queue.requests)
+
+pub invariant_of-self : goal.invariant_of-self
+invariant_of-self c =
+    let i = c.self.inside in
+    let e = c.plan_job.ensures in
+    let kept = are_kept i.core.saves.tree.states i.jobs i.taken c.plan_job.new.taken (λ k t. e.taken k ∙ t) c.self.invariant.are in
+    rw e.jobs (record { are = record { saved = kept.saved; out = kept.out }; current = e.taken i.at ∙ c.self.invariant.current })
+
+pub returns-in_err-job-clause-leads : goal.returns-in_err-job-clause-leads
+returns-in_err-job-clause-leads c =
+    let i = c.self.inside in
+    let e = c.plan_job.ensures in
+    let old : Asked = record { seen = i.core.seen; saves = i.core.saves; at = i.at; requests = i.queue.requests; limit = i.limit; jobs = i.jobs } in
+    rw (← c.self.view_is)
+    (leads_same old (record old { requests = c.plan_job.new.queue.requests; jobs = c.plan_job.new.jobs }) e.requests refl refl (λ step opening slots h. rw e.jobs (record { saved = h.saved; out = h.out })))
+
+pub get-start-requires : goal.get-start-requires
+get-start-requires c =
+    let tree = c.self.inside.core.saves.tree in
+    let x = some_is (state_named tree c.in-Some-2.node) (λ (u : Saved ℕ). u.path ≡ c.in-Some-2.route.path.rows.items) (rw c.in-Some-2.is at c.in_ok-node.ensures.node) in
+    rw c.saved.ensures (some_there (state_named tree c.in-Some-2.node) x.0 x.1)
+
+pub as_slice-requires : goal.as_slice-requires
+as_slice-requires c = lit< tt
+
+pub ask_job-requires-clause-many : goal.ask_job-requires-clause-many
+ask_job-requires-clause-many c = rw (c.slots.ensures, c.as_slice.ensures.value) c.in_ok-job.ensures.many
+
+pub ask_job-requires-clause-room : goal.ask_job-requires-clause-room
+ask_job-requires-clause-room c = rw c.slots.ensures c.in_ok-job.ensures.space
+
+pub fill_all-requires : goal.fill_all-requires
+fill_all-requires c = rw c.slots-2.ensures c.in_ok-job.ensures.within
+
+pub insert_reserved-requires : goal.insert_reserved-requires
+insert_reserved-requires c = c.in_ok-job.ensures.fits
+
+-- the job is the guess's
+job_of : (c : goal.After-insert_reserved) → Some (bare_branch 0 c.in-Some-2.route) ≡ guess_job_of still c.self.inside.core.seen c.args.player c.args.words.now c.args.until
+job_of c =
+    ap (option_map (λ (s : ℕ × Route). bare_branch 0 s.1)) (sym c.in-Some-2.is) ∙ c.in_ok-node.ensures.job
+
+-- it has a number that none had
+updates_of : (c : goal.After-insert_reserved) → Updates c.self.inside.jobs c.insert_reserved.new.self c.in-Some.number (Some c.in_ok-job.job)
+updates_of c =
+    let jobs = c.plan_job.ensures.jobs in
+    let e = c.insert_reserved.ensures in
+    let key : c.insert_reserved.result ≡ c.in-Some.number = e.key ∙ ap (λ (s : Slab Guessed). s.vacant_key) jobs ∙ sym c.in-Some.ensures.next in
+    let u = subst (λ n. Updates c.plan_job.new.jobs c.insert_reserved.new.self n (Some c.in_ok-job.job)) key e.updates in
+    record { changed = u.changed; others = λ n apart. u.others n apart ∙ ap (λ (s : Slab Guessed). get_or s.slots n None) jobs }
+
+pub invariant_of-self-2 : goal.invariant_of-self-2
+invariant_of-self-2 c =
+    let i = c.self.inside in
+    let f = c.fill_all.ensures in
+    taken_guessed i.core.saves.tree.states i.jobs c.insert_reserved.new.self i.at c.in-Some.number c.in_ok-job.job i.taken c.fill_all.new.self c.self.invariant (updates_of c)
+    (λ k t. f.kept k (c.plan_job.ensures.taken k ∙ t)) (rw c.slots-2.ensures at f.taken)
+
+pub returns-clause-job : goal.returns-clause-job
+returns-clause-job c =
+    let i = c.self.inside in
+    let e = c.in_ok-job.ensures in
+    subst (λ (a : Asked). IsNumbered (guess_job_of still a.seen c.args.player c.args.words.now c.args.until) a.jobs c.insert_reserved.new.self (Some c.in-Some.number)) c.self.view_is
+    (numbered (guess_job_of still i.core.seen c.args.player c.args.words.now c.args.until) c.in-Some-2.route (job_of c) i.jobs c.insert_reserved.new.self c.in-Some.number c.in_ok-job.job e.route e.many c.in-Some.ensures.vacant (updates_of c))
+
+-- what is asked
+list_of : (c : goal.After-insert_reserved) → c.ask_job.new.queue.requests ≡ c.self.inside.queue.requests ++ job_requests c.get-start.result.now (λ k. get_or c.in_ok-job.job.route.rows.items k []) c.in_ok-job.job.slots
+list_of c =
+    let e = c.in_ok-job.ensures in
+    let asked = rw (c.slots.ensures, c.as_slice.ensures.value) at c.ask_job.ensures in
+    asked
+    ∙ ap (λ (l : List Request). l ++ job_requests c.get-start.result.now (λ k. get_or c.in-Some-2.route.rows.items k []) c.in_ok-job.job.slots) c.plan_job.ensures.requests
+    ∙ ap (λ (r : Route). c.self.inside.queue.requests ++ job_requests c.get-start.result.now (λ k. get_or r.rows.items k []) c.in_ok-job.job.slots) (sym e.route)
+
+pub returns-clause-adds : goal.returns-clause-adds
+returns-clause-adds c =
+    let i = c.self.inside in
+    let e = c.in_ok-job.ensures in
+    let many : length c.in_ok-job.job.slots ≡ rows_to_run (guess_job_of still i.core.seen c.args.player c.args.words.now c.args.until) = e.many ∙ ap (λ (o : Option Routed). rows_to_run o) (job_of c) in
+    subst (λ (a : Asked). Adds a.limit 0 (rows_to_run (guess_job_of still a.seen c.args.player c.args.words.now c.args.until)) a.requests c.ask_job.new.queue.requests) c.self.view_is
+    (job_adds i.limit c.get-start.result.now (λ k. get_or c.in_ok-job.job.route.rows.items k []) c.in_ok-job.job.slots (rows_to_run (guess_job_of still i.core.seen c.args.player c.args.words.now c.args.until)) i.queue.requests c.ask_job.new.queue.requests e.free.below many (list_of c))
+
+pub returns-clause-leads : goal.returns-clause-leads
+returns-clause-leads c =
+    let i = c.self.inside in
+    let e = c.in_ok-job.ensures in
+    let job : Guessed = c.in_ok-job.job in
+    let route : Route = c.in-Some-2.route in
+    let saves = i.core.saves in
+    let found = rw c.in-Some-2.is at c.in_ok-node.ensures.node in
+    let told = rw c.saved.ensures at c.get-start.ensures in
+    let far : route.path.base ≡ saves.inputs.settled = base_of (game_of still i.core.seen) i.core.seen.core c.args.player c.args.until c.args.words.now route (job_of c) ∙ sym (ap (λ (n : Inputs). n.settled) c.laws.ensures.inputs) in
+    let base : job.route.path.base ≡ saves.inputs.settled = ap (λ (r : Route). r.path.base) e.route ∙ far in
+    let many : length job.slots ≡ length job.route.rows.items = e.many ∙ ap (λ (r : Route). length r.rows.items) (sym e.route) in
+    let there : IsSomeAnd (state_named saves.tree c.in-Some-2.node) (λ u. u.path ≡ job.route.path.rows.items) = subst (λ (r : Route). IsSomeAnd (state_named saves.tree c.in-Some-2.node) (λ u. u.path ≡ r.path.rows.items)) (sym e.route) found in
+    let old : Asked = record { seen = i.core.seen; saves = saves; at = i.at; requests = i.queue.requests; limit = i.limit; jobs = i.jobs } in
+    rw (← c.self.view_is)
+    (leads_guessed old c.ask_job.new.queue.requests c.insert_reserved.new.self i.taken c.get-start.result.now c.in-Some.number job c.self.invariant e.free many base
+    (starts_here saves c.in-Some-2.node c.get-start.result.now job.route base there told) (list_of c) (updates_of c))
+
+pub returns-clause-accepted : goal.returns-clause-accepted
+returns-clause-accepted c =
+    subst (λ (a : Asked). guess_refusal_of a.seen c.args.player c.args.words.now c.args.until ≡ None) c.self.view_is c.in_ok-node.ensures.accepted
+
+pub returns-in_default-2-clause-accepted : goal.returns-in_default-2-clause-accepted
+returns-in_default-2-clause-accepted c =
+    subst (λ (a : Asked). guess_refusal_of a.seen c.args.player c.args.words.now c.args.until ≡ None) c.self.view_is c.in_ok-node.ensures.accepted
+
+pub returns-in_err-job-clause-refused : goal.returns-in_err-job-clause-refused
+returns-in_err-job-clause-refused c =
+    subst (λ (a : Asked). IfErr c.from_residual-in_err-job.result (IsNotGuessed (guess_refusal_of a.seen c.args.player c.args.words.now c.args.until) a.jobs)) c.self.view_is
+    (handed_on c.from_residual-in_err-job.result c.in_err-job.field-0.0 (IsNotGuessed (guess_refusal_of c.self.inside.core.seen c.args.player c.args.words.now c.args.until) c.self.inside.jobs) c.from_residual-in_err-job.ensures.1
+    (no_memory (guess_refusal_of c.self.inside.core.seen c.args.player c.args.words.now c.args.until) c.self.inside.jobs c.in_err-job.field-0.0 c.in_ok-node.ensures.accepted c.in_err-job.ensures.refused))

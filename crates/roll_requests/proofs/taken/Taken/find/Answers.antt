@@ -1,0 +1,31 @@
+use Rattle.std.proofs.Common.{◌≡◌, ◌<◌, ◌+◌, ◌∙◌, ◌∷◌, [], List, ℕ, ap, arith, length, rules, subst, sym}
+use Rattle.std.proofs.lemmas.List.{length-append}
+use Rattle.std.specs.Prelude.{All}
+use Rattle.roll_requests.specs.Slotted.{AreFree}
+use Rattle.roll_requests.proofs.Filling.{below_more, below_next, free_more, none_free}
+use Rattle.roll_requests.proofs.taken.Taken.find.Goals as goal
+use Rattle.roll_requests.proofs.taken.Taken.find.Goals.{then-not-has, else-not-has}
+
+pub loop-slot-init : goal.loop-slot-init
+loop-slot-init c =
+    let e = c.in_ok-slots.ensures in
+    rw e.items (record { few = omega arith; room = omega (arith, e.capacity); free = none_free c.args.limit c.args.self.now; below = λ k d few. absurd (omega (arith, few)) })
+
+pub loop-slot-preserved : goal.loop-slot-preserved
+loop-slot-preserved c =
+    let now = c.loop-slot.invariant in
+    let slots = c.loop-slot.slots.items in
+    elim c.if-not-has.branch [
+      | then-not-has w ↦
+          let slot : ℕ = c.loop-slot.slot in
+          let e = w.push_reserved.ensures in
+          let many : length w.push_reserved.new.self.items ≡ length slots + 1 = ap length e.items ∙ length-append slots (slot ∷ []) in
+          rw w.slots-is
+          (record {
+            few = first_of (omega (arith, now.few, c.len.ensures, c.if-len-count.false, c.loop-slot.slots.ok, many), search rules);
+            room = omega (arith, now.room, e.capacity);
+            free = subst (λ (l : List ℕ). AreFree c.args.limit c.args.self.now l) (sym e.items) (free_more c.args.limit c.args.self.now slots slot now.free now.below (sym w.if-not-has.ensures) c.loop-slot-test.true);
+            below = subst (λ (l : List ℕ). All (λ j. j < slot + 1) l) (sym e.items) (below_more slots slot now.below);
+          })
+      | else-not-has w ↦ rw w.slots-is (record { few = now.few; room = now.room; free = now.free; below = below_next slots c.loop-slot.slot now.below })
+    ]

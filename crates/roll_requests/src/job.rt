@@ -1,0 +1,66 @@
+//! Jobs that are out.
+ghost use Rattle.std.specs.Prelude.{◌≡◌, ◌≤◌, ◌⊎◌, ◌^◌, ℕ, length, All, IfNone, IfSome, None, Some};
+ghost use Rattle.slab.specs.Slab.{get, slab_len};
+ghost use Rattle.roll_requests.specs.Slotted.{AreWithin, Guessed, IsTaken};
+
+use crate::taken::Taken;
+use roll_branch::PackedRoute;
+use slab::Slab;
+use std::marker::Model;
+
+/// So many jobs can be out at once.
+pub const JOBS_OUT: usize = 64;
+
+/// A job that is out: where it runs, and the slot of the state after each row.
+#[derive(Drop)]
+pub struct Job {
+    pub route: PackedRoute,
+    pub slots: Vec<u32>,
+}
+
+impl Model for Job {
+    ghost use Rattle.std.specs.Prelude.{◌≡◌, length};
+    ghost use Rattle.roll_requests.specs.Slotted.{Guessed};
+
+    ghost Value = { Guessed };
+
+    ghost view = { λ job. record { route = job.route; slots = job.slots.items } };
+
+    ghost invariant = { λ job. length job.slots.items ≡ length job.route.rows.items };
+}
+
+impl Job {
+    /// The slots of its states.
+    pub fn slots(&self) -> &[u32]
+        ensures { result.now ≡ self.now.slots }
+    {
+        self.slots.as_slice()
+    }
+}
+
+/// The number of the next job, if there may be one more.
+pub fn free_number(jobs: &Slab<Job>) -> Option<u32>
+    ensures next { IfSome result (λ number. number ≡ jobs.now.vacant_key) }
+    ensures vacant { IfSome result (λ number. get jobs.now number ≡ None) }
+    ensures full { IfNone result
+        ((JOBS_OUT ≤ slab_len jobs.now) ⊎ (2 ^ 32 ≤ jobs.now.vacant_key)) }
+{
+    if jobs.len() >= JOBS_OUT {
+        return None;
+    }
+    u32::try_from(jobs.vacant_key()).ok()
+}
+
+/// Takes the slots of the jobs that are out.
+pub fn fill_jobs(slots: &mut Taken, jobs: &Slab<Job>)
+    requires { (n : ℕ) (job : Guessed) → get jobs.now n ≡ Some job
+        → AreWithin slots.old job.slots }
+    ensures taken { (n : ℕ) (job : Guessed) → get jobs.now n ≡ Some job
+        → All (IsTaken slots.new) job.slots }
+    ensures kept { (slot : ℕ) → IsTaken slots.old slot → IsTaken slots.new slot }
+    ensures many { length slots.new ≡ length slots.old }
+{
+    for (_, job) in jobs.iter() {
+        slots.fill_all(job.slots());
+    }
+}
