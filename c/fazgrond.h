@@ -118,8 +118,8 @@ typedef struct fazgrond_reached {
 } fazgrond_reached;
 
 /* An entry of the log, which has all accepted calls in their order. `player` is that of LOCAL, REMOTE and DISCONNECT, `word`
- * that of LOCAL and REMOTE, `frame` that of REMOTE. What isn't said is 0; a GRAFT says nothing more. PARTIAL is a roll to `frame` of
- * which only `word` new states were saved: sessions of games in Rust can leave one, those of this header don't. */
+ * that of LOCAL and REMOTE, `frame` that of REMOTE. PARTIAL is a roll to `frame` that was refused after `word` new states were
+ * saved. What isn't said is 0; a GRAFT says nothing more. */
 enum {
     FAZGROND_LOCAL = 1, FAZGROND_REMOTE = 2, FAZGROND_DISCONNECT = 3, FAZGROND_SYNC = 4, FAZGROND_ADVANCE = 5,
     FAZGROND_GRAFT = 6, FAZGROND_PARTIAL = 7

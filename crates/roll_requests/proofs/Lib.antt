@@ -1,8 +1,10 @@
+pub mod Slots
+pub mod Tables
+pub mod Leading
 pub mod Carrying
+pub mod Counting
 pub mod Stays
 pub mod Filling
-pub mod Numbering
 pub mod Holding
-pub mod Counting
 pub mod Leads
-pub mod Made
+pub mod Numbering

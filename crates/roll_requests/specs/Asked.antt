@@ -1,5 +1,5 @@
 -- A session of a game elsewhere as its callers see it, and where its requests lead, for every game.
-use Rattle.std.specs.Prelude.{◌≡◌, ◌≢◌, ◌⊎◌, ◌≤◌, ◌^◌, ℕ, ◌+◌, ◌<◌, List, [], ◌∷◌, ◌++◌, length, take, slice_index_or, All, IfSome, IsSomeAnd, Option, Some, None, Result, Ok, Err, option_map}
+use Rattle.std.specs.Prelude.{◌≡◌, ◌⊎◌, ◌≤◌, ◌^◌, ℕ, ◌+◌, ◌<◌, List, [], ◌++◌, length, take, slice_index_or, All, IfSome, IsSomeAnd, Option, Some, None, Result, Ok, Err}
 use Rattle.std.specs.Option.{option_map_or}
 use Rattle.roll_branch.specs.Routed.{Routed}
 use Rattle.roll_frame.specs.Cells.{Rows}
@@ -21,8 +21,7 @@ use Rattle.roll_session.specs.Saves.{Standing}
 use Rattle.roll_session.specs.Seen.{IsLeast, Seen, Step}
 use Rattle.roll_session.specs.declared.event.Call.{Call}
 use Rattle.roll_session.specs.declared.event.Grafted.{Grafted}
-use Rattle.roll_session.specs.declared.event.Reached.{Reached}
-use Rattle.roll_tree.specs.SavedStates.{Saved, SavedStates, state_named}
+use Rattle.roll_tree.specs.SavedStates.{SavedStates, state_named}
 use Rattle.slab.specs.Slab.{Slab, get, slab_len, SameValues, Updates}
 use Rattle.roll_requests.specs.Carried.{Elsewhere, carried_out}
 use Rattle.roll_requests.specs.Requests.{Adds}
@@ -78,14 +77,14 @@ pub record IsIdle (old new : Asked) : Type 0 where
 abbrev pub IsRefusedRoll : Seen → Call → Refusal → Type 0
 IsRefusedRoll s call why = IsReplied still s s (event_of call) (Refused why) ⊎ (why ≡ NoMemory)
 
--- a roll led there: it started from the frame of the deepest state on its way, and asks for the frames from there on, which are
--- the fewest that any plan runs
-pub record Rolls (old new : Asked) (call : Call) (reached : Reached) : Type 0 where
-  pub is_to : IsRollTo old.seen.core call reached.frame
-  pub from_is : reached.from ≡ depth old.seen.core reached.frame
-  pub rerun_is : reached.rerun ≡ cost old.seen.core reached.frame
-  pub least : IsLeast old.seen.core reached.frame
-  pub adds : Adds old.limit (cost old.seen.core reached.frame) 0 old.requests new.requests
+-- a roll started from this frame, that of the deepest state on its way; it asks for the frames from there on, which are the
+-- fewest that any plan runs
+pub record Rolls (old new : Asked) (call : Call) (from : ℕ) : Type 0 where
+  pub to : ℕ
+  pub is_to : IsRollTo old.seen.core call to
+  pub from_is : from ≡ depth old.seen.core to
+  pub least : IsLeast old.seen.core to
+  pub adds : Adds old.limit (cost old.seen.core to) 0 old.requests new.requests
 
 -- a job has this route, and a slot for the state after each row
 pub record IsJob (job : Routed) (guessed : Guessed) : Type 0 where

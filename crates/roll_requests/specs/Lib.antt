@@ -1,6 +1,9 @@
+pub mod Names
 pub mod Carried
+pub mod Slots
+pub mod Tables
+pub mod Leading
 pub mod Slotted
 pub mod Planned
 pub mod Requests
 pub mod Asked
-pub mod Made

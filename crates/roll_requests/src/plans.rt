@@ -1,5 +1,5 @@
 //! What a roll or a job needs, so that nothing of it can fail any more.
-ghost use Rattle.std.specs.Prelude.{◌≡◌, ◌≤◌, ◌+◌, ◌*◌, ◌-◌, ℕ, length, max, IfErr, IfOk, OnErr, OnOk};
+ghost use Rattle.std.specs.Prelude.{◌≡◌, ◌≤◌, ◌+◌, ◌*◌, ◌-◌, ℕ, length, IfErr, IfOk, OnErr, OnOk};
 ghost use Rattle.roll_frame.specs.Core.{depth};
 ghost use Rattle.roll_session.specs.Calls.{IsRoll};
 ghost use Rattle.roll_session.specs.Gameless.{CanEnter};
@@ -70,8 +70,6 @@ pub fn plan_roll(
     requires roll { IsRoll call }
     requires taken { AreTaken core.old.saves.tree.states jobs.now taken.now }
     ensures can { IfOk result (λ plan. CanEnter core.new call plan.way) }
-    ensures looked { OnOk result (core.new.seen
-        ≡ record core.old.seen { reserved = max core.old.seen.reserved 1 }) }
     ensures reserved { OnOk result (1 ≤ core.new.seen.reserved) }
     ensures from { IfOk result (λ plan. plan.way.frame ≡ depth core.old.seen.core plan.way.to) }
     ensures many { IfOk result

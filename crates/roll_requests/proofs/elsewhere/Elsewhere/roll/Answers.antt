@@ -1,9 +1,8 @@
-use Rattle.std.proofs.Common.{◌≡◌, ◌++◌, ◌∷◌, ◌∙◌, ◌+◌, ◌-◌, [], ℕ, List, Some, ap, arith, length, max, refl, subst, sym}
+use Rattle.std.proofs.Common.{◌≡◌, ◌++◌, ◌∷◌, ◌∙◌, ◌+◌, [], ℕ, List, Some, ap, arith, length, refl, subst, sym}
 use Rattle.roll_frame.specs.Core.{Core, cost}
-use Rattle.roll_frame.specs.declared.entry.Entry.{Entry}
+use Rattle.roll_frame.specs.Events.{applied}
 use Rattle.roll_frame.specs.Timeline.{row_at}
-use Rattle.roll_session.specs.Answered.{with_entries}
-use Rattle.roll_session.specs.Calls.{entry_of, IsAllowed, IsRollTo}
+use Rattle.roll_session.specs.Calls.{entry_of, IsRollTo}
 use Rattle.roll_session.specs.Gameless.{still}
 use Rattle.roll_session.specs.Seen.{IsLeast, Seen, game_of}
 use Rattle.roll_session.proofs.Holding.{least_of}
@@ -89,20 +88,15 @@ invariant_of-self-2 c =
     done_taken c.plan_roll.new.core c.enter.new.self c.args.call c.in_ok-plan.plan.way c.in_ok-plan.plan.room c.self.inside.limit c.self.inside.jobs (done_of c) c.fill_all.new.self c.ask_roll-self-inside.result a.0 a.1 a.2.0 f.kept
     (rw c.deref-2.ensures.value at f.taken)
 
-pub returns-clause-allowed : goal.returns-clause-allowed
-returns-clause-allowed c =
-    let allowed = subst (λ (s : Seen). IsAllowed still s c.args.call) c.in_ok-plan.ensures.looked c.in_ok-plan.ensures.can.allowed in
-    rw (← c.self.view_is) (record { new = allowed.new; accepted = allowed.accepted })
-
-pub returns-clause-entered : goal.returns-clause-entered
-returns-clause-entered c =
-    let old = c.self.inside.core.seen in
-    let entries : List Entry = entry_of c.args.call ∷ [] in
-    let left : max old.reserved 1 - 1 ≡ old.reserved - 1 = omega arith in
+pub returns-clause-log : goal.returns-clause-log
+returns-clause-log c =
     rw (← c.self.view_is)
-    (c.enter.ensures.entered
-    ∙ (ap (λ (s : Seen). with_entries s entries s.counts) c.in_ok-plan.ensures.looked
-    ∙ ap (λ n. record (with_entries old entries old.counts) { reserved = n }) left))
+    (ap (λ (s : Seen). s.log) c.enter.ensures.entered ∙ ap (λ (s : Seen). s.log ++ entry_of c.args.call ∷ []) c.plan_roll.ensures.hardly.seen)
+
+pub returns-clause-core : goal.returns-clause-core
+returns-clause-core c =
+    rw (← c.self.view_is)
+    (ap (λ (s : Seen). s.core) c.enter.ensures.entered ∙ ap (λ (s : Seen). applied s.core (entry_of c.args.call)) c.plan_roll.ensures.hardly.seen)
 
 pub returns-clause-rolls : goal.returns-clause-rolls
 returns-clause-rolls c =
@@ -119,9 +113,9 @@ returns-clause-rolls c =
     let list = a.2.1 ∙ ap (λ (l : List Request). l ++ roll_requests i.at a.0.snapshot i.taken room.held (λ k. row_at mid.saves.inputs.players (way.frame + k)) room.slots.items) c.plan_roll.ensures.requests in
     rw (← c.self.view_is)
     (record {
+      to = way.to;
       is_to = subst (λ (k : Core). IsRollTo k c.args.call way.to) core e.can.to;
       from_is = e.from;
-      rerun_is = ap (λ n. way.to - n) e.from;
       least = subst (λ (k : Core). IsLeast k way.to) core least;
       adds = roll_adds i.limit i.at a.0.snapshot i.taken room.held (λ k. row_at mid.saves.inputs.players (way.frame + k)) room.slots.items (cost i.core.seen.core way.to) i.queue.requests c.ask_roll-self-inside.new.queue.requests e.room.free.below many list;
     })
