@@ -1,5 +1,5 @@
 -- What C sees of settings, rows and requests.
-use Rattle.std.specs.Prelude.{◌≡◌, ◌⊎◌, ◌≤◌, ℕ, ◌+◌, ◌-◌, List, ◌++◌, drop, take, length, map, min, replicate}
+use Rattle.std.specs.Prelude.{◌≡◌, ◌⊎◌, ◌≤◌, ℕ, ◌-◌, List, ◌++◌, length, map, replicate}
 use Rattle.roll_frame.specs.Packed.{bits_of}
 use Rattle.roll_frame.specs.Words.{word_of}
 use Rattle.roll_frame.specs.declared.profile.Profile.TheVariants.{Ggpo, Wide}
@@ -65,13 +65,3 @@ pub record AreGiven (given : SettingsIn) (settings : Settings) : Type 0 where
 -- a number of them has no room where it belongs
 abbrev pub HaveNoRoom : SettingsIn → Type 0
 HaveNoRoom given = (2 ≤ given.profile) ⊎ ((256 ≤ given.players) ⊎ (256 ≤ given.local))
-
--- of some requests those past the ones that were handed out, as many as there is room for, are written to the front of a
--- buffer
-pub record AreHanded (given next count : ℕ) (before after : List RequestOut) : Type 0 where
-  pub requests : List Request
-  pub next_is : next ≡ min given (length requests) + count
-  pub count_is : count ≡ min (length before) (length (drop (min given (length requests)) requests))
-  pub written : after
-      ≡ map request_out (take count (drop (min given (length requests)) requests))
-      ++ drop count before

@@ -1,5 +1,5 @@
 -- What a call through a handle comes to.
-use Rattle.std.specs.Prelude.{◌≡◌, ◌≢◌, ◌⊎◌, ℕ, ℤ, List, ◌++◌, drop, length, max, nat_lt, IsSomeAnd, if◌then◌else◌, pos, Result, Ok, Err, IfOk, IfErr, Option, Some, None, IfSome}
+use Rattle.std.specs.Prelude.{◌≡◌, ◌≢◌, ◌⊎◌, ℕ, ℤ, List, [], ◌++◌, drop, length, map, max, min, take, nat_lt, IsSomeAnd, if◌then◌else◌, pos, Result, Ok, Err, IfOk, IfErr, Option, Some, None, IfSome}
 use Rattle.roll_frame.specs.Advice.{noted}
 use Rattle.roll_frame.specs.Codes.{code_of}
 use Rattle.roll_frame.specs.Core.{Core, settled}
@@ -11,17 +11,18 @@ use Rattle.roll_frame.specs.declared.reply.Reply.{Reply}
 use Rattle.roll_frame.specs.declared.reply.Reply.TheVariants.{Refused, Repeated, Synchronized, Taken, Reached}
 use Rattle.roll_cert.specs.Texts.{claim_lines}
 use Rattle.roll_frame.specs.declared.settings.Settings.{Settings}
-use Rattle.roll_requests.specs.Leading.{opened}
-use Rattle.roll_requests.specs.Names.{opening_digest, step_of}
-use Rattle.roll_session.specs.Answered.{IsAnswered, IsReplied}
-use Rattle.roll_session.specs.Calls.{event_of}
+use Rattle.roll_game.specs.Counts.{no_calls}
+use Rattle.roll_requests.specs.Asked.{Asked, IsSettledSlot, Leads}
+use Rattle.roll_requests.specs.Made.{IsMade as IsMadeOf, IsNotMade as IsNotMadeOf, KeepsLeading}
+use Rattle.roll_requests.specs.declared.request.Request.{Request}
 use Rattle.roll_session.specs.Changes.{IsWhy}
 use Rattle.roll_session.specs.Headline.{last_claim}
 use Rattle.roll_session.specs.Started.{first_seen}
 use Rattle.roll_session.specs.declared.event.Call.{Call}
+use Rattle.roll_session.specs.declared.event.Call.TheVariants.{Sync, Advance}
 use Rattle.roll_text.specs.Lines.{text_of}
 use Rattle.fazgrond_c.specs.Handles.{session_in}
-use Rattle.fazgrond_c.specs.Kinds.{row_out, AreGiven, AreHanded, HaveNoRoom}
+use Rattle.fazgrond_c.specs.Kinds.{request_out, row_out, AreGiven, HaveNoRoom}
 use Rattle.fazgrond_c.specs.declared.kinds.ReachedOut.{ReachedOut}
 use Rattle.fazgrond_c.specs.declared.kinds.RequestOut.{RequestOut}
 use Rattle.fazgrond_c.specs.declared.kinds.RowOut.{RowOut}
@@ -31,21 +32,29 @@ use Rattle.fazgrond_c.specs.declared.live.Live.{Live}
 use Rattle.fazgrond_c.specs.declared.open.Open.{Open}
 use Rattle.fazgrond_c.specs.declared.open.Open.TheVariants.{Session}
 
+-- a call that rolls waits until all requests were taken
+abbrev pub IsPending : Live → Call → Type 0
+IsPending live Sync = live.session.requests ≢ []
+IsPending live Advance = live.session.requests ≢ []
+IsPending live call = ⊥
+
 -- the session of an open handle answers a call by the rules
 pub record IsMade (old new : Option Open) (call : Call) (said : Reply) : Type 0 where
   pub before : Live
   pub after : Live
   pub was : old ≡ Some (Session before)
   pub is : new ≡ Some (Session after)
-  pub replied : IsReplied step_of before.session after.session (event_of call) said
+  pub taken : ¬ IsPending before call
+  pub made : IsMadeOf before.session after.session call said
+  pub leads : KeepsLeading before.session after.session
+  pub advice : after.advice ≡ before.advice
 
--- a call isn't made, since the requests of the last roll were not taken yet, or it is refused, by the rules or for want of
--- memory: this is the code
+-- a call isn't made, since it waits, or it is refused, by the rules or for want of memory or slots: this is the code
 abbrev pub IsDeclined : Live → Live → Call → ℤ → Type 0
 IsDeclined before after call code =
-    ((code ≡ pos 202) × (after ≡ before))
-    ⊎ ((why : Refusal) × (code ≡ pos (code_of why))
-    × IsAnswered step_of before.session after.session (event_of call) (Refused why))
+    (IsPending before call × (code ≡ pos 202) × (after ≡ before))
+    ⊎ (¬ IsPending before call × ((why : Refusal) × (code ≡ pos (code_of why))
+    × IsNotMadeOf before.session after.session call why))
 
 -- the same through a handle, which may be closed
 pub record IsDeclinedBy (old new : Option Open) (call : Call) (code : ℤ) : Type 0 where
@@ -54,6 +63,8 @@ pub record IsDeclinedBy (old new : Option Open) (call : Call) (code : ℤ) : Typ
   pub was : old ≡ Some (Session before)
   pub is : new ≡ Some (Session after)
   pub declined : IsDeclined before after call code
+  pub leads : KeepsLeading before.session after.session
+  pub advice : after.advice ≡ before.advice
 
 abbrev pub IsNotMade : Option Open → Option Open → Call → ℤ → Type 0
 IsNotMade old new call code =
@@ -106,15 +117,29 @@ settled_row core frame = if nat_lt frame (settled core) then Some (row_at core.p
 
 -- room was made for so many more events, or nothing is changed
 pub record IsReserved (events : ℕ) (old new : Live) (code : ℤ) : Type 0 where
-  pub made : code ≡ pos 0
-      → new.session ≡ record old.session { reserved = max old.session.reserved events }
+  pub made : code ≡ pos 0 → new ≡ record old {
+    session = record old.session {
+      seen = record old.session.seen { reserved = max old.session.seen.reserved events };
+    };
+  }
+  pub leads : KeepsLeading old.session new.session
   pub refused : code ≢ pos 0 → new ≡ old
+
+-- a session of a game elsewhere at its start: the opening is current there, and in slot 0, and nothing is asked for
+pub record IsStarted (settings : Settings) (session : Asked) : Type 0 where
+  pub seen : session.seen ≡ first_seen settings [] no_calls
+  pub at : session.at ≡ 0
+  pub requests : session.requests ≡ []
+  pub limit : session.limit ≡ 4294967295
+  pub jobs : session.jobs.slots ≡ []
+  pub leads : Leads [] session
 
 -- a session with these settings is open at its start
 pub record IsOpened (given : SettingsIn) (live : Live) : Type 0 where
   pub settings : Settings
   pub are_given : AreGiven given settings
-  pub session : live.session ≡ first_seen settings opening_digest opened
+  pub session : IsStarted settings live.session
+  pub advice : live.advice ≡ []
 
 -- there is no session with such settings
 pub record IsUnfit (given : SettingsIn) (code : ℤ) : Type 0 where
@@ -135,16 +160,40 @@ IsWhyClosed given code =
 pub record IsClaimed (old new : Option Open) (before after : List ℕ) (size : ℕ) (code : ℤ) : Type 0 where
   pub kept : new ≡ old
   pub closed : session_in old ≡ None → code ≡ pos 201
-  pub written : code ≡ pos 0 → IfSome (session_in old) (λ live. IfSome (last_claim live.session) (λ claim.
+  pub written : code ≡ pos 0 → IfSome (session_in old) (λ live. IfSome (last_claim live.session.seen) (λ claim.
       (after ≡ text_of (claim_lines claim) ++ drop size before)
       × (size ≡ length (text_of (claim_lines claim)))))
   pub unwritten : code ≢ pos 0 → after ≡ before
+
+-- the next requests are handed out, in order, as many as there is room for, and written to the front of a buffer; all that was
+-- handed out and is still to be leads where it did
+pub record AreHanded (old new : Live) (before after : List RequestOut) (count : ℕ) : Type 0 where
+  pub count_is : count ≡ min (length before) (length old.session.requests)
+  pub written : after ≡ map request_out (take count old.session.requests) ++ drop count before
+  pub left : new ≡ record old {
+    session = record old.session { requests = drop count old.session.requests };
+  }
+  pub leads : (past : List Request) → Leads past old.session
+      → Leads (past ++ take count old.session.requests) new.session
 
 -- requests of an open session are handed out; a closed one has none
 pub record IsHandedBy (old new : Option Open) (before after : List RequestOut) (count : ℕ) : Type 0 where
   pub closed : session_in old ≡ None → (new ≡ old) × ((count ≡ 0) × (after ≡ before))
   pub handed : IfSome (session_in old) (λ live. IsSomeAnd (session_in new) (λ now.
-      (now.session ≡ live.session) × AreHanded live.given now.given count before after))
+      AreHanded live now before after count))
+
+-- from now on no state is saved in a slot from this one on
+pub record IsLimited (slots : ℕ) (old new : Live) (code : ℤ) : Type 0 where
+  pub limited : new ≡ record old { session = record old.session { limit = slots } }
+  pub leads : KeepsLeading old.session new.session
+  pub code_is : code ≡ pos 0
+
+-- the settled frame is written, and the slot in which its state lies
+pub record IsSettledAt (old new : Option Open) (before after : ℕ) (had slot : ℕ) (code : ℤ) : Type 0 where
+  pub kept : new ≡ old
+  pub closed : session_in old ≡ None → (code ≡ pos 201) × ((after ≡ before) × (slot ≡ had))
+  pub read : IfSome (session_in old) (λ live. (code ≡ pos 0)
+      × ((after ≡ settled live.session.seen.core) × IsSettledSlot live.session.saves.tree slot))
 
 -- the advantages of both sides are noted
 pub record IsNoted (local remote : ℤ) (old new : Live) (code : ℤ) : Type 0 where

@@ -21,7 +21,8 @@ use Rattle.roll_peer.specs.declared.refusal.OpenRefusal.{OpenRefusal}
 use Rattle.roll_peer.specs.declared.refusal.OtherSession.{OtherSession}
 use Rattle.roll_peer.specs.declared.refusal.PeerRefusal.{PeerRefusal}
 use Rattle.roll_peer.specs.declared.settings.MatchSettings.{MatchSettings}
-use Rattle.roll_requests.specs.Names.{step_of}
+use Rattle.roll_requests.specs.Made.{Keeps}
+use Rattle.roll_session.specs.Gameless.{still}
 use Rattle.roll_session.specs.Seen.{Seen}
 use Rattle.roll_wire.specs.Spelling.{Leaves}
 use Rattle.roll_wire.specs.declared.limits.TheConstants.{DATAGRAM_LIMIT}
@@ -70,7 +71,7 @@ pub record OpensBeside (given : MatchIn) (s : Seen) (old new : Option Open) (cod
 -- the same beside what a handle has open
 pub record IsOpenedBy (given : MatchIn) (lent old new : Option Open) (code : ℤ) : Type 0 where
   pub alone : session_in lent ≡ None → (code ≡ pos 201) × (new ≡ old)
-  pub beside : IfSome (session_in lent) (λ live. OpensBeside given live.session old new code)
+  pub beside : IfSome (session_in lent) (λ live. OpensBeside given live.session.seen old new code)
 
 -- ---- hearing and sending
 
@@ -82,14 +83,15 @@ code_of_receipt (Err why) = pos (code_of_ignored why)
 pub record IsReceived (bytes : List ℕ) (now : ℕ) (old new : Peered) (before after : Live) (code : ℤ)
     : Type 0 where
   pub result : Result Received Ignored
-  pub received : IfOk result (Receives step_of before.session after.session
-      (meeting before.session (ticking now old)) new bytes)
-  pub tied : OnOk result (IsTied after.session new.member.mesh)
-  pub accepted : OnOk result (IsOf before.session old.member)
-  pub fine : OnOk result (ignored (meeting before.session (ticking now old)) bytes ≡ None)
-  pub refused : IfErr result (IsIgnored before.session (ticking now old) new bytes)
+  pub received : IfOk result (Receives still before.session.seen after.session.seen
+      (meeting before.session.seen (ticking now old)) new bytes)
+  pub tied : OnOk result (IsTied after.session.seen new.member.mesh)
+  pub accepted : OnOk result (IsOf before.session.seen old.member)
+  pub fine : OnOk result (ignored (meeting before.session.seen (ticking now old)) bytes ≡ None)
+  pub refused : IfErr result (IsIgnored before.session.seen (ticking now old) new bytes)
   pub unchanged : OnErr result (after ≡ before)
   pub rest : after ≡ record before { session = after.session }
+  pub keeps : Keeps before.session after.session
   pub code_is : code ≡ code_of_receipt result
 
 abbrev pub code_unless : {T : Type 0} → (T → ℕ) → Option T → ℤ
@@ -104,8 +106,9 @@ code_of_poll (Err why) = pos (code_of_refusal why)
 pub record IsPolledFor (now : ℕ) (old new : Peered) (before after : Live) (code : ℤ)
     : Type 0 where
   pub result : Result Unit PeerRefusal
-  pub polled : IsPolled before.session after.session (ticking now old) new result
+  pub polled : IsPolled before.session.seen after.session.seen (ticking now old) new result
   pub rest : after ≡ record before { session = after.session }
+  pub keeps : Keeps before.session after.session
   pub code_is : code ≡ code_of_poll result
 
 -- a peer for which a machine is gone

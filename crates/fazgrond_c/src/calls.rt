@@ -1,15 +1,12 @@
 //! Calls through a handle.
-ghost use Rattle.std.specs.Prelude.{◌≡◌, ◌≢◌, pos, Some, Result, IfErr, IfOk};
-ghost use Rattle.roll_requests.specs.Names.{step_of};
-ghost use Rattle.roll_session.specs.Answered.{IsReplied};
-ghost use Rattle.roll_session.specs.Calls.{event_of};
-ghost use Rattle.fazgrond_c.specs.Made.{IsDeclined, IsMade, IsNotMade};
+ghost use Rattle.std.specs.Prelude.{◌≡◌, ◌≢◌, pos, Some, IfErr, IfOk, IsFalse, IsTrue, OnOk};
+ghost use Rattle.roll_requests.specs.Made.{IsMade as IsMadeOf, KeepsLeading};
+ghost use Rattle.fazgrond_c.specs.Made.{IsDeclined, IsMade, IsNotMade, IsPending};
 
 use crate::handle::Handle;
 use crate::live::Live;
 use crate::open::Open;
 use roll_frame::Reply;
-use roll_game::NoMemory;
 use roll_session::Call;
 use std::alloc::Global;
 
@@ -61,17 +58,31 @@ pub fn call(alloc: Global, handle: &mut Handle, call: Call) -> Result<Reply, i32
     outcome
 }
 
+/// Makes a call of an open session, unless it has to wait for requests to be taken.
+///
+/// # Errors
+///
+/// The code of why it is not made or refused.
 fn make(live: &mut Live, call: Call) -> Result<Reply, i32>
-    ensures made { IfOk result
-        (λ said. IsReplied step_of live.old.session live.new.session (event_of call) said) }
+    ensures made { IfOk result (IsMadeOf live.old.session live.new.session call) }
+    ensures taken { OnOk result (¬ IsPending live.old call) }
     ensures refused { IfErr result (IsDeclined live.old live.new call) }
+    ensures leads { KeepsLeading live.old.session live.new.session }
+    ensures advice { live.new.advice ≡ live.old.advice }
 {
-    if matches!(call, Call::Sync | Call::Advance) && !live.is_idle() {
+    if is_pending(live, call) {
         return Err(PENDING);
     }
-    match live.make(call) {
-        Ok(Reply::Refused(why)) => Err(why.code()),
+    match live.session.perform(call) {
         Ok(said) => Ok(said),
-        Err(NoMemory) => Err(NO_MEMORY),
+        Err(why) => Err(why.code()),
     }
+}
+
+/// Whether a call waits until all requests were taken.
+fn is_pending(live: &Live, call: Call) -> bool
+    ensures waits { IsTrue result → IsPending live.now call }
+    ensures goes { IsFalse result → ¬ IsPending live.now call }
+{
+    matches!(call, Call::Sync | Call::Advance) && !live.session.is_done()
 }

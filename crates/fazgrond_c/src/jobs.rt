@@ -1,13 +1,13 @@
 //! Guesses and their jobs, for games in other languages.
 ghost use Rattle.std.specs.Prelude.{◌≡◌};
 ghost use Rattle.fazgrond_c.specs.Handles.{session_in, Makes, Writes};
-ghost use Rattle.fazgrond_c.specs.Jobs.{added_in, code_of_graft, code_of_guess, number_in, IsForgotten, IsGrafted, IsGuessed};
+ghost use Rattle.fazgrond_c.specs.Jobs.{code_of_guess, number_in, IsForgotten, IsGrafted, IsGuessed};
 
 use crate::calls::{CLOSED, NOTHING, PENDING};
 use crate::handle::Handle;
 use crate::live::Live;
 use crate::open::Open;
-use roll_frame::{Refusal, Reply};
+use roll_frame::Refusal;
 use std::alloc::Global;
 
 /// A guess: its job is asked for, and numbered.
@@ -30,7 +30,7 @@ pub extern "C" fn fazgrond_guess(
         handle.put(held);
         return CLOSED;
     };
-    let code = guess(alloc, live, player, words, until, job);
+    let code = guess(live, player, words, until, job);
     handle.put(held);
     code
 }
@@ -53,13 +53,9 @@ pub extern "C" fn fazgrond_graft(
         handle.put(held);
         return CLOSED;
     };
-    if !live.is_idle() {
-        handle.put(held);
-        return PENDING;
-    }
-    let outcome = live.graft(job);
+    let code = graft(live, job, added);
     handle.put(held);
-    grafted(added, outcome)
+    code
 }
 
 /// Gives a job up.
@@ -74,23 +70,16 @@ pub extern "C" fn fazgrond_forget(alloc: Global, handle: &mut Handle, job: u32) 
         handle.put(held);
         return CLOSED;
     };
-    let there = live.forget(job);
+    let code = forget(live, job);
     handle.put(held);
-    if there { 0 } else { Refusal::NoJob.code() }
+    code
 }
 
 /// Makes a guess, and writes the number of its job, if there is a job.
-fn guess(
-    alloc: Global,
-    live: &mut Live,
-    player: u8,
-    words: &[u32],
-    until: u32,
-    job: &mut u32,
-) -> i32
+fn guess(live: &mut Live, player: u8, words: &[u32], until: u32, job: &mut u32) -> i32
     ensures { IsGuessed player words.now until live.old live.new job.old job.new result }
 {
-    let outcome = live.guess(alloc, player, words, until);
+    let outcome = live.session.guess(player, words, until);
     numbered(job, outcome)
 }
 
@@ -109,17 +98,29 @@ fn numbered(job: &mut u32, outcome: Result<Option<u32>, Refusal>) -> i32
     }
 }
 
-/// Writes how many states a graft added, if it was accepted.
-fn grafted(added: &mut u32, outcome: Result<Reply, Refusal>) -> i32
-    ensures code { result ≡ code_of_graft outcome }
-    ensures written { added.new ≡ added_in outcome added.old }
+/// Takes in the branch of a job, unless requests are still to be taken.
+fn graft(live: &mut Live, job: u32, added: &mut u32) -> i32
+    ensures { IsGrafted job live.old live.new added.old added.new result }
 {
-    match outcome {
-        Ok(Reply::Grafted { added: count }) => {
-            *added = count;
+    if !live.session.is_done() {
+        return PENDING;
+    }
+    match live.session.graft(job) {
+        Ok(grafted) => {
+            *added = grafted.added;
             0
         }
-        Ok(Reply::Refused(why)) | Err(why) => why.code(),
-        Ok(_) => 0,
+        Err(why) => why.code(),
+    }
+}
+
+/// Gives a job up, if there is one of this number.
+fn forget(live: &mut Live, job: u32) -> i32
+    ensures { IsForgotten job live.old live.new result }
+{
+    if live.session.forget(job) {
+        0
+    } else {
+        Refusal::NoJob.code()
     }
 }

@@ -24,7 +24,7 @@ pub fn receive(line: &mut ViewerLine, bytes: &[u8], now: u32) -> i32
 
 /// Writes what is to be sent to the viewer.
 pub fn send(line: &mut ViewerLine, live: &Live, now: u32, out: &mut [u8], size: &mut usize) -> i32
-    ensures { Fills (IsTelling live.now.session.core now) line.old line.new out.old out.new
+    ensures { Fills (IsTelling live.now.session.seen.core now) line.old line.new out.old out.new
         size.old size.new result }
 {
     if out.len() < DATAGRAM_LIMIT {

@@ -63,7 +63,7 @@ fn tell(
     out: &mut [u8],
     size: &mut usize,
 ) -> i32
-    ensures { FillsBy line_in (IsTelling live.now.session.core now) handle.old.hold.value
+    ensures { FillsBy line_in (IsTelling live.now.session.seen.core now) handle.old.hold.value
         handle.new.hold.value out.old out.new size.old size.new result }
 {
     let Some(mut held) = handle.take(alloc) else {
@@ -88,7 +88,7 @@ pub extern "C" fn fazgrond_line_send(
     out: &mut [u8],
     size: &mut usize,
 ) -> i32
-    ensures told { FillsFor line_in (λ live. IsTelling live.session.core now) session.old.hold.value
+    ensures told { FillsFor line_in (λ live. IsTelling live.session.seen.core now) session.old.hold.value
         handle.old.hold.value handle.new.hold.value out.old out.new size.old size.new result }
     ensures session { session.new.hold.value ≡ session.old.hold.value }
 {

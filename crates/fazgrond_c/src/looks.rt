@@ -7,20 +7,21 @@ ghost use Rattle.roll_inputs.specs.Boards.{confirmed_word};
 ghost use Rattle.roll_peer.specs.Turning.{ends_in_roll};
 ghost use Rattle.fazgrond_c.specs.Handles.{session_in, Reads, ReadsSome};
 ghost use Rattle.fazgrond_c.specs.Kinds.{entry_out, row_out};
-ghost use Rattle.fazgrond_c.specs.Made.{settled_row, IsClaimed};
+ghost use Rattle.fazgrond_c.specs.Made.{settled_row, IsClaimed, IsSettledAt};
 
 use crate::calls::{CLOSED, NOTHING, TOO_SHORT};
 use crate::handle::Handle;
 use crate::kinds::{EntryOut, RowOut};
 use crate::open::Open;
-use crate::reads::{entry_at, written};
+use crate::reads::{entry_at, input_frame, written};
 use roll_peer::ends_in_roll;
+use roll_session::Networked;
 use std::alloc::Global;
 
 /// The current frame.
 #[unsafe(no_mangle)]
 pub extern "C" fn fazgrond_frame(alloc: Global, handle: &mut Handle, frame: &mut u32) -> i32
-    ensures { Reads session_in (λ live. live.session.core.frame) handle.old.hold.value
+    ensures { Reads session_in (λ live. live.session.seen.core.frame) handle.old.hold.value
         handle.new.hold.value frame.old frame.new result }
 {
     let Some(held) = handle.take(alloc) else {
@@ -38,7 +39,7 @@ pub extern "C" fn fazgrond_frame(alloc: Global, handle: &mut Handle, frame: &mut
 /// How many rows are settled.
 #[unsafe(no_mangle)]
 pub extern "C" fn fazgrond_settled(alloc: Global, handle: &mut Handle, rows: &mut u32) -> i32
-    ensures { Reads session_in (λ live. settled_frame live.session.core) handle.old.hold.value
+    ensures { Reads session_in (λ live. settled_frame live.session.seen.core) handle.old.hold.value
         handle.new.hold.value rows.old rows.new result }
 {
     let Some(held) = handle.take(alloc) else {
@@ -61,7 +62,7 @@ pub extern "C" fn fazgrond_settled_row(
     frame: u32,
     row: &mut RowOut,
 ) -> i32
-    ensures { ReadsSome session_in (λ live. option_map row_out (settled_row live.session.core frame))
+    ensures { ReadsSome session_in (λ live. option_map row_out (settled_row live.session.seen.core frame))
         handle.old.hold.value handle.new.hold.value row.old row.new result }
 {
     let Some(held) = handle.take(alloc) else {
@@ -91,7 +92,7 @@ pub extern "C" fn fazgrond_confirmed(
     words: &mut u32,
 ) -> i32
     ensures { ReadsSome session_in
-        (λ live. option_map (λ p. length p.words) (player_at live.session.core.players player))
+        (λ live. option_map (λ p. length p.words) (player_at live.session.seen.core.players player))
         handle.old.hold.value handle.new.hold.value words.old words.new result }
 {
     let Some(held) = handle.take(alloc) else {
@@ -115,7 +116,7 @@ pub extern "C" fn fazgrond_confirmed_word(
     frame: u32,
     word: &mut u32,
 ) -> i32
-    ensures { ReadsSome session_in (λ live. confirmed_word live.session.core.players player frame)
+    ensures { ReadsSome session_in (λ live. confirmed_word live.session.seen.core.players player frame)
         handle.old.hold.value handle.new.hold.value word.old word.new result }
 {
     let Some(held) = handle.take(alloc) else {
@@ -140,7 +141,7 @@ pub extern "C" fn fazgrond_input_frame(
 ) -> i32
     ensures { ReadsSome session_in (λ live. option_and_then
         (λ p. if p.local then Some (length p.words) else None)
-        (player_at live.session.core.players player))
+        (player_at live.session.seen.core.players player))
         handle.old.hold.value handle.new.hold.value frame.old frame.new result }
 {
     let Some(held) = handle.take(alloc) else {
@@ -150,7 +151,7 @@ pub extern "C" fn fazgrond_input_frame(
         handle.put(held);
         return CLOSED;
     };
-    let there = live.session.input_frame(player);
+    let there = input_frame(&live.session, player);
     handle.put(held);
     written(frame, there)
 }
@@ -162,7 +163,7 @@ pub extern "C" fn fazgrond_log_length(
     handle: &mut Handle,
     entries: &mut usize,
 ) -> i32
-    ensures { Reads session_in (λ live. length live.session.log) handle.old.hold.value
+    ensures { Reads session_in (λ live. length live.session.seen.log) handle.old.hold.value
         handle.new.hold.value entries.old entries.new result }
 {
     let Some(held) = handle.take(alloc) else {
@@ -172,7 +173,7 @@ pub extern "C" fn fazgrond_log_length(
         handle.put(held);
         return CLOSED;
     };
-    *entries = live.session.log().len();
+    *entries = live.session.core().log().len();
     handle.put(held);
     0
 }
@@ -185,7 +186,7 @@ pub extern "C" fn fazgrond_log_entry(
     place: usize,
     entry: &mut EntryOut,
 ) -> i32
-    ensures { ReadsSome session_in (λ live. option_map entry_out (slice_get live.session.log place))
+    ensures { ReadsSome session_in (λ live. option_map entry_out (slice_get live.session.seen.log place))
         handle.old.hold.value handle.new.hold.value entry.old entry.new result }
 {
     let Some(held) = handle.take(alloc) else {
@@ -195,7 +196,7 @@ pub extern "C" fn fazgrond_log_entry(
         handle.put(held);
         return CLOSED;
     };
-    let there = entry_at(&live.session, place);
+    let there = entry_at(live.session.core().log(), place);
     handle.put(held);
     match there {
         Some(there) => {
@@ -214,9 +215,8 @@ pub extern "C" fn fazgrond_settled_slot(
     frame: &mut u32,
     slot: &mut u32,
 ) -> i32
-    ensures frame { Reads session_in (λ live. settled_frame live.session.core) handle.old.hold.value
-        handle.new.hold.value frame.old frame.new result }
-    ensures unwritten { session_in handle.old.hold.value ≡ None → slot.new ≡ slot.old }
+    ensures { IsSettledAt handle.old.hold.value handle.new.hold.value frame.old frame.new slot.old slot.new
+        result }
 {
     let Some(held) = handle.take(alloc) else {
         return CLOSED;
@@ -226,7 +226,7 @@ pub extern "C" fn fazgrond_settled_slot(
         return CLOSED;
     };
     *frame = live.session.settled();
-    *slot = live.session.settled_state().slot();
+    *slot = live.session.settled_slot();
     handle.put(held);
     0
 }
@@ -234,7 +234,7 @@ pub extern "C" fn fazgrond_settled_slot(
 /// Whether a call was accepted since the last roll, or none was so far. The state shown may not be that of the inputs then.
 #[unsafe(no_mangle)]
 pub extern "C" fn fazgrond_has_news(alloc: Global, handle: &mut Handle, flag: &mut u32) -> i32
-    ensures { Reads session_in (λ live. if ends_in_roll live.session.log then 0 else 1) handle.old.hold.value
+    ensures { Reads session_in (λ live. if ends_in_roll live.session.seen.log then 0 else 1) handle.old.hold.value
         handle.new.hold.value flag.old flag.new result }
 {
     let Some(held) = handle.take(alloc) else {
@@ -244,7 +244,7 @@ pub extern "C" fn fazgrond_has_news(alloc: Global, handle: &mut Handle, flag: &m
         handle.put(held);
         return CLOSED;
     };
-    *flag = u32::from(!ends_in_roll(live.session.log()));
+    *flag = u32::from(!ends_in_roll(live.session.core().log()));
     handle.put(held);
     0
 }

@@ -33,7 +33,7 @@ pub fn poll(peer: &mut Peer, live: &mut Live, now: u32) -> i32
 
 /// Notes the digest of the settled state.
 pub fn note_settled(peer: &mut Peer, live: &Live, digest: u64) -> i32
-    ensures { IsNoted digest live.now.session peer.old peer.new result }
+    ensures { IsNoted digest live.now.session.seen peer.old peer.new result }
 {
     match peer.note_settled(&live.session, digest) {
         Ok(()) => 0,
@@ -60,7 +60,7 @@ pub fn send(
     out: &mut [u8],
     size: &mut usize,
 ) -> i32
-    ensures { Fills (IsSentTo live.now.session machine now) peer.old peer.new out.old out.new
+    ensures { Fills (IsSentTo live.now.session.seen machine now) peer.old peer.new out.old out.new
         size.old size.new result }
 {
     if out.len() < DATAGRAM_LIMIT {

@@ -43,7 +43,7 @@ pub extern "C" fn fazgrond_peer_open(
 
 /// Opens a peer beside an open session.
 fn open_beside(alloc: Global, handle: &mut Handle, live: &Live, given: &MatchIn) -> i32
-    ensures { OpensBeside given.now live.now.session handle.old.hold.value handle.new.hold.value
+    ensures { OpensBeside given.now live.now.session.seen handle.old.hold.value handle.new.hold.value
         result }
 {
     if given.size != MATCH_SIZE {
@@ -162,7 +162,7 @@ pub extern "C" fn fazgrond_peer_send(
     out: &mut [u8],
     size: &mut usize,
 ) -> i32
-    ensures sent { FillsFor peer_in (λ live. IsSentTo live.session machine now) session.old.hold.value
+    ensures sent { FillsFor peer_in (λ live. IsSentTo live.session.seen machine now) session.old.hold.value
         handle.old.hold.value handle.new.hold.value out.old out.new size.old size.new result }
     ensures session { session.new.hold.value ≡ session.old.hold.value }
 {
@@ -188,7 +188,7 @@ fn send(
     out: &mut [u8],
     size: &mut usize,
 ) -> i32
-    ensures { FillsBy peer_in (IsSentTo live.now.session machine now) handle.old.hold.value
+    ensures { FillsBy peer_in (IsSentTo live.now.session.seen machine now) handle.old.hold.value
         handle.new.hold.value out.old out.new size.old size.new result }
 {
     let Some(mut held) = handle.take(alloc) else {
@@ -211,7 +211,7 @@ pub extern "C" fn fazgrond_peer_note_settled(
     session: &mut Handle,
     digest: u64,
 ) -> i32
-    ensures noted { MakesFor peer_in (λ live. IsNoted digest live.session) session.old.hold.value
+    ensures noted { MakesFor peer_in (λ live. IsNoted digest live.session.seen) session.old.hold.value
         handle.old.hold.value handle.new.hold.value result }
     ensures session { session.new.hold.value ≡ session.old.hold.value }
 {
@@ -229,7 +229,7 @@ pub extern "C" fn fazgrond_peer_note_settled(
 
 /// Notes the digest of an open session's settled state.
 fn note_settled(alloc: Global, handle: &mut Handle, live: &Live, digest: u64) -> i32
-    ensures { Makes peer_in (IsNoted digest live.now.session) handle.old.hold.value handle.new.hold.value
+    ensures { Makes peer_in (IsNoted digest live.now.session.seen) handle.old.hold.value handle.new.hold.value
         result }
 {
     let Some(mut held) = handle.take(alloc) else {

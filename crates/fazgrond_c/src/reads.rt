@@ -1,18 +1,31 @@
 //! What is read of a session, and written.
-ghost use Rattle.std.specs.Prelude.{◌≡◌, option_map, pos, slice_get, MatchOption};
+ghost use Rattle.std.specs.Prelude.{◌≡◌, length, option_and_then, option_map, pos, slice_get, None, Some, MatchOption, if◌then◌else◌};
+ghost use Rattle.roll_frame.specs.Inputs.{player_at};
 ghost use Rattle.fazgrond_c.specs.Kinds.{entry_out};
 
 use crate::calls::NOTHING;
 use crate::kinds::EntryOut;
-use roll_requests::Recorder;
-use roll_session::Session;
+use roll_requests::Elsewhere;
+use roll_session::{Log, Networked};
 
-/// An entry of a session's log, if there is one at this place.
-pub fn entry_at(session: &Session<Recorder>, place: usize) -> Option<EntryOut>
-    ensures { result ≡ option_map entry_out (slice_get session.now.log place) }
+/// An entry of a log, if there is one at this place.
+pub fn entry_at(log: &Log, place: usize) -> Option<EntryOut>
+    ensures { result ≡ option_map entry_out (slice_get log.now.entries place) }
 {
-    let entry = session.log().get(place)?;
+    let entry = log.get(place)?;
     Some(EntryOut::of(&entry))
+}
+
+/// The frame in which a local player's next word counts.
+pub fn input_frame(session: &Elsewhere, player: u8) -> Option<u32>
+    ensures { result ≡ option_and_then (λ p. if p.local then Some (length p.words) else None)
+        (player_at session.now.seen.core.players player) }
+{
+    if session.is_local(player) {
+        session.confirmed(player)
+    } else {
+        None
+    }
 }
 
 /// Writes a number, if there is one.

@@ -1,24 +1,20 @@
-//! The requests to a game elsewhere, which are handed out as they lie in its recorder.
+//! Requests to a game elsewhere are handed out.
 ghost use Rattle.std.specs.Prelude.{◌≡◌, ◌≤◌, ◌++◌, drop, length, map};
-ghost use Rattle.fazgrond_c.specs.Kinds.{request_out, AreHanded};
+ghost use Rattle.fazgrond_c.specs.Kinds.{request_out};
+ghost use Rattle.fazgrond_c.specs.Made.{AreHanded};
 
 use crate::kinds::RequestOut;
-use roll_requests::{Recorder, Request};
+use crate::live::Live;
+use roll_requests::Request;
 
-/// Whether each request was handed out, if so many of them were.
-pub fn are_taken(game: &Recorder, given: usize) -> bool {
-    given >= game.table().requests().len()
-}
-
-/// The next requests, as many as there is room for, and how many they are. So many were handed out before, and after.
-pub fn take(game: &Recorder, given: &mut usize, out: &mut [RequestOut]) -> usize
-    ensures { AreHanded given.old given.new result out.old out.new }
+/// Writes the next requests to the front of a buffer, as many as there is room for, and says how many they are.
+pub fn take(live: &mut Live, out: &mut [RequestOut]) -> usize
+    ensures { AreHanded live.old live.new out.old out.new result }
 {
-    let requests = game.table().requests();
-    let from = (*given).min(requests.len());
-    let count = out.len().min(requests.len() - from);
-    hand_out(&requests[from..from + count], out);
-    *given = from + count;
+    let requests = live.session.requests();
+    let count = out.len().min(requests.len());
+    hand_out(&requests[..count], out);
+    live.session.hand_out(count);
     count
 }
 

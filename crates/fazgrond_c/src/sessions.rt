@@ -1,7 +1,7 @@
 //! Sessions for games in other languages.
-ghost use Rattle.std.specs.Prelude.{◌≡◌, ◌≢◌, pos, IfSome, MatchOption};
+ghost use Rattle.std.specs.Prelude.{◌≡◌, ◌≢◌, pos, IfSome};
 ghost use Rattle.fazgrond_c.specs.Handles.{session_in, Makes, Opens};
-ghost use Rattle.fazgrond_c.specs.Made.{code_in, flag_of, reached_in, row_in, IsAnsweredBy, IsHandedBy, IsNoted, IsOpened, IsReserved, IsWhyClosed, IsWrittenBy};
+ghost use Rattle.fazgrond_c.specs.Made.{code_in, flag_of, reached_in, row_in, IsAnsweredBy, IsHandedBy, IsLimited, IsNoted, IsOpened, IsReserved, IsWhyClosed, IsWrittenBy};
 ghost use Rattle.fazgrond_c.specs.declared.kinds.TheConstants.{SETTINGS_SIZE};
 
 use crate::calls::{CLOSED, OTHER_VERSION, call, open_in};
@@ -9,8 +9,8 @@ use crate::handle::Handle;
 use crate::kinds::{ReachedOut, RequestOut, RowOut, SETTINGS_SIZE, SettingsIn};
 use crate::live::Live;
 use crate::open::Open;
+use crate::requests;
 use roll_frame::{Refusal, Reply};
-use roll_requests::limit_slots;
 use roll_session::Call;
 use std::alloc::Global;
 
@@ -148,7 +148,7 @@ pub extern "C" fn fazgrond_take_requests(
         handle.put(held);
         return 0;
     };
-    let count = live.take_requests(out);
+    let count = requests::take(live, out);
     handle.put(held);
     count
 }
@@ -156,8 +156,7 @@ pub extern "C" fn fazgrond_take_requests(
 /// From now on no state is saved in a slot from this one on.
 #[unsafe(no_mangle)]
 pub extern "C" fn fazgrond_limit_slots(alloc: Global, handle: &mut Handle, slots: u32) -> i32
-    ensures kept { handle.new.hold.value ≡ handle.old.hold.value }
-    ensures code { MatchOption (session_in handle.old.hold.value) (result ≡ pos 201) (λ live. result ≡ pos 0) }
+    ensures { Makes session_in (IsLimited slots) handle.old.hold.value handle.new.hold.value result }
 {
     let Some(mut held) = handle.take(alloc) else {
         return CLOSED;
@@ -166,9 +165,9 @@ pub extern "C" fn fazgrond_limit_slots(alloc: Global, handle: &mut Handle, slots
         handle.put(held);
         return CLOSED;
     };
-    limit(alloc, live, slots);
+    let code = limit(live, slots);
     handle.put(held);
-    0
+    code
 }
 
 /// Makes room for so many more events.
@@ -221,10 +220,11 @@ fn write_row(row: &mut RowOut, said: &Reply)
 }
 
 /// No state of a session is saved in a slot from this one on.
-fn limit(alloc: Global, live: &mut Live, slots: u32)
-    ensures { live.new ≡ live.old }
+fn limit(live: &mut Live, slots: u32) -> i32
+    ensures { IsLimited slots live.old live.new result }
 {
-    limit_slots(alloc, &mut live.session, slots);
+    live.session.set_limit(slots);
+    0
 }
 
 /// Makes room for so many more events of a session.

@@ -18,10 +18,10 @@ pub carried_append : {V : Type 0} (step : V → List Cell → V) (xs ys : List R
 carried_append step [] ys there = refl
 carried_append step (x ∷ xs) ys there = carried_append step xs ys (carried step x there)
 
-other : (k slot : ℕ) → k ≢ slot → eqb k slot ≡ false
+pub other : (k slot : ℕ) → k ≢ slot → eqb k slot ≡ false
 other k slot n = false_from_ne_true (eqb k slot) (λ e. n (grind (arith, nat_tests, e)))
 
-own : (k : ℕ) → eqb k k ≡ true
+pub own : (k : ℕ) → eqb k k ≡ true
 own k = grind (arith, nat_tests)
 
 module _ {V : Type 0} (step : V → List Cell → V) where

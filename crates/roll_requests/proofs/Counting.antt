@@ -1,13 +1,15 @@
 -- What the requests of a roll and of a job come to.
-use Rattle.std.proofs.Common.{◌≡◌, ℕ, zero, suc, ◌+◌, ◌<◌, ◌≤◌, List, [], ◌∷◌, ◌++◌, length, get_or, refl, sym, arith, Bool, true, false, cond, append-nil}
+use Rattle.std.proofs.Common.{◌≡◌, ℕ, zero, suc, ◌+◌, ◌<◌, ◌≤◌, List, [], ◌∷◌, ◌++◌, length, get_or, refl, sym, arith, Bool, true, false, cond, append-nil, Some}
 use Rattle.std.specs.Prelude.{◌==◌, All, count_by, if◌then◌else◌}
 use Rattle.std.proofs.lemmas.List.Elements.{All-append, All-cons, All-nil}
 use Rattle.std.proofs.lemmas.List.Sums.{sum_by-append}
+use Rattle.slab.specs.Slab.{Slab, get}
 use Rattle.roll_frame.specs.declared.row.Cell.{Cell}
-use Rattle.roll_requests.specs.Requests.{frees, is_step, is_step_aside, job_requests, reaching, roll_requests, runs, Adds, IsBelow}
-use Rattle.roll_requests.specs.Slotted.{is_unheld}
+use Rattle.roll_requests.specs.Requests.{frees, is_step, is_step_aside, job_requests, reaching, roll_requests, runs, Adds, IsApart, IsBelow}
+use Rattle.roll_requests.specs.Slotted.{is_unheld, Guessed}
 use Rattle.roll_requests.specs.declared.request.Request.{Request}
 use Rattle.roll_requests.specs.declared.request.Request.TheVariants.{Load, Save, Advance, Free, LoadAside, SaveAside, AdvanceAside}
+use Rattle.roll_requests.proofs.Apart.{roll_begun}
 
 -- so many frames are run, and so many aside, and states are saved below the limit
 record Comes (limit run aside : ℕ) (requests : List Request) : Type 0 where
@@ -62,19 +64,22 @@ aside_come limit row slots low (suc n) few =
     (record { below = All-cons (IsBelow limit) (AdvanceAside (row n)) (SaveAside slot ∷ []) tt (All-cons (IsBelow limit) (SaveAside slot) [] (low n 0 (omega (arith, few))) (All-nil (IsBelow limit))); run_is = refl; aside_is = refl }) in
     record { below = all.below; run_is = all.run_is; aside_is = omega (arith, all.aside_is) }
 
-pub roll_adds : (limit at start : ℕ) (taken held : List Bool) (row : ℕ → List Cell) (slots : List ℕ) (count : ℕ) (old new : List Request) → All (λ slot. slot < limit) slots → length slots ≡ count → new ≡ old ++ roll_requests at start taken held row slots → Adds limit count 0 old new
-roll_adds limit at start taken held row slots count old new low many list =
+pub roll_adds : (limit at start : ℕ) (taken held : List Bool) (row : ℕ → List Cell) (slots : List ℕ) (count : ℕ) (jobs : Slab Guessed) (old new : List Request) → All (λ slot. slot < limit) slots → length slots ≡ count → ((n : ℕ) (job : Guessed) → get jobs n ≡ Some job → All (IsApart job) (roll_requests at start taken held row slots)) → new ≡ old ++ roll_requests at start taken held row slots
+    → Adds limit count 0 jobs old new
+roll_adds limit at start taken held row slots count jobs old new low many apart list =
     let gone : ℕ → Bool = is_unheld taken held in
     let a = both limit 0 0 0 0 (reaching at start) (frees gone (length taken)) (reaching_comes limit at start) (frees_come limit gone (length taken)) in
     let b = both limit 0 0 (length slots) 0 (reaching at start ++ frees gone (length taken)) (runs (λ r. Advance r) (λ s. Save s) row slots (length slots)) a (runs_come limit row slots low (length slots) (omega arith)) in
-    record { more = roll_requests at start taken held row slots; list_is = list; below = b.below; run_is = omega (arith, b.run_is, many); aside_is = b.aside_is }
+    record { more = roll_requests at start taken held row slots; list_is = list; below = b.below; run_is = omega (arith, b.run_is, many); aside_is = b.aside_is; begun = roll_begun at start taken held row slots; apart = apart }
 
-pub job_adds : (limit start : ℕ) (row : ℕ → List Cell) (slots : List ℕ) (count : ℕ) (old new : List Request) → All (λ slot. slot < limit) slots → length slots ≡ count → new ≡ old ++ job_requests start row slots → Adds limit 0 count old new
-job_adds limit start row slots count old new low many list =
+pub job_adds : (limit start : ℕ) (row : ℕ → List Cell) (slots : List ℕ) (count : ℕ) (jobs : Slab Guessed) (old new : List Request) → All (λ slot. slot < limit) slots → length slots ≡ count → ((n : ℕ) (job : Guessed) → get jobs n ≡ Some job → All (IsApart job) (job_requests start row slots)) → new ≡ old ++ job_requests start row slots
+    → Adds limit 0 count jobs old new
+job_adds limit start row slots count jobs old new low many apart list =
     let made : List Request = runs (λ r. AdvanceAside r) (λ s. SaveAside s) row slots (length slots) in
     let a : Comes limit 0 0 (LoadAside start ∷ []) = record { below = All-cons (IsBelow limit) (LoadAside start) [] tt (All-nil (IsBelow limit)); run_is = refl; aside_is = refl } in
     let b = both limit 0 0 0 (length slots) (LoadAside start ∷ []) made a (aside_come limit row slots low (length slots) (omega arith)) in
-    record { more = job_requests start row slots; list_is = list; below = b.below; run_is = b.run_is; aside_is = omega (arith, b.aside_is, many) }
+    record { more = job_requests start row slots; list_is = list; below = b.below; run_is = b.run_is; aside_is = omega (arith, b.aside_is, many); begun = tt; apart = apart }
 
-pub nothing_added : (limit : ℕ) (requests : List Request) → Adds limit 0 0 requests requests
-nothing_added limit requests = record { more = []; list_is = sym (append-nil requests); below = All-nil (IsBelow limit); run_is = refl; aside_is = refl }
+pub nothing_added : (limit : ℕ) (jobs : Slab Guessed) (requests : List Request) → Adds limit 0 0 jobs requests requests
+nothing_added limit jobs requests =
+    record { more = []; list_is = sym (append-nil requests); below = All-nil (IsBelow limit); run_is = refl; aside_is = refl; begun = tt; apart = λ n job there. All-nil (IsApart job) }

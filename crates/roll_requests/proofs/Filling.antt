@@ -8,7 +8,7 @@ use Rattle.std.proofs.lemmas.List.Elements.{All-head, All-tail, All-push, All-we
 use Rattle.slab.specs.Slab.{Slab}
 use Rattle.roll_tree.specs.SavedStates.{Saved, SavedStates, state_named}
 use Rattle.roll_session.proofs.Rolling.{snapshot_is, some_there}
-use Rattle.roll_requests.specs.Slotted.{is_taken, AreFree, AreTaken, AreWithin, Guessed, IsTaken}
+use Rattle.roll_requests.specs.Slotted.{is_taken, AreFree, AreTaken, Guessed, HasPlaces, IsHeld, IsTaken}
 
 -- a slot that is taken has a place
 pub taken_within : (taken : List Bool) (slot : ℕ) → IsTaken taken slot → slot < length taken
@@ -16,8 +16,8 @@ taken_within [] slot t = absurd (false≢true t)
 taken_within (x ∷ xs) zero t = omega arith
 taken_within (x ∷ xs) (suc slot) t = let rest = taken_within xs slot t in omega (arith, rest)
 
-pub all_within : (taken : List Bool) (slots : List ℕ) → All (IsTaken taken) slots → AreWithin taken slots
-all_within taken slots t = λ k d few. taken_within taken _ (t k d few)
+pub job_within : (taken : List Bool) (job : Guessed) → IsHeld taken job → HasPlaces taken job
+job_within taken job h = record { start = taken_within taken job.start h.start; slots = λ k d few. taken_within taken _ (h.slots k d few) }
 
 pub now_taken : (taken : List Bool) (slot : ℕ) → slot < length taken → IsTaken (set taken slot true) slot
 now_taken [] slot few = absurd (omega (arith, few))
@@ -95,9 +95,12 @@ pub below_more : (slots : List ℕ) (slot : ℕ) → All (λ j. j < slot) slots 
 below_more slots slot below = All-push (λ j. j < slot + 1) slots slot (below_next slots slot below) (omega arith)
 
 -- taken slots stay taken where more are
+pub held_kept : (old new : List Bool) → ((k : ℕ) → IsTaken old k → IsTaken new k) → (job : Guessed) → IsHeld old job → IsHeld new job
+held_kept old new kept job h = record { start = kept job.start h.start; slots = λ k d few. kept _ (h.slots k d few) }
+
 pub are_kept : (states : List (Saved ℕ)) (jobs : Slab Guessed) (old new : List Bool) → ((k : ℕ) → IsTaken old k → IsTaken new k) → AreTaken states jobs old → AreTaken states jobs new
 are_kept states jobs old new kept t =
-    record { saved = λ k d few. kept _ (t.saved k d few); out = λ n job there. λ k d few. kept _ (t.out n job there k d few) }
+    record { saved = λ k d few. kept _ (t.saved k d few); out = λ n job there. held_kept old new kept job (t.out n job there) }
 
 pub free_same : (limit : ℕ) (old new : List Bool) (slots : List ℕ) → ((k : ℕ) → is_taken new k ≡ is_taken old k) → AreFree limit old slots → AreFree limit new slots
 free_same limit old new slots same f = record { free = λ k d few. same _ ∙ f.free k d few; below = f.below; rising = f.rising }

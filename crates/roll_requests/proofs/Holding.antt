@@ -1,5 +1,5 @@
 -- What slots have, as requests are carried out and as a session goes on.
-use Rattle.std.proofs.Common.{◌≡◌, ◌≢◌, ℕ, ◌+◌, ◌<◌, ◌≤◌, List, [], ◌∷◌, ◌++◌, length, get_or, take, refl, ap, sym, subst, ◌∙◌, arith, Bool, true, false, Option, Some, None, unwrap_or, append_assoc, append-nil}
+use Rattle.std.proofs.Common.{◌≡◌, ℕ, ◌+◌, ◌<◌, ◌≤◌, List, [], ◌∷◌, ◌++◌, length, get_or, take, refl, ap, sym, subst, ◌∙◌, arith, Bool, true, false, Option, Some, None, unwrap_or, append_assoc, append-nil}
 use Rattle.std.specs.Prelude.{◌&&◌, All, not}
 use Rattle.std.proofs.lemmas.Bool.{false≢true}
 use Rattle.std.proofs.lemmas.List.Elements.{All-weaker}
@@ -17,7 +17,7 @@ use Rattle.roll_tree.specs.SavedStates.{Saved}
 use Rattle.roll_requests.specs.Asked.{rows_of_job, HasJob}
 use Rattle.roll_requests.specs.Carried.{Elsewhere, carried, carried_all}
 use Rattle.roll_requests.specs.Requests.{frees, job_requests, last_or, reaching, roll_requests, runs}
-use Rattle.roll_requests.specs.Slotted.{is_taken, is_unheld, AreFree, AreTaken, Guessed, IsTaken}
+use Rattle.roll_requests.specs.Slotted.{is_taken, is_unheld, AreFree, AreTaken, Guessed, IsOutside, IsTaken}
 use Rattle.roll_requests.specs.declared.request.Request.{Request}
 use Rattle.roll_requests.specs.declared.request.Request.TheVariants.{Save, Advance, LoadAside}
 use Rattle.roll_requests.proofs.Carrying.{carried_append, first_rows, freed, ran, ran_aside, reached, rows_more, time_more, IsRun}
@@ -76,55 +76,56 @@ holds_branch old new job keeps step opening slots h j =
     coded_holds step opening new slots (keeps (λ slot. code (slots slot)) (coded step) (0 ∷ opening) (holds_coded step opening old slots h)
     (λ k d few. let rows : Rows = rows_of_job old.inputs.players job.route (k + 1) in is_coded (slots (get_or job.slots k d)) (run step opening rows) (j.held k d few) ∙ sym (run_coded step opening rows)))
 
--- a slot is worth nothing if it is taken
+-- a slot is worth nothing if it passes a test
 mark : Bool → Value
 mark true = []
 mark false = 0 ∷ []
 
-marked : List Bool → ℕ → Value
-marked taken slot = mark (is_taken taken slot)
+marked : (ℕ → Bool) → ℕ → Value
+marked test slot = mark (test slot)
 
 run_still : (rows : Rows) → run still [] rows ≡ []
 run_still [] = refl
 run_still (row ∷ rows) = run_still rows
 
-is_marked : (taken : List Bool) (slot : ℕ) → IsTaken taken slot → marked taken slot ≡ []
+is_marked : (test : ℕ → Bool) (slot : ℕ) → test slot ≡ true → marked test slot ≡ []
 unfolding marked mark
-is_marked taken slot e = rw e refl
+is_marked test slot e = rw e refl
 
 mark_of : (b : Bool) → mark b ≡ [] → b ≡ true
 unfolding mark
 mark_of true e = refl
 mark_of false e = absurd cc
 
-unmarked : (taken : List Bool) (slot : ℕ) → marked taken slot ≡ [] → IsTaken taken slot
+unmarked : (test : ℕ → Bool) (slot : ℕ) → marked test slot ≡ [] → test slot ≡ true
 unfolding marked
-unmarked taken slot = mark_of (is_taken taken slot)
+unmarked test slot = mark_of (test slot)
 
--- the slots of all states are taken
-abbrev AreSavedIn : Standing ℕ → List Bool → Type 0
-AreSavedIn s taken = All (λ u. IsTaken taken u.snapshot) s.tree.states
+-- the slots of all states pass a test
+abbrev pub Pass : Standing ℕ → (ℕ → Bool) → Type 0
+Pass s test = All (λ u. test u.snapshot ≡ true) s.tree.states
 
-marked_all : (s : Standing ℕ) (taken : List Bool) → AreSavedIn s taken → HaveValues (marked taken) still [] (timeline s.inputs.players s.inputs.settled) s.tree.states
-marked_all s taken h = λ k d few.
+marked_all : (s : Standing ℕ) (test : ℕ → Bool) → Pass s test → HaveValues (marked test) still [] (timeline s.inputs.players s.inputs.settled) s.tree.states
+marked_all s test h = λ k d few.
     let u : Saved ℕ = get_or s.tree.states k d in
-    is_marked taken u.snapshot (h k d few) ∙ sym (run_still (timeline s.inputs.players s.inputs.settled ++ u.path))
+    is_marked test u.snapshot (h k d few) ∙ sym (run_still (timeline s.inputs.players s.inputs.settled ++ u.path))
 
-all_marked : (s : Standing ℕ) (taken : List Bool) → HaveValues (marked taken) still [] (timeline s.inputs.players s.inputs.settled) s.tree.states → AreSavedIn s taken
-all_marked s taken h = λ k d few.
+all_marked : (s : Standing ℕ) (test : ℕ → Bool) → HaveValues (marked test) still [] (timeline s.inputs.players s.inputs.settled) s.tree.states → Pass s test
+all_marked s test h = λ k d few.
     let u : Saved ℕ = get_or s.tree.states k d in
-    unmarked taken u.snapshot (h k d few ∙ run_still (timeline s.inputs.players s.inputs.settled ++ u.path))
+    unmarked test u.snapshot (h k d few ∙ run_still (timeline s.inputs.players s.inputs.settled ++ u.path))
 
-pub taken_all : (old new : Standing ℕ) → KeepsAll old new → (taken : List Bool) → AreSavedIn old taken → AreSavedIn new taken
-taken_all old new keeps taken h = all_marked new taken (keeps (marked taken) still [] (marked_all old taken h))
+-- so do those of the states that are kept, and of those that come in
+pub pass_all : (old new : Standing ℕ) → KeepsAll old new → (test : ℕ → Bool) → Pass old test → Pass new test
+pass_all old new keeps test h = all_marked new test (keeps (marked test) still [] (marked_all old test h))
 
-pub taken_given : (old new : Standing ℕ) (from : ℕ) (states : List ℕ) → KeepsGiven old new from states → (taken : List Bool) → AreSavedIn old taken → All (IsTaken taken) states → AreSavedIn new taken
-taken_given old new from states keeps taken h new_taken =
-    all_marked new taken (keeps (marked taken) still [] (marked_all old taken h) (λ k d few. is_marked taken (get_or states k d) (new_taken k d few) ∙ sym (run_still (timeline old.inputs.players (from + k + 1)))))
+pub pass_given : (old new : Standing ℕ) (from : ℕ) (states : List ℕ) → KeepsGiven old new from states → (test : ℕ → Bool) → Pass old test → All (λ slot. test slot ≡ true) states → Pass new test
+pass_given old new from states keeps test h more =
+    all_marked new test (keeps (marked test) still [] (marked_all old test h) (λ k d few. is_marked test (get_or states k d) (more k d few) ∙ sym (run_still (timeline old.inputs.players (from + k + 1)))))
 
-pub taken_branch : (old new : Standing ℕ) (job : Guessed) → KeepsBranch old new job.route job.slots → (taken : List Bool) → AreSavedIn old taken → All (IsTaken taken) job.slots → AreSavedIn new taken
-taken_branch old new job keeps taken h out =
-    all_marked new taken (keeps (marked taken) still [] (marked_all old taken h) (λ k d few. is_marked taken (get_or job.slots k d) (out k d few) ∙ sym (run_still (rows_of_job old.inputs.players job.route (k + 1)))))
+pub pass_branch : (old new : Standing ℕ) (job : Guessed) → KeepsBranch old new job.route job.slots → (test : ℕ → Bool) → Pass old test → All (λ slot. test slot ≡ true) job.slots → Pass new test
+pass_branch old new job keeps test h out =
+    all_marked new test (keeps (marked test) still [] (marked_all old test h) (λ k d few. is_marked test (get_or job.slots k d) (out k d few) ∙ sym (run_still (rows_of_job old.inputs.players job.route (k + 1)))))
 
 -- the states and the jobs have their runs in slots
 pub record Hold (step : Step) (opening : Value) (saves : Standing ℕ) (jobs : Slab Guessed) (slots : ℕ → Option Value) : Type 0 where
@@ -139,11 +140,12 @@ hold_moved step opening saves jobs taken old new t moved h =
       saved = λ k d few. moved _ (t.saved k d few) ∙ h.saved k d few;
       out = λ n job there.
           let j = h.out n job there in
-          record { base = j.base; held = λ k d few. moved _ (t.out n job there k d few) ∙ j.held k d few };
+          let h = t.out n job there in
+          record { base = j.base; start = moved _ h.start ∙ j.start; held = λ k d few. moved _ (h.slots k d few) ∙ j.held k d few };
     }
 
 -- a slot that is taken is none of those that are free
-pub apart : (limit : ℕ) (taken : List Bool) (slots : List ℕ) → AreFree limit taken slots → (k : ℕ) → IsTaken taken k → All (λ slot. slot ≢ k) slots
+pub apart : (limit : ℕ) (taken : List Bool) (slots : List ℕ) → AreFree limit taken slots → (k : ℕ) → IsTaken taken k → IsOutside slots k
 apart limit taken slots free k t = λ i d few. λ same. false≢true (sym (free.free i d few) ∙ ap (is_taken taken) same ∙ t)
 
 held_stays : (taken held : List Bool) (k : ℕ) → IsTaken held k → is_unheld taken held k ≡ false
@@ -221,20 +223,21 @@ module _ (step : Step) (opening : Value) (saves : Standing ℕ) (jobs : Slab Gue
     pub current : new.current ≡ there.current
     pub others : (k : ℕ) → IsTaken taken k → new.slots k ≡ there.slots k
 
-  pub guessed : (start : ℕ) (there : Elsewhere Value) → job.route.path.base ≤ saves.inputs.settled → length job.slots ≡ length job.route.rows.items → there.slots start ≡ Some (run step opening (rows_of_job saves.inputs.players job.route 0)) → Hold step opening saves jobs there.slots
-      → IsAside there (carried_all step (job_requests start (λ k. get_or job.route.rows.items k []) job.slots) there)
-  guessed start there base many here h =
+  pub guessed : (there : Elsewhere Value) → job.route.path.base ≤ saves.inputs.settled → length job.slots ≡ length job.route.rows.items → IsTaken taken job.start → there.slots job.start ≡ Some (run step opening (rows_of_job saves.inputs.players job.route 0)) → Hold step opening saves jobs there.slots
+      → IsAside there (carried_all step (job_requests job.start (λ k. get_or job.route.rows.items k []) job.slots) there)
+  guessed there base many is_taken here h =
       let rows : Rows = job.route.rows.items in
       let before : Rows = timeline saves.inputs.players job.route.path.base in
       let front : Rows = rows_of_job saves.inputs.players job.route 0 in
-      let one : Elsewhere Value = carried step (LoadAside start) there in
-      let aside : one.aside ≡ run step opening front = ap (λ (o : Option Value). unwrap_or o there.aside) here in
+      let one : Elsewhere Value = carried step (LoadAside job.start) there in
+      let aside : one.aside ≡ run step opening front = ap (λ (o : Option Value). unwrap_or o there.current) here in
       let r = ran_aside step (λ k. get_or rows k []) job.slots free.rising (length job.slots) one (omega arith) in
       let stays : (k : ℕ) → IsTaken taken k → _ = λ k is. r.others k (apart limit taken job.slots free k is) in
       record {
         hold = hold_moved step opening saves jobs taken there.slots _ t stays h;
         job_held = record {
           base = base;
+          start = stays job.start is_taken ∙ here;
           held = λ k d few.
               let whole : front ++ take (k + 1) rows ≡ rows_of_job saves.inputs.players job.route (k + 1) =
               ap (λ (q : Rows). (before ++ q) ++ take (k + 1) rows) (append-nil job.route.path.rows.items)

@@ -1,7 +1,6 @@
 -- A session's calls keep to where its requests lead.
-use Rattle.std.proofs.Common.{◌≡◌, ◌≢◌, ◌⊎◌, ℕ, ◌+◌, ◌-◌, ◌≤◌, List, [], ◌∷◌, ◌++◌, length, get_or, take, drop, refl, ap, sym, subst, ◌∙◌, arith, inl, inr, Option, Some, None, Result, Ok, Err, Bool, true, append_assoc}
+use Rattle.std.proofs.Common.{◌≡◌, ℕ, ◌+◌, ◌-◌, ◌≤◌, List, [], ◌∷◌, ◌++◌, length, get_or, take, drop, refl, ap, sym, subst, ◌∙◌, arith, Option, Some, None, Result, Ok, Err, Bool, true, append_assoc}
 use Rattle.std.specs.Prelude.{◌==◌, min, All, IfErr, IfOk, IfSome, OnErr, OnOk}
-use Rattle.std.proofs.lemmas.Bool.{cases_eq}
 use Rattle.std.proofs.lemmas.List.{take-append-drop}
 use Rattle.std.proofs.lemmas.List.Elements.{All-cons, All-nil}
 use Rattle.slab.specs.Slab.{Slab, get, Updates}
@@ -36,11 +35,13 @@ use Rattle.roll_requests.specs.Asked.{Asked, HasJob, IsHandedIn, Leads}
 use Rattle.roll_requests.specs.Carried.{Elsewhere, carried_out, first}
 use Rattle.roll_requests.specs.Planned.{IsRoom}
 use Rattle.roll_requests.specs.Requests.{last_or, roll_requests}
-use Rattle.roll_requests.specs.Slotted.{AreFree, AreTaken, Guessed, IsSlotted, IsTaken}
+use Rattle.roll_requests.specs.Slotted.{is_taken, AreFree, AreOwn, AreTaken, Guessed, IsOutside, IsSlotted, IsTaken}
 use Rattle.roll_requests.specs.declared.plans.Room.{Room}
 use Rattle.roll_requests.specs.declared.request.Request.{Request}
 use Rattle.roll_requests.proofs.Carrying.{carried_append}
-use Rattle.roll_requests.proofs.Holding.{holds_all, holds_branch, holds_given, rolled, taken_branch, taken_given, Hold, Holds, IsRolled}
+use Rattle.roll_requests.proofs.Filling.{held_kept}
+use Rattle.roll_requests.proofs.Holding.{holds_all, holds_branch, holds_given, pass_branch, pass_given, rolled, Hold, Holds, IsRolled}
+use Rattle.roll_requests.proofs.Owning.{jobs_left, own_branch, own_given, own_left}
 use Rattle.roll_requests.proofs.Stays.{stays_applied, stays_in, Stays, StaysIn}
 
 -- a job's states stay what they are
@@ -48,6 +49,7 @@ pub job_stays : (step : Step) (opening : Value) (old new : Standing ℕ) (slots 
 job_stays step opening old new slots job s h =
     record {
       base = omega (arith, h.base, s.rises);
+      start = h.start ∙ ap (λ rows. Some (run step opening (rows ++ (job.route.path.rows.items ++ take 0 job.route.rows.items)))) (sym (s.before job.route.path.base h.base));
       held = λ k d few. h.held k d few ∙ ap (λ rows. Some (run step opening (rows ++ (job.route.path.rows.items ++ take (k + 1) job.route.rows.items)))) (sym (s.before job.route.path.base h.base));
     }
 
@@ -88,7 +90,7 @@ leads_taken old new keeps stays at requests jobs shown =
 pub leads_looked : (old new : Asked) → new.saves ≡ record old.saves { tree = record old.saves.tree { time = new.saves.tree.time } } → new.at ≡ old.at → new.requests ≡ old.requests → new.jobs ≡ old.jobs → new.seen.core.shown ≡ old.seen.core.shown
     → (past : List Request) → Leads past old → Leads past new
 leads_looked old new saves at requests jobs shown =
-    leads_same old new requests at shown (λ step opening slots h. rw jobs (subst (λ (s : Standing ℕ). Hold step opening s old.jobs slots) (sym saves) (record { saved = h.saved; out = λ n job there. let j = h.out n job there in record { base = j.base; held = j.held } })))
+    leads_same old new requests at shown (λ step opening slots h. rw jobs (subst (λ (s : Standing ℕ). Hold step opening s old.jobs slots) (sym saves) (record { saved = h.saved; out = λ n job there. let j = h.out n job there in record { base = j.base; start = j.start; held = j.held } })))
 
 roll_shows : (core : Core) (call : Call) (to : ℕ) → IsRollTo core call to → (applied core (entry_of call)).shown ≡ Some (timeline core.players to)
 roll_shows core SyncCall to e = ap (λ n. Some (timeline core.players n)) (sym e)
@@ -149,16 +151,13 @@ leads_given e n past l =
     }
 
 -- a job that goes leaves the others
-pub jobs_left : (old new : Slab Guessed) (key : ℕ) → Updates old new key None → (n : ℕ) (job : Guessed) → get new n ≡ Some job → get old n ≡ Some job
-jobs_left old new key u n job there = go (cases_eq n key)
-  where
-    go : (n ≡ key) ⊎ (n ≢ key) → get old n ≡ Some job
-    go (inl same) = let never : None ≡ Some job = sym u.changed ∙ ap (get new) (sym same) ∙ there in absurd cc
-    go (inr other) = sym (u.others n other) ∙ there
-
 pub taken_left : (states : List (Saved ℕ)) (old new : Slab Guessed) (at key : ℕ) (taken : List Bool) → Updates old new key None → IsSlotted states old at taken → IsSlotted states new at taken
 taken_left states old new at key taken u s =
-    record { are = record { saved = s.are.saved; out = λ n job there. s.are.out n job (jobs_left old new key u n job there) }; current = s.current }
+    record {
+      are = record { saved = s.are.saved; out = λ n job there. s.are.out n job (jobs_left old new key u n job there) };
+      own = own_left states old new key u s.own;
+      current = s.current;
+    }
 
 pub leads_left : (old : Asked) (jobs : Slab Guessed) (key : ℕ) → Updates old.jobs jobs key None → (past : List Request) → Leads past old → Leads past (record old { jobs = jobs })
 leads_left old jobs key u =
@@ -198,7 +197,8 @@ leads_grafted (Err why) old new at requests limit jobs left key job g there u =
 pub taken_grafted : (result : Result Grafted Refusal) (old new : Bare ℕ) (jobs left : Slab Guessed) (at key : ℕ) (job : Guessed) (taken : List Bool) → IsGraft result old new job → get jobs key ≡ Some job → Updates jobs left key None → IsSlotted old.saves.tree.states jobs at taken → IsSlotted new.saves.tree.states left at taken
 taken_grafted (Ok grafted) old new jobs left at key job taken g there u s =
     record {
-      are = record { saved = taken_branch old.saves new.saves job g.keeps taken s.are.saved (s.are.out key job there); out = λ n other is. s.are.out n other (jobs_left jobs left key u n other is) };
+      are = record { saved = pass_branch old.saves new.saves job g.keeps (is_taken taken) s.are.saved (s.are.out key job there).slots; out = λ n other is. s.are.out n other (jobs_left jobs left key u n other is) };
+      own = own_branch old.saves new.saves jobs left key job g.keeps there u s.own;
       current = s.current;
     }
 taken_grafted (Err why) old new jobs left at key job taken g there u s =
@@ -237,6 +237,10 @@ module _ (mid new : Bare ℕ) (call : Call) (way : Way) (room : Room) (limit : �
   start_held : (u : Saved ℕ) → state_named mid.saves.tree way.at ≡ Some u → IsTaken room.held u.snapshot
   start_held u found = all_held (λ (v : Saved ℕ). IsTaken room.held v.snapshot) (λ v. v.name == way.at) mid.saves.tree.states u d.room_is.held.saved found
 
+  -- no job has a slot of its own where a roll starts from
+  pub start_outside : AreOwn mid.saves.tree.states jobs → (u : Saved ℕ) → state_named mid.saves.tree way.at ≡ Some u → (n : ℕ) (job : Guessed) → get jobs n ≡ Some job → IsOutside job.slots u.snapshot
+  start_outside own u found n job there = all_held (λ (v : Saved ℕ). IsOutside job.slots v.snapshot) (λ v. v.name == way.at) mid.saves.tree.states u (own.saved n job there) found
+
   start_here : (u : Saved ℕ) → state_named mid.saves.tree way.at ≡ Some u → (step : Step) (opening : Value) (there : ℕ → Option Value) → Holds step opening mid.saves there → there u.snapshot ≡ Some (run step opening (timeline mid.saves.inputs.players way.frame))
   start_here u found step opening there h =
       let going = d.can.going in
@@ -249,13 +253,14 @@ module _ (mid new : Bare ℕ) (call : Call) (way : Way) (room : Room) (limit : �
       all_held (λ (v : Saved ℕ). there v.snapshot ≡ Some (run step opening (T ++ v.path))) (λ v. v.name == way.at) mid.saves.tree.states u h found
       ∙ ap (λ (q : Rows). Some (run step opening q)) (ap (λ (q : Rows). T ++ q) path ∙ whole players far way.frame low)
 
-  pub done_taken : (taken : List Bool) (at : ℕ) (u : Saved ℕ) → state_named mid.saves.tree way.at ≡ Some u → at ≡ last_or u.snapshot room.slots.items → ((k : ℕ) → IsTaken room.held k → IsTaken taken k) → All (IsTaken taken) room.slots.items → IsSlotted new.saves.tree.states jobs at taken
-  done_taken taken at u found is kept all =
+  pub done_taken : (taken : List Bool) (at : ℕ) (u : Saved ℕ) → AreOwn mid.saves.tree.states jobs → state_named mid.saves.tree way.at ≡ Some u → at ≡ last_or u.snapshot room.slots.items → ((k : ℕ) → IsTaken room.held k → IsTaken taken k) → All (IsTaken taken) room.slots.items → IsSlotted new.saves.tree.states jobs at taken
+  done_taken taken at u own found is kept all =
       record {
         are = record {
-          saved = taken_given mid.saves new.saves way.frame room.slots.items d.keeps taken (λ k e few. kept _ (d.room_is.held.saved k e few)) all;
-          out = λ n job there. λ k e few. kept _ (d.room_is.held.out n job there k e few);
+          saved = pass_given mid.saves new.saves way.frame room.slots.items d.keeps (is_taken taken) (λ k e few. kept _ (d.room_is.held.saved k e few)) all;
+          out = λ n job there. held_kept room.held taken kept job (d.room_is.held.out n job there);
         };
+        own = own_given mid.saves new.saves way.frame room.slots.items d.keeps jobs limit room.held d.room_is.held d.room_is.free own;
         current = rw is (last_taken taken u.snapshot room.slots.items (kept u.snapshot (start_held u found)) all);
       }
 
@@ -298,6 +303,10 @@ first_taken core jobs alone none =
       are = record {
         saved = subst (λ (l : List (Saved ℕ)). All (λ u. IsTaken (true ∷ []) u.snapshot) l) (sym alone) (All-cons (λ (u : Saved ℕ). IsTaken (true ∷ []) u.snapshot) (record { name = core.saves.tree.root; path = []; snapshot = 0 }) [] refl (All-nil (λ (u : Saved ℕ). IsTaken (true ∷ []) u.snapshot)));
         out = λ n job there. absurd (no_job jobs n job none there);
+      };
+      own = record {
+        saved = λ n job there. absurd (no_job jobs n job none there);
+        others = λ n m job other ne there here. absurd (no_job jobs n job none there);
       };
       current = refl;
     }

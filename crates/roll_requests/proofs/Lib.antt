@@ -1,10 +1,11 @@
-pub mod Slots
-pub mod Tables
-pub mod Leading
 pub mod Carrying
-pub mod Counting
 pub mod Stays
 pub mod Filling
-pub mod Holding
-pub mod Leads
 pub mod Numbering
+pub mod Holding
+pub mod Owning
+pub mod Apart
+pub mod Counting
+pub mod Leads
+pub mod Made
+pub mod Late

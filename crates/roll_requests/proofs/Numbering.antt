@@ -21,27 +21,35 @@ use Rattle.roll_session.proofs.Rolling.{all_held, snapshot_is, some_is}
 use Rattle.roll_tree.specs.SavedStates.{Saved, state_named}
 use Rattle.roll_requests.specs.Asked.{rows_of_job, rows_to_run, Asked, HasJob, IsNotGuessed, IsNumbered, Leads}
 use Rattle.roll_requests.specs.Carried.{Elsewhere, carried_out, first}
-use Rattle.roll_requests.specs.Requests.{job_requests, Adds}
-use Rattle.roll_requests.specs.Slotted.{AreFree, Guessed, IsSlotted, IsTaken}
+use Rattle.roll_requests.specs.Requests.{job_requests, requests_of, Adds}
+use Rattle.roll_requests.specs.Slotted.{AreFree, Guessed, IsHeld, IsSlotted, IsTaken}
 use Rattle.roll_requests.specs.declared.request.Request.{Request}
 use Rattle.roll_requests.proofs.Carrying.{carried_append}
 use Rattle.roll_requests.proofs.Counting.{nothing_added}
 use Rattle.roll_requests.proofs.Holding.{guessed, Holds, IsAside}
+use Rattle.roll_requests.proofs.Filling.{held_kept}
 use Rattle.roll_requests.proofs.Leads.{hold_of}
+use Rattle.roll_requests.proofs.Owning.{own_more}
 
-pub none_numbered : (job : Option Routed) → None ≡ job → (jobs : Slab Guessed) → IsNumbered job jobs jobs None
-none_numbered None e jobs = (refl, λ key. refl)
-none_numbered (Some job) e jobs = absurd cc
+pub none_numbered : (job : Option Routed) → None ≡ job → (here : Asked) → IsNumbered job here here None
+none_numbered None e here = (refl, (λ key. refl, refl))
+none_numbered (Some job) e here = absurd cc
 
-pub none_adds : (job : Option Routed) → None ≡ job → (limit : ℕ) (requests : List Request) → Adds limit 0 (rows_to_run job) requests requests
-none_adds None e limit requests = nothing_added limit requests
-none_adds (Some job) e limit requests = absurd cc
+pub none_adds : (job : Option Routed) → None ≡ job → (limit : ℕ) (jobs : Slab Guessed) (requests : List Request) → Adds limit 0 (rows_to_run job) jobs requests requests
+none_adds None e limit jobs requests = nothing_added limit jobs requests
+none_adds (Some job) e limit jobs requests = absurd cc
 
-pub numbered : (job : Option Routed) (route : Route) → Some (bare_branch 0 route) ≡ job → (old new : Slab Guessed) (n : ℕ) (guessed : Guessed) → guessed.route ≡ route → length guessed.slots ≡ length route.rows.items → get old n ≡ None → Updates old new n (Some guessed) → IsNumbered job old new (Some n)
-numbered None route e old new n guessed is_route many vacant u = absurd cc
-numbered (Some job) route e old new n guessed is_route many vacant u =
+pub numbered : (job : Option Routed) (route : Route) → Some (bare_branch 0 route) ≡ job → (old new : Asked) (n : ℕ) (guessed : Guessed) → guessed.route ≡ route → length guessed.slots ≡ length route.rows.items → get old.jobs n ≡ None → Updates old.jobs new.jobs n (Some guessed) → new.requests ≡ old.requests ++ requests_of guessed → IsNumbered job old new (Some n)
+numbered None route e old new n guessed is_route many vacant u list = absurd cc
+numbered (Some job) route e old new n guessed is_route many vacant u list =
     let same : bare_branch 0 route ≡ job = cc e in
-    (vacant, (guessed, record { route = is_route ∙ ap (λ (b : Routed). b.route) same; many = many ∙ ap (λ (b : Routed). length b.route.rows.items) same }, u))
+    record {
+      guessed = guessed;
+      is_job = record { route = is_route ∙ ap (λ (b : Routed). b.route) same; many = many ∙ ap (λ (b : Routed). length b.route.rows.items) same };
+      vacant = vacant;
+      jobs = u;
+      requests = list;
+    }
 
 -- a guess that no test is against has no job for want of memory
 pub no_memory : (refusal : Option Refusal) (jobs : Slab Guessed) (why : Refusal) → refusal ≡ None → why ≡ NoMemory → IsNotGuessed refusal jobs why
@@ -68,6 +76,12 @@ starts_here saves node slot route base found told step opening there h =
     ∙ all_held (λ (v : Saved ℕ). there v.snapshot ≡ Some (run step opening (T ++ v.path))) (λ v. v.name == node) saves.tree.states x.0 h x.1
     ∙ ap (λ (q : Rows). Some (run step opening q)) (ap (λ (q : Rows). T ++ q) (x.2 ∙ sym (append-nil route.path.rows.items)) ∙ ap (λ n. timeline saves.inputs.players n ++ (route.path.rows.items ++ [])) (sym base))
 
+-- what holds of all saved slots holds of the slot that a job starts from
+pub start_has : (P : ℕ → Type 0) (saves : Standing ℕ) (node slot : ℕ) (rows : Rows) → IsSomeAnd (state_named saves.tree node) (λ u. u.path ≡ rows) → option_map (λ u. u.snapshot) (state_named saves.tree node) ≡ Some slot → All (λ u. P u.snapshot) saves.tree.states → P slot
+start_has P saves node slot rows found told all =
+    let x = some_is (state_named saves.tree node) (λ (u : Saved ℕ). u.path ≡ rows) found in
+    subst P (snapshot_is (state_named saves.tree node) x.0 slot told x.1) (all_held (λ (v : Saved ℕ). P v.snapshot) (λ v. v.name == node) saves.tree.states x.0 all x.1)
+
 -- one job more
 pub job_more : (old new : Slab Guessed) (n : ℕ) (job : Guessed) → Updates old new n (Some job) → (P : Guessed → Type 0) → P job → ((m : ℕ) (other : Guessed) → get old m ≡ Some other → P other) → (m : ℕ) (other : Guessed) → get new m ≡ Some other → P other
 job_more old new n job u P now before m other there = go (cases_eq m n)
@@ -79,17 +93,19 @@ job_more old new n job u P now before m other there = go (cases_eq m n)
         subst P is now
     go (inr apart) = before m other (sym (u.others m apart) ∙ there)
 
-pub taken_guessed : (states : List (Saved ℕ)) (old new : Slab Guessed) (at n : ℕ) (job : Guessed) (before after : List Bool) → IsSlotted states old at before → Updates old new n (Some job) → ((k : ℕ) → IsTaken before k → IsTaken after k) → All (IsTaken after) job.slots → IsSlotted states new at after
-taken_guessed states old new at n job before after s u kept all =
+pub taken_guessed : (states : List (Saved ℕ)) (old new : Slab Guessed) (at n limit : ℕ) (job : Guessed) (before after : List Bool) → IsSlotted states old at before → AreFree limit before job.slots → Updates old new n (Some job) → ((k : ℕ) → IsTaken before k → IsTaken after k) → IsHeld after job → IsSlotted states new at after
+taken_guessed states old new at n limit job before after s free u kept mine =
     record {
-      are = record { saved = λ k d few. kept _ (s.are.saved k d few); out = job_more old new n job u (λ j. All (IsTaken after) j.slots) all (λ m other there. λ k d few. kept _ (s.are.out m other there k d few)) };
+      are = record { saved = λ k d few. kept _ (s.are.saved k d few); out = job_more old new n job u (IsHeld after) mine (λ m other there. held_kept before after kept other (s.are.out m other there)) };
+      own = own_more states old new n limit job before s.are free u s.own;
       current = kept at s.current;
     }
 
-pub leads_guessed : (e : Asked) (requests : List Request) (jobs : Slab Guessed) (taken : List Bool) (start n : ℕ) (job : Guessed) → IsSlotted e.saves.tree.states e.jobs e.at taken → AreFree e.limit taken job.slots → length job.slots ≡ length job.route.rows.items → job.route.path.base ≡ e.saves.inputs.settled
-    → ((step : Step) (opening : Value) (there : ℕ → Option Value) → Holds step opening e.saves there → there start ≡ Some (run step opening (rows_of_job e.saves.inputs.players job.route 0)))
-    → requests ≡ e.requests ++ job_requests start (λ k. get_or job.route.rows.items k []) job.slots → Updates e.jobs jobs n (Some job) → (past : List Request) → Leads past e → Leads past (record e { requests = requests; jobs = jobs })
-leads_guessed e requests jobs taken start n job s free many base here list u past l =
+pub leads_guessed : (e : Asked) (requests : List Request) (jobs : Slab Guessed) (taken : List Bool) (n : ℕ) (job : Guessed) → IsSlotted e.saves.tree.states e.jobs e.at taken → AreFree e.limit taken job.slots → length job.slots ≡ length job.route.rows.items → job.route.path.base ≡ e.saves.inputs.settled
+    → IsTaken taken job.start
+    → ((step : Step) (opening : Value) (there : ℕ → Option Value) → Holds step opening e.saves there → there job.start ≡ Some (run step opening (rows_of_job e.saves.inputs.players job.route 0)))
+    → requests ≡ e.requests ++ job_requests job.start (λ k. get_or job.route.rows.items k []) job.slots → Updates e.jobs jobs n (Some job) → (past : List Request) → Leads past e → Leads past (record e { requests = requests; jobs = jobs })
+leads_guessed e requests jobs taken n job s free many base is_taken here list u past l =
     record {
       there = λ step opening.
           let m = made step opening in
@@ -103,8 +119,8 @@ leads_guessed e requests jobs taken start n job s free many base here list u pas
     made : (step : Step) (opening : Value) → IsAside step opening e.saves e.jobs e.limit taken job s.are free (carried_out step opening (past ++ e.requests)) (carried_out step opening (past ++ requests))
     made step opening =
         let before : Elsewhere Value = carried_out step opening (past ++ e.requests) in
-        let more : List Request = job_requests start (λ k. get_or job.route.rows.items k []) job.slots in
+        let more : List Request = job_requests job.start (λ k. get_or job.route.rows.items k []) job.slots in
         let whole : past ++ requests ≡ (past ++ e.requests) ++ more = ap (λ (q : List Request). past ++ q) list ∙ sym (append_assoc past e.requests more) in
         subst (IsAside step opening e.saves e.jobs e.limit taken job s.are free before)
         (sym (ap (carried_out step opening) whole ∙ carried_append step (past ++ e.requests) more (first opening)))
-        (guessed step opening e.saves e.jobs e.limit taken job s.are free start before (omega (arith, base)) many (here step opening before.slots (l.there step opening).held) (hold_of past e l step opening))
+        (guessed step opening e.saves e.jobs e.limit taken job s.are free before (omega (arith, base)) many is_taken (here step opening before.slots (l.there step opening).held) (hold_of past e l step opening))

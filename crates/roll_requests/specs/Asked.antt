@@ -21,10 +21,11 @@ use Rattle.roll_session.specs.Saves.{Standing}
 use Rattle.roll_session.specs.Seen.{IsLeast, Seen, Step}
 use Rattle.roll_session.specs.declared.event.Call.{Call}
 use Rattle.roll_session.specs.declared.event.Grafted.{Grafted}
+use Rattle.roll_session.specs.declared.event.Reached.{Reached}
 use Rattle.roll_tree.specs.SavedStates.{SavedStates, state_named}
 use Rattle.slab.specs.Slab.{Slab, get, slab_len, SameValues, Updates}
 use Rattle.roll_requests.specs.Carried.{Elsewhere, carried_out}
-use Rattle.roll_requests.specs.Requests.{Adds}
+use Rattle.roll_requests.specs.Requests.{requests_of, Adds}
 use Rattle.roll_requests.specs.Slotted.{Guessed}
 use Rattle.roll_requests.specs.declared.job.TheConstants.{JOBS_OUT}
 use Rattle.roll_requests.specs.declared.request.Request.{Request}
@@ -55,6 +56,7 @@ rows_of_job players route n =
 -- each slot of a job has the run of the rows up to its state; they start from settled ones
 pub record HasJob (step : Step) (opening : Value) (saves : Standing ℕ) (slots : ℕ → Option Value) (job : Guessed) : Type 0 where
   pub base : job.route.path.base ≤ saves.inputs.settled
+  pub start : slots job.start ≡ Some (run step opening (rows_of_job saves.inputs.players job.route 0))
   pub held : (k d : ℕ) → k < length job.slots → slots (slice_index_or job.slots k d) ≡ Some (run step opening (rows_of_job saves.inputs.players job.route (k + 1)))
 
 -- so it is for every game once what was handed out and what is to be handed out is carried out, and the current state is the
@@ -77,26 +79,33 @@ pub record IsIdle (old new : Asked) : Type 0 where
 abbrev pub IsRefusedRoll : Seen → Call → Refusal → Type 0
 IsRefusedRoll s call why = IsReplied still s s (event_of call) (Refused why) ⊎ (why ≡ NoMemory)
 
--- a roll started from this frame, that of the deepest state on its way; it asks for the frames from there on, which are the
--- fewest that any plan runs
-pub record Rolls (old new : Asked) (call : Call) (from : ℕ) : Type 0 where
-  pub to : ℕ
-  pub is_to : IsRollTo old.seen.core call to
-  pub from_is : from ≡ depth old.seen.core to
-  pub least : IsLeast old.seen.core to
-  pub adds : Adds old.limit (cost old.seen.core to) 0 old.requests new.requests
+-- a roll led there: it started from the frame of the deepest state on its way, and asks for the frames from there on, which are
+-- the fewest that any plan runs
+pub record Rolls (old new : Asked) (call : Call) (reached : Reached) : Type 0 where
+  pub is_to : IsRollTo old.seen.core call reached.frame
+  pub from_is : reached.from ≡ depth old.seen.core reached.frame
+  pub rerun_is : reached.rerun ≡ cost old.seen.core reached.frame
+  pub least : IsLeast old.seen.core reached.frame
+  pub adds : Adds old.limit (cost old.seen.core reached.frame) 0 old.jobs old.requests new.requests
 
 -- a job has this route, and a slot for the state after each row
 pub record IsJob (job : Routed) (guessed : Guessed) : Type 0 where
   pub route : guessed.route ≡ job.route
   pub many : length guessed.slots ≡ length job.route.rows.items
 
--- a job was given a number that none had; there is none if there is nothing to run
-abbrev pub IsNumbered : Option Routed → Slab Guessed → Slab Guessed → Option ℕ → Type 0
-IsNumbered None old new number = (number ≡ None) × SameValues old new
-IsNumbered (Some job) old new number =
-    IsSomeAnd number (λ n. (get old n ≡ None)
-    × ((guessed : Guessed) × IsJob job guessed × Updates old new n (Some guessed)))
+-- a job was given a number that none had, and its requests were added
+pub record IsGiven (job : Routed) (old new : Asked) (number : ℕ) : Type 0 where
+  pub guessed : Guessed
+  pub is_job : IsJob job guessed
+  pub vacant : get old.jobs number ≡ None
+  pub jobs : Updates old.jobs new.jobs number (Some guessed)
+  pub requests : new.requests ≡ old.requests ++ requests_of guessed
+
+-- if there is nothing to run, there is none, and nothing is asked for
+abbrev pub IsNumbered : Option Routed → Asked → Asked → Option ℕ → Type 0
+IsNumbered None old new number =
+    (number ≡ None) × (SameValues old.jobs new.jobs × (new.requests ≡ old.requests))
+IsNumbered (Some job) old new number = IsSomeAnd number (IsGiven job old new)
 
 -- how many rows a job runs, if there is one
 abbrev pub rows_to_run : Option Routed → ℕ

@@ -28,7 +28,7 @@ module _ {V : Type 0} where
   carried step (Advance row) there = record there { current = step there.current row }
   carried step (Free slot) there = record there { slots = stored slot None there.slots }
   carried step (LoadAside slot) there =
-      record there { aside = unwrap_or (there.slots slot) there.aside }
+      record there { aside = unwrap_or (there.slots slot) there.current }
   carried step (SaveAside slot) there =
       record there { slots = stored slot (Some there.aside) there.slots }
   carried step (AdvanceAside row) there = record there { aside = step there.aside row }

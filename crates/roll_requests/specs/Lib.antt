@@ -1,9 +1,7 @@
-pub mod Names
 pub mod Carried
-pub mod Slots
-pub mod Tables
-pub mod Leading
 pub mod Slotted
 pub mod Planned
 pub mod Requests
 pub mod Asked
+pub mod Made
+pub mod Late

@@ -1,7 +1,8 @@
 -- What is asked of a game elsewhere.
-use Rattle.std.specs.Prelude.{◌≡◌, ◌==◌, ◌<◌, ℕ, suc, zero, List, [], ◌∷◌, ◌++◌, length, slice_index, All, Bool, true, false, if◌then◌else◌, count_by}
+use Rattle.std.specs.Prelude.{◌≡◌, ◌≢◌, ◌==◌, ◌<◌, ℕ, suc, zero, List, [], ◌∷◌, ◌++◌, length, slice_index, slice_index_or, All, Bool, true, false, Some, if◌then◌else◌, count_by}
+use Rattle.slab.specs.Slab.{Slab, get}
 use Rattle.roll_frame.specs.declared.row.Cell.{Cell}
-use Rattle.roll_requests.specs.Slotted.{is_unheld}
+use Rattle.roll_requests.specs.Slotted.{is_unheld, Guessed}
 use Rattle.roll_requests.specs.declared.request.Request.{Request}
 use Rattle.roll_requests.specs.declared.request.Request.TheVariants.{Load, Save, Advance, Free, LoadAside, SaveAside, AdvanceAside}
 
@@ -41,6 +42,10 @@ abbrev pub job_requests : ℕ → (ℕ → List Cell) → List ℕ → List Requ
 job_requests slot row slots =
     LoadAside slot ∷ runs AdvanceAside SaveAside row slots (length slots)
 
+abbrev pub requests_of : Guessed → List Request
+requests_of job =
+    job_requests job.start (λ k. slice_index_or job.route.rows.items k []) job.slots
+
 -- a request saves no state in a slot from the limit on
 abbrev pub IsBelow : ℕ → Request → Type 0
 IsBelow limit (Save slot) = slot < limit
@@ -56,10 +61,39 @@ abbrev pub is_step_aside : Request → Bool
 is_step_aside (AdvanceAside row) = true
 is_step_aside request = false
 
--- requests were added that run so many frames, and so many aside, and save states only in slots below the limit
-pub record Adds (limit run aside : ℕ) (old new : List Request) : Type 0 where
+-- a request leaves what is in this slot
+abbrev pub Leaves : ℕ → Request → Type 0
+Leaves slot (Save other) = slot ≢ other
+Leaves slot (Free other) = slot ≢ other
+Leaves slot (SaveAside other) = slot ≢ other
+Leaves slot request = Unit {0}
+
+-- nor does it read that
+abbrev pub IsOff : ℕ → Request → Type 0
+IsOff slot (Load other) = slot ≢ other
+IsOff slot (LoadAside other) = slot ≢ other
+IsOff slot request = Leaves slot request
+
+-- a request is nothing to a job: the state that this starts from stays in its slot, and the slots of its states are not touched
+pub record IsApart (job : Guessed) (request : Request) : Type 0 where
+  pub start : Leaves job.start request
+  pub slots : All (λ slot. IsOff slot request) job.slots
+
+-- what is run aside is loaded first
+abbrev pub IsBegun : List Request → Type 0
+IsBegun [] = Unit {0}
+IsBegun (LoadAside slot ∷ requests) = Unit {0}
+IsBegun (SaveAside slot ∷ requests) = ⊥
+IsBegun (AdvanceAside row ∷ requests) = ⊥
+IsBegun (request ∷ requests) = IsBegun requests
+
+-- requests were added that run so many frames, and so many aside, save states only in slots below the limit, and are nothing to
+-- the jobs that are out
+pub record Adds (limit run aside : ℕ) (jobs : Slab Guessed) (old new : List Request) : Type 0 where
   pub more : List Request
   pub list_is : new ≡ old ++ more
   pub below : All (IsBelow limit) more
   pub run_is : count_by is_step more ≡ run
   pub aside_is : count_by is_step_aside more ≡ aside
+  pub begun : IsBegun more
+  pub apart : (n : ℕ) (job : Guessed) → get jobs n ≡ Some job → All (IsApart job) more

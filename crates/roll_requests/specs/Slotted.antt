@@ -1,12 +1,13 @@
 -- Slots, and the states and jobs that have some.
-use Rattle.std.specs.Prelude.{◌≡◌, ◌<◌, ℕ, List, length, slice_index_or, All, Bool, true, false, ◌&&◌, not, Some}
+use Rattle.std.specs.Prelude.{◌≡◌, ◌≢◌, ◌<◌, ℕ, List, length, slice_index_or, All, Bool, true, false, ◌&&◌, not, Some}
 use Rattle.roll_frame.specs.declared.route.Route.{Route}
 use Rattle.roll_tree.specs.SavedStates.{Saved}
 use Rattle.slab.specs.Slab.{Slab, get}
 
--- a job that is out: where it runs, and the slots of its states, in their order
+-- a job that is out: where it runs, the slot of the state that it starts from, and those of its states, in their order
 pub record Guessed : Type 0 where
   pub route : Route
+  pub start : ℕ
   pub slots : List ℕ
 
 -- whether a slot is taken; those past the last are not
@@ -20,14 +21,30 @@ IsTaken taken slot = is_taken taken slot ≡ true
 abbrev pub is_unheld : List Bool → List Bool → ℕ → Bool
 is_unheld taken held slot = is_taken taken slot && not (is_taken held slot)
 
+-- the slots of a job are taken, and that of the state that it starts from
+pub record IsHeld (taken : List Bool) (job : Guessed) : Type 0 where
+  pub start : IsTaken taken job.start
+  pub slots : All (IsTaken taken) job.slots
+
 -- the slots of the saved states and of the jobs that are out are taken
 pub record AreTaken (states : List (Saved ℕ)) (jobs : Slab Guessed) (taken : List Bool) : Type 0 where
   pub saved : All (λ u. IsTaken taken u.snapshot) states
-  pub out : (n : ℕ) (job : Guessed) → get jobs n ≡ Some job → All (IsTaken taken) job.slots
+  pub out : (n : ℕ) (job : Guessed) → get jobs n ≡ Some job → IsHeld taken job
 
--- and so is that of the current state
+-- this slot is none of those
+abbrev pub IsOutside : List ℕ → ℕ → Type 0
+IsOutside slots slot = All (λ other. other ≢ slot) slots
+
+-- no saved state, and no other job, has a slot of a job's states
+pub record AreOwn (states : List (Saved ℕ)) (jobs : Slab Guessed) : Type 0 where
+  pub saved : (n : ℕ) (job : Guessed) → get jobs n ≡ Some job → All (λ u. IsOutside job.slots u.snapshot) states
+  pub others : (n m : ℕ) (job other : Guessed) → n ≢ m → get jobs n ≡ Some job → get jobs m ≡ Some other
+      → All (IsOutside job.slots) other.slots
+
+-- the slots of the saved states, of the jobs and of the current state are taken, and those of a job's states are its own
 pub record IsSlotted (states : List (Saved ℕ)) (jobs : Slab Guessed) (at : ℕ) (taken : List Bool) : Type 0 where
   pub are : AreTaken states jobs taken
+  pub own : AreOwn states jobs
   pub current : IsTaken taken at
 
 -- these slots are below the limit, not taken, and each past those before it
@@ -40,3 +57,8 @@ pub record AreFree (limit : ℕ) (taken : List Bool) (slots : List ℕ) : Type 0
 -- there are places for these slots
 abbrev pub AreWithin : List Bool → List ℕ → Type 0
 AreWithin taken slots = All (λ slot. slot < length taken) slots
+
+-- and for all that a job holds
+pub record HasPlaces (taken : List Bool) (job : Guessed) : Type 0 where
+  pub start : job.start < length taken
+  pub slots : AreWithin taken job.slots

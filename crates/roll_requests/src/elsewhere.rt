@@ -1,12 +1,11 @@
 //! A session whose game is played elsewhere.
 ghost use Rattle.std.specs.Prelude.{◌≡◌, ◌==◌, ◌≤◌, ◌<◌, ◌++◌, ◌∷◌, [], drop, false, is_none, is_some, length, max, min, take, IfErr, IfOk, IfSome, List, None, OnErr, OnOk, Some, if◌then◌else◌};
 ghost use Rattle.roll_frame.specs.Claims.{claim_of, IsRight};
-ghost use Rattle.roll_frame.specs.Events.{applied};
 ghost use Rattle.roll_frame.specs.Settings.{start_refusal};
 ghost use Rattle.roll_frame.specs.Timeline.{row_at};
 ghost use Rattle.roll_game.specs.Counts.{no_calls};
-ghost use Rattle.roll_session.specs.Answered.{replied, IsAnswered};
-ghost use Rattle.roll_session.specs.Calls.{entry_of, event_of, input_reply, IsInput, IsRoll};
+ghost use Rattle.roll_session.specs.Answered.{replied, with_entries, IsAnswered};
+ghost use Rattle.roll_session.specs.Calls.{entry_of, event_of, input_reply, IsAllowed, IsInput, IsRoll};
 ghost use Rattle.roll_session.specs.Changes.{reserve_refusal, FitsLog, IsWhy};
 ghost use Rattle.roll_session.specs.Gameless.{still};
 ghost use Rattle.roll_session.specs.Guessing.{guess_job_of, guess_refusal_of};
@@ -24,7 +23,7 @@ use crate::queue::Queue;
 use crate::request::Request;
 use crate::taken::Taken;
 use roll_frame::{Claim, Refusal, Row, Settings};
-use roll_session::{Call, Core, Grafted, Heard};
+use roll_session::{Call, Core, Grafted, Heard, Reached};
 use slab::Slab;
 use std::alloc::Global;
 use std::marker::Model;
@@ -113,16 +112,16 @@ impl Elsewhere {
         outcome
     }
 
-    /// Goes to the frame of a call that rolls, by requests, and answers the frame from which it runs.
+    /// Goes to the frame of a call that rolls, by requests, and answers where that led.
     ///
     /// # Errors
     ///
     /// As of the call of a session; `NoMemory` too where no slot is left. Nothing is changed, but for what is reserved.
-    pub fn roll(&mut self, call: Call) -> Result<u32, Refusal>
+    pub fn roll(&mut self, call: Call) -> Result<Reached, Refusal>
         requires { IsRoll call }
-        ensures log { OnOk result (self.new.seen.log ≡ self.old.seen.log ++ entry_of call ∷ []) }
-        ensures core { OnOk result
-            (self.new.seen.core ≡ applied self.old.seen.core (entry_of call)) }
+        ensures allowed { OnOk result (IsAllowed still self.old.seen call) }
+        ensures entered { OnOk result (self.new.seen
+            ≡ with_entries self.old.seen (entry_of call ∷ []) self.old.seen.counts) }
         ensures rolls { IfOk result (Rolls self.old self.new call) }
         ensures jobs { self.new.jobs ≡ self.old.jobs }
         ensures limit { self.new.limit ≡ self.old.limit }
@@ -155,7 +154,11 @@ impl Elsewhere {
         self.taken = held;
         self.core.enter(call, way, slots);
         self.core.laws();
-        Ok(way.frame)
+        Ok(Reached {
+            frame: way.to,
+            from: way.frame,
+            rerun: way.to - way.frame,
+        })
     }
 
     /// A guess: if this player gave these words next. Has the timeline that this would make run elsewhere, aside of the current
@@ -168,12 +171,12 @@ impl Elsewhere {
     /// room, or no slot is left.
     pub fn guess(&mut self, player: u8, words: &[u32], until: u32) -> Result<Option<u32>, Refusal>
         ensures job { IfOk result (IsNumbered
-            (guess_job_of still self.old.seen player words.now until) self.old.jobs self.new.jobs) }
+            (guess_job_of still self.old.seen player words.now until) self.old self.new) }
         ensures accepted { OnOk result
             (guess_refusal_of self.old.seen player words.now until ≡ None) }
         ensures adds { OnOk result (Adds self.old.limit 0
             (rows_to_run (guess_job_of still self.old.seen player words.now until))
-            self.old.requests self.new.requests) }
+            self.old.jobs self.old.requests self.new.requests) }
         ensures rest { self.new
             ≡ record self.old { requests = self.new.requests; jobs = self.new.jobs } }
         ensures leads { (past : List Asks) → Leads past self.old → Leads past self.new }
@@ -188,16 +191,17 @@ impl Elsewhere {
         let Some((node, route)) = self.core.guess(player, words, until)? else {
             return Ok(None);
         };
+        self.core.laws();
+        let start = *self.core.saved().get(node);
         let job = plan_job(
             self.alloc,
             &mut self.queue,
             &mut self.taken,
             &mut self.jobs,
+            start,
             &route,
             self.limit,
         )?;
-        self.core.laws();
-        let start = *self.core.saved().get(node);
         ask_job(&mut self.queue, start, route.rows.as_slice(), job.slots());
         self.taken.fill_all(job.slots());
         self.jobs.insert_reserved(job);
@@ -276,6 +280,14 @@ impl Elsewhere {
         self.core.claim(alloc)
     }
 
+    /// The session itself, without its requests.
+    pub fn core(&self) -> &Core<u32>
+        ensures seen { result.now.seen ≡ self.now.seen }
+        ensures saves { result.now.saves ≡ self.now.saves }
+    {
+        &self.core
+    }
+
     /// The slot of the state at the settled frame.
     pub fn settled_slot(&self) -> u32
         ensures { IsSettledSlot self.now.saves.tree result }
@@ -292,17 +304,20 @@ impl Elsewhere {
         self.core.row(frame)
     }
 
-    /// Hands out the next requests, in order, as many as there is room for, and says how many.
-    pub fn take_requests(&mut self, out: &mut [Request]) -> usize
-        ensures count { result ≡ min (length out.old) (length self.old.requests) }
-        ensures handed { out.new ≡ take result self.old.requests ++ drop result out.old }
-        ensures left { self.new ≡ record self.old {
-          requests = drop result self.old.requests;
-        } }
-        ensures leads { (past : List Asks) → Leads past self.old
-            → Leads (past ++ take result self.old.requests) self.new }
+    /// The requests that are still to be handed out, in their order.
+    pub fn requests(&self) -> &[Request]
+        ensures { result.now ≡ self.now.requests }
     {
-        self.queue.take(out)
+        self.queue.requests()
+    }
+
+    /// The next requests are handed out, so many of them, or all if there are fewer.
+    pub fn hand_out(&mut self, count: usize)
+        ensures left { self.new ≡ record self.old { requests = drop count self.old.requests } }
+        ensures leads { (past : List Asks) → Leads past self.old
+            → Leads (past ++ take count self.old.requests) self.new }
+    {
+        self.queue.hand_out(count);
     }
 
     /// Whether all requests were handed out.

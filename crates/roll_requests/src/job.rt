@@ -1,7 +1,7 @@
 //! Jobs that are out.
-ghost use Rattle.std.specs.Prelude.{◌≡◌, ◌≤◌, ◌⊎◌, ◌^◌, ℕ, length, All, IfNone, IfSome, None, Some};
+ghost use Rattle.std.specs.Prelude.{◌≡◌, ◌≤◌, ◌⊎◌, ◌^◌, ℕ, length, IfNone, IfSome, None, Some};
 ghost use Rattle.slab.specs.Slab.{get, slab_len};
-ghost use Rattle.roll_requests.specs.Slotted.{AreWithin, Guessed, IsTaken};
+ghost use Rattle.roll_requests.specs.Slotted.{Guessed, HasPlaces, IsHeld, IsTaken};
 
 use crate::taken::Taken;
 use roll_branch::PackedRoute;
@@ -11,10 +11,12 @@ use std::marker::Model;
 /// So many jobs can be out at once.
 pub const JOBS_OUT: usize = 64;
 
-/// A job that is out: where it runs, and the slot of the state after each row.
+/// A job that is out: where it runs, the slot of the state that it starts from, and the slot of the state after each row. It may
+/// be carried out late, so it holds all of these.
 #[derive(Drop)]
 pub struct Job {
     pub route: PackedRoute,
+    pub start: u32,
     pub slots: Vec<u32>,
 }
 
@@ -24,12 +26,19 @@ impl Model for Job {
 
     ghost Value = { Guessed };
 
-    ghost view = { λ job. record { route = job.route; slots = job.slots.items } };
+    ghost view = { λ job. record { route = job.route; start = job.start; slots = job.slots.items } };
 
     ghost invariant = { λ job. length job.slots.items ≡ length job.route.rows.items };
 }
 
 impl Job {
+    /// The slot of the state that it starts from.
+    pub fn start(&self) -> u32
+        ensures { result ≡ self.now.start }
+    {
+        self.start
+    }
+
     /// The slots of its states.
     pub fn slots(&self) -> &[u32]
         ensures { result.now ≡ self.now.slots }
@@ -51,16 +60,27 @@ pub fn free_number(jobs: &Slab<Job>) -> Option<u32>
     u32::try_from(jobs.vacant_key()).ok()
 }
 
-/// Takes the slots of the jobs that are out.
+/// Takes the slots that the jobs hold.
 pub fn fill_jobs(slots: &mut Taken, jobs: &Slab<Job>)
     requires { (n : ℕ) (job : Guessed) → get jobs.now n ≡ Some job
-        → AreWithin slots.old job.slots }
+        → HasPlaces slots.old job }
     ensures taken { (n : ℕ) (job : Guessed) → get jobs.now n ≡ Some job
-        → All (IsTaken slots.new) job.slots }
+        → IsHeld slots.new job }
     ensures kept { (slot : ℕ) → IsTaken slots.old slot → IsTaken slots.new slot }
     ensures many { length slots.new ≡ length slots.old }
 {
     for (_, job) in jobs.iter() {
-        slots.fill_all(job.slots());
+        fill_job(slots, job);
     }
+}
+
+/// Takes the slots that a job holds.
+fn fill_job(slots: &mut Taken, job: &Job)
+    requires { HasPlaces slots.old job.now }
+    ensures taken { IsHeld slots.new job.now }
+    ensures kept { (slot : ℕ) → IsTaken slots.old slot → IsTaken slots.new slot }
+    ensures many { length slots.new ≡ length slots.old }
+{
+    slots.fill(job.start());
+    slots.fill_all(job.slots());
 }

@@ -1,5 +1,5 @@
 //! What a roll or a job needs, so that nothing of it can fail any more.
-ghost use Rattle.std.specs.Prelude.{◌≡◌, ◌≤◌, ◌+◌, ◌*◌, ◌-◌, ℕ, length, IfErr, IfOk, OnErr, OnOk};
+ghost use Rattle.std.specs.Prelude.{◌≡◌, ◌≤◌, ◌+◌, ◌*◌, ◌-◌, ℕ, length, max, IfErr, IfOk, OnErr, OnOk};
 ghost use Rattle.roll_frame.specs.Core.{depth};
 ghost use Rattle.roll_session.specs.Calls.{IsRoll};
 ghost use Rattle.roll_session.specs.Gameless.{CanEnter};
@@ -70,6 +70,8 @@ pub fn plan_roll(
     requires roll { IsRoll call }
     requires taken { AreTaken core.old.saves.tree.states jobs.now taken.now }
     ensures can { IfOk result (λ plan. CanEnter core.new call plan.way) }
+    ensures looked { OnOk result (core.new.seen
+        ≡ record core.old.seen { reserved = max core.old.seen.reserved 1 }) }
     ensures reserved { OnOk result (1 ≤ core.new.seen.reserved) }
     ensures from { IfOk result (λ plan. plan.way.frame ≡ depth core.old.seen.core plan.way.to) }
     ensures many { IfOk result
@@ -89,16 +91,18 @@ pub fn plan_roll(
     Ok(RollPlan { way, room })
 }
 
-/// Finds slots for the states of a job, and makes room for all that it needs.
+/// Finds slots for the states of a job that starts from the state in a slot, and makes room for all that it needs.
 pub fn plan_job(
     alloc: Global,
     queue: &mut Queue,
     taken: &mut Taken,
     jobs: &mut Slab<Job>,
+    start: u32,
     route: &Route,
     limit: u32,
 ) -> Result<Job, Refusal>
     ensures route { IfOk result (λ job. job.route ≡ route.now) }
+    ensures start { IfOk result (λ job. job.start ≡ start) }
     ensures many { IfOk result (λ job. length job.slots ≡ length route.now.rows.items) }
     ensures free { IfOk result (λ job. AreFree limit taken.old job.slots) }
     ensures within { IfOk result (λ job. AreWithin taken.new job.slots) }
@@ -117,6 +121,7 @@ pub fn plan_job(
     jobs.reserve(1)?;
     Ok(Job {
         route: packed,
+        start,
         slots,
     })
 }

@@ -51,18 +51,19 @@ impl Queue {
         self.list.push_reserved(request);
     }
 
-    /// Hands out the next ones, in order, as many as there is room for, and says how many.
-    pub fn take(&mut self, out: &mut [Request]) -> usize
-        ensures count { result ≡ min (length out.old) (length self.old.requests) }
-        ensures handed { out.new ≡ take result self.old.requests ++ drop result out.old }
-        ensures left { self.new.requests ≡ drop result self.old.requests }
+    /// Those that weren't handed out.
+    pub fn requests(&self) -> &[Request]
+        ensures { result.now ≡ self.now.requests }
     {
-        let count = out.len().min(self.list.len() - self.given);
-        let end = self.given + count;
-        out[..count].copy_from_slice(&self.list[self.given..end]);
-        self.given = end;
+        &self.list[self.given..]
+    }
+
+    /// Hands out so many, or all if there are fewer.
+    pub fn hand_out(&mut self, count: usize)
+        ensures { self.new.requests ≡ drop count self.old.requests }
+    {
+        self.given += count.min(self.list.len() - self.given);
         self.forget_given();
-        count
     }
 
     /// Drops what was handed out, once all was.

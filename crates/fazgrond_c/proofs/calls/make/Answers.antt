@@ -1,6 +1,6 @@
-use Rattle.std.proofs.Common.{inr, refl}
-use Rattle.roll_frame.specs.declared.refusal.Refusal.TheVariants.{NoMemory}
+use Rattle.std.proofs.Common.{inr, refl, rules}
 use Rattle.fazgrond_c.proofs.calls.make.Goals as goal
 
 pub returns-in-Err-clause-refused : goal.returns-in-Err-clause-refused
-returns-in-Err-clause-refused c = inr (NoMemory, refl, inr (refl, c.in-Err.ensures.short))
+returns-in-Err-clause-refused c =
+    inr (c.if-is_pending.ensures.goes refl, (c.in-Err.why, search (rules, c.code.ensures), c.in-Err.ensures.refused))

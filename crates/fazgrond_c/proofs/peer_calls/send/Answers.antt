@@ -5,7 +5,7 @@ use Rattle.fazgrond_c.proofs.peer_calls.send.Goals as goal
 
 pub returns-in-Ok-Some : goal.returns-in-Ok-Some
 returns-in-Ok-Some c =
-    let s = c.args.live.now.session in
+    let s = c.args.live.now.session.seen in
     let met = meeting s (ticking c.args.now c.args.peer.now) in
     record {
       short = λ less. absurd (omega (arith, less));

@@ -1,8 +1,8 @@
 use Rattle.std.proofs.Common.{◌≡◌, ◌∙◌, [], ℕ, ap, arith, inl, inr, refl, subst, Contains, Some}
-use Rattle.std.specs.Prelude.{All}
 use Rattle.slab.specs.Slab.{get}
 use Rattle.slab.proofs.SlabLemmas.{Contains-cons, Contains-cons_cases, Contains-entries}
-use Rattle.roll_requests.specs.Slotted.{Guessed, IsTaken}
+use Rattle.roll_requests.specs.Slotted.{Guessed, IsHeld}
+use Rattle.roll_requests.proofs.Filling.{held_kept}
 use Rattle.roll_requests.proofs.job.fill_jobs.Goals as goal
 
 pub loop-job-init : goal.loop-job-init
@@ -17,22 +17,22 @@ loop-job-init c =
       many = refl;
     }
 
-pub fill_all-requires : goal.fill_all-requires
-fill_all-requires c =
+pub fill_job-requires : goal.fill_job-requires
+fill_job-requires c =
     let at = c.in-Some.ensures.steps in
     let now = c.loop-job.invariant in
     let n : ℕ = c.in-Some.field-0-0 in
     let job : Guessed = c.in-Some.job.now in
     let first : Contains c.loop-job.job-iterator (n, job) = rw at (0, omega arith, refl) in
     let there : get c.args.jobs.now n ≡ Some job = now.left n job first in
-    rw c.slots.ensures (λ k d few. let low = c.requires n job there k d few in omega (arith, low, now.many))
+    let places = c.requires n job there in
+    record { start = omega (arith, places.start, now.many); slots = λ k d few. let low = places.slots k d few in omega (arith, low, now.many) }
 
 pub loop-job-preserved : goal.loop-job-preserved
 loop-job-preserved c =
     let at = c.in-Some.ensures.steps in
     let now = c.loop-job.invariant in
-    let e = c.fill_all.ensures in
-    let mine : All (IsTaken c.fill_all.new.self) c.in-Some.job.now.slots = rw c.slots.ensures at e.taken in
+    let e = c.fill_job.ensures in
     record {
       goes = tt;
       ends = tt;
@@ -40,10 +40,10 @@ loop-job-preserved c =
       done = λ n job found.
           elim (now.done n job found) [
             | inl there ↦ elim (Contains-cons_cases _ _ _ (rw at at there)) [
-              | inl same ↦ inr (subst (λ (j : Guessed). All (IsTaken c.fill_all.new.self) j.slots) (ap (λ e. e.1) same) mine)
+              | inl same ↦ inr (subst (IsHeld c.fill_job.new.slots) (ap (λ e. e.1) same) e.taken)
               | inr rest ↦ inl rest
             ]
-            | inr taken ↦ inr (λ k d few. e.kept _ (taken k d few))
+            | inr taken ↦ inr (held_kept c.loop-job.slots c.fill_job.new.slots e.kept job taken)
           ];
       kept = λ k t. e.kept k (now.kept k t);
       many = e.many ∙ now.many;

@@ -1,7 +1,6 @@
 use Rattle.std.proofs.Common.{◌≡◌, ◌⊎◌, ℕ, length, Contains, Some}
-use Rattle.std.specs.Prelude.{All}
 use Rattle.slab.specs.Slab.{get}
-use Rattle.roll_requests.specs.Slotted.{Guessed, IsTaken}
+use Rattle.roll_requests.specs.Slotted.{Guessed, IsHeld, IsTaken}
 use Rattle.roll_requests.proofs.job.fill_jobs.Given as goal
 
 -- the jobs that are left are the slab's, and the slots of the others are taken
@@ -10,7 +9,7 @@ invariant-loop-job l = record {
   goes : (goal.iterator-loop-job).can_next l.job-iterator;
   ends : (goal.iterator-loop-job).is_finite l.job-iterator;
   left : (n : ℕ) (job : Guessed) → Contains l.job-iterator (n, job) → get l.jobs n ≡ Some job;
-  done : (n : ℕ) (job : Guessed) → get l.jobs n ≡ Some job → Contains l.job-iterator (n, job) ⊎ All (IsTaken l.slots) job.slots;
+  done : (n : ℕ) (job : Guessed) → get l.jobs n ≡ Some job → Contains l.job-iterator (n, job) ⊎ IsHeld l.slots job;
   kept : (k : ℕ) → IsTaken l.fn.slots k → IsTaken l.slots k;
   many : length l.slots ≡ length l.fn.slots;
 }

@@ -1,5 +1,5 @@
 use Rattle.std.proofs.Common.{◌∙◌, arith}
-use Rattle.roll_requests.proofs.Filling.{are_kept, free_same, taken_within}
+use Rattle.roll_requests.proofs.Filling.{are_kept, free_same, job_within, taken_within}
 use Rattle.roll_requests.proofs.plans.find_room.Goals as goal
 
 pub fill_saved-requires : goal.fill_saved-requires
@@ -8,9 +8,12 @@ fill_saved-requires c = λ k d few.
     omega (arith, low, c.in_ok-held.ensures)
 
 pub fill_jobs-requires : goal.fill_jobs-requires
-fill_jobs-requires c = λ n job there. λ k d few.
-    let low = taken_within c.args.taken.now _ (c.requires.out n job there k d few) in
-    omega (arith, low, c.in_ok-held.ensures, c.fill_saved.ensures.many)
+fill_jobs-requires c = λ n job there.
+    let low = job_within c.args.taken.now job (c.requires.out n job there) in
+    record {
+      start = omega (arith, low.start, c.in_ok-held.ensures, c.fill_saved.ensures.many);
+      slots = λ k d few. let l = low.slots k d few in omega (arith, l, c.in_ok-held.ensures, c.fill_saved.ensures.many);
+    }
 
 pub returns-clause-room : goal.returns-clause-room
 returns-clause-room c =

@@ -23,7 +23,7 @@ pub invariant_of-self-2 : goal.invariant_of-self-2
 invariant_of-self-2 c =
     let i = c.self.inside in
     let e = c.graft-outcome.ensures in
-    let job : Guessed = record { route = c.job.inside.route; slots = c.job.inside.slots.items } in
+    let job : Guessed = record { route = c.job.inside.route; start = c.job.inside.start; slots = c.job.inside.slots.items } in
     let there : get i.jobs c.args.job ≡ Some job = sym c.in-Some.ensures.value ∙ ap Some (sym c.job.view_is) in
     taken_grafted c.graft-outcome.result i.core c.graft-outcome.new.self i.jobs c.try_remove.new.self i.at c.args.job job i.taken
     (record { log = c.laws.ensures.log; before = c.laws.ensures.inputs; after = c.laws-2.ensures.inputs; accepted = e.accepted; taken = e.taken; keeps = e.branch; unchanged = e.unchanged })
@@ -33,7 +33,7 @@ pub returns-clause-grafted : goal.returns-clause-grafted
 returns-clause-grafted c =
     let i = c.self.inside in
     let e = c.graft-outcome.ensures in
-    let job : Guessed = record { route = c.job.inside.route; slots = c.job.inside.slots.items } in
+    let job : Guessed = record { route = c.job.inside.route; start = c.job.inside.start; slots = c.job.inside.slots.items } in
     let there : get i.jobs c.args.job ≡ Some job = sym c.in-Some.ensures.value ∙ ap Some (sym c.job.view_is) in
     rw (← c.self.view_is) (rw there (handed_in c.graft-outcome.result i.core.seen c.graft-outcome.new.self.seen job e.accepted e.taken e.grafted e.refused))
 
@@ -41,7 +41,7 @@ pub returns-clause-leads : goal.returns-clause-leads
 returns-clause-leads c =
     let i = c.self.inside in
     let e = c.graft-outcome.ensures in
-    let job : Guessed = record { route = c.job.inside.route; slots = c.job.inside.slots.items } in
+    let job : Guessed = record { route = c.job.inside.route; start = c.job.inside.start; slots = c.job.inside.slots.items } in
     let there : get i.jobs c.args.job ≡ Some job = sym c.in-Some.ensures.value ∙ ap Some (sym c.job.view_is) in
     rw (← c.self.view_is)
     (leads_grafted c.graft-outcome.result i.core c.graft-outcome.new.self i.at i.queue.requests i.limit i.jobs c.try_remove.new.self c.args.job job

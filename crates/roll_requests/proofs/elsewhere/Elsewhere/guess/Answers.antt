@@ -1,8 +1,9 @@
 use Rattle.std.proofs.Common.{◌≡◌, ◌∙◌, ◌++◌, [], ℕ, List, Option, Some, None, ap, get_or, length, lit<, refl, subst, sym}
-use Rattle.std.specs.Prelude.{option_map, IfErr, IsSomeAnd}
+use Rattle.std.specs.Prelude.{option_map, All, IfErr, IsSomeAnd}
 use Rattle.slab.specs.Slab.{Slab, Updates}
 use Rattle.roll_branch.specs.Routed.{Routed}
 use Rattle.roll_frame.specs.declared.route.Route.{Route}
+use Rattle.roll_frame.specs.declared.row.Cell.{Cell}
 use Rattle.roll_inputs.specs.Boards.{Inputs}
 use Rattle.roll_session.specs.Gameless.{bare_branch, still}
 use Rattle.roll_session.specs.Guessing.{guess_job_of, guess_refusal_of}
@@ -10,12 +11,13 @@ use Rattle.roll_session.specs.Seen.{game_of}
 use Rattle.roll_tree.specs.SavedStates.{Saved, state_named}
 use Rattle.roll_requests.specs.Asked.{rows_to_run, Asked, IsNotGuessed, IsNumbered}
 use Rattle.roll_requests.specs.Requests.{job_requests, Adds}
-use Rattle.roll_requests.specs.Slotted.{Guessed}
+use Rattle.roll_requests.specs.Slotted.{Guessed, IsOutside, IsTaken}
 use Rattle.roll_requests.specs.declared.request.Request.{Request}
+use Rattle.roll_requests.proofs.Apart.{job_apart}
 use Rattle.roll_requests.proofs.Counting.{job_adds}
 use Rattle.roll_requests.proofs.Filling.{are_kept}
 use Rattle.roll_requests.proofs.Leads.{leads_same}
-use Rattle.roll_requests.proofs.Numbering.{base_of, leads_guessed, no_memory, none_adds, none_numbered, numbered, starts_here, taken_guessed}
+use Rattle.roll_requests.proofs.Numbering.{base_of, leads_guessed, no_memory, none_adds, none_numbered, numbered, start_has, starts_here, taken_guessed}
 use Rattle.roll_session.proofs.Bares.{handed_on}
 use Rattle.roll_session.proofs.Rolling.{some_is, some_there}
 use Rattle.roll_requests.proofs.elsewhere.Elsewhere.guess.Goals as goal
@@ -27,21 +29,24 @@ none_of c =
 
 pub returns-in_default-2-clause-job : goal.returns-in_default-2-clause-job
 returns-in_default-2-clause-job c =
-    subst (λ (a : Asked). IsNumbered (guess_job_of still a.seen c.args.player c.args.words.now c.args.until) a.jobs a.jobs None) c.self.view_is
-    (none_numbered (guess_job_of still c.self.inside.core.seen c.args.player c.args.words.now c.args.until) (none_of c) c.self.inside.jobs)
+    let i = c.self.inside in
+    let here : Asked = record { seen = i.core.seen; saves = i.core.saves; at = i.at; requests = i.queue.requests; limit = i.limit; jobs = i.jobs } in
+    subst (λ (a : Asked). IsNumbered (guess_job_of still a.seen c.args.player c.args.words.now c.args.until) a a None) c.self.view_is
+    (none_numbered (guess_job_of still i.core.seen c.args.player c.args.words.now c.args.until) (none_of c) here)
 
 pub returns-in_default-2-clause-adds : goal.returns-in_default-2-clause-adds
 returns-in_default-2-clause-adds c =
     let i = c.self.inside in
-    subst (λ (a : Asked). Adds a.limit 0 (rows_to_run (guess_job_of still a.seen c.args.player c.args.words.now c.args.until)) a.requests a.requests) c.self.view_is
-    (none_adds (guess_job_of still i.core.seen c.args.player c.args.words.now c.args.until) (none_of c) i.limit i.queue.requests)
+    subst (λ (a : Asked). Adds a.limit 0 (rows_to_run (guess_job_of still a.seen c.args.player c.args.words.now c.args.until)) a.jobs a.requests a.requests) c.self.view_is
+    (none_adds (guess_job_of still i.core.seen c.args.player c.args.words.now c.args.until) (none_of c) i.limit i.jobs i.queue.requests)
 
 pub invariant_of-self : goal.invariant_of-self
 invariant_of-self c =
     let i = c.self.inside in
     let e = c.plan_job.ensures in
     let kept = are_kept i.core.saves.tree.states i.jobs i.taken c.plan_job.new.taken (λ k t. e.taken k ∙ t) c.self.invariant.are in
-    rw e.jobs (record { are = record { saved = kept.saved; out = kept.out }; current = e.taken i.at ∙ c.self.invariant.current })
+    let own = c.self.invariant.own in
+    rw e.jobs (record { are = record { saved = kept.saved; out = kept.out }; own = record { saved = own.saved; others = own.others }; current = e.taken i.at ∙ c.self.invariant.current })
 
 pub returns-in_err-job-clause-leads : goal.returns-in_err-job-clause-leads
 returns-in_err-job-clause-leads c =
@@ -86,36 +91,51 @@ updates_of c =
     let u = subst (λ n. Updates c.plan_job.new.jobs c.insert_reserved.new.self n (Some c.in_ok-job.job)) key e.updates in
     record { changed = u.changed; others = λ n apart. u.others n apart ∙ ap (λ (s : Slab Guessed). get_or s.slots n None) jobs }
 
+-- what holds of all saved slots holds of the one that the job starts from
+has_of : (c : goal.After-insert_reserved) (P : ℕ → Type 0) → All (λ u. P u.snapshot) c.self.inside.core.saves.tree.states → P c.in_ok-job.job.start
+has_of c P all =
+    subst P (sym c.in_ok-job.ensures.start)
+    (start_has P c.self.inside.core.saves c.in-Some-2.node c.get-start.result.now c.in-Some-2.route.path.rows.items (rw c.in-Some-2.is at c.in_ok-node.ensures.node) (rw c.saved.ensures at c.get-start.ensures) all)
+
 pub invariant_of-self-2 : goal.invariant_of-self-2
 invariant_of-self-2 c =
     let i = c.self.inside in
     let f = c.fill_all.ensures in
-    taken_guessed i.core.saves.tree.states i.jobs c.insert_reserved.new.self i.at c.in-Some.number c.in_ok-job.job i.taken c.fill_all.new.self c.self.invariant (updates_of c)
-    (λ k t. f.kept k (c.plan_job.ensures.taken k ∙ t)) (rw c.slots-2.ensures at f.taken)
+    let kept : (k : ℕ) → IsTaken i.taken k → IsTaken c.fill_all.new.self k = λ k t. f.kept k (c.plan_job.ensures.taken k ∙ t) in
+    taken_guessed i.core.saves.tree.states i.jobs c.insert_reserved.new.self i.at c.in-Some.number i.limit c.in_ok-job.job i.taken c.fill_all.new.self c.self.invariant c.in_ok-job.ensures.free (updates_of c) kept
+    (record { start = kept c.in_ok-job.job.start (has_of c (IsTaken i.taken) c.self.invariant.are.saved); slots = rw c.slots-2.ensures at f.taken })
+
+-- what is asked
+list_of : (c : goal.After-insert_reserved) → c.ask_job.new.queue.requests ≡ c.self.inside.queue.requests ++ job_requests c.in_ok-job.job.start (λ k. get_or c.in_ok-job.job.route.rows.items k []) c.in_ok-job.job.slots
+list_of c =
+    let e = c.in_ok-job.ensures in
+    let slots = c.in_ok-job.job.slots in
+    let asked = rw (c.slots.ensures, c.as_slice.ensures.value) at c.ask_job.ensures in
+    asked
+    ∙ ap (λ (l : List Request). l ++ job_requests c.get-start.result.now (λ k. get_or c.in-Some-2.route.rows.items k []) slots) c.plan_job.ensures.requests
+    ∙ ap (λ (r : Route). c.self.inside.queue.requests ++ job_requests c.get-start.result.now (λ k. get_or r.rows.items k []) slots) (sym e.route)
+    ∙ ap (λ s. c.self.inside.queue.requests ++ job_requests s (λ k. get_or c.in_ok-job.job.route.rows.items k []) slots) (sym e.start)
 
 pub returns-clause-job : goal.returns-clause-job
 returns-clause-job c =
     let i = c.self.inside in
     let e = c.in_ok-job.ensures in
-    subst (λ (a : Asked). IsNumbered (guess_job_of still a.seen c.args.player c.args.words.now c.args.until) a.jobs c.insert_reserved.new.self (Some c.in-Some.number)) c.self.view_is
-    (numbered (guess_job_of still i.core.seen c.args.player c.args.words.now c.args.until) c.in-Some-2.route (job_of c) i.jobs c.insert_reserved.new.self c.in-Some.number c.in_ok-job.job e.route e.many c.in-Some.ensures.vacant (updates_of c))
-
--- what is asked
-list_of : (c : goal.After-insert_reserved) → c.ask_job.new.queue.requests ≡ c.self.inside.queue.requests ++ job_requests c.get-start.result.now (λ k. get_or c.in_ok-job.job.route.rows.items k []) c.in_ok-job.job.slots
-list_of c =
-    let e = c.in_ok-job.ensures in
-    let asked = rw (c.slots.ensures, c.as_slice.ensures.value) at c.ask_job.ensures in
-    asked
-    ∙ ap (λ (l : List Request). l ++ job_requests c.get-start.result.now (λ k. get_or c.in-Some-2.route.rows.items k []) c.in_ok-job.job.slots) c.plan_job.ensures.requests
-    ∙ ap (λ (r : Route). c.self.inside.queue.requests ++ job_requests c.get-start.result.now (λ k. get_or r.rows.items k []) c.in_ok-job.job.slots) (sym e.route)
+    let old : Asked = record { seen = i.core.seen; saves = i.core.saves; at = i.at; requests = i.queue.requests; limit = i.limit; jobs = i.jobs } in
+    let new : Asked = record old { requests = c.ask_job.new.queue.requests; jobs = c.insert_reserved.new.self } in
+    subst (λ (a : Asked). IsNumbered (guess_job_of still a.seen c.args.player c.args.words.now c.args.until) a new (Some c.in-Some.number)) c.self.view_is
+    (numbered (guess_job_of still i.core.seen c.args.player c.args.words.now c.args.until) c.in-Some-2.route (job_of c) old new c.in-Some.number c.in_ok-job.job e.route e.many c.in-Some.ensures.vacant (updates_of c) (list_of c))
 
 pub returns-clause-adds : goal.returns-clause-adds
 returns-clause-adds c =
     let i = c.self.inside in
     let e = c.in_ok-job.ensures in
-    let many : length c.in_ok-job.job.slots ≡ rows_to_run (guess_job_of still i.core.seen c.args.player c.args.words.now c.args.until) = e.many ∙ ap (λ (o : Option Routed). rows_to_run o) (job_of c) in
-    subst (λ (a : Asked). Adds a.limit 0 (rows_to_run (guess_job_of still a.seen c.args.player c.args.words.now c.args.until)) a.requests c.ask_job.new.queue.requests) c.self.view_is
-    (job_adds i.limit c.get-start.result.now (λ k. get_or c.in_ok-job.job.route.rows.items k []) c.in_ok-job.job.slots (rows_to_run (guess_job_of still i.core.seen c.args.player c.args.words.now c.args.until)) i.queue.requests c.ask_job.new.queue.requests e.free.below many (list_of c))
+    let job : Guessed = c.in_ok-job.job in
+    let row : ℕ → List Cell = λ k. get_or job.route.rows.items k [] in
+    let many : length job.slots ≡ rows_to_run (guess_job_of still i.core.seen c.args.player c.args.words.now c.args.until) = e.many ∙ ap (λ (o : Option Routed). rows_to_run o) (job_of c) in
+    subst (λ (a : Asked). Adds a.limit 0 (rows_to_run (guess_job_of still a.seen c.args.player c.args.words.now c.args.until)) a.jobs a.requests c.ask_job.new.queue.requests) c.self.view_is
+    (job_adds i.limit job.start row job.slots (rows_to_run (guess_job_of still i.core.seen c.args.player c.args.words.now c.args.until)) i.jobs i.queue.requests c.ask_job.new.queue.requests e.free.below many
+    (λ n other there. job_apart other i.taken (c.self.invariant.are.out n other there) i.limit job.start row job.slots (has_of c (IsOutside other.slots) (c.self.invariant.own.saved n other there)) e.free)
+    (list_of c))
 
 pub returns-clause-leads : goal.returns-clause-leads
 returns-clause-leads c =
@@ -125,15 +145,15 @@ returns-clause-leads c =
     let route : Route = c.in-Some-2.route in
     let saves = i.core.saves in
     let found = rw c.in-Some-2.is at c.in_ok-node.ensures.node in
-    let told = rw c.saved.ensures at c.get-start.ensures in
+    let told = subst (λ s. option_map (λ (u : Saved ℕ). u.snapshot) (state_named saves.tree c.in-Some-2.node) ≡ Some s) (sym e.start) (rw c.saved.ensures at c.get-start.ensures) in
     let far : route.path.base ≡ saves.inputs.settled = base_of (game_of still i.core.seen) i.core.seen.core c.args.player c.args.until c.args.words.now route (job_of c) ∙ sym (ap (λ (n : Inputs). n.settled) c.laws.ensures.inputs) in
     let base : job.route.path.base ≡ saves.inputs.settled = ap (λ (r : Route). r.path.base) e.route ∙ far in
     let many : length job.slots ≡ length job.route.rows.items = e.many ∙ ap (λ (r : Route). length r.rows.items) (sym e.route) in
     let there : IsSomeAnd (state_named saves.tree c.in-Some-2.node) (λ u. u.path ≡ job.route.path.rows.items) = subst (λ (r : Route). IsSomeAnd (state_named saves.tree c.in-Some-2.node) (λ u. u.path ≡ r.path.rows.items)) (sym e.route) found in
     let old : Asked = record { seen = i.core.seen; saves = saves; at = i.at; requests = i.queue.requests; limit = i.limit; jobs = i.jobs } in
     rw (← c.self.view_is)
-    (leads_guessed old c.ask_job.new.queue.requests c.insert_reserved.new.self i.taken c.get-start.result.now c.in-Some.number job c.self.invariant e.free many base
-    (starts_here saves c.in-Some-2.node c.get-start.result.now job.route base there told) (list_of c) (updates_of c))
+    (leads_guessed old c.ask_job.new.queue.requests c.insert_reserved.new.self i.taken c.in-Some.number job c.self.invariant e.free many base (has_of c (IsTaken i.taken) c.self.invariant.are.saved)
+    (starts_here saves c.in-Some-2.node job.start job.route base there told) (list_of c) (updates_of c))
 
 pub returns-clause-accepted : goal.returns-clause-accepted
 returns-clause-accepted c =

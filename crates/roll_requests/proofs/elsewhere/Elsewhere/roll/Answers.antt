@@ -1,8 +1,9 @@
-use Rattle.std.proofs.Common.{◌≡◌, ◌++◌, ◌∷◌, ◌∙◌, ◌+◌, [], ℕ, List, Some, ap, arith, length, refl, subst, sym}
+use Rattle.std.proofs.Common.{◌≡◌, ◌++◌, ◌∷◌, ◌∙◌, ◌+◌, ◌-◌, [], ℕ, List, Some, ap, arith, length, max, refl, subst, sym}
 use Rattle.roll_frame.specs.Core.{Core, cost}
-use Rattle.roll_frame.specs.Events.{applied}
+use Rattle.roll_frame.specs.declared.entry.Entry.{Entry}
 use Rattle.roll_frame.specs.Timeline.{row_at}
-use Rattle.roll_session.specs.Calls.{entry_of, IsRollTo}
+use Rattle.roll_session.specs.Answered.{with_entries}
+use Rattle.roll_session.specs.Calls.{entry_of, IsAllowed, IsRollTo}
 use Rattle.roll_session.specs.Gameless.{still}
 use Rattle.roll_session.specs.Seen.{IsLeast, Seen, game_of}
 use Rattle.roll_session.proofs.Holding.{least_of}
@@ -11,8 +12,11 @@ use Rattle.roll_tree.specs.SavedStates.{Saved, state_named}
 use Rattle.roll_requests.specs.Asked.{Asked}
 use Rattle.roll_requests.specs.Requests.{last_or, roll_requests}
 use Rattle.roll_requests.specs.declared.request.Request.{Request}
+use Rattle.roll_requests.specs.Slotted.{AreOwn}
+use Rattle.roll_requests.proofs.Apart.{roll_apart}
 use Rattle.roll_requests.proofs.Counting.{roll_adds}
-use Rattle.roll_requests.proofs.Leads.{done_leads, done_taken, leads_looked, slotted_told, IsDone}
+use Rattle.roll_requests.proofs.Leads.{done_leads, done_taken, leads_looked, slotted_told, start_outside, IsDone}
+use Rattle.roll_frame.specs.declared.row.Cell.{Cell}
 use Rattle.roll_requests.proofs.elsewhere.Elsewhere.roll.Goals as goal
 
 pub plan_roll-requires-clause-roll : goal.plan_roll-requires-clause-roll
@@ -81,22 +85,33 @@ asked_of c =
     × (c.ask_roll-self-inside.new.queue.requests ≡ c.plan_roll.new.queue.requests ++ roll_requests c.self.inside.at u.snapshot c.self.inside.taken c.in_ok-plan.plan.room.held (λ k. row_at c.plan_roll.new.core.saves.inputs.players (c.in_ok-plan.plan.way.frame + k)) c.in_ok-plan.plan.room.slots.items) in
     some_is (state_named c.plan_roll.new.core.saves.tree c.in_ok-plan.plan.way.at) P (rw c.deref.ensures.value at c.ask_roll-self-inside.ensures)
 
+-- the slots of the jobs' states are still their own
+own_of : (c : goal.After-laws-2) → AreOwn c.plan_roll.new.core.saves.tree.states c.self.inside.jobs
+own_of c =
+    let i = c.self.inside in
+    (slotted_told i.core.saves c.plan_roll.new.core.saves i.jobs i.at i.taken c.plan_roll.ensures.hardly.saves c.self.invariant).own
+
 pub invariant_of-self-2 : goal.invariant_of-self-2
 invariant_of-self-2 c =
     let a = asked_of c in
     let f = c.fill_all.ensures in
-    done_taken c.plan_roll.new.core c.enter.new.self c.args.call c.in_ok-plan.plan.way c.in_ok-plan.plan.room c.self.inside.limit c.self.inside.jobs (done_of c) c.fill_all.new.self c.ask_roll-self-inside.result a.0 a.1 a.2.0 f.kept
+    done_taken c.plan_roll.new.core c.enter.new.self c.args.call c.in_ok-plan.plan.way c.in_ok-plan.plan.room c.self.inside.limit c.self.inside.jobs (done_of c) c.fill_all.new.self c.ask_roll-self-inside.result a.0 (own_of c) a.1 a.2.0 f.kept
     (rw c.deref-2.ensures.value at f.taken)
 
-pub returns-clause-log : goal.returns-clause-log
-returns-clause-log c =
-    rw (← c.self.view_is)
-    (ap (λ (s : Seen). s.log) c.enter.ensures.entered ∙ ap (λ (s : Seen). s.log ++ entry_of c.args.call ∷ []) c.plan_roll.ensures.hardly.seen)
+pub returns-clause-allowed : goal.returns-clause-allowed
+returns-clause-allowed c =
+    let allowed = subst (λ (s : Seen). IsAllowed still s c.args.call) c.in_ok-plan.ensures.looked c.in_ok-plan.ensures.can.allowed in
+    rw (← c.self.view_is) (record { new = allowed.new; accepted = allowed.accepted })
 
-pub returns-clause-core : goal.returns-clause-core
-returns-clause-core c =
+pub returns-clause-entered : goal.returns-clause-entered
+returns-clause-entered c =
+    let old = c.self.inside.core.seen in
+    let entries : List Entry = entry_of c.args.call ∷ [] in
+    let left : max old.reserved 1 - 1 ≡ old.reserved - 1 = omega arith in
     rw (← c.self.view_is)
-    (ap (λ (s : Seen). s.core) c.enter.ensures.entered ∙ ap (λ (s : Seen). applied s.core (entry_of c.args.call)) c.plan_roll.ensures.hardly.seen)
+    (c.enter.ensures.entered
+    ∙ (ap (λ (s : Seen). with_entries s entries s.counts) c.in_ok-plan.ensures.looked
+    ∙ ap (λ n. record (with_entries old entries old.counts) { reserved = n }) left))
 
 pub returns-clause-rolls : goal.returns-clause-rolls
 returns-clause-rolls c =
@@ -110,14 +125,19 @@ returns-clause-rolls c =
     let log = c.laws.ensures.log in
     let least : IsLeast mid.seen.core way.to = subst (λ (k : Core). IsLeast k way.to) (sym log.core) (least_of mid.seen.settings (game_of still mid.seen) mid.seen.log log.log way.to) in
     let many : length room.slots.items ≡ cost i.core.seen.core way.to = omega (arith, e.many, e.from) in
-    let list = a.2.1 ∙ ap (λ (l : List Request). l ++ roll_requests i.at a.0.snapshot i.taken room.held (λ k. row_at mid.saves.inputs.players (way.frame + k)) room.slots.items) c.plan_roll.ensures.requests in
+    let row : ℕ → List Cell = λ k. row_at mid.saves.inputs.players (way.frame + k) in
+    let list = a.2.1 ∙ ap (λ (l : List Request). l ++ roll_requests i.at a.0.snapshot i.taken room.held row room.slots.items) c.plan_roll.ensures.requests in
     rw (← c.self.view_is)
     (record {
-      to = way.to;
       is_to = subst (λ (k : Core). IsRollTo k c.args.call way.to) core e.can.to;
       from_is = e.from;
+      rerun_is = ap (λ n. way.to - n) e.from;
       least = subst (λ (k : Core). IsLeast k way.to) core least;
-      adds = roll_adds i.limit i.at a.0.snapshot i.taken room.held (λ k. row_at mid.saves.inputs.players (way.frame + k)) room.slots.items (cost i.core.seen.core way.to) i.queue.requests c.ask_roll-self-inside.new.queue.requests e.room.free.below many list;
+      adds = roll_adds i.limit i.at a.0.snapshot i.taken room.held row room.slots.items (cost i.core.seen.core way.to) i.jobs i.queue.requests c.ask_roll-self-inside.new.queue.requests e.room.free.below many
+      (λ n job there.
+      let off = start_outside mid c.enter.new.self c.args.call way room i.limit i.jobs (done_of c) (own_of c) a.0 a.1 n job there in
+      roll_apart job room.held (e.room.held.out n job there) i.limit i.at a.0.snapshot i.taken row room.slots.items off e.room.free)
+      list;
     })
 
 pub returns-clause-leads : goal.returns-clause-leads

@@ -1,8 +1,10 @@
 use Rattle.std.proofs.Common.{refl}
 use Rattle.roll_session.specs.Gameless.{still}
 use Rattle.roll_requests.specs.Asked.{Asked}
-use Rattle.roll_requests.proofs.Holding.{taken_all}
+use Rattle.roll_requests.specs.Slotted.{is_taken}
+use Rattle.roll_requests.proofs.Holding.{pass_all}
 use Rattle.roll_requests.proofs.Leads.{leads_taken}
+use Rattle.roll_requests.proofs.Owning.{own_all}
 use Rattle.roll_requests.proofs.Stays.{stays_answered, stays_in}
 use Rattle.roll_requests.proofs.elsewhere.Elsewhere.take.Goals as goal
 
@@ -11,7 +13,8 @@ invariant_of-self c =
     let i = c.self.inside in
     let now = c.self.invariant in
     record {
-      are = record { saved = taken_all i.core.saves c.take-outcome.new.self.saves c.take-outcome.ensures.keeps i.taken now.are.saved; out = now.are.out };
+      are = record { saved = pass_all i.core.saves c.take-outcome.new.self.saves c.take-outcome.ensures.keeps (is_taken i.taken) now.are.saved; out = now.are.out };
+      own = own_all i.core.saves c.take-outcome.new.self.saves i.jobs c.take-outcome.ensures.keeps now.own;
       current = now.current;
     }
 

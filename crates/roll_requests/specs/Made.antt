@@ -1,0 +1,60 @@
+-- What a call of a session of a game elsewhere comes to.
+use Rattle.std.specs.Prelude.{◌≡◌, List, [], ◌∷◌, refl}
+use Rattle.std.proofs.Common.{subst}
+use Rattle.roll_frame.specs.Events.{log_from, reply}
+use Rattle.roll_frame.specs.declared.refusal.Refusal.{Refusal}
+use Rattle.roll_frame.specs.declared.reply.Reply.{Reply}
+use Rattle.roll_frame.specs.declared.reply.Reply.TheVariants.{Refused}
+use Rattle.roll_requests.specs.Asked.{Asked, IsIdle, IsRefusedRoll, Leads, Rolls}
+use Rattle.roll_requests.specs.declared.request.Request.{Request}
+use Rattle.roll_session.specs.Answered.{with_entries, IsAnswered}
+use Rattle.roll_session.specs.Calls.{event_of}
+use Rattle.roll_session.specs.Gameless.{still}
+use Rattle.roll_session.specs.Seen.{game_of}
+use Rattle.roll_session.specs.declared.event.Call.{Call}
+use Rattle.roll_session.specs.declared.event.Call.TheVariants.{Sync, Advance}
+use Rattle.roll_session.specs.declared.event.Reached.{Reached}
+
+-- wherever the requests led before, they still do
+abbrev pub KeepsLeading : Asked → Asked → Type 0
+KeepsLeading old new = (past : List Request) → Leads past old → Leads past new
+
+-- an input asks for nothing, and is nothing to the jobs
+pub record Keeps (old new : Asked) : Type 0 where
+  pub rest : new ≡ record old { seen = new.seen; saves = new.saves }
+  pub leads : KeepsLeading old new
+
+pub keeps_itself : (it : Asked) → Keeps it it
+keeps_itself it = record { rest = refl; leads = λ past leads. leads }
+
+pub keeps_on : (a b c : Asked) → Keeps a b → Keeps b c → Keeps a c
+keeps_on a b c one two = record {
+  rest = subst (λ (e : Asked). c ≡ record e { seen = c.seen; saves = c.saves }) one.rest two.rest;
+  leads = λ past leads. two.leads past (one.leads past leads);
+}
+
+-- a call that rolls asks for the frames of its roll, and leaves the jobs as they are
+pub record RollsBy (old new : Asked) (call : Call) : Type 0 where
+  pub reached : Reached
+  pub rolls : Rolls old new call reached
+  pub jobs : new.jobs ≡ old.jobs
+  pub limit : new.limit ≡ old.limit
+
+abbrev pub AsksFor : Asked → Asked → Call → Type 0
+AsksFor old new Sync = RollsBy old new Sync
+AsksFor old new Advance = RollsBy old new Advance
+AsksFor old new call = new ≡ record old { seen = new.seen; saves = new.saves }
+
+-- the rules' reply to a call, and what they make of the session; of a game elsewhere nothing is counted
+pub record IsMade (old new : Asked) (call : Call) (said : Reply) : Type 0 where
+  pub said_is : said ≡ reply old.seen.settings (game_of still old.seen) old.seen.core (event_of call)
+  pub seen : new.seen ≡ with_entries old.seen (log_from old.seen.settings (game_of still old.seen) old.seen.core (event_of call ∷ [])) old.seen.counts
+  pub asks : AsksFor old new call
+
+-- a call is refused, by the rules, or for want of memory or slots; nothing is changed, but that more may be reserved
+abbrev pub IsNotMade : Asked → Asked → Call → Refusal → Type 0
+IsNotMade old new Sync why = IsRefusedRoll old.seen Sync why × IsIdle old new
+IsNotMade old new Advance why = IsRefusedRoll old.seen Advance why × IsIdle old new
+IsNotMade old new call why =
+    IsAnswered still old.seen new.seen (event_of call) (Refused why)
+    × (new ≡ record old { seen = new.seen; saves = new.saves })
