@@ -96,9 +96,8 @@ typedef struct fazgrond_row {
  * FREE: nothing needs the state of this slot any more.
  * JOB_LOAD, JOB_SAVE, JOB_STEP: the same as the first three, for a state that is not the current one: a job's. A guess's job is
  * one JOB_LOAD, and a JOB_STEP and a JOB_SAVE for each row, one after another.
- * A call that is refused for want of memory may leave requests too: carry them out, and make the call again. Those of a refused
- * guess are to be dropped: its slots are given away again.
- * The least free slot is always taken, so the slots are as many as states are saved at once: at most 257, and those of jobs. */
+ * A refused call leaves no requests.
+ * The least free slots are always taken, so the slots are as many as states are saved at once: at most 257, and those of jobs. */
 enum {
     FAZGROND_LOAD = 1, FAZGROND_SAVE = 2, FAZGROND_STEP = 3, FAZGROND_FREE = 4,
     FAZGROND_JOB_LOAD = 5, FAZGROND_JOB_SAVE = 6, FAZGROND_JOB_STEP = 7
@@ -118,11 +117,10 @@ typedef struct fazgrond_reached {
 } fazgrond_reached;
 
 /* An entry of the log, which has all accepted calls in their order. `player` is that of LOCAL, REMOTE and DISCONNECT, `word`
- * that of LOCAL and REMOTE, `frame` that of REMOTE. PARTIAL is a roll to `frame` that was refused after `word` new states were
- * saved. What isn't said is 0; a GRAFT says nothing more. */
+ * that of LOCAL and REMOTE, `frame` that of REMOTE. What isn't said is 0; a GRAFT says nothing more. */
 enum {
     FAZGROND_LOCAL = 1, FAZGROND_REMOTE = 2, FAZGROND_DISCONNECT = 3, FAZGROND_SYNC = 4, FAZGROND_ADVANCE = 5,
-    FAZGROND_GRAFT = 6, FAZGROND_PARTIAL = 7
+    FAZGROND_GRAFT = 6
 };
 
 typedef struct fazgrond_entry {
@@ -222,7 +220,8 @@ size_t fazgrond_take_requests(fazgrond_session *session, fazgrond_request *out, 
 /* A guess: if this player gave these words next, the first of them for the first frame whose word isn't known. Leaves the
  * requests of a job, which is to run the frames that this would make up to frame `until`, 8 at most, and gives the job a
  * number. FAZGROND_NOTHING if all of them are kept already. A job's requests may be carried out on another thread, beside all
- * others, since nothing else writes to their slots. When they are done, the number is handed to fazgrond_graft; if the guess
+ * others and at any time: until it is grafted or forgotten, no other request writes to the slot that it loads, and none touches
+ * the slots that it saves to. When they are done, the number is handed to fazgrond_graft; if the guess
  * is right, the next rollback then starts behind these frames. */
 int32_t fazgrond_guess(fazgrond_session *session, uint8_t player, const uint32_t *words, size_t count, uint32_t until,
                        uint32_t *job);
@@ -236,8 +235,9 @@ int32_t fazgrond_forget(fazgrond_session *session, uint32_t job);
 
 /* For a game with room for so many states: from now on nothing is saved in a slot from this one on. A call that would need one is
  * refused with FAZGROND_NO_MEMORY. Without jobs, the settings' threshold and three are enough. With guesses more are needed: each
- * job takes a slot for each of its rows until it is forgotten, or its states were grafted and are freed. If there are too few, it
- * is a call that rolls back which is refused: frame and words are as before, and once jobs were forgotten it can be made again. */
+ * job takes a slot for each of its rows until it is forgotten, or its states were grafted and are freed; and while it is out, the
+ * slot that it loads isn't freed. A call that is refused for this has changed nothing, and can be made again: a guess once slots
+ * were freed, a call that rolls back once jobs were forgotten. */
 int32_t fazgrond_limit_slots(fazgrond_session *session, uint32_t slots);
 
 /* Makes room for so many more events: none of them is then refused for want of memory by the log. */
@@ -268,8 +268,8 @@ int32_t fazgrond_input_frame(fazgrond_session *session, uint8_t player, uint32_t
 /* How many entries the log has. */
 int32_t fazgrond_log_length(fazgrond_session *session, size_t *entries);
 
-/* The entry at a place of the log, counted from 0. A log without GRAFT and PARTIAL is a replay: a new session with the same
- * settings, of which these calls are made in turn, accepts each of them and comes to the same. */
+/* The entry at a place of the log, counted from 0. A log without GRAFT is a replay: a new session with the same settings, of
+ * which these calls are made in turn, accepts each of them and comes to the same. */
 int32_t fazgrond_log_entry(fazgrond_session *session, size_t place, fazgrond_entry *entry);
 
 /* Notes by how many frames this machine is behind the other one, and the other behind this one, as it told last; a machine that

@@ -194,11 +194,7 @@ public:
     Code guess(std::uint8_t player, const std::uint32_t *words, std::size_t count, std::uint32_t until, std::uint32_t &job,
                CarryOut &&carry_out) {
         Code code = Code(fazgrond_guess(handle.get(), player, words, count, until, &job));
-        take_requests([&](const Request &request) {
-            // A guess that is refused half-way leaves requests of no job.
-            if (code == Code::ok || request.kind < FAZGROND_JOB_LOAD)
-                carry_out(request);
-        });
+        take_requests(carry_out);
         return code;
     }
 

@@ -32,6 +32,9 @@ static struct game {
 /* The one of whom a call is being made: GGPO's callbacks aren't told. */
 static struct game *game;
 
+/* Whether the other has closed its session. */
+static bool is_alone;
+
 /* Each byte of an input is its own: words that were mixed up would show. */
 static unsigned char byte_of(int player, int frame, int at) {
     return (unsigned char)((unsigned)(frame / (at % 3 + 1) * 16 + player * INPUT + at) * 2654435761u >> 24);
@@ -127,7 +130,8 @@ static void turn(int me) {
     MUST(code == GGPO_OK || code == GGPO_ERRORCODE_PREDICTION_THRESHOLD || code == GGPO_ERRORCODE_NOT_SYNCHRONIZED);
     if (code == GGPO_OK) {
         MUST(ggpo_synchronize_input(game->session, inputs, sizeof inputs, &flags) == GGPO_OK);
-        MUST(flags == (game->left != 0 ? 1 << (1 - me) : 0) || flags == 0);
+        /* (a row may say that the other has left in the turn in which that is heard, before ggpo_idle tells of it) */
+        MUST(flags == 0 || (is_alone && flags == 1 << (1 - me)));
         step(inputs);
         MUST(ggpo_advance_frame(game->session) == GGPO_OK);
     }
@@ -196,6 +200,7 @@ int main(int count, char **words) {
     /* The second goes, with packets on their way; the first plays on alone. */
     game = &games[1];
     MUST(ggpo_close_session(game->session) == GGPO_OK && game->buffers == 0);
+    is_alone = true;
     for (int turns = 0; games[0].left == 0 || settled(0) < FRAMES + 100; turns++) {
         MUST(turns < 60 * FRAMES);
         turn(0);

@@ -27,11 +27,11 @@ number_in (Err why) before = before
 pub record IsGuessed (player : ℕ) (words : List ℕ) (until : ℕ) (old new : Live) (before after : ℕ) (code : ℤ) : Type 0 where
   pub result : Result (Option ℕ) Refusal
   pub job : IfOk result (IsNumbered (guess_job_of still old.session.seen player words until)
-      old.session.jobs new.session.jobs)
+      old.session new.session)
   pub accepted : OnOk result (guess_refusal_of old.session.seen player words until ≡ None)
   pub adds : OnOk result (Adds old.session.limit 0
       (rows_to_run (guess_job_of still old.session.seen player words until))
-      old.session.requests new.session.requests)
+      old.session.jobs old.session.requests new.session.requests)
   pub refused : IfErr result
       (IsNotGuessed (guess_refusal_of old.session.seen player words until) old.session.jobs)
   pub unasked : OnErr result (new.session.requests ≡ old.session.requests)

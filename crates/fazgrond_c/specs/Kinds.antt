@@ -1,5 +1,5 @@
 -- What C sees of settings, rows and requests.
-use Rattle.std.specs.Prelude.{◌≡◌, ◌⊎◌, ◌≤◌, ℕ, ◌-◌, List, ◌++◌, length, map, replicate}
+use Rattle.std.specs.Prelude.{◌≡◌, ◌⊎◌, ◌≤◌, ◌-◌, List, ◌++◌, length, map, replicate}
 use Rattle.roll_frame.specs.Packed.{bits_of}
 use Rattle.roll_frame.specs.Words.{word_of}
 use Rattle.roll_frame.specs.declared.profile.Profile.TheVariants.{Ggpo, Wide}

@@ -1,5 +1,5 @@
 -- What a call of a line at its host comes to.
-use Rattle.std.specs.Prelude.{◌≡◌, ◌≢◌, ◌⊎◌, ℕ, ℤ, pos, List, Option, Some, None, IfNone, IfSome, IsSomeAnd, if◌then◌else◌}
+use Rattle.std.specs.Prelude.{◌≡◌, ◌⊎◌, ℕ, ℤ, pos, List, Option, Some, None, IfNone, IfSome, if◌then◌else◌}
 use Rattle.roll_frame.specs.Core.{Core}
 use Rattle.roll_contact.specs.Contacts.{is_playing}
 use Rattle.roll_viewer.specs.Ends.{Hosted, host_sends, host_told, ignored_by_host, opened_host, HostHears}

@@ -8,7 +8,7 @@ use Rattle.roll_frame.specs.Timeline.{row_at}
 use Rattle.roll_frame.specs.declared.row.Cell.{Cell}
 use Rattle.roll_frame.specs.declared.refusal.Refusal.{Refusal}
 use Rattle.roll_frame.specs.declared.reply.Reply.{Reply}
-use Rattle.roll_frame.specs.declared.reply.Reply.TheVariants.{Refused, Repeated, Synchronized, Taken, Reached}
+use Rattle.roll_frame.specs.declared.reply.Reply.TheVariants.{Repeated, Synchronized, Taken, Reached}
 use Rattle.roll_cert.specs.Texts.{claim_lines}
 use Rattle.roll_frame.specs.declared.settings.Settings.{Settings}
 use Rattle.roll_game.specs.Counts.{no_calls}

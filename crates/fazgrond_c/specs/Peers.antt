@@ -1,5 +1,5 @@
 -- What a call of a peer through a handle comes to.
-use Rattle.std.specs.Prelude.{◌≡◌, ◌≢◌, ◌⊎◌, ◌<◌, ◌≤◌, ℕ, ℤ, pos, List, ◌++◌, drop, length, slice_get, not, nat_lt, ◌&&◌, ◌||◌, is_none, Option, Some, None, IfNone, IfSome, IsSome, IsSomeAnd, MatchOption, Result, Ok, Err, IfErr, IfOk, OnErr, OnOk, if◌then◌else◌}
+use Rattle.std.specs.Prelude.{◌≡◌, ◌≢◌, ◌⊎◌, ℕ, ℤ, pos, List, ◌++◌, drop, length, slice_get, not, nat_lt, ◌&&◌, ◌||◌, is_none, Option, Some, None, IfNone, IfSome, IsSome, MatchOption, Result, Ok, Err, IfErr, IfOk, OnErr, OnOk, if◌then◌else◌}
 use Rattle.roll_contact.specs.Contacts.{is_playing}
 use Rattle.roll_frame.specs.Core.{settled}
 use Rattle.roll_member.specs.Beside.{IsOf}
@@ -25,7 +25,6 @@ use Rattle.roll_requests.specs.Made.{Keeps}
 use Rattle.roll_session.specs.Gameless.{still}
 use Rattle.roll_session.specs.Seen.{Seen}
 use Rattle.roll_wire.specs.Spelling.{Leaves}
-use Rattle.roll_wire.specs.declared.limits.TheConstants.{DATAGRAM_LIMIT}
 use Rattle.fazgrond_c.specs.Handles.{peer_in, session_in, Opens}
 use Rattle.fazgrond_c.specs.PeerKinds.{code_of_ignored, code_of_mesh, code_of_open, code_of_refusal, event_out, stats_out, AreMatched, HasNoRoom}
 use Rattle.fazgrond_c.specs.declared.live.Live.{Live}

@@ -55,13 +55,6 @@ pub enum Entry {
     Advance,
     /// The branch of a job was taken in.
     Graft,
-    /// A roll that was refused when a part of it was done.
-    Partial {
-        /// The frame that it was to go to.
-        to: u32,
-        /// How many new states were saved by then.
-        saved: u32,
-    },
 }
 
 /// What the game is to do next. Its slots are places for states, counted from 0; there are at most 257, and those of jobs.
@@ -167,7 +160,7 @@ impl Handle {
     }
 
     /// From now on nothing is saved in a slot from this one on: a call that would need one is refused with
-    /// [`Error::NoMemory`].
+    /// [`Error::NoMemory`], and has changed nothing.
     pub fn limit_slots(&mut self, slots: u32) {
         let answer = said(unsafe { raw::fazgrond_limit_slots(self.raw(), slots) });
         debug_assert!(answer.is_ok(), "an open session takes any limit");
@@ -214,7 +207,6 @@ impl Handle {
             4 => Entry::Sync,
             5 => Entry::Advance,
             6 => Entry::Graft,
-            7 => Entry::Partial { to: frame, saved: word },
             kind => unreachable!("an entry of the kind {kind}"),
         })
     }

@@ -130,9 +130,8 @@ impl<G: Game> Session<G> {
         G::State: Clone,
     {
         self.forget_dropped()?;
-        let answer = self.handle.guess(player, words, until);
+        let answer = self.handle.guess(player, words, until)?;
         let (mut start, mut rows, mut slots) = (0, Vec::new(), Vec::new());
-        // A guess that is refused half-way leaves requests too. They are not carried out.
         for request in self.handle.requests() {
             match request {
                 Request::JobLoad(slot) => start = slot,
@@ -144,7 +143,7 @@ impl<G: Game> Session<G> {
                 other => unreachable!("a guess asks for {other:?}"),
             }
         }
-        let Some(number) = answer? else { return Ok(None) };
+        let Some(number) = answer else { return Ok(None) };
         let ticket = self.jobs.add(number, slots);
         let start = self.slots[start].clone().expect("a slot that a job loads is taken");
         Ok(Some(Job { ticket, start, rows }))
@@ -165,8 +164,9 @@ impl<G: Game> Session<G> {
 
     /// From now on at most so many states are saved, in the slots below this one: a call that would need one more is refused
     /// with [`Error::NoMemory`]. Without guesses, the prediction threshold and three are enough. With guesses more are needed: each
-    /// job takes a slot for each of its rows until it is dropped, or its states were grafted and nothing needs them any more. A roll
-    /// that finds none leaves frame and words as they were, and can be made again once jobs were dropped.
+    /// job takes a slot for each of its rows until it is dropped, or its states were grafted and nothing needs them any more; and the
+    /// state that it starts from is kept as long as it is out. A call that finds too few changes nothing, and can be made again
+    /// once jobs were dropped.
     pub fn limit_slots(&mut self, slots: u32) {
         self.handle.limit_slots(slots);
     }
@@ -246,7 +246,7 @@ impl<G: Game> Session<G> {
         self.handle.input_frame(player)
     }
 
-    /// Makes a call that rolls, and carries out what it asks for, even if it is refused half-way.
+    /// Makes a call that rolls, and carries out what it asks for.
     fn roll<T>(&mut self, call: fn(&mut Handle) -> Result<T, Error>) -> Result<T, Error> {
         self.forget_dropped()?;
         self.is_whole = false;

@@ -143,6 +143,11 @@ impl Slots {
     fn least_free(&self) -> usize {
         self.slots.iter().position(|place| matches!(place, Place::Free)).unwrap_or(self.slots.len())
     }
+
+    /// How many slots are free.
+    fn free(&self) -> usize {
+        self.limit - self.slots.iter().filter(|place| !matches!(place, Place::Free)).count()
+    }
 }
 
 /// A job that is out: what is left of it to be carried out, and the same job of the session.
@@ -354,22 +359,18 @@ impl Script {
         };
 
         let answer = self.handle.guess(player, &words, until);
+        let free = self.game.free();
         self.take_requests();
         self.note("guess", &answer);
         let requests = mem::take(&mut self.game.of_job);
         let of_session = self.session.guess(player, &words, until);
         let want = self.model.guess(player, &words, until);
-        if answer == Err(Error::NoMemory) && self.game.least_free() >= self.game.limit {
-            assert!(matches!(want, Ok(Some(_))));
-            assert_eq!(of_session.err(), Some(Error::NoMemory));
-            for request in requests {
-                if let Request::JobSave(slot) = request {
-                    self.game.slots[slot] = Place::GivenUp;
-                }
-            }
-            return;
-        }
         match want {
+            Ok(Some(want)) if want.rows.len() > free => {
+                assert!(requests.is_empty(), "a refused guess asks for nothing");
+                assert_eq!(answer, Err(Error::NoMemory));
+                assert_eq!(of_session.err(), Some(Error::NoMemory));
+            }
             Ok(Some(want)) => {
                 let Ok(Some(number)) = answer else { panic!("a guess that gives a job is answered {answer:?}") };
                 self.model.add_job(number, want.clone());
@@ -522,7 +523,7 @@ impl Script {
         self.take_requests();
         if answer == Err(Error::NoMemory) {
             assert_eq!(self.session.advance_frame(), answer);
-            return self.rolled_in_part(true);
+            return self.found_no_slot(1);
         }
         let want = self.model.advance_frame();
         assert_eq!(answer, want);
@@ -536,7 +537,7 @@ impl Script {
         self.take_requests();
         if answer == Err(Error::NoMemory) {
             assert_eq!(self.session.synchronize_input(), answer);
-            return self.rolled_in_part(false);
+            return self.found_no_slot(0);
         }
         let want = self.model.synchronize_input();
         assert_eq!(answer.map(|row| row.cells().collect::<Vec<_>>()), want);
@@ -599,12 +600,14 @@ impl Script {
         }
     }
 
-    /// A roll found no slot for its next state.
-    fn rolled_in_part(&mut self, is_advance: bool) {
+    /// A roll by so many frames is refused for want of slots, before it has done anything.
+    fn found_no_slot(&mut self, by: u32) {
         assert!(self.kind.has_limit && self.kind.guesses > 0, "there are slots enough");
-        assert!(self.game.least_free() >= self.game.limit, "a slot is free");
-        self.model.roll_in_part(is_advance, self.game.saves);
-        self.has_rolled = false;
+        assert_eq!(self.game.requests, 0, "a refused roll asks for nothing");
+        // The states that are kept, those of jobs, and the one from which each starts, which may be kept too.
+        let of_jobs: usize = self.jobs.iter().map(|job| 1 + job.slots.len()).sum();
+        let held = self.model.kept() + of_jobs;
+        assert!(held + self.model.rerun(by) > self.game.limit, "there were slots enough");
         self.note("roll", &Err::<(), _>(Error::NoMemory));
     }
 

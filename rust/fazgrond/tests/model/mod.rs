@@ -235,14 +235,10 @@ impl Model {
         Ok(Reached { frame: frame as u32, from: self.from as u32, rerun: (frame - self.from) as u32 })
     }
 
-    /// A roll of which no more than so many states could be saved.
-    pub fn roll_in_part(&mut self, is_advance: bool, saved: usize) {
-        assert!(!is_advance || !self.lacks_words());
-        self.log().expect("no memory is asked for if the log is full");
-        let rows = self.timeline(self.frame + usize::from(is_advance));
-        let (from, _) = self.paths.longest(&rows);
-        assert!(from + saved < rows.len(), "a roll that saved all is no partial one");
-        self.paths.save(&rows[..from + saved], from, By::Roll);
+    /// How many frames a roll by so many frames would run.
+    pub fn rerun(&self, by: u32) -> usize {
+        let rows = self.timeline(self.frame + by as usize);
+        rows.len() - self.paths.longest(&rows).0
     }
 
     /// Why a guess is refused, or what its job is to run, if anything.
@@ -357,7 +353,7 @@ impl Model {
     }
 
     /// How many paths are kept.
-    fn kept(&self) -> usize {
+    pub fn kept(&self) -> usize {
         let settled = self.settled() as usize;
         let node = self.paths.node(&self.timeline(settled)).expect("the settled path is saved");
         self.paths.count(node, settled, &|frame, row| self.may_be(frame, row))
