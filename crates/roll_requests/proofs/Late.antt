@@ -130,8 +130,10 @@ module _ (step : Step) (row : ℕ → List Cell) (slots : List ℕ) where
     where
       A : Elsewhere Value
       A = carried step (AdvanceAside (row n)) (aside_run n a)
+
       B : Elsewhere Value
       B = carried step (AdvanceAside (row n)) (aside_run n b)
+
       go : (k d : ℕ) → k < suc n → A.aside ≡ B.aside → RunsSame n (aside_run n a) (aside_run n b) → (k < n) ⊎ (n ≤ k) → (carried step (SaveAside (get_or slots n 0)) A).slots (get_or slots k d) ≡ (carried step (SaveAside (get_or slots n 0)) B).slots (get_or slots k d)
       go k d less now before (inl low) = stored_same (get_or slots n 0) (get_or slots k d) (Some A.aside) (Some B.aside) A.slots B.slots (ap Some now) (before.made k d low)
       go k d less now before (inr high) =

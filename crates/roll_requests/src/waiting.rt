@@ -12,5 +12,4 @@ ghost use Rattle.roll_requests.specs.declared.request.Request.{Request};
 pub fn jobs_may_wait()
     ensures { (step : Step) (there : Elsewhere Value) (job : Guessed) (requests : List Request)
         → MayWait step there job requests }
-{
-}
+{}

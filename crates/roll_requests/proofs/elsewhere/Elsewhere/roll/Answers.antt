@@ -134,10 +134,10 @@ returns-clause-rolls c =
       rerun_is = ap (λ n. way.to - n) e.from;
       least = subst (λ (k : Core). IsLeast k way.to) core least;
       adds = roll_adds i.limit i.at a.0.snapshot i.taken room.held row room.slots.items (cost i.core.seen.core way.to) i.jobs i.queue.requests c.ask_roll-self-inside.new.queue.requests e.room.free.below many
-      (λ n job there.
-      let off = start_outside mid c.enter.new.self c.args.call way room i.limit i.jobs (done_of c) (own_of c) a.0 a.1 n job there in
-      roll_apart job room.held (e.room.held.out n job there) i.limit i.at a.0.snapshot i.taken row room.slots.items off e.room.free)
-      list;
+          (λ n job there.
+          let off = start_outside mid c.enter.new.self c.args.call way room i.limit i.jobs (done_of c) (own_of c) a.0 a.1 n job there in
+          roll_apart job room.held (e.room.held.out n job there) i.limit i.at a.0.snapshot i.taken row room.slots.items off e.room.free)
+          list;
     })
 
 pub returns-clause-leads : goal.returns-clause-leads
