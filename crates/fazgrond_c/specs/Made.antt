@@ -1,11 +1,12 @@
 -- What a call through a handle comes to.
-use Rattle.std.specs.Prelude.{◌≡◌, ◌≢◌, ◌⊎◌, ℕ, ℤ, List, [], ◌++◌, drop, length, map, max, min, take, nat_lt, IsSomeAnd, if◌then◌else◌, pos, Result, Ok, Err, IfOk, IfErr, Option, Some, None, IfSome}
+use Rattle.std.specs.Prelude.{◌≡◌, ◌≢◌, ◌⊎◌, ◌≤◌, ◌<◌, ℕ, ℤ, List, [], ◌++◌, drop, length, map, max, min, take, nat_lt, IsSomeAnd, if◌then◌else◌, pos, Result, Ok, Err, IfOk, IfErr, OnOk, Option, Some, None, IfSome}
 use Rattle.roll_frame.specs.Advice.{noted}
 use Rattle.roll_frame.specs.Codes.{code_of}
 use Rattle.roll_frame.specs.Core.{Core, settled}
 use Rattle.roll_frame.specs.Settings.{start_refusal}
 use Rattle.roll_frame.specs.Timeline.{row_at}
 use Rattle.roll_frame.specs.declared.row.Cell.{Cell}
+use Rattle.roll_frame.specs.declared.claim.Claim.{Claim}
 use Rattle.roll_frame.specs.declared.refusal.Refusal.{Refusal}
 use Rattle.roll_frame.specs.declared.reply.Reply.{Reply}
 use Rattle.roll_frame.specs.declared.reply.Reply.TheVariants.{Repeated, Synchronized, Taken, Reached}
@@ -15,7 +16,7 @@ use Rattle.roll_game.specs.Counts.{no_calls}
 use Rattle.roll_requests.specs.Asked.{Asked, IsSettledSlot, Leads}
 use Rattle.roll_requests.specs.Made.{IsMade as IsMadeOf, IsNotMade as IsNotMadeOf, KeepsLeading}
 use Rattle.roll_requests.specs.declared.request.Request.{Request}
-use Rattle.roll_session.specs.Changes.{IsWhy}
+use Rattle.roll_session.specs.Changes.{reserve_refusal, FitsLog, IsWhy}
 use Rattle.roll_session.specs.Headline.{last_claim}
 use Rattle.roll_session.specs.Started.{first_seen}
 use Rattle.roll_session.specs.declared.event.Call.{Call}
@@ -115,15 +116,31 @@ reached_in said = None
 abbrev pub settled_row : Core → ℕ → Option (List Cell)
 settled_row core frame = if nat_lt frame (settled core) then Some (row_at core.players frame) else None
 
--- room was made for so many more events, or nothing is changed
-pub record IsReserved (events : ℕ) (old new : Live) (code : ℤ) : Type 0 where
-  pub made : code ≡ pos 0 → new ≡ record old {
+-- room was made for so many more events
+pub record HasReserved (events : ℕ) (old new : Live) : Type 0 where
+  pub fits : FitsLog old.session.seen events
+  pub made : new ≡ record old {
     session = record old.session {
       seen = record old.session.seen { reserved = max old.session.seen.reserved events };
     };
   }
+
+-- it wasn't: the log would pass its limit, or memory ran out, which it doesn't for what was reserved before; nothing is changed
+pub record HasNotReserved (events : ℕ) (old new : Live) (why : Refusal) : Type 0 where
+  pub refused : IsWhy (reserve_refusal old.session.seen events) why
+  pub short : FitsLog old.session.seen events → old.session.seen.reserved < events
+  pub unchanged : new ≡ old
+
+abbrev pub code_of_reserve : Result Unit Refusal → ℤ
+code_of_reserve (Ok done) = pos 0
+code_of_reserve (Err why) = pos (code_of why)
+
+pub record IsReserved (events : ℕ) (old new : Live) (code : ℤ) : Type 0 where
+  pub result : Result Unit Refusal
+  pub made : OnOk result (HasReserved events old new)
+  pub refused : IfErr result (HasNotReserved events old new)
   pub leads : KeepsLeading old.session new.session
-  pub refused : code ≢ pos 0 → new ≡ old
+  pub code_is : code ≡ code_of_reserve result
 
 -- a session of a game elsewhere at its start: the opening is current there, and in slot 0, and nothing is asked for
 pub record IsStarted (settings : Settings) (session : Asked) : Type 0 where
@@ -156,14 +173,25 @@ IsWhyClosed given code =
     ((code ≡ pos 205) × (given.size ≢ SETTINGS_SIZE))
     ⊎ (((code ≡ pos 11) × HaveNoRoom given) ⊎ (IsUnfit given code ⊎ (code ≡ pos 107)))
 
--- the text of the last claim is written to the front of a buffer, if it has room
-pub record IsClaimed (old new : Option Open) (before after : List ℕ) (size : ℕ) (code : ℤ) : Type 0 where
+-- the text of a claim is written to the front of a buffer if it has room, and its length is told also if it has none; or memory
+-- ran out
+abbrev pub IsWritten : (text before after : List ℕ) → (had size : ℕ) → (code : ℤ) → Type 0
+IsWritten text before after had size code =
+    ((length text ≤ length before) × ((code ≡ pos 0) × ((after ≡ text ++ drop (length text) before) × (size ≡ length text))))
+    ⊎ (((length before < length text) × ((code ≡ pos 204) × ((after ≡ before) × (size ≡ length text))))
+    ⊎ ((code ≡ pos 107) × ((after ≡ before) × (size ≡ had))))
+
+-- if there was no rollback yet, there is no claim
+abbrev pub IsClaimOf : Option Claim → (before after : List ℕ) → (had size : ℕ) → (code : ℤ) → Type 0
+IsClaimOf None before after had size code =
+    (code ≡ pos 117) × ((after ≡ before) × (size ≡ had))
+IsClaimOf (Some claim) before after had size code =
+    IsWritten (text_of (claim_lines claim)) before after had size code
+
+pub record IsClaimed (old new : Option Open) (before after : List ℕ) (had size : ℕ) (code : ℤ) : Type 0 where
   pub kept : new ≡ old
-  pub closed : session_in old ≡ None → code ≡ pos 201
-  pub written : code ≡ pos 0 → IfSome (session_in old) (λ live. IfSome (last_claim live.session.seen) (λ claim.
-      (after ≡ text_of (claim_lines claim) ++ drop size before)
-      × (size ≡ length (text_of (claim_lines claim)))))
-  pub unwritten : code ≢ pos 0 → after ≡ before
+  pub closed : session_in old ≡ None → (code ≡ pos 201) × ((after ≡ before) × (size ≡ had))
+  pub read : IfSome (session_in old) (λ live. IsClaimOf (last_claim live.session.seen) before after had size code)
 
 -- the next requests are handed out, in order, as many as there is room for, and written to the front of a buffer; all that was
 -- handed out and is still to be leads where it did

@@ -1,5 +1,5 @@
 //! A session of a game elsewhere, and how far its machine was behind.
-ghost use Rattle.std.specs.Prelude.{◌≡◌, [], IfErr, IfOk, IfSome};
+ghost use Rattle.std.specs.Prelude.{◌≡◌, [], is_none, IfErr, IfOk, IsSomeAnd, if◌then◌else◌};
 ghost use Rattle.roll_cert.specs.Texts.{claim_lines};
 ghost use Rattle.roll_frame.specs.Settings.{start_refusal};
 ghost use Rattle.roll_session.specs.Changes.{IsWhy};
@@ -45,8 +45,10 @@ impl Live {
     ///
     /// `NoPlan` if there was none, else `NoMemory`.
     pub fn claim(&self, alloc: Global) -> Result<Vec<u8>, Refusal>
-        ensures { IfOk result (λ text. IfSome (last_claim self.now.session.seen)
+        ensures text { IfOk result (λ text. IsSomeAnd (last_claim self.now.session.seen)
             (λ claim. text.items ≡ text_of (claim_lines claim))) }
+        ensures refused { IfErr result (λ why. why
+            ≡ (if is_none (last_claim self.now.session.seen) then Refusal.NoPlan else Refusal.NoMemory)) }
     {
         let claim = self.session.claim(alloc)?;
         let text = write(alloc, &claim)?;

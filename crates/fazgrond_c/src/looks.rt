@@ -1,5 +1,5 @@
 //! What is read of a session, for games in other languages.
-ghost use Rattle.std.specs.Prelude.{◌≡◌, ◌≢◌, ◌++◌, drop, length, option_and_then, option_map, pos, slice_get, None, Some, if◌then◌else◌};
+ghost use Rattle.std.specs.Prelude.{◌≡◌, ℕ, length, option_and_then, option_map, pos, slice_get, None, Some, if◌then◌else◌};
 ghost use Rattle.roll_frame.specs.Advice.{advice_of};
 ghost use Rattle.roll_frame.specs.Core.{settled as settled_frame};
 ghost use Rattle.roll_frame.specs.Inputs.{player_at};
@@ -7,11 +7,13 @@ ghost use Rattle.roll_inputs.specs.Boards.{confirmed_word};
 ghost use Rattle.roll_peer.specs.Turning.{ends_in_roll};
 ghost use Rattle.fazgrond_c.specs.Handles.{session_in, Reads, ReadsSome};
 ghost use Rattle.fazgrond_c.specs.Kinds.{entry_out, row_out};
-ghost use Rattle.fazgrond_c.specs.Made.{settled_row, IsClaimed, IsSettledAt};
+ghost use Rattle.fazgrond_c.specs.Made.{settled_row, IsClaimOf, IsClaimed, IsSettledAt, IsWritten};
+ghost use Rattle.roll_session.specs.Headline.{last_claim};
 
 use crate::calls::{CLOSED, NOTHING, TOO_SHORT};
 use crate::handle::Handle;
 use crate::kinds::{EntryOut, RowOut};
+use crate::live::Live;
 use crate::open::Open;
 use crate::reads::{entry_at, input_frame, written};
 use roll_peer::ends_in_roll;
@@ -275,8 +277,8 @@ pub extern "C" fn fazgrond_claim(
     out: &mut [u8],
     size: &mut usize,
 ) -> i32
-    ensures { IsClaimed handle.old.hold.value handle.new.hold.value out.old out.new size.new
-        result }
+    ensures { IsClaimed handle.old.hold.value handle.new.hold.value out.old out.new size.old
+        size.new result }
 {
     let Some(held) = handle.take(alloc) else {
         return CLOSED;
@@ -285,9 +287,17 @@ pub extern "C" fn fazgrond_claim(
         handle.put(held);
         return CLOSED;
     };
-    let text = live.claim(alloc);
+    let code = claim(alloc, live, out, size);
     handle.put(held);
-    match text {
+    code
+}
+
+/// Writes the claim of the last rollback, if the buffer has room for it.
+fn claim(alloc: Global, live: &Live, out: &mut [u8], size: &mut usize) -> i32
+    ensures { IsClaimOf (last_claim live.now.session.seen) out.old out.new size.old size.new
+        result }
+{
+    match live.claim(alloc) {
         Ok(text) => {
             *size = text.len();
             copied(out, text.as_slice())
@@ -298,8 +308,7 @@ pub extern "C" fn fazgrond_claim(
 
 /// Writes bytes to the front of a buffer, if it has room for them.
 fn copied(out: &mut [u8], bytes: &[u8]) -> i32
-    ensures fits { result ≡ pos 0 → out.new ≡ bytes.now ++ drop (length bytes.now) out.old }
-    ensures short { result ≢ pos 0 → out.new ≡ out.old }
+    ensures { (had : ℕ) → IsWritten bytes.now out.old out.new had (length bytes.now) result }
 {
     if bytes.len() > out.len() {
         return TOO_SHORT;
