@@ -3,7 +3,6 @@ pub mod Taking
 pub mod Joining
 pub mod Fates
 pub mod Speculating
-pub mod Copies
 pub mod Standing
 pub mod Running
 pub mod Branches

@@ -19,14 +19,15 @@ use Rattle.roll_host.specs.Guesses.{Speculates}
 use Rattle.roll_host.specs.Heard.{events_of}
 use Rattle.roll_host.specs.Hosted.{AddsLink, Hosted, ReservesLog}
 use Rattle.roll_host.specs.Pumps.{items_of}
-use Rattle.roll_host.specs.Requests.{bare, IsDoneBy}
+use Rattle.roll_host.specs.Requests.{IsDoneBy}
+use Rattle.roll_session.specs.Others.{bare}
 use Rattle.roll_host.specs.declared.absorb.Fate.{Fate}
 use Rattle.roll_host.specs.declared.absorb.Fate.TheVariants.{Added, Dropped, Unmade}
 use Rattle.roll_host.specs.declared.request.HostReply.{HostReply}
 use Rattle.roll_host.specs.declared.request.HostReply.TheVariants.{Session as Says, Pumped as HasPumped, Absorbed as HasAbsorbed, Speculated as HasSpeculated, LinkAdded, LinkEnded, LogReserved, Closed}
 use Rattle.roll_host.specs.declared.request.HostRequest.{HostRequest}
 use Rattle.roll_host.specs.declared.request.HostRequest.TheVariants.{Session as Asks, Pump, Absorb, Speculate, AddLink, EndLink, ReserveLog, Close}
-use Rattle.roll_host.proofs.Copies.{played_bare}
+use Rattle.roll_session.proofs.Copies.{played_bare}
 
 pub asked-append : (xs ys : List CoreEvent) → AreAsked xs → AreAsked ys → AreAsked (xs ++ ys)
 asked-append [] ys h k = k

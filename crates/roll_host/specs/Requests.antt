@@ -8,6 +8,7 @@ use Rattle.roll_link.specs.Rings.{Ring}
 use Rattle.roll_session.specs.Answered.{IsPlayed, IsReplied, IsShort}
 use Rattle.roll_session.specs.Calls.{asked}
 use Rattle.roll_session.specs.Changes.{FitsLog}
+use Rattle.roll_session.specs.Others.{bare}
 use Rattle.roll_session.specs.Seen.{Seen, Step}
 use Rattle.roll_host.specs.Absorbs.{events_of_all, IsAbsorbed}
 use Rattle.roll_host.specs.Guesses.{Speculates}
@@ -19,11 +20,6 @@ use Rattle.roll_host.specs.declared.request.HostReply.TheVariants.{Session as Sa
 use Rattle.roll_host.specs.declared.request.HostRequest.{HostRequest}
 use Rattle.roll_host.specs.declared.request.HostRequest.TheVariants.{Session as Asks, Pump, Absorb, Speculate, AddLink, EndLink, ReserveLog, Close}
 use Rattle.roll_host.specs.declared.limits.TheConstants.{LINK_LIMIT}
-
--- a session but for the copies that its game made, and for what is reserved: a guess has a copy made, and is no event; nor is
--- it one that room is made for events
-abbrev pub bare : Seen → Seen
-bare s = record s { counts = record s.counts { copies = 0 }; reserved = 0 }
 
 -- the links after a reply
 abbrev pub rings_after : List Ring → HostReply → List Ring

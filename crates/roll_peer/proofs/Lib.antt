@@ -7,3 +7,5 @@ pub mod Believed
 pub mod Naming
 pub mod Current
 pub mod Ties
+pub mod Rolls
+pub mod Running

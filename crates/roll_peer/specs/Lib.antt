@@ -12,3 +12,6 @@ pub mod Receiving
 pub mod Turning
 pub mod Sending
 pub mod Laws
+pub mod Rolling
+pub mod Requests
+pub mod Headline

@@ -1,9 +1,10 @@
 //! A turn: silent machines are gone, players leave, and the session goes on.
-ghost use Rattle.std.specs.Prelude.{◌≡◌, ◌<◌, ◌≤◌, true, false, None, Some, IfErr, OnOk, if◌then◌else◌, slice_get};
+ghost use Rattle.std.specs.Prelude.{◌≡◌, ◌<◌, ◌≤◌, true, false, None, Some, Err, IfErr, OnOk, if◌then◌else◌, slice_get};
 ghost use Rattle.std.specs.Option.{option_map_or};
 ghost use Rattle.roll_member.specs.Joined.{IsTied};
 ghost use Rattle.roll_mesh.specs.declared.limits.TheConstants.{MACHINE_LIMIT};
 ghost use Rattle.roll_peer.specs.Receiving.{meeting, moment_of, ticking};
+ghost use Rattle.roll_peer.specs.Rolling.{RollsOnce, TurnsOnce};
 ghost use Rattle.roll_session.specs.Changes.{after_sync, sync_refusal, IsRollRefused};
 ghost use Rattle.roll_peer.specs.Turning.{are_ready, begun, ends_in_roll, farewell_at, farewell_until, has_waited, held_up_by, hushed_at, hushed_until, is_graft, is_missed, is_ready_at, is_roll, looked_after, missed_at, missed_until, moved_to, over, silenced_at, silenced_until, stall_told, watched_at, watched_until, IsParted, IsPolled, IsUpToDate, Plays, Polls, Turns};
 
@@ -30,6 +31,8 @@ impl Peer {
     ) -> Result<Option<Reached>, PeerRefusal>
         ensures turned { Turns session.old session.new (ticking now self.old) self.new result }
         ensures shown { OnOk result (self.new.running ≡ true → IsUpToDate session.new) }
+        ensures once { TurnsOnce G.step session.old session.new
+            (result ≡ Err (PeerRefusal.Session Refusal.NoMemory)) }
     {
         self.poll(session, now)?;
         if !self.running {
@@ -321,6 +324,7 @@ impl Peer {
 fn play<G: Game>(session: &mut Session<G>) -> Result<Option<Reached>, Refusal>
     ensures played { Plays session.old session.new result }
     ensures shown { OnOk result (IsUpToDate session.new) }
+    ensures once { RollsOnce G.step session.old session.new (result ≡ Err Refusal.NoMemory) }
 {
     match session.advance_frame() {
         Ok(reached) => Ok(Some(reached)),
@@ -339,6 +343,7 @@ fn roll_back<G: Game>(session: &mut Session<G>) -> Result<(), Refusal>
     ensures shown { OnOk result (IsUpToDate session.new) }
     ensures refused { IfErr result (IsRollRefused (sync_refusal session.old) session.old session.new
         session.old.core.frame) }
+    ensures once { RollsOnce G.step session.old session.new (result ≡ Err Refusal.NoMemory) }
 {
     session.laws();
     if !ends_in_roll(session.log()) {

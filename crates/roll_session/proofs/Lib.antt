@@ -34,3 +34,5 @@ pub mod Headlines
 pub mod Shown
 pub mod Following
 pub mod Changes
+pub mod Copies
+pub mod Hearing

@@ -15,3 +15,4 @@ pub mod Grafting
 pub mod Guessing
 pub mod Replaying
 pub mod Changes
+pub mod Others

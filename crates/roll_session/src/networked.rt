@@ -26,7 +26,8 @@ pub trait Networked {
     /// What its game makes of a state and a row.
     ghost step: { Step };
 
-    /// What inputs leave as it was.
+    /// What words of others, and their leaving, make of it: of a session with a game that nothing else happened to it, of one
+    /// without, what they leave as it was.
     ghost keeps: { Self → Self → Type 0 };
 
     ghost keeps_itself: { (it : Self) → keeps it it };
@@ -118,15 +119,17 @@ pub trait Networked {
 }
 
 impl<G: Game> Networked for Session<G> {
+    ghost use Rattle.roll_session.specs.Others.{hears_more, hears_nothing, Hears};
+
     ghost seen = { λ session. session };
 
     ghost step = { G.step };
 
-    ghost keeps = { λ old new. Unit {0} };
+    ghost keeps = { Hears G.step };
 
-    ghost keeps_itself = { λ it. tt };
+    ghost keeps_itself = { hears_nothing G.step };
 
-    ghost keeps_on = { λ a b c x y. tt };
+    ghost keeps_on = { hears_more G.step };
 
     fn settings(&self) -> &Settings {
         self.settings()

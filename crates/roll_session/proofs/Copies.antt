@@ -12,7 +12,7 @@ use Rattle.roll_game.specs.declared.counts.Call.TheVariants.{Save, Advance as Tu
 use Rattle.roll_game.specs.declared.counts.Counts.{Counts}
 use Rattle.roll_session.specs.Answered.{counts_by, counts_from, IsPlayed}
 use Rattle.roll_session.specs.Seen.{Seen, Step, game_of}
-use Rattle.roll_host.specs.Requests.{bare}
+use Rattle.roll_session.specs.Others.{bare}
 
 -- what changes none of the counts that a rollback changes
 pub record IsAside (f : Counts → Counts) : Type 0 where
