@@ -40,14 +40,16 @@ heard_bytes step before after old new now bytes (Err why) heard ignored same = (
 module _ (step : Step) where
   rolled_by : (old new : Seen) (is_told : Type 0) → (is_told → ⊥) → RollsOnce step old new is_told → (events : List CoreEvent) × RollsBy step old new events
   rolled_by old new is_told never (inl same) = ([], inl (refl, same))
-  rolled_by old new is_told never (inr r) =
-      (event_of r.call ∷ [], inr (record {
-        call = r.call;
-        is_roll = r.is_roll;
-        said = r.said;
-        events_are = refl;
-        replied = replied_of step old new (event_of r.call) r.said r.answered (λ e. never (r.short e));
-      }))
+  rolled_by old new is_told never (inr r) = (
+    event_of r.call ∷ [],
+    inr (record {
+      call = r.call;
+      is_roll = r.is_roll;
+      said = r.said;
+      events_are = refl;
+      replied = replied_of step old new (event_of r.call) r.said r.answered (λ e. never (r.short e));
+    }),
+  )
 
   pub turned_by : (old new : Seen) (is_told : Type 0) → (is_told → ⊥) → TurnsOnce step old new is_told → (events : List CoreEvent) × TurnsBy step old new events
   turned_by old new is_told never t =

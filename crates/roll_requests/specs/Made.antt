@@ -10,6 +10,7 @@ use Rattle.roll_requests.specs.declared.request.Request.{Request}
 use Rattle.roll_session.specs.Answered.{with_entries, IsAnswered}
 use Rattle.roll_session.specs.Calls.{event_of}
 use Rattle.roll_session.specs.Gameless.{still}
+use Rattle.roll_session.specs.Others.{hears_more, hears_nothing, Hears}
 use Rattle.roll_session.specs.Seen.{game_of}
 use Rattle.roll_session.specs.declared.event.Call.{Call}
 use Rattle.roll_session.specs.declared.event.Call.TheVariants.{Sync, Advance}
@@ -19,16 +20,18 @@ use Rattle.roll_session.specs.declared.event.Reached.{Reached}
 abbrev pub KeepsLeading : Asked → Asked → Type 0
 KeepsLeading old new = (past : List Request) → Leads past old → Leads past new
 
--- an input asks for nothing, and is nothing to the jobs
+-- what others say is heard, asks for nothing, and is nothing to the jobs
 pub record Keeps (old new : Asked) : Type 0 where
+  pub hears : Hears still old.seen new.seen
   pub rest : new ≡ record old { seen = new.seen; saves = new.saves }
   pub leads : KeepsLeading old new
 
 pub keeps_itself : (it : Asked) → Keeps it it
-keeps_itself it = record { rest = refl; leads = λ past leads. leads }
+keeps_itself it = record { hears = hears_nothing still it.seen; rest = refl; leads = λ past leads. leads }
 
 pub keeps_on : (a b c : Asked) → Keeps a b → Keeps b c → Keeps a c
 keeps_on a b c one two = record {
+  hears = hears_more still a.seen b.seen c.seen one.hears two.hears;
   rest = subst (λ (e : Asked). c ≡ record e { seen = c.seen; saves = c.saves }) one.rest two.rest;
   leads = λ past leads. two.leads past (one.leads past leads);
 }

@@ -11,7 +11,6 @@ use Rattle.roll_session.proofs.Headlines.{AreAsked}
 use Rattle.roll_session.proofs.Turns.{IsAsked}
 use Rattle.roll_session.proofs.Runs.{played_more, played_none}
 
-
 pub hears_same : (step : Step) (old new : Seen) → bare old ≡ bare new → Hears step old new
 hears_same step old new same =
     record { said = []; are_said = same }
