@@ -6,7 +6,8 @@ use Rattle.roll_session.specs.Seen.{FollowsLog, Step}
 use Rattle.roll_host.proofs.Standing.{asked-append, done_stands}
 use Rattle.roll_host.specs.Headline.{EndsShort, IsHeadlineTo}
 use Rattle.roll_host.specs.Hosted.{Hosted}
-use Rattle.roll_host.specs.Requests.{all_events, bare, AreExchanges, Exchange, IsDoneTo, IsShortOf}
+use Rattle.roll_host.specs.Requests.{all_events, AreExchanges, Exchange, IsDoneTo, IsShortOf}
+use Rattle.roll_session.specs.Others.{bare}
 use Rattle.roll_host.specs.declared.request.HostReply.{HostReply}
 use Rattle.roll_host.specs.declared.request.HostRequest.{HostRequest}
 

@@ -12,7 +12,8 @@ use Rattle.roll_session.proofs.Runs.{played_more, played_none}
 use Rattle.roll_session.specs.Answered.{IsPlayed}
 use Rattle.roll_session.specs.Seen.{Step}
 use Rattle.roll_host.specs.Hosted.{Hosted}
-use Rattle.roll_host.specs.Requests.{all_events, bare, rings_after, AreExchanges, EndsOwn, Exchange, IsDone, IsDoneBy, IsDoneTo}
+use Rattle.roll_host.specs.Requests.{all_events, rings_after, AreExchanges, EndsOwn, Exchange, IsDone, IsDoneBy, IsDoneTo}
+use Rattle.roll_session.specs.Others.{bare}
 use Rattle.roll_host.specs.declared.request.HostReply.{HostReply}
 use Rattle.roll_host.specs.declared.request.HostReply.TheVariants.{Session as Says, Pumped as HasPumped, Absorbed as HasAbsorbed, Speculated as HasSpeculated, LinkAdded, LinkEnded, LogReserved, Closed}
 use Rattle.roll_host.specs.declared.request.HostRequest.{HostRequest}

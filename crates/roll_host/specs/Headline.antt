@@ -5,7 +5,8 @@ use Rattle.roll_session.specs.Answered.{replies_to}
 use Rattle.roll_session.specs.Headline.{Headline}
 use Rattle.roll_session.specs.Seen.{Seen, Step}
 use Rattle.roll_host.specs.Hosted.{Hosted}
-use Rattle.roll_host.specs.Requests.{all_events, bare, Exchange, IsDoneTo, IsShortOf}
+use Rattle.roll_host.specs.Requests.{all_events, Exchange, IsDoneTo, IsShortOf}
+use Rattle.roll_session.specs.Others.{bare}
 use Rattle.roll_host.specs.declared.request.HostReply.{HostReply}
 use Rattle.roll_host.specs.declared.request.HostRequest.{HostRequest}
 

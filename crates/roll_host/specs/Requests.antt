@@ -9,7 +9,7 @@ use Rattle.roll_session.specs.Answered.{IsPlayed, IsReplied, IsShort}
 use Rattle.roll_session.specs.Calls.{asked}
 use Rattle.roll_session.specs.Changes.{FitsLog}
 use Rattle.roll_session.specs.Others.{bare}
-use Rattle.roll_session.specs.Seen.{Seen, Step}
+use Rattle.roll_session.specs.Seen.{Step}
 use Rattle.roll_host.specs.Absorbs.{events_of_all, IsAbsorbed}
 use Rattle.roll_host.specs.Guesses.{Speculates}
 use Rattle.roll_host.specs.Heard.{events_of}
