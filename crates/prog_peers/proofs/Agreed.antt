@@ -26,7 +26,7 @@ module _ {M : Type 0} (me : M → ℕ) (member : M → Joined) where
   numbers_of (machine ∷ machines) = ap (λ (ns : List ℕ). me machine ∷ ns) (numbers_of machines)
 
   abbrev pub AreOver : PeersOptions → List M → Type 0
-  AreOver options machines = All (λ machine. IfStays options (λ member. IsOver member.session) (seated machine)) machines
+  AreOver options machines = All (λ machine. IfStays options (λ member. IsOver options member.session) (seated machine)) machines
 
   abbrev pub HaveAlike : PeersOptions → Step → List M → Type 0
   HaveAlike options step machines =
@@ -41,7 +41,7 @@ module _ {M : Type 0} (me : M → ℕ) (member : M → Joined) where
       numbers = numbers_of machines ∙ numbers;
       step = step;
       first = alike.0;
-      over = All-map (IfStays options (λ member. IsOver member.session)) seated machines over;
+      over = All-map (IfStays options (λ member. IsOver options member.session)) seated machines over;
       alike = All-map (IfStays options (AreAlike step alike.0)) seated machines alike.1;
     },
   )

@@ -20,9 +20,12 @@ pub record AreAlike (step : Step) (first second : Joined) : Type 0 where
   pub agree : Agree step first.session second.session
   pub left : IsLeftAlike first second
 
--- a machine has played its last frame, and settled it
-abbrev pub IsOver : Seen → Type 0
-IsOver s = (s.settings.limit ≤ s.core.frame) × (s.settings.limit ≤ settled s.core)
+-- a machine's session is that of a match with these options, and it has played the last frame that they ask for, and settled it
+abbrev pub IsOver : PeersOptions → Seen → Type 0
+IsOver options s =
+    (s.settings.limit ≡ options.common.frames) × (s.settings.threshold ≡ options.common.threshold)
+    × (s.settings.players ≡ options.machines)
+    × (options.common.frames ≤ s.core.frame) × (options.common.frames ≤ settled s.core)
 
 -- the number of a machine, and what it plays
 pub record Seated : Type 0 where
@@ -33,15 +36,15 @@ pub record Seated : Type 0 where
 pub record IfStays (options : PeersOptions) (P : Joined → Type 0) (seated : Seated) : Type 0 where
   pub holds : stays options seated.me ≡ true → P seated.member
 
--- the machines of a match, numbered from 0 on: each that stays has played and settled all its frames, and agrees with one of
--- them
+-- the machines of a match, numbered from 0 on: each that stays has played and settled all frames that are asked for, and agrees
+-- with one of them
 pub record HaveAgreed (options : PeersOptions) (machines : List Seated) : Type 0 where
   pub numbers : map (λ seated. seated.me) machines ≡ range_with_len 0 options.machines
   pub step : Step
   pub first : Joined
-  pub over : All (IfStays options (λ member. IsOver member.session)) machines
+  pub over : All (IfStays options (λ member. IsOver options member.session)) machines
   pub alike : All (IfStays options (AreAlike step first)) machines
 
--- so have the machines of some match
+-- so have the machines of some match with these options
 abbrev pub HasAgreed : PeersOptions → Type 0
 HasAgreed options = (machines : List Seated) × HaveAgreed options machines

@@ -141,12 +141,17 @@ impl<G: Shown + Drop> Machine<G> {
         }
     }
 
-    /// Whether it has played its last frame, and all words up to it are known.
-    pub fn is_over(&self) -> bool
-        ensures { IsTrue result ↔ IsOver self.now.session }
+    /// Whether it has played the last frame of a match with these options, and all words up to it are known.
+    pub fn is_over(&self, options: &PeersOptions) -> bool
+        ensures { IsTrue result ↔ IsOver options.now self.now.session }
     {
-        let last = self.session.settings().limit;
-        last <= self.session.frame() && last <= self.session.settled()
+        let settings = self.session.settings();
+        let last = options.common.frames;
+        settings.limit == last
+            && settings.threshold == options.common.threshold
+            && settings.players == options.machines
+            && last <= self.session.frame()
+            && last <= self.session.settled()
     }
 
     /// A tick: it hears what has come, plays on, and sends to each other machine. From the frame at which it stops it does

@@ -55,7 +55,7 @@ impl<G: Shown + Drop> Table<G> {
         ensures kept { OnOk result (map (λ m. m.me) self.new.machines.items
             ≡ map (λ m. m.me) self.old.machines.items) }
         ensures over { IfOk result (λ end. end ≡ IsEnded → All (λ machine. IfStays options.now
-            (λ member. IsOver member.session)
+            (λ member. IsOver options.now member.session)
             (record { me = machine.me; member = beside machine.session machine.peer })) self.new.machines.items) }
     {
         for tick in 0..most_ticks(options.common.frames) {
@@ -70,7 +70,7 @@ impl<G: Shown + Drop> Table<G> {
     /// Whether each machine that stays has played its last frame, and knows all words up to it.
     fn is_over(&self, options: &PeersOptions) -> bool
         ensures { IsTrue result → All (λ machine. IfStays options.now
-            (λ member. IsOver member.session)
+            (λ member. IsOver options.now member.session)
             (record { me = machine.me; member = beside machine.session machine.peer })) self.now.machines.items }
     {
         for machine in &self.machines {
@@ -95,10 +95,10 @@ impl<G: Shown + Drop> Table<G> {
 
 /// Whether a machine has played its last frame and knows all words up to it, or doesn't stay.
 fn is_over_if_it_stays<G: Shown + Drop>(options: &PeersOptions, machine: &Machine<G>) -> bool
-    ensures { IsTrue result → IfStays options.now (λ member. IsOver member.session)
+    ensures { IsTrue result → IfStays options.now (λ member. IsOver options.now member.session)
         (record { me = machine.now.me; member = beside machine.now.session machine.now.peer }) }
 {
-    !options.stays(machine.me) || machine.is_over()
+    !options.stays(machine.me) || machine.is_over(options)
 }
 
 /// After how many ticks no match of so many frames goes on: four times those that it takes, and those of 2 minutes more.

@@ -6,7 +6,7 @@ use Rattle.prog_peers.proofs.playing.Table.is_over.Goals as goal
 
 pub loop-machine-preserved : goal.loop-machine-preserved
 loop-machine-preserved g c = record {
-  over = all_next (λ machine. IfStays c.args.options.now (λ member. IsOver member.session)
+  over = all_next (λ machine. IfStays c.args.options.now (λ member. IsOver c.args.options.now member.session)
       (record { me = machine.me; member = beside machine.session machine.peer })) c.args.self.now.machines.items c.loop-machine.machine-index
       c.machine-item.result (rw c.deref-machine-items.ensures.value at c.loop-machine-test.true)
       (rw c.deref-machine-items.ensures.value at c.machine-item.is) c.loop-machine.invariant.over
@@ -16,6 +16,6 @@ loop-machine-preserved g c = record {
 pub returns : goal.returns
 returns g c =
     let last : length c.deref-machine-items.result.now ≤ c.loop-machine.machine-index = omega (arith, c.loop-machine-test.false) in
-    λ yes. all_done (λ machine. IfStays c.args.options.now (λ member. IsOver member.session)
+    λ yes. all_done (λ machine. IfStays c.args.options.now (λ member. IsOver c.args.options.now member.session)
     (record { me = machine.me; member = beside machine.session machine.peer })) c.args.self.now.machines.items c.loop-machine.machine-index
     (rw c.deref-machine-items.ensures.value at last) c.loop-machine.invariant.over

@@ -6,6 +6,6 @@ use Rattle.prog_peers.proofs.playing.Table.is_over.Given as goal
 
 abbrev pub invariant-loop-machine : goal.invariant-loop-machine
 invariant-loop-machine g l = record {
-  over : All (λ machine. IfStays l.options (λ member. IsOver member.session)
+  over : All (λ machine. IfStays l.options (λ member. IsOver l.options member.session)
       (record { me = machine.me; member = beside machine.session machine.peer })) (take l.machine-index l.self.machines.items);
 }
