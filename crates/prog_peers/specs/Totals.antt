@@ -1,5 +1,5 @@
 -- What is counted of a session's rollbacks.
-use Rattle.std.specs.Prelude.{ℕ, List, [], ◌∷◌, length, map, max, count_by, nat_lt}
+use Rattle.std.specs.Prelude.{ℕ, List, [], ◌∷◌, map, max, count_by, nat_lt}
 use Rattle.std.specs.List.{sum_by}
 use Rattle.prog_picture.specs.declared.scene.Roll.{Roll}
 use Rattle.prog_peers.specs.declared.totals.Totals.{Totals}
