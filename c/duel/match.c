@@ -173,7 +173,7 @@ static void draw(void) {
         if (self.told[player - 1][0] != 0)
             snprintf(lines[count++], sizeof lines[0], "player %d%s", player, self.told[player - 1]);
         else if (GGPO_SUCCEEDED(ggpo_get_network_stats(self.session, player, &stats)) && stats.network.ping > 0)
-            snprintf(lines[count++], sizeof lines[0], "player %d: ping %d ms, ahead %d", player, stats.network.ping,
+            snprintf(lines[count++], sizeof lines[0], "to player %d: ping %d ms, ahead %d", player, stats.network.ping,
                      -stats.timesync.local_frames_behind);
     }
     if (self.watch > 0)

@@ -45,12 +45,22 @@ static void draw_ship(const duel_ship *ship, bool is_own) {
         SDL_RenderFillRect(renderer, &(SDL_Rect){ x - 1, y - 1, 3, 3 });
 }
 
+/* Windows of several players stand side by side, so that one screen can have a match. None goes over the screen's edge. */
+static SDL_Point place_of(int player) {
+    SDL_Point place = { 20 + (player - 1) % 2 * (WIDTH + 20), 40 + (player - 1) / 2 * (HEIGHT + 40) };
+    SDL_Rect screen;
+    if (SDL_GetDisplayUsableBounds(0, &screen) == 0) {
+        place.x = SDL_max(screen.x, SDL_min(screen.x + place.x, screen.x + screen.w - WIDTH));
+        place.y = SDL_max(screen.y, SDL_min(screen.y + place.y, screen.y + screen.h - HEIGHT));
+    }
+    return place;
+}
+
 bool window_open(int player) {
-    /* Windows of several players stand side by side, so that one screen can have a match. */
-    int x = 20 + (player - 1) % 2 * (WIDTH + 20), y = 40 + (player - 1) / 2 * (HEIGHT + 40);
     if (SDL_Init(SDL_INIT_VIDEO | SDL_INIT_GAMECONTROLLER) != 0)
         return false;
-    window = SDL_CreateWindow("Duel", x, y, WIDTH, HEIGHT, 0);
+    SDL_Point place = place_of(player);
+    window = SDL_CreateWindow("Duel", place.x, place.y, WIDTH, HEIGHT, 0);
     renderer = window != NULL ? SDL_CreateRenderer(window, -1, 0) : NULL;
     for (int at = 0; at < SDL_NumJoysticks() && pad == NULL; at++)
         pad = SDL_IsGameController(at) ? SDL_GameControllerOpen(at) : NULL;

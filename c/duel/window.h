@@ -13,7 +13,7 @@ static inline void window_draw(const duel *field, int player, const char *const 
 }
 static inline void window_close(void) {}
 #else
-bool window_open(int player); /* for the machine of this player */
+bool window_open(int player); /* for the machine of this player, from 1 on; who watches takes the next number */
 bool window_goes_on(void);    /* false once it is closed */
 /* What is held down on the keyboard or the pad: at place 0 arrows and space, at 1 w, a, d and f. */
 uint32_t window_word(int place);

@@ -42,6 +42,8 @@ static int create(void) {
         status = faz_broker_look(&broker, said, sizeof said);
     if (status == NATS_OK)
         puts(said);
+    else if (status == NATS_NO_RESPONDERS)
+        fputs("faz-cast: the broker there keeps no streams: is it another one than that of c/watch/broker.conf?\n", stderr);
     else
         fprintf(stderr, "faz-cast: %s: %s\n", natsStatus_GetText(status), nats_GetLastError(NULL));
     faz_broker_close(&broker);

@@ -26,13 +26,13 @@ static const char usage[] =
     "Lines of standard input: `pause`, `play`, `live`, `to FRAME`, `back FRAMES`. In the window: the left arrow goes back by five\n"
     "seconds, the right one to the newest frame, and space pauses.\n";
 
-enum { LINES = 3, BACK = 300 };
+enum { LINES = 3, BACK = 300, SOON = 2, VIEWER = 3 /* its window stands below those of two players */ };
 
 static struct {
     faz_view *view;
     const char *broker, *export, *states;
     long from, cushion, frames, wait, speed;
-    bool is_live, is_headless, is_over, is_deaf;
+    bool is_live, is_headless, is_over, is_deaf, is_waiting;
     FILE *out;
     char at_last[512];
     fazgrond_row *rows; /* of an export */
@@ -164,6 +164,10 @@ static int watch(void) {
         }
         if (played > 0 || now.known != known || now.is_paused)
             heard = clock_micros();
+        if (!now.is_shown && !self.is_waiting && clock_micros() - heard > SOON * 1000000) {
+            fputs("faz-view: nothing of this match has come yet; it waits\n", stderr);
+            self.is_waiting = true;
+        }
         if (clock_micros() - heard > self.wait * 1000000)
             return fail("nothing comes any more");
         if (self.export == NULL || played == 0) /* an export takes what is there at once */
@@ -241,7 +245,7 @@ static int run(const char *match) {
     if ((self.view = faz_view_open(&settings, &why)) == NULL)
         return fail(why);
     self.told.desync = FAZ_LATEST;
-    if (!self.is_headless && !window_open(0))
+    if (!self.is_headless && !window_open(VIEWER))
         return fail("no window can be opened: --headless watches without");
     int status = watch();
     if (status == 0 && self.export != NULL)

@@ -6,7 +6,7 @@ use Rattle.roll_frame.specs.declared.refusal.Refusal.{Refusal}
 use Rattle.roll_game.specs.declared.counts.Counts.{Counts}
 use Rattle.roll_host.specs.Guesses.{with_copy, Speculates}
 use Rattle.roll_host.specs.Hosted.{Hosted}
-use Rattle.roll_host.proofs.Copies.{played_aside}
+use Rattle.roll_session.proofs.Copies.{played_aside}
 use Rattle.roll_host.proofs.Standing.{asked-append, grafts_asked, heard_asked}
 use Rattle.roll_session.proofs.Headlines.{headline_of, AreAsked}
 use Rattle.roll_session.proofs.Runs.{played_more, played_none}
