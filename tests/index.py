@@ -7,7 +7,7 @@ PAGE = ROOT / "docs/CLAUSES.md"
 HEAD = """# Each public function and its clauses
 
 This page is for whoever looks for the place where something is promised. It is written from the sources by
-`tests/sayings --write`, and the gate compares it. [PROVED.md](PROVED.md) says what the clauses mean.
+`tests/sayings --write`, and the gate compares it. [CONTRACTS.md](CONTRACTS.md) says what the clauses mean.
 
 A line is a function and the names of its clauses, as they stand at it in the file; a clause without a name has that of
 the definition which it cites, or stands here itself. Each clause is proved of its body, and those of a trait's
