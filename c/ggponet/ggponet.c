@@ -102,6 +102,8 @@ GGPOErrorCode ggpo_start_spectating(GGPOSession **session, GGPOSessionCallbacks 
         *session = NULL;
     if (host_ip == NULL || !ggponet_read_address(host_ip, host_port, &host))
         return ggponet_refuse(NULL, GGPO_ERRORCODE_INVALID_REQUEST, "the host has no IPv4 address");
+    if (host_port == 0)
+        return ggponet_refuse(NULL, GGPO_ERRORCODE_INVALID_REQUEST, "the host has no port");
     GGPOErrorCode code = make_with_port(session, cb, game, num_players, input_size, local_port);
     if (code != GGPO_OK)
         return code;
@@ -302,7 +304,9 @@ GGPOErrorCode ggpo_add_local_input(GGPOSession *session, GGPOPlayerHandle handle
     GGPOErrorCode code = ggponet_can_call(session, "ggpo_add_local_input");
     if (code != GGPO_OK || session->is_spectating)
         return code;
-    if (values == NULL || size != session->input_size)
+    if (values == NULL)
+        return ggponet_refuse(session, GGPO_ERRORCODE_INVALID_REQUEST, "no input");
+    if (size != session->input_size)
         return ggponet_refuse(session, GGPO_ERRORCODE_INVALID_REQUEST, "an input of %d bytes; %d were expected", size,
                               session->input_size);
     uint32_t words[MOST_BYTES / WORD];

@@ -230,12 +230,12 @@ GGPO_API GGPOErrorCode __cdecl ggpo_advance_frame(GGPOSession *session);
 
 GGPO_API GGPOErrorCode __cdecl ggpo_get_network_stats(GGPOSession *session, GGPOPlayerHandle player, GGPONetworkStats *stats);
 
-/* After how much silence a machine is gone: 5000 if nothing is said, and never if it is 0. Before the match opens. A machine that
- * is heard and gives no inputs is waited for, as in GGPO. */
+/* After how many milliseconds of silence a machine is gone: 5000 if nothing is said, and never if it is 0. Before the match
+ * opens. A machine that is heard and gives no inputs is waited for, as in GGPO. */
 GGPO_API GGPOErrorCode __cdecl ggpo_set_disconnect_timeout(GGPOSession *session, int timeout);
 
-/* After how much silence GGPO_EVENTCODE_CONNECTION_INTERRUPTED is told: 750 if nothing is said, and never if it is 0. Before the
- * match opens. */
+/* After how many milliseconds of silence GGPO_EVENTCODE_CONNECTION_INTERRUPTED is told: 750 if nothing is said, and never if it
+ * is 0. Before the match opens. */
 GGPO_API GGPOErrorCode __cdecl ggpo_set_disconnect_notify_start(GGPOSession *session, int timeout);
 
 /* A line for the log: the file that the environment variable FAZGROND_GGPO_LOG names, `-` for standard error. All refusals and

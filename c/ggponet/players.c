@@ -14,6 +14,8 @@ GGPOErrorCode ggponet_read_address_of(GGPOSession *session, const GGPOPlayer *ad
         return ggponet_refuse(session, GGPO_ERRORCODE_INVALID_REQUEST, "a sync test has local players alone");
     if (!ggponet_read_address(text, added->u.remote.port, address))
         return ggponet_refuse(session, GGPO_ERRORCODE_INVALID_REQUEST, "%s is no IPv4 address", text);
+    if (added->u.remote.port == 0)
+        return ggponet_refuse(session, GGPO_ERRORCODE_INVALID_REQUEST, "%s without a port", text);
     return GGPO_OK;
 }
 
@@ -60,22 +62,24 @@ GGPOErrorCode ggpo_set_frame_delay(GGPOSession *session, GGPOPlayerHandle handle
     return GGPO_OK;
 }
 
-GGPOErrorCode ggpo_set_disconnect_timeout(GGPOSession *session, int timeout) {
+/* Takes milliseconds of silence, before the match opens. */
+static GGPOErrorCode set_silence(GGPOSession *session, uint32_t *silence, int timeout, const char *what) {
     if (session == NULL)
         return GGPO_ERRORCODE_INVALID_SESSION;
     if (session->is_open)
-        return ggponet_is_too_late(session, "the disconnect timeout");
-    session->silent_after = timeout > 0 ? (uint32_t)timeout : 0;
+        return ggponet_is_too_late(session, what);
+    if (timeout < 0)
+        return ggponet_refuse(session, GGPO_ERRORCODE_INVALID_REQUEST, "%d milliseconds; 0 or more were expected", timeout);
+    *silence = (uint32_t)timeout;
     return GGPO_OK;
 }
 
+GGPOErrorCode ggpo_set_disconnect_timeout(GGPOSession *session, int timeout) {
+    return set_silence(session, session != NULL ? &session->silent_after : NULL, timeout, "the disconnect timeout");
+}
+
 GGPOErrorCode ggpo_set_disconnect_notify_start(GGPOSession *session, int timeout) {
-    if (session == NULL)
-        return GGPO_ERRORCODE_INVALID_SESSION;
-    if (session->is_open)
-        return ggponet_is_too_late(session, "when a silence is told");
-    session->notify_after = timeout > 0 ? (uint32_t)timeout : 0;
-    return GGPO_OK;
+    return set_silence(session, session != NULL ? &session->notify_after : NULL, timeout, "when a silence is told");
 }
 
 GGPOErrorCode fazggpo_set_match(GGPOSession *session, uint64_t number) {

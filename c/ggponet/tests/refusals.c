@@ -166,6 +166,8 @@ static void refused_sessions(void) {
     MUST(ggpo_start_spectating(&game.session, &calls, name, 2, 4, 0, NULL, 9) == GGPO_ERRORCODE_INVALID_REQUEST);
     MUST(ggpo_start_spectating(&game.session, &calls, name, 2, 4, 0, name, 9) == GGPO_ERRORCODE_INVALID_REQUEST);
     MUST(game.session == NULL && strcmp(ggpo_last_error(NULL), "the host has no IPv4 address") == 0);
+    MUST(ggpo_start_spectating(&game.session, &calls, name, 2, 4, 0, host, 0) == GGPO_ERRORCODE_INVALID_REQUEST);
+    MUST(game.session == NULL && strcmp(ggpo_last_error(NULL), "the host has no port") == 0);
     MUST(ggpo_idle(NULL, 0) == GGPO_ERRORCODE_INVALID_SESSION && ggpo_close_session(NULL) == GGPO_ERRORCODE_INVALID_SESSION);
 }
 
@@ -261,7 +263,16 @@ static void nothing_random(void) {
 }
 
 static void refused_players(void) {
+    GGPOPlayer nowhere = { .size = sizeof nowhere, .type = GGPO_PLAYERTYPE_REMOTE, .player_num = 2 };
+    GGPOPlayerHandle handle;
     int input = 1;
+    memcpy(nowhere.u.remote.ip_address, "127.0.0.1", sizeof "127.0.0.1");
+    MUST(ggpo_add_player(game.session, &nowhere, &handle) == GGPO_ERRORCODE_INVALID_REQUEST && handle == GGPO_INVALID_HANDLE);
+    MUST(strcmp(ggpo_last_error(game.session), "127.0.0.1 without a port") == 0);
+    MUST(ggpo_set_disconnect_timeout(game.session, -5) == GGPO_ERRORCODE_INVALID_REQUEST);
+    MUST(ggpo_set_disconnect_notify_start(game.session, -1) == GGPO_ERRORCODE_INVALID_REQUEST);
+    MUST(strcmp(ggpo_last_error(game.session), "-1 milliseconds; 0 or more were expected") == 0);
+    MUST(ggpo_set_disconnect_timeout(NULL, 1) == GGPO_ERRORCODE_INVALID_SESSION);
     MUST(add(GGPO_PLAYERTYPE_LOCAL, 3, NULL) == GGPO_ERRORCODE_PLAYER_OUT_OF_RANGE);
     MUST(add(GGPO_PLAYERTYPE_REMOTE, 2, "localhost") == GGPO_ERRORCODE_INVALID_REQUEST);
     MUST(add(GGPO_PLAYERTYPE_LOCAL, 1, NULL) == GGPO_OK);
@@ -283,6 +294,8 @@ static void refused_calls(void) {
     MUST(fazggpo_set_match(game.session, 1) == GGPO_ERRORCODE_UNSUPPORTED);
     MUST(ggpo_add_local_input(game.session, 2, inputs, sizeof inputs[0]) == GGPO_ERRORCODE_INVALID_PLAYER_HANDLE);
     MUST(ggpo_add_local_input(game.session, 1, inputs, sizeof inputs) == GGPO_ERRORCODE_INVALID_REQUEST);
+    MUST(ggpo_add_local_input(game.session, 1, NULL, sizeof inputs[0]) == GGPO_ERRORCODE_INVALID_REQUEST);
+    MUST(strcmp(ggpo_last_error(game.session), "no input") == 0);
     MUST(ggpo_add_local_input(game.session, 1, inputs, sizeof inputs[0]) == GGPO_ERRORCODE_NOT_SYNCHRONIZED);
     MUST(ggpo_synchronize_input(game.session, inputs, sizeof inputs, NULL) == GGPO_ERRORCODE_NOT_SYNCHRONIZED);
     MUST(ggpo_synchronize_input(game.session, inputs, sizeof inputs[0], NULL) == GGPO_ERRORCODE_INVALID_REQUEST);
