@@ -137,7 +137,7 @@ impl Handle {
     ///
     /// The job's requests are one [`JobLoad`](Request::JobLoad), and a [`JobStep`](Request::JobStep) and a
     /// [`JobSave`](Request::JobSave) for each frame. No other request writes into the slots of a job that is out, nor frees
-    /// them. If the guess is refused, such requests are to be dropped: there is no job.
+    /// them, nor the slot that it starts from. A guess that is refused leaves no requests.
     pub fn guess(&mut self, player: u8, words: &[u32], until: u32) -> Result<Option<u32>, Error> {
         let mut job = 0;
         match unsafe { raw::fazgrond_guess(self.raw(), player, words.as_ptr(), words.len(), until, &mut job) } {
