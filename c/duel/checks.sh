@@ -58,7 +58,11 @@ began() {
         at=0
         until grep -q "the match begins" "$work/$name.err"; do
             at=$((at + 1))
-            [ $at -lt 300 ] || return 1
+            if [ $at -ge 300 ]; then
+                echo "machine $name didn't begin:"
+                cat "$work/$name.out" "$work/$name.err"
+                return 1
+            fi
             sleep 0.1
         done
     done
