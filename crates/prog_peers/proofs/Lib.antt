@@ -5,3 +5,4 @@ pub mod Greatest
 pub mod Guessed
 pub mod Named
 pub mod Numbers
+pub mod Pressed

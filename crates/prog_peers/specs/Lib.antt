@@ -4,5 +4,6 @@ pub mod Guessing
 pub mod Totals
 pub mod Waiting
 pub mod Options
+pub mod Pressing
 pub mod Sights
 pub mod Stops

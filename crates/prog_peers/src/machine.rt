@@ -1,9 +1,10 @@
 //! One machine of a match, and what it does in a tick.
-ghost use Rattle.std.specs.Prelude.{◌≡◌, ◌↔◌, ◌<◌, ◌+◌, ◌-◌, ◌^◌, [], IfOk, IsTrue, MatchOption, OnOk, false, if◌then◌else◌, is_some, min};
+ghost use Rattle.std.specs.Prelude.{◌≡◌, ◌↔◌, ◌⊎◌, ◌<◌, ◌+◌, ◌-◌, ◌^◌, [], IfOk, IsTrue, MatchOption, OnOk, false, if◌then◌else◌, is_some, min};
 ghost use Rattle.prog_sides.specs.Options.{IsPlayable};
 ghost use Rattle.prog_peers.specs.Agreement.{IsOver};
 ghost use Rattle.prog_peers.specs.Guessing.{HasMore};
 ghost use Rattle.prog_peers.specs.Options.{makes_guesses};
+ghost use Rattle.prog_peers.specs.Pressing.{pressed};
 ghost use Rattle.prog_peers.specs.Waiting.{waited_once};
 ghost use Rattle.prog_observer.specs.Observing.{after_watch, has_rolled, observed};
 ghost use Rattle.roll_frame.specs.declared.refusal.Refusal.TheVariants.{PredictionThreshold as TooFarAhead};
@@ -283,7 +284,9 @@ impl<G: Shown + Drop> Machine<G> {
 
     /// Gives its word once the match has begun, unless it is to wait, or has played its last frame.
     fn press(&mut self) -> Result<(), Refusal>
-        ensures { self.new.me ≡ self.old.me }
+        ensures me { self.new.me ≡ self.old.me }
+        ensures given { OnOk result ((self.new.session ≡ self.old.session)
+            ⊎ (self.new.session ≡ pressed self.old.session self.old.me self.old.words.items)) }
     {
         let last = self.session.settings().limit;
         if !self.peer.is_running() || last <= self.session.frame() || self.is_to_wait() {
@@ -298,6 +301,7 @@ impl<G: Shown + Drop> Machine<G> {
     fn is_to_wait(&mut self) -> bool
         ensures me { self.new.me ≡ self.old.me }
         ensures waits { IsTrue result ↔ (0 < self.old.wait) }
+        ensures same { (self.new.session ≡ self.old.session) × (self.new.words ≡ self.old.words) }
         ensures counted { self.new.counts
             ≡ (if result then waited_once self.old.counts else self.old.counts) }
     {
