@@ -53,7 +53,7 @@ with_field-field text =
     ∙ take-append-drop 4 text
 
 -- what stood there before doesn't matter
-with_field-with_field : (a b text : List ℕ) → length a ≡ 8 → 12 ≤ length text
+pub with_field-with_field : (a b text : List ℕ) → length a ≡ 8 → 12 ≤ length text
     → with_field b (with_field a text) ≡ with_field b text
 with_field-with_field a b text len long =
     let front : length (take 4 text) ≡ 4 = length-take-le 4 text (omega arith) in

@@ -29,7 +29,7 @@ use Rattle.roll_peer.proofs.Said.{opened_is}
 abbrev ByteLike : List ℕ → Type 0
 ByteLike bytes = (i : ℕ) → get_or bytes i 0 < 256
 
-fits8 : (n i : ℕ) → get_or (to_be_bytes w64 n) i 0 < 256
+pub fits8 : (n i : ℕ) → get_or (to_be_bytes w64 n) i 0 < 256
 fits8 n zero = omega arith
 fits8 n (suc zero) = omega arith
 fits8 n (suc (suc zero)) = omega arith
@@ -76,7 +76,7 @@ spelled_kind m = go m.content refl
 
 -- ---- what is opened
 
-text_is : (key : Key) (bytes text : List ℕ) → unsealed key bytes ≡ Some text
+pub text_is : (key : Key) (bytes text : List ℕ) → unsealed key bytes ≡ Some text
     → (12 ≤ length bytes) × (text ≡ named key.number bytes)
 text_is key bytes text e = go (is_sealed key bytes) refl e
   where

@@ -9,3 +9,11 @@ pub mod Current
 pub mod Ties
 pub mod Rolls
 pub mod Running
+pub mod Coming
+pub mod Parcels
+pub mod Genuine
+pub mod Standing
+pub mod Later
+pub mod Polling
+pub mod Mirrors
+pub mod Alike

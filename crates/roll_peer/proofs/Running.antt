@@ -1,6 +1,6 @@
 -- One request after others, and the headline of them.
 use Rattle.std.proofs.Common.{◌≡◌, ◌∙◌, ℕ, List, [], ◌∷◌, ◌++◌, map, refl, ap, sym, subst, append-nil, append_assoc, inl, inr, Result, Ok, Err}
-use Rattle.std.specs.Prelude.{IfErr, IfOk, OnErr}
+use Rattle.std.specs.Prelude.{IfErr, IfOk, OnErr, OnOk}
 use Rattle.std.proofs.lemmas.Grind.{flat_map-append}
 use Rattle.std.proofs.lemmas.List.{map-append}
 use Rattle.roll_frame.specs.Events.{CoreEvent}
@@ -15,6 +15,7 @@ use Rattle.roll_session.specs.Others.{bare, Hears}
 use Rattle.roll_session.specs.Seen.{plain, FollowsLog, Seen, Step}
 use Rattle.roll_session.specs.declared.event.Call.{Call}
 use Rattle.roll_session.specs.declared.event.Call.TheVariants.{Sync, Advance}
+use Rattle.roll_member.specs.Beside.{IsOf}
 use Rattle.roll_peer.specs.Headline.{EndsShort, IsHeadlineTo}
 use Rattle.roll_peer.specs.Peered.{Peered}
 use Rattle.roll_peer.specs.Receiving.{meeting, ticking, IsIgnored, Receives}
@@ -32,10 +33,10 @@ use Rattle.roll_peer.specs.declared.request.PeerRequest.TheVariants.{Session as 
 pub brought : (step : Step) (old new : Seen) (h : Hears step old new) → Brings step old new (map (λ s. plain s.entry) h.said)
 brought step old new h = record { said = h.said; are_said = h.are_said; events_are = refl }
 
-pub heard_bytes : (step : Step) (before after : Seen) (old new : Peered) (now : ℕ) (bytes : List ℕ) (result : Result Received Ignored) → IfOk result (Receives step before after (meeting before (ticking now old)) new bytes) → IfErr result (IsIgnored before (ticking now old) new bytes) → OnErr result (after ≡ before)
+pub heard_bytes : (step : Step) (before after : Seen) (old new : Peered) (now : ℕ) (bytes : List ℕ) (result : Result Received Ignored) → OnOk result (IsOf before old.member) → IfOk result (Receives step before after (meeting before (ticking now old)) new bytes) → IfErr result (IsIgnored before (ticking now old) new bytes) → OnErr result (after ≡ before)
     → HearsBytes step (record { session = before; peer = old }) (record { session = after; peer = new }) now bytes result
-heard_bytes step before after old new now bytes (Ok received) heard ignored same = heard
-heard_bytes step before after old new now bytes (Err why) heard ignored same = (ignored, same)
+heard_bytes step before after old new now bytes (Ok received) own heard ignored same = (own, heard)
+heard_bytes step before after old new now bytes (Err why) own heard ignored same = (ignored, same)
 
 module _ (step : Step) where
   rolled_by : (old new : Seen) (is_told : Type 0) → (is_told → ⊥) → RollsOnce step old new is_told → (events : List CoreEvent) × RollsBy step old new events

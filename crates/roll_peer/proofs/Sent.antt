@@ -8,17 +8,17 @@ use Rattle.roll_mesh.specs.declared.packet.Offer.{Offer}
 use Rattle.roll_wire.specs.Spelling.{are_offers, count_of, is_offer}
 use Rattle.roll_wire.specs.declared.limits.TheConstants.{WORD_LIMIT}
 
-abbrev size : Offer → ℕ
+abbrev pub size : Offer → ℕ
 size o = o.end - o.first
 
-same_size : (o : Offer) → size (kept_offer o) ≡ size o
+pub same_size : (o : Offer) → size (kept_offer o) ≡ size o
 same_size o = go (o.first == o.end) refl
   where
     go : (b : Bool) → (o.first == o.end) ≡ b → size (if b then none_offered else o) ≡ size o
     go true e = let same = eqb-true o.first o.end e in omega (arith, same)
     go false e = refl
 
-same_count : (os : List Offer) → count_of (map kept_offer os) ≡ count_of os
+pub same_count : (os : List Offer) → count_of (map kept_offer os) ≡ count_of os
 same_count [] = refl
 same_count (o ∷ os) =
     omega (

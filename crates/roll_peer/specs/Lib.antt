@@ -15,3 +15,5 @@ pub mod Laws
 pub mod Rolling
 pub mod Requests
 pub mod Headline
+pub mod PeerWorlds
+pub mod OneMatch

@@ -2,6 +2,7 @@
 use Rattle.std.specs.Prelude.{◌≡◌, ◌⊎◌, ℕ, List, [], ◌∷◌, ◌++◌, map, Result, Ok, Err}
 use Rattle.std.specs.List.{flat_map}
 use Rattle.roll_frame.specs.Events.{CoreEvent}
+use Rattle.roll_member.specs.Beside.{IsOf}
 use Rattle.roll_session.specs.Answered.{IsPlayed, IsReplied, IsShort}
 use Rattle.roll_session.specs.Calls.{asked, event_of, IsRoll}
 use Rattle.roll_session.specs.Others.{bare, AreSaid, Said}
@@ -59,7 +60,8 @@ pub record EndsTurn (step : Step) (old new : Seen) : Type 0 where
 -- bytes are heard, or ignored
 abbrev pub HearsBytes : Step → (old new : Beside) → ℕ → List ℕ → Result Received Ignored → Type 0
 HearsBytes step old new now bytes (Ok received) =
-    Receives step old.session new.session (meeting old.session (ticking now old.peer)) new.peer bytes received
+    IsOf old.session old.peer.member
+    × Receives step old.session new.session (meeting old.session (ticking now old.peer)) new.peer bytes received
 HearsBytes step old new now bytes (Err why) =
     IsIgnored old.session (ticking now old.peer) new.peer bytes why × (new.session ≡ old.session)
 

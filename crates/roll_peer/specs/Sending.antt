@@ -2,14 +2,14 @@
 use Rattle.std.specs.Prelude.{◌≡◌, ℕ, List, ◌-◌, ◌%◌, Bool, true, false, ◌||◌, ◌==◌, nat_le, Option, Some, None, if◌then◌else◌, slice_set}
 use Rattle.roll_contact.specs.Contacts.{clocks_for, hello_echo, hello_sent, play_sent, says_hello, wants_clocks}
 use Rattle.roll_contact.specs.Keys.{greeting_key}
-use Rattle.roll_contact.specs.Seals.{said_by}
+use Rattle.roll_contact.specs.Seals.{message_by, said_by}
 use Rattle.roll_contact.specs.Terms.{hello_of}
 use Rattle.roll_contact.specs.declared.contact.Contact.{Contact}
 use Rattle.roll_contact.specs.declared.key.Key.{Key}
 use Rattle.roll_member.specs.Telling.{queued, IsTold}
 use Rattle.roll_mesh.specs.Machines.{is_in, shortened}
 use Rattle.roll_mesh.specs.declared.packet.Packet.{Packet}
-use Rattle.roll_wire.specs.Spelling.{Content, Greets, Leaves, Plays, Turn}
+use Rattle.roll_wire.specs.Spelling.{Content, Fits, Greets, Leaves, Plays, Turn}
 use Rattle.roll_wire.specs.declared.datagram.Clocks.{Clocks}
 use Rattle.roll_wire.specs.declared.datagram.Settled.{Settled}
 use Rattle.roll_session.specs.Seen.{Seen}
@@ -70,10 +70,11 @@ key_for peer m Leaves = with_draws peer m
 unfoldable pub text_for : Peered → ℕ → Content → List ℕ
 text_for peer m what = said_by (key_for peer m what) peer.settings.me what
 
--- the bytes are a datagram for a machine, sealed for its opening and this one
+-- the bytes are a datagram for a machine, which has a spelling, sealed for its opening and this one
 pub record IsSent (s : Seen) (peer : Peered) (m : ℕ) (bytes : List ℕ) : Type 0 where
   pub content : Content
   pub fits : IsContentFor s peer m content
+  pub spelled : Fits (message_by (key_for peer m content) peer.settings.me content)
   pub text : bytes ≡ text_for peer m content
 
 -- what was counted and measured of a machine

@@ -1,5 +1,6 @@
 //! Laws of peers, each the contract of a function that makes no call.
 ghost use Rattle.roll_peer.specs.Laws.{EventsNameMachines, NothingElseIsHeard};
+ghost use Rattle.roll_peer.specs.OneMatch.{TwoPeersOneMatch};
 
 /// A play or a bye is heard only if it was sealed by the draws of this opening and of the sender's one that is believed. With
 /// `roll_contact`'s laws: nothing of another match, of another opening, or for another receiver, unless the hash has a collision.
@@ -10,4 +11,12 @@ pub fn nothing_else_is_heard()
 /// Each event that waits names a machine of the match, or none.
 pub fn events_name_machines()
     ensures { EventsNameMachines }
+{}
+
+/// Machines that stay play one match: of two of which neither regards the other as gone, each settles the same rows as the other, and
+/// comes by them to the same state if their games are alike; and players who left both left at one frame. So it is whatever the
+/// machines call, and whatever the network loses, repeats, delays or makes up: of what comes, a machine hears as a play only what
+/// another of the match has sealed.
+pub fn two_peers_one_match()
+    ensures { TwoPeersOneMatch }
 {}

@@ -20,7 +20,7 @@ mod stats;
 mod turning;
 
 pub use event::PeerEvent;
-pub use laws::{events_name_machines, nothing_else_is_heard};
+pub use laws::{events_name_machines, nothing_else_is_heard, two_peers_one_match};
 pub use peer::Peer;
 pub use received::{Ignored, Received};
 pub use refusal::{OpenRefusal, OtherSession, PeerRefusal};

@@ -1,13 +1,14 @@
 //! What is sent.
 ghost use Rattle.std.specs.Prelude.{◌≡◌, ◌<◌, ◌%◌, ◌==◌, ◌||◌, not, true, false, is_none, nat_lt, Some, None, IfOk, IfSome, OnErr, OnOk, if◌then◌else◌};
 ghost use Rattle.roll_contact.specs.Contacts.{clocks_for, is_playing};
+ghost use Rattle.roll_contact.specs.Seals.{message_by};
 ghost use Rattle.roll_member.specs.Beside.{IsOf};
 ghost use Rattle.roll_member.specs.Joined.{IsTied};
 ghost use Rattle.roll_mesh.specs.declared.limits.TheConstants.{MACHINE_LIMIT};
 ghost use Rattle.roll_peer.specs.Peered.{contact_at};
 ghost use Rattle.roll_peer.specs.Receiving.{meeting, moment_of, ticking, IsOther};
 ghost use Rattle.roll_peer.specs.Sending.{after_send, clocks_in, is_lost, key_for, settled_in, stats_of, text_for, IsContentFor, IsPlayFor, IsSent};
-ghost use Rattle.roll_wire.specs.Spelling.{content, is_turn, is_whole, turn, Leaves};
+ghost use Rattle.roll_wire.specs.Spelling.{content, is_turn, is_whole, turn, Fits, Leaves};
 
 use crate::peer::Peer;
 use crate::refusal::OtherSession;
@@ -111,7 +112,9 @@ impl Peer {
     fn sealed_for(&self, machine: u8, body: Body) -> ArrayVec<u8, DATAGRAM_LIMIT>
         requires place { machine < MACHINE_LIMIT }
         requires whole { is_whole (content body) ≡ true }
-        ensures { result.items ≡ text_for self.now machine (content body) }
+        ensures said { result.items ≡ text_for self.now machine (content body) }
+        ensures fits { Fits
+            (message_by (key_for self.now machine (content body)) self.now.settings.me (content body)) }
     {
         say(&self.key_for(machine, &body), self.settings.me, body)
     }
@@ -193,6 +196,8 @@ impl Peer {
     /// no such machine, it is this one, it is gone, or it hasn't said this opening's draw.
     pub fn bye(&self, machine: u8) -> Option<ArrayVec<u8, DATAGRAM_LIMIT>>
         ensures said { IfSome result (λ bytes. bytes.items ≡ text_for self.now machine Leaves) }
+        ensures fits { IfSome result (λ bytes.
+            Fits (message_by (key_for self.now machine Leaves) self.now.settings.me Leaves)) }
         ensures none { is_none result
             ≡ (is_lost self.now machine || not (is_playing (contact_at self.now machine).stage)) }
     {

@@ -9,7 +9,8 @@ returns-then-says_hello g c = record {
     rw (← c.self.view_is, ← c.from.ensures) (sym c.says_hello.ensures ∙ c.if-says_hello.true),
     rw (← c.self.view_is, c.hello-hello.ensures, c.terms.ensures, c.opening.ensures, c.hello_echo.ensures, c.from.ensures) refl,
   );
-  text = c.sealed_for.ensures;
+  spelled = c.sealed_for.ensures.fits;
+  text = c.sealed_for.ensures.said;
 }
 
 pub returns-else-says_hello : goal.returns-else-says_hello
@@ -19,5 +20,6 @@ returns-else-says_hello g c = record {
     rw (← c.self.view_is, ← c.from.ensures) (sym c.says_hello.ensures ∙ c.if-says_hello.false),
     c.play_for.ensures.told,
   );
-  text = c.sealed_for-else-says_hello.ensures;
+  spelled = c.sealed_for-else-says_hello.ensures.fits;
+  text = c.sealed_for-else-says_hello.ensures.said;
 }

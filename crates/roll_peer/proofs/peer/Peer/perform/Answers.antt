@@ -12,7 +12,7 @@ returns-in_ok-said-in-Session-clause-done g c =
 pub returns-in-Receive-clause-done : goal.returns-in-Receive-clause-done
 returns-in-Receive-clause-done g c =
     let e = c.receive.ensures in
-    let heard = heard_bytes g.G.Game.step c.args.session.now c.receive.new.session c.args.self.now c.receive.new.self c.in-Receive.now c.as_slice.result.now c.receive.result e.received e.refused e.session in
+    let heard = heard_bytes g.G.Game.step c.args.session.now c.receive.new.session c.args.self.now c.receive.new.self c.in-Receive.now c.as_slice.result.now c.receive.result e.accepted e.received e.refused e.session in
     let bytes = subst (λ (bs : List ℕ). HearsBytes g.G.Game.step (record { session = c.args.session.now; peer = c.args.self.now }) (record { session = c.receive.new.session; peer = c.receive.new.self }) c.in-Receive.now bs c.receive.result) c.as_slice.ensures.value heard in
     rw c.in-Receive.is (record { events = map (λ s. plain s.entry) e.keeps.said; done = (bytes, brought g.G.Game.step c.args.session.now c.receive.new.session e.keeps) })
 
