@@ -4,7 +4,7 @@ use Rattle.std.specs.Int.{w64, to_be_bytes}
 use Rattle.std.specs.Str.{bytes_eq}
 use Rattle.sha2.specs.Sha256.{sha256}
 use Rattle.roll_wire.specs.declared.limits.TheConstants.{DATAGRAM_LIMIT}
-use Rattle.roll_wire.specs.Spelling.{spelling, Content}
+use Rattle.roll_wire.specs.Spelling.{spelling, Content, Message}
 use Rattle.roll_contact.specs.Keys.{padded}
 use Rattle.roll_contact.specs.declared.key.Key.{Key}
 use Rattle.roll_contact.specs.declared.seal.TheConstants.{INNER, OUTER}
@@ -33,12 +33,16 @@ tag key text = take 8 (hmac key text)
 abbrev pub sealed : Key → List ℕ → List ℕ
 sealed key text = with_field (tag key text) text
 
--- the bytes by which a sender says something to who has the key
-unfoldable pub said_by : Key → ℕ → Content → List ℕ
-said_by key sender what = sealed key (spelling (record {
+-- what a sender says to who has the key, as a datagram with the key's number
+abbrev pub message_by : Key → ℕ → Content → Message
+message_by key sender what = record {
   envelope = record { match_number = key.number; sender = sender };
   content = what;
-}))
+}
+
+-- the bytes by which it says so
+unfoldable pub said_by : Key → ℕ → Content → List ℕ
+said_by key sender what = sealed key (spelling (message_by key sender what))
 
 -- a datagram with this number
 abbrev pub HasNumber : ℕ → List ℕ → Type 0

@@ -3,8 +3,8 @@
 ghost use Rattle.std.specs.Prelude.{◌≡◌, ◌≤◌, ◌++◌, ℕ, length, option_map, true, Some, IfSome};
 ghost use Rattle.std.specs.Str.{bytes_eq};
 ghost use Rattle.sha2.specs.Sha256.{sha256};
-ghost use Rattle.roll_contact.specs.Seals.{HasNumber, IsSealed, field, hmac, named, said_by, sealed, tag, unsealed, with_field};
-ghost use Rattle.roll_wire.specs.Spelling.{content, is_whole};
+ghost use Rattle.roll_contact.specs.Seals.{HasNumber, IsSealed, field, hmac, message_by, named, said_by, sealed, tag, unsealed, with_field};
+ghost use Rattle.roll_wire.specs.Spelling.{content, is_whole, Fits};
 
 use crate::key::Key;
 use arrayvec::ArrayVec;
@@ -93,7 +93,8 @@ pub fn seal(datagram: &mut ArrayVec<u8, DATAGRAM_LIMIT>, key: &Key)
 /// The bytes by which a sender says something to who has the key: a datagram with the key's number, sealed.
 pub fn say(key: &Key, sender: u8, body: Body) -> ArrayVec<u8, DATAGRAM_LIMIT>
     requires { is_whole (content body) ≡ true }
-    ensures { result.items ≡ said_by key.now sender (content body) }
+    ensures said { result.items ≡ said_by key.now sender (content body) }
+    ensures fits { Fits (message_by key.now sender (content body)) }
 {
     let envelope = Envelope {
         match_number: key.number,

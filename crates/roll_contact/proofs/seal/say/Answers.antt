@@ -2,6 +2,6 @@ use Rattle.std.proofs.Common.{◌∙◌, ap}
 use Rattle.roll_contact.specs.Seals.{said_by, sealed}
 use Rattle.roll_contact.proofs.seal.say.Goals as goal
 
-pub returns : goal.returns
+pub returns-clause-said : goal.returns-clause-said
 unfolding said_by
-returns c = c.seal.ensures.sealed ∙ ap (sealed c.args.key.now) c.in-Some.ensures.spelled.1
+returns-clause-said c = c.seal.ensures.sealed ∙ ap (sealed c.args.key.now) c.in-Some.ensures.spelled.1

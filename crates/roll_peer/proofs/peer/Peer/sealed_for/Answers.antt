@@ -11,5 +11,5 @@ unfolding text_for
 returns c =
     let peer : Peered = c.args.self.now in
     let said : c.say.result.items ≡ said_by c.key_for.result peer.settings.me (content c.args.body) =
-    rw (← c.self.view_is) c.say.ensures in
+    rw (← c.self.view_is) c.say.ensures.said in
     said ∙ ap (λ (key : Key). said_by key peer.settings.me (content c.args.body)) c.key_for.ensures
