@@ -49,9 +49,9 @@ pub use roll_session::{
     Session, Source, StartFault,
 };
 pub use roll_spectate::{
-    Feed, RING_ROWS, RowReceiver, RowStream, SPECTATOR_LIMIT, Spectator, SpectatorFault,
+    Feed, RING_ROWS, RowReceiver, RowSender, SPECTATOR_LIMIT, Spectator, SpectatorFault, open_ring,
 };
 pub use roll_synctest::{SyncTest, Verdict};
 pub use roll_text as text;
-pub use roll_viewer::{LineFault, LineRefusal, LineSettings, Viewer, ViewerLine};
+pub use roll_viewer::{LineFault, LineRefusal, LineSettings, Viewer, ViewerLine, WAITING_LIMIT};
 pub use roll_wire::DATAGRAM_LIMIT;

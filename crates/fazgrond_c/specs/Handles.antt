@@ -1,12 +1,11 @@
 -- What calls through handles come to. A handle has something of one kind open, or nothing; to a call of another kind it is closed.
 use Rattle.std.specs.Prelude.{◌≡◌, ◌≢◌, ◌<◌, ◌≤◌, ℕ, ℤ, pos, List, length, Option, Some, None, IfSome, IsSomeAnd, MatchOption}
 use Rattle.roll_peer.specs.Peered.{Peered}
-use Rattle.roll_viewer.specs.Ends.{Hosted}
+use Rattle.roll_viewer.specs.Ends.{Hosted, Viewing}
 use Rattle.roll_wire.specs.declared.limits.TheConstants.{DATAGRAM_LIMIT}
 use Rattle.fazgrond_c.specs.declared.live.Live.{Live}
 use Rattle.fazgrond_c.specs.declared.open.Open.{Open}
 use Rattle.fazgrond_c.specs.declared.open.Open.TheVariants.{Session, Peer, Line, Viewer}
-use Rattle.fazgrond_c.specs.declared.viewer_live.ViewerLive.{ViewerLive}
 
 abbrev pub session_in : Option Open → Option Live
 session_in (Some (Session live)) = Some live
@@ -20,8 +19,8 @@ abbrev pub line_in : Option Open → Option Hosted
 line_in (Some (Line line)) = Some line
 line_in held = None
 
-abbrev pub viewer_in : Option Open → Option ViewerLive
-viewer_in (Some (Viewer live)) = Some live
+abbrev pub viewer_in : Option Open → Option Viewing
+viewer_in (Some (Viewer viewer)) = Some viewer
 viewer_in held = None
 
 module _ {L : Type 0} (kind : Option Open → Option L) where

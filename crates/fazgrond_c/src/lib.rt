@@ -24,7 +24,6 @@ mod requests;
 mod sessions;
 mod texts;
 mod viewer_calls;
-mod viewer_live;
 mod viewers;
 
 ghost use Rattle.fazgrond_c.specs.Texts.{sentence_of, version_of};
@@ -38,7 +37,6 @@ pub use open::Open;
 pub use peer_kinds::{EventOut, MATCH_SIZE, MatchIn, StatsOut};
 use std::alloc::Global;
 use texts::{sentence_of, write_front};
-pub use viewer_live::ViewerLive;
 
 /// The version of the library: its major, minor and patch numbers, the last two in 8 bits each.
 #[unsafe(no_mangle)]

@@ -1,8 +1,7 @@
 //! What a handle may have open.
 use crate::live::Live;
-use crate::viewer_live::ViewerLive;
 use roll_peer::Peer;
-use roll_viewer::ViewerLine;
+use roll_viewer::{Viewer, ViewerLine};
 
 /// What a handle has open: a session, the network of a match, a host's end of a viewer's line, or a viewer.
 #[derive(Drop)]
@@ -10,5 +9,5 @@ pub enum Open {
     Session(Live),
     Peer(Peer),
     Line(ViewerLine),
-    Viewer(ViewerLive),
+    Viewer(Viewer),
 }

@@ -1,19 +1,22 @@
 //! Calls of an open viewer.
+ghost use Rattle.std.specs.Prelude.{◌≡◌};
 ghost use Rattle.fazgrond_c.specs.Handles.{Fills};
-ghost use Rattle.fazgrond_c.specs.Viewers.{IsSeen, IsViewersBye, IsViewersWord, ViewerHearsBytes};
+ghost use Rattle.fazgrond_c.specs.Viewers.{viewer_state, IsSeen, IsViewersBye, IsViewersWord, ViewerHearsBytes};
 
 use crate::calls::{NOTHING, TOO_SHORT};
 use crate::kinds::RowOut;
+use crate::line_kinds::LineState;
 use crate::line_refusal::code_of_line;
 use crate::peer_calls::write;
-use crate::viewer_live::ViewerLive;
+use roll_contact::Stage;
+use roll_viewer::Viewer;
 use roll_wire::DATAGRAM_LIMIT;
 
 /// Hears bytes, and writes how many rows were taken.
-pub fn receive(live: &mut ViewerLive, bytes: &[u8], now: u32, rows: &mut u32) -> i32
-    ensures { ViewerHearsBytes bytes.now now live.old live.new rows.old rows.new result }
+pub fn receive(viewer: &mut Viewer, bytes: &[u8], now: u32, rows: &mut u32) -> i32
+    ensures { ViewerHearsBytes bytes.now now viewer.old viewer.new rows.old rows.new result }
 {
-    match live.viewer.receive(bytes, now) {
+    match viewer.receive(bytes, now) {
         Ok(count) => {
             *rows = count;
             0
@@ -23,14 +26,14 @@ pub fn receive(live: &mut ViewerLive, bytes: &[u8], now: u32, rows: &mut u32) ->
 }
 
 /// Writes what is to be sent to the host.
-pub fn send(live: &mut ViewerLive, now: u32, out: &mut [u8], size: &mut usize) -> i32
-    ensures { Fills (IsViewersWord now) live.old live.new out.old out.new size.old size.new
+pub fn send(viewer: &mut Viewer, now: u32, out: &mut [u8], size: &mut usize) -> i32
+    ensures { Fills (IsViewersWord now) viewer.old viewer.new out.old out.new size.old size.new
         result }
 {
     if out.len() < DATAGRAM_LIMIT {
         return TOO_SHORT;
     }
-    match live.viewer.send(now) {
+    match viewer.send(now) {
         Some(bytes) => {
             write(out, size, &bytes);
             0
@@ -40,13 +43,13 @@ pub fn send(live: &mut ViewerLive, now: u32, out: &mut [u8], size: &mut usize) -
 }
 
 /// Writes what says that this viewer leaves.
-pub fn bye(live: &mut ViewerLive, out: &mut [u8], size: &mut usize) -> i32
-    ensures { Fills IsViewersBye live.old live.new out.old out.new size.old size.new result }
+pub fn bye(viewer: &mut Viewer, out: &mut [u8], size: &mut usize) -> i32
+    ensures { Fills IsViewersBye viewer.old viewer.new out.old out.new size.old size.new result }
 {
     if out.len() < DATAGRAM_LIMIT {
         return TOO_SHORT;
     }
-    match live.viewer.bye() {
+    match viewer.bye() {
         Some(bytes) => {
             write(out, size, &bytes);
             0
@@ -56,14 +59,28 @@ pub fn bye(live: &mut ViewerLive, out: &mut [u8], size: &mut usize) -> i32
 }
 
 /// Writes the next row.
-pub fn next_row(live: &mut ViewerLive, row: &mut RowOut) -> i32
-    ensures { IsSeen live.old live.new row.old row.new result }
+pub fn next_row(viewer: &mut Viewer, row: &mut RowOut) -> i32
+    ensures { IsSeen viewer.old viewer.new row.old row.new result }
 {
-    match live.next_row() {
+    match viewer.next_row() {
         Some(there) => {
             *row = RowOut::of(&there);
             0
         }
         None => NOTHING,
+    }
+}
+
+/// How far the viewer is.
+pub fn state(viewer: &Viewer, now: u32) -> LineState
+    ensures { result ≡ viewer_state now viewer.now }
+{
+    LineState {
+        rows: viewer.rows(),
+        settled: viewer.settled(),
+        silence: viewer.silence(now),
+        is_playing: u32::from(matches!(viewer.stage(), Stage::Playing)),
+        has_ended: u32::from(viewer.has_ended()),
+        is_silent: u32::from(viewer.is_silent(now)),
     }
 }

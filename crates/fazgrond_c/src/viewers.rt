@@ -11,8 +11,8 @@ use crate::line_kinds::{LineIn, LineState};
 use crate::line_refusal::code_of_fault;
 use crate::open::Open;
 use crate::viewer_calls;
-use crate::viewer_live::ViewerLive;
 use roll_frame::Refusal;
+use roll_viewer::Viewer;
 use std::alloc::Global;
 
 /// Opens a viewer.
@@ -25,11 +25,11 @@ pub extern "C" fn fazgrond_viewer_open(alloc: Global, handle: &mut Handle, given
     let Some(settings) = given.settings() else {
         return Refusal::InvalidRequest.code();
     };
-    let live = match ViewerLive::open(alloc, settings) {
-        Ok(live) => live,
+    let viewer = match Viewer::open(alloc, settings) {
+        Ok(viewer) => viewer,
         Err(why) => return code_of_fault(why),
     };
-    open_in(alloc, handle, Open::Viewer(live))
+    open_in(alloc, handle, Open::Viewer(viewer))
 }
 
 /// Hears a datagram that came of the host, and says how many rows were taken.
@@ -47,11 +47,11 @@ pub extern "C" fn fazgrond_viewer_receive(
     let Some(mut held) = handle.take(alloc) else {
         return CLOSED;
     };
-    let Open::Viewer(live) = &mut *held else {
+    let Open::Viewer(viewer) = &mut *held else {
         handle.put(held);
         return CLOSED;
     };
-    let code = viewer_calls::receive(live, bytes, now, rows);
+    let code = viewer_calls::receive(viewer, bytes, now, rows);
     handle.put(held);
     code
 }
@@ -71,11 +71,11 @@ pub extern "C" fn fazgrond_viewer_send(
     let Some(mut held) = handle.take(alloc) else {
         return CLOSED;
     };
-    let Open::Viewer(live) = &mut *held else {
+    let Open::Viewer(viewer) = &mut *held else {
         handle.put(held);
         return CLOSED;
     };
-    let code = viewer_calls::send(live, now, out, size);
+    let code = viewer_calls::send(viewer, now, out, size);
     handle.put(held);
     code
 }
@@ -94,11 +94,11 @@ pub extern "C" fn fazgrond_viewer_bye(
     let Some(mut held) = handle.take(alloc) else {
         return CLOSED;
     };
-    let Open::Viewer(live) = &mut *held else {
+    let Open::Viewer(viewer) = &mut *held else {
         handle.put(held);
         return CLOSED;
     };
-    let code = viewer_calls::bye(live, out, size);
+    let code = viewer_calls::bye(viewer, out, size);
     handle.put(held);
     code
 }
@@ -111,11 +111,11 @@ pub extern "C" fn fazgrond_viewer_row(alloc: Global, handle: &mut Handle, row: &
     let Some(mut held) = handle.take(alloc) else {
         return CLOSED;
     };
-    let Open::Viewer(live) = &mut *held else {
+    let Open::Viewer(viewer) = &mut *held else {
         handle.put(held);
         return CLOSED;
     };
-    let code = viewer_calls::next_row(live, row);
+    let code = viewer_calls::next_row(viewer, row);
     handle.put(held);
     code
 }
@@ -134,11 +134,11 @@ pub extern "C" fn fazgrond_viewer_look(
     let Some(held) = handle.take(alloc) else {
         return CLOSED;
     };
-    let Open::Viewer(live) = &*held else {
+    let Open::Viewer(viewer) = &*held else {
         handle.put(held);
         return CLOSED;
     };
-    *state = live.state(now);
+    *state = viewer_calls::state(viewer, now);
     handle.put(held);
     0
 }

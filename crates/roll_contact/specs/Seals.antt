@@ -33,7 +33,7 @@ tag key text = take 8 (hmac key text)
 abbrev pub sealed : Key → List ℕ → List ℕ
 sealed key text = with_field (tag key text) text
 
--- what a sender says to who has the key
+-- what a sender says to who has the key, as a datagram with the key's number
 abbrev pub message_by : Key → ℕ → Content → Message
 message_by key sender what = record {
   envelope = record { match_number = key.number; sender = sender };

@@ -1,4 +1,3 @@
 pub mod Rings
 pub mod Sent
 pub mod Watched
-pub mod Streams

@@ -1,5 +1,5 @@
 -- What a session's spectators are sent.
-use Rattle.std.specs.Prelude.{◌≡◌, ◌⊎◌, ◌≤◌, List, ◌++◌, length, take}
+use Rattle.std.specs.Prelude.{◌≡◌, ◌⊎◌, ◌≤◌, ℕ, ◌+◌, List, ◌++◌, length, take}
 use Rattle.roll_frame.specs.Cells.{Rows}
 use Rattle.roll_frame.specs.Events.{replay}
 use Rattle.roll_frame.specs.Games.{Game}
@@ -14,22 +14,30 @@ use Rattle.roll_spectate.specs.declared.limits.TheConstants.{RING_ROWS}
 abbrev pub IsFirstPart : Rows → Rows → Type 0
 IsFirstPart rows all = rows ≡ take (length rows) all
 
--- what a ring was sent before and after a push: more of the settled rows, as far as those before were the first of them, and
--- all of them, or as many as a ring has room for
-pub record IsPushed (settled old new : Rows) : Type 0 where
-  pub grown : IsFirstPart old new
-  pub first : IsFirstPart old settled → IsFirstPart new settled
-  pub all : (length settled ≤ length new) ⊎ (RING_ROWS ≤ length new)
-
--- a spectator's ring, and the rows that were sent by it
+-- a spectator's ring, the rows that were sent by it, and how many of them the sender knows to be taken
 pub record Fed : Type 0 where
   pub ring : Ring
   pub rows : Rows
+  pub taken : ℕ
 
--- a spectator before and after a push
+-- the ring is full: as far as the sender knows, when it has asked the ring, 64 rows wait in it
+abbrev pub IsFilled : Fed → Type 0
+IsFilled fed = length fed.rows ≡ RING_ROWS + fed.taken
+
+-- these rows more were sent, and no fewer are known to be taken
+pub record IsSentMore (more : Rows) (old new : Fed) : Type 0 where
+  pub ring : new.ring ≡ old.ring
+  pub rows : new.rows ≡ old.rows ++ more
+  pub taken : old.taken ≤ new.taken
+
+-- a spectator before and after a push: more of the settled rows were sent, as far as those before were the first of them; and
+-- all of them, unless the ring is full
 pub record IsFed (settled : Rows) (old new : Fed) : Type 0 where
   pub ring : new.ring ≡ old.ring
-  pub pushed : IsPushed settled old.rows new.rows
+  pub taken : old.taken ≤ new.taken
+  pub grown : IsFirstPart old.rows new.rows
+  pub first : IsFirstPart old.rows settled → IsFirstPart new.rows settled
+  pub all : (length settled ≤ length new.rows) ⊎ IsFilled new
 
 -- while a session's log grows, what was a first part of its settled rows stays one
 abbrev pub SentRowsStay : Type 0

@@ -21,7 +21,7 @@ pub struct Feed {
     alloc: Global,
 }
 
-/// A clause sees each spectator's ring and what it was sent, in the order in which they came.
+/// A clause sees each spectator's ring, what it was sent, and how many rows it is known to have taken, in the order in which they came.
 impl Model for Feed {
     ghost use Rattle.std.specs.Prelude.{◌≤◌, List, length, vec_capacity};
     ghost use Rattle.roll_spectate.specs.Sent.{Fed};
@@ -55,7 +55,7 @@ impl Feed {
     /// `TooManySpectators` if 32 were added, those who are gone too; else `NoMemory` if the allocator has no room.
     pub fn add(&mut self) -> Result<RowReceiver, Refusal>
         ensures added { IfOk result
-            (λ receiver. self.new ≡ self.old ++ record { ring = receiver; rows = [] } ∷ []) }
+            (λ receiver. self.new ≡ self.old ++ record { ring = receiver; rows = []; taken = 0 } ∷ []) }
         ensures place { OnOk result (length self.old < MOST) }
         ensures refused { IfErr result
             (λ why. why ≡ (if nat_le MOST

@@ -6,11 +6,9 @@ mod laws;
 mod limits;
 mod ring;
 mod spectator;
-mod stream;
 
 pub use feed::Feed;
 pub use laws::sent_rows_stay;
 pub use limits::{RING_ROWS, SPECTATOR_LIMIT};
 pub use ring::{RowReceiver, RowSender, open_ring};
 pub use spectator::{Spectator, SpectatorFault};
-pub use stream::RowStream;

@@ -1,11 +1,10 @@
 //! A spectator's ring of rows.
-ghost use Rattle.std.specs.Prelude.{◌≡◌, ◌⊎◌, ◌<◌, ◌≤◌, ◌+◌, [], ◌∷◌, ◌++◌, length, nat_lt, Some, None, IfOk, IsTrue, IsFalse, if◌then◌else◌};
+ghost use Rattle.std.specs.Prelude.{◌≡◌, ◌<◌, ◌≤◌, ◌+◌, [], ◌∷◌, length, nat_lt, Some, None, IfOk, IsTrue, IsFalse, if◌then◌else◌};
 ghost use Rattle.roll_frame.specs.Core.{settled};
 ghost use Rattle.roll_frame.specs.Timeline.{row_at};
 ghost use Rattle.roll_frame.specs.declared.limits.TheConstants.{FRAME_LIMIT};
 ghost use Rattle.roll_session.specs.Standing.{settled_rows};
-ghost use Rattle.roll_spectate.specs.Sent.{IsFirstPart, IsFed, IsPushed};
-ghost use Rattle.roll_spectate.specs.declared.limits.TheConstants.{RING_ROWS as ROWS};
+ghost use Rattle.roll_spectate.specs.Sent.{IsFed, IsFilled, IsSentMore};
 
 use crate::limits::RING_ROWS;
 use roll_frame::Row;
@@ -32,9 +31,9 @@ pub struct RowSender {
     count: u32,
 }
 
-/// A clause sees the ring, and the rows that were sent.
+/// A clause sees the ring, the rows that were sent, and how many of them are known to be taken.
 impl Model for RowSender {
-    ghost use Rattle.std.specs.Prelude.{◌≡◌, ◌≤◌, ◌+◌, length};
+    ghost use Rattle.std.specs.Prelude.{◌≡◌, ◌≤◌, ◌+◌, ◌-◌, length};
     ghost use Rattle.rtrb.specs.Ring.{sent, known_free};
     ghost use Rattle.roll_frame.specs.declared.limits.TheConstants.{FRAME_LIMIT};
     ghost use Rattle.roll_spectate.specs.Rings.{ring_at};
@@ -43,7 +42,7 @@ impl Model for RowSender {
 
     ghost Value = { Fed };
 
-    ghost view = { λ s. record { ring = ring_at s.producer.end; rows = sent s.producer } };
+    ghost view = { λ s. record { ring = ring_at s.producer.end; rows = sent s.producer; taken = known_free s.producer + length (sent s.producer) - RING_ROWS } };
 
     ghost invariant = { λ s. (s.count ≡ length (sent s.producer)) × (s.count ≤ FRAME_LIMIT) × (RING_ROWS ≤ known_free s.producer + length (sent s.producer)) };
 }
@@ -74,7 +73,7 @@ impl Model for RowReceiver {
 ///
 /// If the allocator has no room.
 pub fn open_ring(alloc: Global) -> Result<(RowSender, RowReceiver), AllocError>
-    ensures { IfOk result (λ ends. ends.0 ≡ record { ring = ends.1; rows = [] }) }
+    ensures { IfOk result (λ ends. ends.0 ≡ record { ring = ends.1; rows = []; taken = 0 }) }
 {
     let (producer, consumer) = RingBuffer::with_protocol::<Global, FewRows>(alloc, RING_ROWS)?;
     let sender = RowSender { producer, count: 0 };
@@ -115,12 +114,11 @@ impl RowSender {
         self.count
     }
 
-    /// Sends a row if the ring has a place for it, and says whether it did.
+    /// Sends a row, unless the ring is full, and says whether it did. A ring that seems full is asked how many rows were taken.
     pub fn send(&mut self, row: Row) -> bool
         requires { length self.old.rows < FRAME_LIMIT }
-        ensures sent { IsTrue result → self.new
-            ≡ record self.old { rows = self.old.rows ++ row ∷ [] } }
-        ensures full { IsFalse result → (self.new ≡ self.old) × (ROWS ≤ length self.old.rows) }
+        ensures sent { IsTrue result → IsSentMore (row ∷ []) self.old self.new }
+        ensures full { IsFalse result → (self.new ≡ self.old) × IsFilled self.old }
     {
         if self.producer.push(row).is_err() {
             return false;

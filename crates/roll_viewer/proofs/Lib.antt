@@ -1,8 +1,11 @@
 mod Answered
 mod Sealed
+mod ReadBack
 mod Padding
 mod Once
 mod Decoded
 mod Settled
+mod Taken
+mod Handing
+mod Told
 mod Seen
-mod Sending

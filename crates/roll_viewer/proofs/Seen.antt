@@ -1,156 +1,263 @@
 -- Viewers see settled rows.
-use Rattle.std.proofs.Common.{◌≡◌, ◌∙◌, ◌≤◌, ◌<◌, ◌⊎◌, ◌+◌, ◌-◌, ℕ, zero, suc, List, [], ◌∷◌, ◌++◌, length, get_or, drop, take, refl, sym, ap, subst, arith, Bool, true, false, inl, inr, append-nil, length-append}
-use Rattle.std.specs.Prelude.{nat_le, All, if◌then◌else◌}
-use Rattle.std.proofs.lemmas.Bool.{cases_lt, cond-false, leb-true, ne_eqb}
-use Rattle.std.proofs.lemmas.List.{get_or-append_right, get_or-drop, get_or-take, get_or_append_left, length-drop, length-take}
-use Rattle.std.proofs.lemmas.List.Elements.{All-head, All-tail}
-use Rattle.std.proofs.lemmas.List.FromFn.{fill_by_all}
+use Rattle.std.proofs.Common.{◌≡◌, ◌∙◌, ◌≤◌, ◌⊎◌, ◌+◌, ◌-◌, ℕ, List, [], ◌∷◌, ◌++◌, length, drop, take, refl, sym, ap, subst, arith, Bool, true, false, inl, inr, append_assoc, length-append, Option, None, Some, Ok}
+use Rattle.std.specs.Prelude.{All, nat_lt, not, if◌then◌else◌}
+use Rattle.std.proofs.lemmas.Bool.{cases_lt, lt-ltb}
+use Rattle.std.proofs.lemmas.List.Elements.{All-cons, All-nil}
+use Rattle.std.proofs.lemmas.List.{length-drop, length-take, take-append-drop}
+use Rattle.roll_contact.specs.Contacts.{says_hello}
 use Rattle.roll_frame.specs.Cells.{Rows}
+use Rattle.roll_frame.specs.Core.{Core}
 use Rattle.roll_frame.specs.Events.{replay}
-use Rattle.roll_frame.specs.declared.row.Cell.{Cell}
 use Rattle.roll_frame.specs.Games.{Game}
 use Rattle.roll_frame.specs.declared.entry.Entry.{Entry}
 use Rattle.roll_frame.specs.declared.settings.Settings.{Settings}
 use Rattle.roll_laws.specs.Sessions.{IsLog}
 use Rattle.roll_session.specs.Standing.{settled_rows}
 use Rattle.roll_spectate.specs.Sent.{IsFirstPart}
-use Rattle.roll_spectate.proofs.Growing.{log_begins, sent_rows_stay}
-use Rattle.roll_spectate.proofs.Parts.{part_itself}
-use Rattle.roll_viewer.specs.Rows.{first_row, rows_in}
-use Rattle.roll_viewer.specs.Seeing.{seen, viewed, Delivery, IsOf, TellsRows, ViewersSeeSettledRows}
-use Rattle.roll_viewer.specs.Telling.{room_after, told_to}
-use Rattle.roll_viewer.proofs.Settled.{known_log, players_log, tells}
+use Rattle.roll_wire.specs.Spelling.{Content, Greets, Leaves, Plays, Turn}
+use Rattle.roll_wire.specs.declared.datagram.Clocks.{Clocks}
+use Rattle.roll_viewer.specs.Ends.{host_says, host_sends, ignored_by_viewer, opened_viewer, unread, with_told, Hears, HearsRows, Hosted, Viewing}
+use Rattle.roll_viewer.specs.Lines.{clocks_at, greeting, opened, players_of, said, IsSealedFor}
+use Rattle.roll_viewer.specs.Queued.{IsFull}
+use Rattle.roll_viewer.specs.Rows.{are_rows, first_row, news_in, rows_in, AreTaken}
+use Rattle.roll_viewer.specs.Seeing.{AreCalls, ChangesLine, GivesRows, HasFirst, HearsBytes, IsCall, IsOfHost, IsOfTurn, ViewersSeeSettledRows, Watching}
+use Rattle.roll_viewer.specs.Telling.{room_after, told_to, with_clocks}
+use Rattle.roll_viewer.specs.declared.line.Line.{Line}
+use Rattle.roll_viewer.specs.declared.refusal.LineRefusal.TheVariants.{Gap, NoRows}
+use Rattle.roll_viewer.proofs.ReadBack.{read_back}
+use Rattle.roll_viewer.proofs.Told.{first_if, many_told, more_first, part_short}
 
--- ---- first parts, row by row
+-- ---- which play came
 
-part_by : (rows all : Rows) → length rows ≤ length all
-    → ((j : ℕ) → j < length rows → get_or rows j [] ≡ get_or all j []) → IsFirstPart rows all
-part_by rows all short same =
-    let n : length (take (length rows) all) ≡ length rows = omega (arith, length-take (length rows) all, short) in
-    fill_by_all (λ j. get_or all j []) rows (length rows) [] refl same
-    ∙ sym (fill_by_all (λ j. get_or all j []) (take (length rows) all) (length rows) [] n
-    (λ j l. get_or-take (length rows) all j [] l))
-
-part_at : (rows all : Rows) → IsFirstPart rows all → (j : ℕ) → j < length rows
-    → get_or rows j [] ≡ get_or all j []
-part_at rows all e j l =
-    ap (λ (q : Rows). get_or q j []) e ∙ get_or-take (length rows) all j [] l
-
-part_short : (rows all : Rows) → IsFirstPart rows all → length rows ≤ length all
-part_short rows all e =
-    omega (arith, ap (λ (q : Rows). length q) e, length-take (length rows) all)
-
--- some rows of a first part, from no later than the end of another first part on, go on from that one
-pub goes_on : (rows part all : Rows) (had room places : ℕ) → IsFirstPart rows all → IsFirstPart part all → had ≤ length rows
-    → IsFirstPart (rows ++ take places (drop (length rows - had) (take room (drop had part)))) all
-goes_on rows part all had room places first begins low =
-    let n : ℕ = length rows in
-    let told : Rows = take room (drop had part) in
-    let news : Rows = drop (n - had) told in
-    let more : Rows = take places news in
-    let l1 = length-take room (drop had part) in
-    let l2 = length-drop had part in
-    let l3 = length-drop (n - had) told in
-    let l4 = length-take places news in
-    let l5 = length-append rows more in
-    let s1 = part_short part all begins in
-    let s2 = part_short rows all first in
-    part_by (rows ++ more) all (omega (arith, l1, l2, l3, l4, l5, s1, s2, low))
-    (λ j l. row j l (cases_lt j n))
+-- what a line sent in a turn
+said_in : (host : Hosted) (core : Core) (now : ℕ) (bytes : List ℕ) → host_sends host core now ≡ Some bytes
+    → bytes ≡ said host.line host.line.settings.host (host_says host core now)
+said_in host core now bytes e = go host.line.ended e
   where
-    row : (j : ℕ) → j < length (rows ++ take places (drop (length rows - had) (take room (drop had part)))) → (j < length rows) ⊎ (length rows ≤ j)
-        → get_or (rows ++ take places (drop (length rows - had) (take room (drop had part)))) j [] ≡ get_or all j []
-    row j l (inl here) =
-        get_or_append_left rows (take places (drop (length rows - had) (take room (drop had part)))) [] j here
-        ∙ part_at rows all first j here
-    row j l (inr past) =
-        let told : Rows = take room (drop had part) in
-        let news : Rows = drop (length rows - had) told in
-        let i : ℕ = j - length rows in
-        let l1 = length-take room (drop had part) in
-        let l2 = length-drop had part in
-        let l3 = length-drop (length rows - had) told in
-        let l4 = length-take places news in
-        let l5 = length-append rows (take places news) in
-        let at : had + ((length rows - had) + i) ≡ j = omega (arith, low, past) in
-        get_or-append_right rows (take places news) (length rows) j [] refl past
-        ∙ get_or-take places news i [] (omega (arith, l4, l5, l, past))
-        ∙ get_or-drop (length rows - had) told i []
-        ∙ get_or-take room (drop had part) ((length rows - had) + i) [] (omega (arith, l1, l3, l4, l5, l, past))
-        ∙ get_or-drop had part ((length rows - had) + i) []
-        ∙ ap (λ (m : ℕ). get_or part m []) at
-        ∙ part_at part all begins j (omega (arith, l1, l2, l3, l4, l5, l, past, low))
+    go : (b : Bool) → (if b then None else Some (said host.line host.line.settings.host (host_says host core now))) ≡ Some bytes
+        → bytes ≡ said host.line host.line.settings.host (host_says host core now)
+    go true e = absurd (cc e)
+    go false e = sym (cc e)
 
-none_more : (places n : ℕ) → take {A = List Cell} places (drop n []) ≡ []
-none_more places zero = none_taken places
+-- what it said as it left
+said_leaving : (line : Line) (bytes : List ℕ) (b : Bool) → (if b then Some (said line line.settings.host Leaves) else None) ≡ Some bytes
+    → bytes ≡ said line line.settings.host Leaves
+said_leaving line bytes true e = sym (cc e)
+said_leaving line bytes false e = absurd (cc e)
+
+-- a play that a host told of its session as it was at some time
+record IsTold (settings : Settings) (log : List Entry) (t : Turn) : Type 0 where
+  earlier : List Entry
+  later : List Entry
+  parts : earlier ++ later ≡ log
+  had : ℕ
+  clocks : Option Clocks
+  told : t ≡ with_clocks clocks (told_to (replay settings earlier) had)
+
+play_is : (t u : Turn) → Plays t ≡ Plays u → t ≡ u
+play_is t u e = cc e
+
+module _ (settings : Settings) (log : List Entry) (number : ℕ) (bytes : List ℕ) (line : Line) (same : number ≡ line.settings.number) (sender : ℕ) where
+  -- what is read of a turn's bytes is what was said
+  turn_read : (s : IsOfTurn settings log number bytes) (what : Content) → opened line sender bytes ≡ Ok what
+      → what ≡ host_says s.host (replay settings s.earlier) s.now
+  turn_read s what e =
+      read_back s.host.line line s.host.line.settings.host sender (host_says s.host (replay settings s.earlier) s.now) what bytes
+      (said_in s.host (replay settings s.earlier) s.now bytes s.sent) s.fits (s.numbered ∙ same) e
+
+  play_read : (s : IsOfTurn settings log number bytes) (t : Turn) → opened line sender bytes ≡ Ok (Plays t) → (b : Bool)
+      → says_hello s.host.line.contact ≡ b
+      → Plays t ≡ (if b then greeting s.host.line else Plays (with_clocks (clocks_at s.host.line (with_told s.host (replay settings s.earlier)).told s.now) (told_to (replay settings s.earlier) s.host.had)))
+      → t ≡ with_clocks (clocks_at s.host.line (with_told s.host (replay settings s.earlier)).told s.now) (told_to (replay settings s.earlier) s.host.had)
+  play_read s t e true b is = absurd (cc is)
+  play_read s t e false b is = play_is t _ is
+
+  told_by : IsOfHost settings log number bytes → (t : Turn) → opened line sender bytes ≡ Ok (Plays t) → IsTold settings log t
+  told_by (inl s) t e = record {
+    earlier = s.earlier;
+    later = s.later;
+    parts = s.parts;
+    had = s.host.had;
+    clocks = clocks_at s.host.line (with_told s.host (replay settings s.earlier)).told s.now;
+    told = play_read s t e (says_hello s.host.line.contact) refl (turn_read s (Plays t) e);
+  }
+  told_by (inr s) t e =
+      let left : Plays t ≡ Leaves =
+      read_back s.host.line line s.host.line.settings.host sender Leaves (Plays t) bytes
+      (said_leaving s.host.line bytes _ s.sent) s.fits (s.numbered ∙ same) e in
+      absurd (cc left)
+
+-- ---- what is heard has no gap
+
+heard_from : (viewer : Viewing) (t : Turn) → unread viewer t ≡ None → first_row t ≤ viewer.rows.count
+heard_from viewer t e = go (not (are_rows (players_of viewer.line.settings) t)) e
   where
-    none_taken : (places : ℕ) → take {A = List Cell} places [] ≡ []
-    none_taken zero = refl
-    none_taken (suc p) = refl
-none_more zero (suc n) = refl
-none_more (suc p) (suc n) = refl
+    gap : (b : Bool) → nat_lt viewer.rows.count (first_row t) ≡ b → (if b then Some Gap else None) ≡ None → first_row t ≤ viewer.rows.count
+    gap true l e = absurd (cc e)
+    gap false l e = elim (cases_lt viewer.rows.count (first_row t)) [
+      | inl past ↦ (let is : true ≡ false = sym (lt-ltb viewer.rows.count (first_row t) past) ∙ l in absurd (cc is))
+      | inr low ↦ low
+    ]
 
--- ---- one play after the other
+    go : (b : Bool) → (if b then Some NoRows else (if nat_lt viewer.rows.count (first_row t) then Some Gap else None)) ≡ None → first_row t ≤ viewer.rows.count
+    go true e = absurd (cc e)
+    go false e = gap (nat_lt viewer.rows.count (first_row t)) refl e
+
+-- ---- call after call
 
 module _ (settings : Settings) (game : Game) (log : List Entry) (l : IsLog settings game log) where
-  -- what was told of a log that this one goes on from
-  told : (d : Delivery) → IsOf log d
-      → IsLog settings game d.log × IsFirstPart (settled_rows (replay settings d.log)) (settled_rows (replay settings log))
-  told d (more, e) =
-      let whole : IsLog settings game (d.log ++ more) = subst (IsLog settings game) (sym e) l in (
-        log_begins settings game d.log more whole,
-        subst (λ (later : List Entry). IsFirstPart (settled_rows (replay settings d.log)) (settled_rows (replay settings later))) e
-            (sent_rows_stay settings game d.log more (settled_rows (replay settings d.log)) whole (part_itself (settled_rows (replay settings d.log)))),
-      )
+  abbrev rows_now : Rows
+  rows_now = settled_rows (replay settings log)
 
-  heard : (rows : Rows) (d : Delivery) → IsOf log d → IsFirstPart rows (settled_rows (replay settings log))
-      → IsFirstPart (seen settings.players rows (told_to (replay settings d.log) d.had) d.places) (settled_rows (replay settings log))
-  heard rows d of first = go (nat_le (first_row (told_to (replay settings d.log) d.had)) (length rows)) refl
+  record Holds (w : Watching) : Type 0 where
+    told : players_of w.viewer.line.settings ≡ settings.players
+    first : IsFirstPart (w.seen ++ w.viewer.rows.waiting) rows_now
+    all : length (w.seen ++ w.viewer.rows.waiting) ≡ w.viewer.rows.count
+
+  has : (w : Watching) → Holds w → HasFirst rows_now w
+  has w h = record {
+    few = omega (arith, h.all, part_short (w.seen ++ w.viewer.rows.waiting) rows_now h.first);
+    first = h.first ∙ ap (λ n. take n rows_now) h.all;
+  }
+
+  -- no row came or went
+  stays : (old new : Watching) → Holds old → new.viewer.line.settings ≡ old.viewer.line.settings → new.viewer.rows ≡ old.viewer.rows
+      → new.seen ≡ old.seen → Holds new
+  stays old new h line rows seen =
+      let same : new.seen ++ new.viewer.rows.waiting ≡ old.seen ++ old.viewer.rows.waiting =
+      ap (λ (s : Rows). s ++ new.viewer.rows.waiting) seen ∙ ap (λ q. old.seen ++ q.waiting) rows in
+      record {
+        told = ap players_of line ∙ h.told;
+        first = subst (λ (r : Rows). IsFirstPart r rows_now) (sym same) h.first;
+        all = ap (λ (r : Rows). length r) same ∙ h.all ∙ ap (λ q. q.count) (sym rows);
+      }
+
+  -- rows of a play came
+  comes : (old new : Watching) → Holds old → (t : Turn) → IsTold settings log t → first_row t ≤ old.viewer.rows.count
+      → (now count : ℕ) → HearsRows old.viewer new.viewer now t count → new.seen ≡ old.seen → Holds new
+  comes old new h t told reach now count heard seen =
+      let before : Rows = old.seen ++ old.viewer.rows.waiting in
+      let news : Rows = news_in settings.players t old.viewer.rows.count in
+      let r : AreTaken settings.players t old.viewer.rows new.viewer.rows count =
+      subst (λ n. AreTaken n t old.viewer.rows new.viewer.rows count) h.told heard.rows in
+      let now_is : new.seen ++ new.viewer.rows.waiting ≡ before ++ take count news =
+      ap (λ (s : Rows). s ++ new.viewer.rows.waiting) seen ∙ ap (λ (w : Rows). old.seen ++ w) r.waiting
+      ∙ sym (append_assoc old.seen old.viewer.rows.waiting (take count news)) in
+      let grown : IsFirstPart (before ++ take count (drop (length before - first_row t) (rows_in settings.players t))) rows_now =
+      subst (λ (u : Turn). IsFirstPart (before ++ take count (drop (length before - first_row u) (rows_in settings.players u))) rows_now)
+      (sym told.told)
+      (more_first settings game log told.earlier told.later told.parts l told.had before count
+      (omega (arith, ap first_row told.told, reach, h.all)) h.first) in
+      let first : IsFirstPart (new.seen ++ new.viewer.rows.waiting) rows_now =
+      subst (λ (r : Rows). IsFirstPart r rows_now) (sym now_is)
+      (subst (λ (n : ℕ). IsFirstPart (before ++ take count (drop (n - first_row t) (rows_in settings.players t))) rows_now) h.all grown) in
+      let all : length (new.seen ++ new.viewer.rows.waiting) ≡ new.viewer.rows.count =
+      omega (
+        arith,
+        ap (λ (r : Rows). length r) now_is,
+        length-append before (take count news),
+        length-take count news,
+        r.few,
+        r.counted,
+        h.all,
+      ) in
+      record {
+        told = ap (λ (line : Line). players_of line.settings) heard.line ∙ h.told;
+        first = first;
+        all = all;
+      }
+
+  hears : (old new : Watching) → Holds old → HearsBytes settings log old new → Holds new
+  hears old new h c = go c.heard.what c.heard.is_opened c.heard.is_sealed c.heard.hears
     where
-      is : TellsRows (replay settings d.log) d.had
-      is = tells (replay settings d.log) d.had (known_log settings game d.log (told d of).0)
+      go : (what : Content) → opened old.viewer.line old.viewer.line.settings.host c.bytes ≡ Ok what
+          → IsSealedFor old.viewer.line c.bytes what → Hears old.viewer new.viewer c.now what c.count → Holds new
+      go (Greets hello) e sealed heard =
+          stays old new h (ap (λ (v : Viewing). v.line.settings) heard.0) (ap (λ (v : Viewing). v.rows) heard.0) c.seen
+      go (Plays t) e sealed heard =
+          let accepted : unread old.viewer t ≡ None = ap (ignored_by_viewer old.viewer) (sym e) ∙ c.accepted in
+          let told = told_by settings log old.viewer.line.settings.number c.bytes old.viewer.line refl old.viewer.line.settings.host (c.of_host sealed.1) t e in
+          comes old new h t told (heard_from old.viewer t accepted) c.now c.count heard c.seen
+      go Leaves e sealed heard =
+          stays old new h (ap (λ (v : Viewing). v.line.settings) heard.0) (ap (λ (v : Viewing). v.rows) heard.0) c.seen
 
-      news : rows_in settings.players (told_to (replay settings d.log) d.had)
-          ≡ take (room_after (replay settings d.log) d.had) (drop d.had (settled_rows (replay settings d.log)))
-      news =
-          ap (λ n. rows_in n (told_to (replay settings d.log) d.had)) (sym (players_log settings game d.log (told d of).0)) ∙ is.rows
+  gives : (old new : Watching) → Holds old → GivesRows old new → Holds new
+  gives old new h c =
+      let waiting : Rows = old.viewer.rows.waiting in
+      let same : new.seen ++ new.viewer.rows.waiting ≡ old.seen ++ waiting =
+      ap (λ (s : Rows). s ++ new.viewer.rows.waiting) c.seen
+      ∙ ap (λ (v : Viewing). (old.seen ++ take c.count waiting) ++ v.rows.waiting) c.rest
+      ∙ append_assoc old.seen (take c.count waiting) (drop c.count waiting)
+      ∙ ap (λ (w : Rows). old.seen ++ w) (take-append-drop c.count waiting) in
+      let count : new.viewer.rows.count ≡ old.viewer.rows.count = ap (λ (v : Viewing). v.rows.count) c.rest in
+      record {
+        told = ap (λ (v : Viewing). players_of v.line.settings) c.rest ∙ h.told;
+        first = subst (λ (r : Rows). IsFirstPart r rows_now) (sym same) h.first;
+        all = ap (λ (r : Rows). length r) same ∙ h.all ∙ sym count;
+      }
 
-      first_if : 0 < room_after (replay settings d.log) d.had
-          → first_row (told_to (replay settings d.log) d.had) ≡ d.had
-      first_if some =
-          is.first ∙ cond-false _ _ _ (ne_eqb (room_after (replay settings d.log) d.had) 0 (omega (arith, some)))
+  changes : (old new : Watching) → Holds old → ChangesLine old new → Holds new
+  changes old new h c =
+      stays old new h (ap (λ (w : Watching). w.viewer.line.settings) c.rest ∙ c.told) (ap (λ (w : Watching). w.viewer.rows) c.rest)
+      (ap (λ (w : Watching). w.seen) c.rest)
 
-      no_room : room_after (replay settings d.log) d.had ≤ 0
-          → take (room_after (replay settings d.log) d.had) (drop d.had (settled_rows (replay settings d.log))) ≡ []
-      no_room none =
-          let zero_is : room_after (replay settings d.log) d.had ≡ 0 = omega (arith, none) in
-          ap (λ n. take n (drop d.had (settled_rows (replay settings d.log)))) zero_is
+  called : (old new : Watching) → Holds old → IsCall settings log old new → Holds new
+  called old new h (inl c) = hears old new h c
+  called old new h (inr (inl c)) = gives old new h c
+  called old new h (inr (inr c)) = changes old new h c
 
-      go : (b : Bool) → nat_le (first_row (told_to (replay settings d.log) d.had)) (length rows) ≡ b
-          → IsFirstPart (if b then rows ++ take d.places (drop (length rows - first_row (told_to (replay settings d.log) d.had)) (rows_in settings.players (told_to (replay settings d.log) d.had))) else rows) (settled_rows (replay settings log))
-      go false e = first
-      go true e =
-          elim (cases_lt 0 (room_after (replay settings d.log) d.had)) [
-            | inl some ↦ (let at = first_if some in
-                let low : d.had ≤ length rows = omega (arith, leb-true (first_row (told_to (replay settings d.log) d.had)) (length rows) e, at) in
-                subst (λ (n : ℕ). IsFirstPart (rows ++ take d.places (drop (length rows - n) (rows_in settings.players (told_to (replay settings d.log) d.had)))) (settled_rows (replay settings log)))
-                (sym at)
-                (subst (λ (more : Rows). IsFirstPart (rows ++ take d.places (drop (length rows - d.had) more)) (settled_rows (replay settings log)))
-                (sym news)
-                (goes_on rows (settled_rows (replay settings d.log)) (settled_rows (replay settings log)) d.had (room_after (replay settings d.log) d.had) d.places first (told d of).1 low)))
-            | inr none ↦ subst (λ (more : Rows). IsFirstPart (rows ++ take d.places (drop (length rows - first_row (told_to (replay settings d.log) d.had)) more)) (settled_rows (replay settings log)))
-                (sym (news ∙ no_room none))
-                (subst (λ (more : Rows). IsFirstPart (rows ++ more) (settled_rows (replay settings log)))
-                (sym (none_more d.places (length rows - first_row (told_to (replay settings d.log) d.had))))
-                (subst (λ (all : Rows). IsFirstPart all (settled_rows (replay settings log))) (sym (append-nil rows)) first))
+  all_called : (old : Watching) (later : List Watching) → Holds old → AreCalls settings log old later → All (HasFirst rows_now) later
+  all_called old [] h c = All-nil (HasFirst rows_now)
+  all_called old (new ∷ later) h c =
+      let now : Holds new = called old new h c.0 in
+      All-cons (HasFirst rows_now) new later (has new now) (all_called new later now c.1)
+
+  -- ---- what a play brings
+
+  brings : (old new : Watching) (h : HearsBytes settings log old new) (s : IsOfTurn settings log old.viewer.line.settings.number h.bytes)
+      → players_of old.viewer.line.settings ≡ settings.players → says_hello s.host.line.contact ≡ false
+      → 1 ≤ room_after (replay settings s.earlier) s.host.had
+      → (s.host.had + room_after (replay settings s.earlier) s.host.had ≤ new.viewer.rows.count) ⊎ IsFull new.viewer.rows
+  brings old new h s players playing some = go h.heard.what h.heard.is_opened h.heard.hears
+    where
+      core : Core
+      core = replay settings s.earlier
+
+      clocks : Option Clocks
+      clocks = clocks_at s.host.line (with_told s.host core).told s.now
+
+      reads : (what : Content) → opened old.viewer.line old.viewer.line.settings.host h.bytes ≡ Ok what
+          → what ≡ Plays (with_clocks clocks (told_to core s.host.had))
+      reads what e =
+          turn_read settings log old.viewer.line.settings.number h.bytes old.viewer.line refl old.viewer.line.settings.host s what e
+          ∙ ap (λ (b : Bool). if b then greeting s.host.line else Plays (with_clocks clocks (told_to core s.host.had))) playing
+
+      go : (what : Content) → opened old.viewer.line old.viewer.line.settings.host h.bytes ≡ Ok what
+          → Hears old.viewer new.viewer h.now what h.count
+          → (s.host.had + room_after core s.host.had ≤ new.viewer.rows.count) ⊎ IsFull new.viewer.rows
+      go (Greets hello) e heard = (let is = reads (Greets hello) e in absurd (cc is))
+      go Leaves e heard = (let is = reads Leaves e in absurd (cc is))
+      go (Plays t) e heard =
+          let told : t ≡ with_clocks clocks (told_to core s.host.had) = play_is t _ (reads (Plays t) e) in
+          let accepted : unread old.viewer t ≡ None = ap (ignored_by_viewer old.viewer) (sym e) ∙ h.accepted in
+          let reach : first_row t ≤ old.viewer.rows.count = heard_from old.viewer t accepted in
+          let first : first_row t ≡ s.host.had =
+          ap first_row told ∙ first_if settings game log s.earlier s.later s.parts l s.host.had some in
+          let many : length (rows_in settings.players t) ≡ room_after core s.host.had =
+          ap (λ (u : Turn). length (rows_in settings.players u)) told ∙ many_told settings game log s.earlier s.later s.parts l s.host.had in
+          let r : AreTaken settings.players t old.viewer.rows new.viewer.rows h.count =
+          subst (λ n. AreTaken n t old.viewer.rows new.viewer.rows h.count) players heard.rows in
+          elim r.all [
+            | inl all ↦ inl (omega (arith, all, many, first, reach, r.counted, length-drop (old.viewer.rows.count - first_row t) (rows_in settings.players t)))
+            | inr full ↦ inr full
           ]
 
-  all_heard : (rows : Rows) (ds : List Delivery) → All (IsOf log) ds → IsFirstPart rows (settled_rows (replay settings log))
-      → IsFirstPart (viewed settings rows ds) (settled_rows (replay settings log))
-  all_heard rows [] of first = first
-  all_heard rows (d ∷ ds) of first =
-      all_heard (seen settings.players rows (told_to (replay settings d.log) d.had) d.places) ds
-      (All-tail (IsOf log) d ds of) (heard rows d (All-head (IsOf log) d ds of) first)
+-- ---- the law
 
 pub viewers_see_settled_rows : ViewersSeeSettledRows
-viewers_see_settled_rows settings game log ds l of = all_heard settings game log l [] ds of refl
+viewers_see_settled_rows = record {
+  first = λ settings game log told later l players calls.
+      all_called settings game log l (record { viewer = opened_viewer told; seen = [] }) later
+      (record { told = players; first = refl; all = refl }) calls;
+  come = λ settings game log old new h s l players playing some. brings settings game log l old new h s players playing some;
+}

@@ -1,15 +1,14 @@
 -- The two ends of a viewer's line, and what each makes of what it hears.
-use Rattle.std.specs.Prelude.{◌≡◌, ℕ, ◌+◌, List, [], length, max, replicate, take, false, not, nat_lt, Option, Some, None, Result, Ok, Err, if◌then◌else◌}
+use Rattle.std.specs.Prelude.{◌≡◌, ℕ, ◌+◌, List, [], max, replicate, take, false, not, nat_lt, Option, Some, None, Result, Ok, Err, if◌then◌else◌}
 use Rattle.roll_contact.specs.Contacts.{says_hello}
 use Rattle.roll_frame.specs.Core.{Core}
 use Rattle.roll_mesh.specs.Machines.{none_offered}
 use Rattle.roll_mesh.specs.declared.limits.TheConstants.{MACHINE_LIMIT, PLAYER_LIMIT}
-use Rattle.roll_spectate.specs.Rings.{Ring}
-use Rattle.roll_spectate.specs.Sent.{Fed}
-use Rattle.roll_wire.specs.Spelling.{Content, Greets, Leaves, Plays, Turn}
+use Rattle.roll_wire.specs.Spelling.{Content, Greets, Leaves, Message, Plays, Turn}
 use Rattle.roll_wire.specs.declared.datagram.Clocks.{Clocks}
-use Rattle.roll_viewer.specs.Lines.{after_bye, after_hello, after_play, clocks_at, greeting, hello_said, mismatched, opened, opened_line, play_said, players_of, said, turn_said, IsSealedFor}
-use Rattle.roll_viewer.specs.Rows.{are_rows, first_row, is_inside, least_with, most_of, IsSent}
+use Rattle.roll_viewer.specs.Lines.{after_bye, after_hello, after_play, clocks_at, greeting, hello_said, message_of, mismatched, opened, opened_line, play_said, players_of, said, turn_said, IsSealedFor}
+use Rattle.roll_viewer.specs.Queued.{Queued}
+use Rattle.roll_viewer.specs.Rows.{are_rows, first_row, is_inside, least_with, most_of, AreTaken}
 use Rattle.roll_viewer.specs.Telling.{padded, room_after, told_to, with_clocks}
 use Rattle.roll_viewer.specs.declared.line.Line.{Line}
 use Rattle.roll_viewer.specs.declared.line.TheConstants.{VIEWER}
@@ -69,6 +68,11 @@ host_says host core now =
     if says_hello host.line.contact then greeting host.line
     else Plays (with_clocks (clocks_at host.line (with_told host core).told now) (told_to core host.had))
 
+-- as a datagram
+abbrev pub host_message : Hosted → Core → (now : ℕ) → Message
+host_message host core now =
+    message_of host.line host.line.settings.host (host_says host core now)
+
 -- and sends: nothing once the line has ended
 abbrev pub host_sends : Hosted → Core → (now : ℕ) → Option (List ℕ)
 host_sends host core now =
@@ -83,16 +87,16 @@ host_told host core now =
 
 -- ---- the viewer's end
 
--- what its spectator was sent, and how many rows its host has said that it has
+-- the rows that came, and how many rows the host has said that it has
 pub record Viewing : Type 0 where
   pub line : Line
-  pub fed : Fed
+  pub rows : Queued
   pub settled : ℕ
 
-abbrev pub opened_viewer : LineSettings → Ring → Viewing
-opened_viewer settings ring = record {
+abbrev pub opened_viewer : LineSettings → Viewing
+opened_viewer settings = record {
   line = opened_line settings;
-  fed = record { ring = ring; rows = [] };
+  rows = record { count = 0; waiting = [] };
   settled = 0;
 }
 
@@ -100,7 +104,7 @@ opened_viewer settings ring = record {
 abbrev pub unread : Viewing → Turn → Option LineRefusal
 unread viewer t =
     if not (are_rows (players_of viewer.line.settings) t) then Some NoRows
-    else (if nat_lt (length viewer.fed.rows) (first_row t) then Some Gap else None)
+    else (if nat_lt viewer.rows.count (first_row t) then Some Gap else None)
 
 -- why what came isn't heard
 abbrev pub unheard_by_viewer : Viewing → Content → Option LineRefusal
@@ -112,11 +116,11 @@ abbrev pub ignored_by_viewer : Viewing → Result Content LineRefusal → Option
 ignored_by_viewer viewer (Err why) = Some why
 ignored_by_viewer viewer (Ok what) = unheard_by_viewer viewer what
 
--- a play is heard, and its rows are sent to the spectator
+-- a play is heard, and its rows are taken in
 pub record HearsRows (old new : Viewing) (now : ℕ) (t : Turn) (count : ℕ) : Type 0 where
-  pub line : new.line ≡ after_play old.line t.head.clocks (length old.fed.rows) now
+  pub line : new.line ≡ after_play old.line t.head.clocks old.rows.count now
   pub settled : new.settled ≡ max old.settled (most_of t.head.view.has)
-  pub sent : IsSent (players_of old.line.settings) t old.fed new.fed count
+  pub rows : AreTaken (players_of old.line.settings) t old.rows new.rows count
 
 abbrev pub Hears : (old new : Viewing) → ℕ → Content → (count : ℕ) → Type 0
 Hears old new now (Greets hello) count =
@@ -149,7 +153,7 @@ acknowledged players rows clocks = record {
 -- what the viewer says in a turn: a hello, or how many rows it has
 abbrev pub viewer_says : Viewing → (now : ℕ) → Content
 viewer_says viewer now =
-    let rows = length viewer.fed.rows in
+    let rows = viewer.rows.count in
     if says_hello viewer.line.contact then greeting viewer.line
     else Plays (acknowledged (players_of viewer.line.settings) rows (clocks_at viewer.line rows now))
 

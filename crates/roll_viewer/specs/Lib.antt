@@ -1,4 +1,5 @@
 pub mod Lines
+pub mod Queued
 pub mod Rows
 pub mod Telling
 pub mod Ends

@@ -3,7 +3,7 @@ use Rattle.std.specs.Prelude.{◌≡◌, ℕ, ◌%◌, ◌^◌, List, length, sl
 use Rattle.roll_contact.specs.Clocks.{first_clock, ticked}
 use Rattle.roll_contact.specs.Contacts.{after_hello as hello_heard, after_play as play_heard, clocks_for, hello_echo, hello_sent, is_playing, is_silent as is_silent_at, opened_contact, play_sent, refused, says_hello, unanswered_for, wants_clocks}
 use Rattle.roll_contact.specs.Keys.{greeting_key}
-use Rattle.roll_contact.specs.Seals.{named, said_by, unsealed, IsSealed}
+use Rattle.roll_contact.specs.Seals.{message_by, named, said_by, unsealed, IsSealed}
 use Rattle.roll_contact.specs.Terms.{hello_of, mismatch_of}
 use Rattle.roll_contact.specs.declared.contact.Contact.{Contact}
 use Rattle.roll_contact.specs.declared.contact.Opening.{Opening}
@@ -203,7 +203,11 @@ key_for line (Greets hello) = greeting_key line.settings.number
 key_for line (Plays t) = own_key line
 key_for line Leaves = own_key line
 
--- the bytes by which one end says something
+-- what one end says, as a datagram
+abbrev pub message_of : Line → ℕ → Content → Message
+message_of line sender what = message_by (key_for line what) sender what
+
+-- the bytes by which it says so
 unfoldable pub said : Line → ℕ → Content → List ℕ
 said line sender what = said_by (key_for line what) sender what
 

@@ -1,5 +1,5 @@
--- The rows that a play tells, and what a viewer's spectator is sent of them.
-use Rattle.std.specs.Prelude.{◌≡◌, ◌⊎◌, ℕ, ◌-◌, ◌≤◌, ◌==◌, nat_lt, not, ◌&&◌, ◌||◌, is_none, List, [], ◌∷◌, ◌++◌, length, map, max, min, take, drop, Bool, true, slice_get, if◌then◌else◌}
+-- The rows that a play tells, and which of them a viewer takes in.
+use Rattle.std.specs.Prelude.{◌≡◌, ◌⊎◌, ℕ, ◌+◌, ◌-◌, ◌≤◌, ◌==◌, nat_lt, not, ◌&&◌, ◌||◌, is_none, List, [], ◌∷◌, ◌++◌, length, map, max, min, take, drop, Bool, true, slice_get, if◌then◌else◌}
 use Rattle.std.specs.List.{list_all, range_with_len}
 use Rattle.std.specs.Option.{option_map_or}
 use Rattle.roll_frame.specs.Cells.{Rows}
@@ -7,9 +7,8 @@ use Rattle.roll_frame.specs.declared.row.Cell.{Cell}
 use Rattle.roll_frame.specs.declared.row.Cell.TheVariants.{Gone, Word}
 use Rattle.roll_member.specs.Taking.{shares}
 use Rattle.roll_mesh.specs.declared.packet.Offer.{Offer}
-use Rattle.roll_spectate.specs.Sent.{Fed}
-use Rattle.roll_spectate.specs.declared.limits.TheConstants.{RING_ROWS}
 use Rattle.roll_wire.specs.Spelling.{Turn}
+use Rattle.roll_viewer.specs.Queued.{IsFull, Queued}
 
 -- the greatest number, or 0 where there is none
 abbrev pub most_of : List ℕ → ℕ
@@ -72,17 +71,13 @@ is_inside players t =
 abbrev pub are_rows : ℕ → Turn → Bool
 are_rows players t = is_inside players t && is_said_once (take players t.head.offers)
 
--- the rows that a viewer lacks, of those that a play tells
-abbrev pub news_in : ℕ → Turn → Rows → Rows
-news_in players t rows = drop (length rows - first_row t) (rows_in players t)
+-- the rows that a viewer lacks who has so many, of those that a play tells
+abbrev pub news_in : ℕ → Turn → (had : ℕ) → Rows
+news_in players t had = drop (had - first_row t) (rows_in players t)
 
--- what a spectator has been sent after a play, of whose rows so many had a place
-abbrev pub seen_after : ℕ → Turn → (places : ℕ) → Rows → Rows
-seen_after players t places rows = rows ++ take places (news_in players t rows)
-
--- a spectator is sent what it lacks: all of it, or as many rows as its ring has room for
-pub record IsSent (players : ℕ) (t : Turn) (old new : Fed) (count : ℕ) : Type 0 where
-  pub ring : new.ring ≡ old.ring
-  pub rows : new.rows ≡ seen_after players t count old.rows
-  pub few : count ≤ length (news_in players t old.rows)
-  pub all : (length (news_in players t old.rows) ≤ count) ⊎ (RING_ROWS ≤ length new.rows)
+-- so many of them are taken in: all, unless no further row has a place
+pub record AreTaken (players : ℕ) (t : Turn) (old new : Queued) (count : ℕ) : Type 0 where
+  pub waiting : new.waiting ≡ old.waiting ++ take count (news_in players t old.count)
+  pub counted : new.count ≡ old.count + count
+  pub few : count ≤ length (news_in players t old.count)
+  pub all : (length (news_in players t old.count) ≤ count) ⊎ IsFull new

@@ -1,8 +1,8 @@
 //! The host's end of a viewer's line.
-ghost use Rattle.std.specs.Prelude.{◌≡◌, ◌≤◌, option_map, true, Some, None, IfErr, IfOk, OnOk};
-ghost use Rattle.roll_wire.specs.Spelling.{is_turn, turn, Plays};
-ghost use Rattle.roll_viewer.specs.Ends.{after_ack, host_after, host_sends, host_told, ignored_by_host, opened_host, unheard_by_host, with_told, HostHears};
-ghost use Rattle.roll_viewer.specs.Lines.{after_bye, after_refusal, after_unread, clocks_at, farewell, fault_of, is_silent, opened, silence};
+ghost use Rattle.std.specs.Prelude.{◌≡◌, ◌≤◌, option_map, true, Some, None, IfErr, IfOk, IfSome, OnOk};
+ghost use Rattle.roll_wire.specs.Spelling.{is_turn, turn, Fits, Leaves, Plays};
+ghost use Rattle.roll_viewer.specs.Ends.{after_ack, host_after, host_message, host_sends, host_told, ignored_by_host, opened_host, unheard_by_host, with_told, HostHears};
+ghost use Rattle.roll_viewer.specs.Lines.{after_bye, after_refusal, after_unread, clocks_at, farewell, fault_of, is_silent, message_of, opened, silence};
 ghost use Rattle.roll_viewer.specs.Seeing.{TellsRows};
 ghost use Rattle.roll_viewer.specs.Telling.{told_to, with_clocks};
 ghost use Rattle.roll_viewer.specs.declared.line.TheConstants.{VIEWER as VIEWER_END};
@@ -129,6 +129,8 @@ impl ViewerLine {
     ) -> Option<ArrayVec<u8, DATAGRAM_LIMIT>>
         ensures sent { option_map (λ bytes. bytes.items) result
             ≡ host_sends self.old (S.seen session.now).core now }
+        ensures fits { IfSome result
+            (λ bytes. Fits (host_message self.old (S.seen session.now).core now)) }
         ensures told { self.new ≡ host_told self.old (S.seen session.now).core now }
         ensures rows { TellsRows (S.seen session.now).core self.old.had }
     {
@@ -163,6 +165,8 @@ impl ViewerLine {
     pub fn bye(&mut self) -> Option<ArrayVec<u8, DATAGRAM_LIMIT>>
         ensures said { option_map (λ bytes. bytes.items) result
             ≡ farewell self.old.line self.old.line.settings.host }
+        ensures fits { IfSome result
+            (λ bytes. Fits (message_of self.old.line self.old.line.settings.host Leaves)) }
         ensures ended { self.new ≡ record self.old { line = after_bye self.old.line } }
     {
         let host = self.line.settings.host;

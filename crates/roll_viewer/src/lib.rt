@@ -5,6 +5,7 @@
 mod hosting;
 mod laws;
 mod line;
+mod queue;
 mod refusal;
 mod rows;
 mod settings;
@@ -13,6 +14,7 @@ mod viewer;
 
 pub use hosting::ViewerLine;
 pub use laws::viewers_see_settled_rows;
+pub use queue::WAITING_LIMIT;
 pub use refusal::{LineFault, LineRefusal};
 pub use settings::LineSettings;
 pub use viewer::Viewer;

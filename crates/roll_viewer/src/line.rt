@@ -1,8 +1,8 @@
 //! A viewer's line: what its two ends have in common.
-ghost use Rattle.std.specs.Prelude.{◌≡◌, None, Some, option_map, true, IfErr, IfOk, OnOk};
+ghost use Rattle.std.specs.Prelude.{◌≡◌, None, Some, option_map, true, IfErr, IfOk, IfSome, OnOk};
 ghost use Rattle.roll_contact.specs.Contacts.{is_playing};
-ghost use Rattle.roll_wire.specs.Spelling.{content, is_turn, is_whole, turn, Plays};
-ghost use Rattle.roll_viewer.specs.Lines.{after_bye, after_hello, after_play, after_refused, after_unread, came, clocks_at, farewell, greeting, hello_said, is_silent, key_for, mismatched, moment_at, opened, opened_line, play_said, said, silence, their_key, Gives, IsSealedFor, IsUnsealed};
+ghost use Rattle.roll_wire.specs.Spelling.{content, is_turn, is_whole, turn, Fits, Leaves, Plays};
+ghost use Rattle.roll_viewer.specs.Lines.{after_bye, after_hello, after_play, after_refused, after_unread, came, clocks_at, farewell, greeting, hello_said, is_silent, key_for, message_of, mismatched, moment_at, opened, opened_line, play_said, said, silence, their_key, Gives, IsSealedFor, IsUnsealed};
 
 use crate::refusal::LineRefusal;
 use crate::settings::LineSettings;
@@ -178,6 +178,7 @@ impl Line {
     /// The bytes of this end's next hello.
     pub(crate) fn greet(&mut self, sender: u8, now: u32) -> ArrayVec<u8, DATAGRAM_LIMIT>
         ensures bytes { result.items ≡ said self.old sender (greeting self.old) }
+        ensures fits { Fits (message_of self.old sender (greeting self.old)) }
         ensures said { self.new ≡ hello_said self.old now }
     {
         let hello = self
@@ -207,6 +208,7 @@ impl Line {
     pub(crate) fn play(&mut self, sender: u8, play: Play, now: u32) -> ArrayVec<u8, DATAGRAM_LIMIT>
         requires { is_turn (turn play) ≡ true }
         ensures bytes { result.items ≡ said self.old sender (Plays (turn play)) }
+        ensures fits { Fits (message_of self.old sender (Plays (turn play))) }
         ensures said { self.new ≡ play_said self.old now }
     {
         let bytes = self.say(sender, Body::Play(play));
@@ -218,6 +220,7 @@ impl Line {
     /// One of the two leaves: the bytes that say so, if the other end's draw is believed. The line ends in any case.
     pub(crate) fn bye(&mut self, sender: u8) -> Option<ArrayVec<u8, DATAGRAM_LIMIT>>
         ensures said { option_map (λ bytes. bytes.items) result ≡ farewell self.old sender }
+        ensures fits { IfSome result (λ bytes. Fits (message_of self.old sender Leaves)) }
         ensures ended { self.new ≡ after_bye self.old }
     {
         let bytes = if self.is_playing() {
@@ -246,7 +249,8 @@ impl Line {
     /// The bytes by which one end says something.
     fn say(&self, sender: u8, body: Body) -> ArrayVec<u8, DATAGRAM_LIMIT>
         requires { is_whole (content body) ≡ true }
-        ensures { result.items ≡ said self.now sender (content body) }
+        ensures said { result.items ≡ said self.now sender (content body) }
+        ensures fits { Fits (message_of self.now sender (content body)) }
     {
         say(&self.key_for(&body), sender, body)
     }

@@ -1,16 +1,15 @@
 //! The rows that a play tells.
-ghost use Rattle.std.specs.Prelude.{◌≡◌, ◌-◌, ◌≤◌, ◌==◌, [], ◌∷◌, ◌++◌, length, take, drop, not, IsFalse, IsTrue};
+ghost use Rattle.std.specs.Prelude.{◌≡◌, ◌-◌, ◌≤◌, ◌==◌, length, take, drop, not};
 ghost use Rattle.std.specs.List.{list_all};
 ghost use Rattle.roll_frame.specs.declared.limits.TheConstants.{PLAYER_LIMIT as MOST_PLAYERS};
 ghost use Rattle.roll_mesh.specs.declared.limits.TheConstants.{PLAYER_LIMIT};
-ghost use Rattle.roll_spectate.specs.declared.limits.TheConstants.{RING_ROWS};
 ghost use Rattle.roll_wire.specs.Spelling.{turn};
-ghost use Rattle.roll_viewer.specs.Rows.{are_rows, cell_in, first_of, first_row, follows, has_words, is_inside, is_said_once, least_with, most_of, row_count, row_in, IsSent};
+ghost use Rattle.roll_viewer.specs.Rows.{are_rows, cell_in, first_of, first_row, follows, has_words, is_inside, is_said_once, least_with, most_of, row_count, row_in, AreTaken};
 
+use crate::queue::RowQueue;
 use arrayvec::ArrayVec;
-use roll_frame::{Cell, FRAME_LIMIT, PLAYER_LIMIT, Row};
+use roll_frame::{Cell, PLAYER_LIMIT, Row};
 use roll_mesh::Offer;
-use roll_spectate::RowSender;
 use roll_wire::Play;
 
 /// How many words an offer has.
@@ -181,26 +180,16 @@ pub(crate) fn are_rows(players: usize, play: &Play) -> bool
     is_inside(players, play) && is_said_once(&play.head.offers[..players])
 }
 
-/// Sends a spectator a row, if its ring has a place for it, and says whether it did.
-fn send_row(sender: &mut RowSender, row: Row) -> bool
-    ensures sent { IsTrue result → sender.new
-        ≡ record sender.old { rows = sender.old.rows ++ row ∷ [] } }
-    ensures full { IsFalse result → (sender.new ≡ sender.old)
-        × (RING_ROWS ≤ length sender.old.rows) }
-{
-    sender.count() < FRAME_LIMIT && sender.send(row)
-}
-
-/// Sends a spectator the rows that it lacks, until its ring is full, and says how many.
-pub(crate) fn send_rows(sender: &mut RowSender, players: usize, play: &Play) -> u32
+/// Takes in the rows that a viewer lacks, until no more may wait, and says how many.
+pub(crate) fn take_rows(queue: &mut RowQueue, players: usize, play: &Play) -> u32
     requires { players ≤ PLAYER_LIMIT }
-    ensures { IsSent players (turn play.now) sender.old sender.new result }
+    ensures { AreTaken players (turn play.now) queue.old queue.new result }
 {
     let offers = &play.head.offers[..players];
-    let from = sender.count().saturating_sub(first_row(play));
+    let from = queue.count().saturating_sub(first_row(play));
     let end = row_count(offers);
     for index in from..end {
-        if !send_row(sender, row_in(offers, &play.words, index as usize)) {
+        if !queue.push(row_in(offers, &play.words, index as usize)) {
             return index - from;
         }
     }

@@ -1,55 +1,56 @@
 //! The viewer's end of a line.
-ghost use Rattle.std.specs.Prelude.{◌≡◌, ◌≤◌, [], ◌∷◌, ◌++◌, length, option_map, slice_get, Some, None, IfErr, IfNone, IfOk, IfSome, OnOk};
+ghost use Rattle.std.specs.Prelude.{◌≡◌, ◌≤◌, option_map, slice_get, Some, None, IfErr, IfOk, OnOk};
 ghost use Rattle.std.specs.Option.{option_or};
 ghost use Rattle.roll_frame.specs.declared.limits.TheConstants.{FRAME_LIMIT};
 ghost use Rattle.roll_wire.specs.Spelling.{turn, Plays};
 ghost use Rattle.roll_viewer.specs.Ends.{ignored_by_viewer, opened_viewer, unheard_by_viewer, viewer_sends, viewer_told, HearsRows, ViewerHears};
 ghost use Rattle.roll_viewer.specs.Lines.{after_bye, after_refusal, after_unread, farewell, fault_of, is_silent, opened, silence};
+ghost use Rattle.roll_viewer.specs.Queued.{with_taken, IsHandedOn};
 ghost use Rattle.roll_viewer.specs.declared.refusal.LineFault.TheVariants.{NoMemory};
 ghost use Rattle.roll_viewer.specs.declared.line.TheConstants.{VIEWER as VIEWER_END};
 
 use crate::line::{Line, VIEWER};
+use crate::queue::RowQueue;
 use crate::refusal::{LineFault, LineRefusal};
-use crate::rows::{are_rows, first_row, most_of, send_rows};
+use crate::rows::{are_rows, first_row, most_of, take_rows};
 use crate::settings::LineSettings;
 use crate::telling::acknowledged;
 use arrayvec::ArrayVec;
 use roll_contact::Stage;
 use roll_frame::Row;
-use roll_spectate::{RowReceiver, RowSender, RowStream, open_ring};
+use roll_spectate::RowSender;
 use roll_wire::{Body, DATAGRAM_LIMIT, Play};
 use std::alloc::Global;
 use std::marker::Model;
 
-/// The viewer's end of a line: it hears the settled rows of a match from its host, and hands them to a `Spectator`, which runs
-/// them on this thread or another.
+/// The viewer's end of a line: it hears the settled rows of a match from its host, and keeps up to 64 of them until they are taken.
 ///
-/// A program calls `receive` for what came of the host, and sends what `send` makes, some 60 times a second. All moments are its own
-/// clock's, in milliseconds; the clock begins anew after 2^32.
+/// A program calls `receive` for what came of the host, takes the rows that came, and sends what `send` makes, some 60 times a second.
+/// All moments are its own clock's, in milliseconds; the clock begins anew after 2^32.
 #[derive(Drop)]
 pub struct Viewer {
     line: Line,
-    sender: RowSender,
+    rows: RowQueue,
     settled: u32,
 }
 
-/// A clause sees what is known of the host, the spectator's ring and what it was sent, and how many rows the host said that it has.
+/// A clause sees what is known of the host, the rows that came, and how many rows the host said that it has.
 impl Model for Viewer {
     ghost use Rattle.roll_viewer.specs.Ends.{Viewing};
 
     ghost Value = { Viewing };
 
-    ghost view = { λ viewer. record { line = viewer.line; fed = viewer.sender; settled = viewer.settled } };
+    ghost view = { λ viewer. record { line = viewer.line; rows = viewer.rows; settled = viewer.settled } };
 }
 
 impl Viewer {
-    /// A viewer who heard nothing, and the end of its ring that a `Spectator` takes: the ring has room for 64 rows.
+    /// A viewer who heard nothing, with room for 64 rows.
     ///
     /// # Errors
     ///
     /// `NoDraw`, `Machines` or `Host`: what is wrong with the settings. Else `NoMemory`, if the allocator has no room.
-    pub fn open(alloc: Global, settings: LineSettings) -> Result<(Viewer, RowReceiver), LineFault>
-        ensures opened { IfOk result (λ ends. ends.0 ≡ opened_viewer settings ends.1) }
+    pub fn open(alloc: Global, settings: LineSettings) -> Result<Viewer, LineFault>
+        ensures opened { IfOk result (λ viewer. viewer ≡ opened_viewer settings) }
         ensures accepted { OnOk result (fault_of settings ≡ None) }
         ensures refused { IfErr result
             (λ why. option_or (fault_of settings) (Some NoMemory) ≡ Some why) }
@@ -57,20 +58,18 @@ impl Viewer {
         if let Some(why) = settings.fault() {
             return Err(why);
         }
-        let Ok((sender, receiver)) = open_ring(alloc) else {
-            return Err(LineFault::NoMemory);
-        };
-        let line = Line::new(settings);
-        let viewer = Viewer {
-            line,
-            sender,
-            settled: 0,
-        };
-        Ok((viewer, receiver))
+        match RowQueue::new(alloc) {
+            Ok(rows) => Ok(Viewer {
+                line: Line::new(settings),
+                rows,
+                settled: 0,
+            }),
+            Err(_) => Err(LineFault::NoMemory),
+        }
     }
 
-    /// Hears bytes that came from the host, at a moment. The rows that they tell are sent to the spectator, from those on that it
-    /// was sent before, until its ring is full: how many these were. The others come again.
+    /// Hears bytes that came from the host, at a moment. Of the rows that they tell those are taken in that the viewer lacks, until 64
+    /// wait: how many these were. The others come again.
     ///
     /// # Errors
     ///
@@ -86,7 +85,6 @@ impl Viewer {
               self.old.line now why
               (opened self.old.line self.old.line.settings.host bytes.now);
         }) }
-        ensures ring { self.new.fed.ring ≡ self.old.fed.ring }
     {
         let host = self.line.settings.host;
         match self.line.open(host, bytes)? {
@@ -110,33 +108,36 @@ impl Viewer {
             (λ why. unheard_by_viewer self.old (Plays (turn play.now)) ≡ Some why) }
         ensures rest { IfErr result
             (λ why. self.new ≡ record self.old { line = after_unread why self.old.line }) }
-        ensures ring { self.new.fed.ring ≡ self.old.fed.ring }
     {
         let players = self.line.settings.players();
         if !are_rows(players, play) {
             self.line.refuse();
             return Err(LineRefusal::NoRows);
         }
-        let rows = self.sender.count();
+        let rows = self.rows.count();
         if first_row(play) > rows {
             return Err(LineRefusal::Gap);
         }
         self.line.hear_play(play.head.clocks, rows, now);
         self.settled = self.settled.max(most_of(&play.head.view.has));
-        Ok(send_rows(&mut self.sender, players, play))
+        Ok(take_rows(&mut self.rows, players, play))
     }
 
-    /// The next row, for who steps by the rows on this thread without a `Spectator`: the stream is that of this viewer's own
-    /// receiver. None if and only if all rows that were sent were handed out.
-    pub fn next_row(&mut self, stream: &mut RowStream) -> Option<Row>
-        requires { self.old.fed.ring ≡ stream.old.ring }
-        ensures which { result ≡ slice_get self.old.fed.rows (length stream.old.rows) }
-        ensures next { IfSome result
-            (λ row. stream.new ≡ record stream.old { rows = stream.old.rows ++ row ∷ [] }) }
-        ensures none { IfNone result (stream.new ≡ stream.old) }
-        ensures viewer { self.new ≡ self.old }
+    /// Takes the first row that waits. None if and only if none does.
+    pub fn next_row(&mut self) -> Option<Row>
+        ensures which { result ≡ slice_get self.old.rows.waiting 0 }
+        ensures rest { self.new ≡ record self.old { rows = with_taken 1 self.old.rows } }
     {
-        stream.next_beside(&mut self.sender)
+        self.rows.pop()
+    }
+
+    /// Sends a `Spectator` the rows that wait, by the ring that [`open_ring`](roll_spectate::open_ring) made, until that is full, and
+    /// says how many. The ring is to be one by which nothing else is sent.
+    pub fn hand_to(&mut self, sender: &mut RowSender) -> u32
+        ensures rows { IsHandedOn self.old.rows self.new.rows sender.old sender.new result }
+        ensures rest { self.new ≡ record self.old { rows = self.new.rows } }
+    {
+        self.rows.hand_to(sender)
     }
 
     /// The bytes to send to the host in this turn, at a moment: a hello, until its draw is believed, and then now and again until
@@ -151,7 +152,7 @@ impl Viewer {
         if self.line.contact.says_hello() {
             return Some(self.line.greet(VIEWER, now));
         }
-        let rows = self.sender.count();
+        let rows = self.rows.count();
         let clocks = self.line.clocks(rows, now);
         let play = acknowledged(self.line.settings.players(), rows, clocks);
         Some(self.line.play(VIEWER, play, now))
@@ -167,12 +168,12 @@ impl Viewer {
         self.line.bye(VIEWER)
     }
 
-    /// How many rows its spectator was sent.
+    /// How many rows came, those that were taken too.
     pub fn rows(&self) -> u32
-        ensures rows { result ≡ length self.now.fed.rows }
+        ensures rows { result ≡ self.now.rows.count }
         ensures few { result ≤ FRAME_LIMIT }
     {
-        self.sender.count()
+        self.rows.count()
     }
 
     /// The most rows that the host has said that it has.

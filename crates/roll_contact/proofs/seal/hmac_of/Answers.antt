@@ -1,7 +1,7 @@
-use Rattle.std.proofs.Common.{◌≡◌, ◌++◌, ◌∙◌, List, ℕ, ap}
+use Rattle.std.proofs.Common.{◌++◌, ◌∙◌, List, ℕ, ap}
 use Rattle.sha2.specs.Sha256.{sha256}
 use Rattle.roll_contact.specs.Keys.{padded}
-use Rattle.roll_contact.specs.declared.seal.TheConstants.{INNER, OUTER}
+use Rattle.roll_contact.specs.declared.seal.TheConstants.{OUTER}
 use Rattle.roll_contact.proofs.seal.hmac_of.Goals as goal
 
 pub returns : goal.returns

@@ -9,6 +9,7 @@ invariant-loop-row g l =
     (IsFirstPart l.fn.self.rows (settled_rows (g.S.Networked.seen l.session).core)
     → IsFirstPart l.self.rows (settled_rows (g.S.Networked.seen l.session).core))
     × IsFirstPart l.fn.self.rows l.self.rows × (l.from ≡ length l.fn.self.rows) × (l.from ≤ length l.self.rows) × (l.self.ring ≡ l.fn.self.ring)
+    × (l.fn.self.taken ≤ l.self.taken)
 
 abbrev pub decreases-loop-row : goal.decreases-loop-row
 decreases-loop-row g l = settled (g.S.Networked.seen l.session).core - length l.self.rows

@@ -13,7 +13,7 @@ returns-in_ok-hear_hello-in-Hello-clause-received c = rw (← c.self.view_is) (r
   is_opened = c.in_ok-hello.ensures.opened ∙ ap (λ b. Ok (content b)) c.in-Hello.is;
   is_sealed = subst (λ (b : Body). IsSealedFor c.self.inside.line c.args.bytes.now (content b)) c.in-Hello.is c.in_ok-hello.ensures.sealed;
   hears = (
-    ap (λ (line : Line). record { line = line; fed = c.self.inside.sender; settled = c.self.inside.settled })
+    ap (λ (line : Line). record { line = line; rows = c.self.inside.rows; settled = c.self.inside.settled })
         (c.in_ok-hear_hello-in-Hello.ensures.heard ∙ ap (λ (line : Line). after_hello line c.in-Hello.hello c.args.now) c.in_ok-hello.ensures.same),
     refl,
   );
@@ -21,7 +21,7 @@ returns-in_ok-hear_hello-in-Hello-clause-received c = rw (← c.self.view_is) (r
 
 pub returns-in-Play-clause-received : goal.returns-in-Play-clause-received
 returns-in-Play-clause-received c =
-    let before : Line → Viewing = λ line. record { line = line; fed = c.self.inside.sender; settled = c.self.inside.settled } in
+    let before : Line → Viewing = λ line. record { line = line; rows = c.self.inside.rows; settled = c.self.inside.settled } in
     if_ok (HearsRows (before c.open.new.self) c.hear_play.new.self c.args.now (turn c.in-Play.play))
     (ViewerHears c.args.self.now c.hear_play.new.self c.args.bytes.now c.args.now)
     c.hear_play.result
@@ -36,7 +36,7 @@ returns-in-Play-clause-received c =
 
 pub returns-in-Play-clause-ignored : goal.returns-in-Play-clause-ignored
 returns-in-Play-clause-ignored c =
-    let before : Line → Viewing = λ line. record { line = line; fed = c.self.inside.sender; settled = c.self.inside.settled } in
+    let before : Line → Viewing = λ line. record { line = line; rows = c.self.inside.rows; settled = c.self.inside.settled } in
     rw (← c.self.view_is) (
     if_err
     (λ why. unheard_by_viewer (before c.open.new.self) (Plays (turn c.in-Play.play)) ≡ Some why)
@@ -51,7 +51,7 @@ returns-in-Play-clause-ignored c =
 
 pub returns-in-Play-clause-accepted : goal.returns-in-Play-clause-accepted
 returns-in-Play-clause-accepted c =
-    let before : Line → Viewing = λ line. record { line = line; fed = c.self.inside.sender; settled = c.self.inside.settled } in
+    let before : Line → Viewing = λ line. record { line = line; rows = c.self.inside.rows; settled = c.self.inside.settled } in
     rw (← c.self.view_is) (
     on_ok c.hear_play.result
     (λ heard.
