@@ -1,6 +1,8 @@
 pub mod Carrying
 pub mod Stays
 pub mod Filling
+pub mod Declining
+pub mod Taking
 pub mod Numbering
 pub mod Holding
 pub mod Owning

@@ -1,5 +1,6 @@
 pub mod Carried
 pub mod Slotted
+pub mod Declined
 pub mod Planned
 pub mod Requests
 pub mod Asked

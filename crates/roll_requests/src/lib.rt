@@ -2,6 +2,7 @@
 #![tactic(auto)]
 
 mod asking;
+mod declined;
 mod elsewhere;
 mod job;
 mod networked;
@@ -12,6 +13,7 @@ mod request;
 mod taken;
 mod waiting;
 
+pub use declined::Declined;
 pub use elsewhere::Elsewhere;
 pub use job::JOBS_OUT;
 pub use request::Request;
