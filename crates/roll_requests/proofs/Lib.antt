@@ -11,3 +11,5 @@ pub mod Counting
 pub mod Leads
 pub mod Made
 pub mod Late
+pub mod Ungrafted
+pub mod Enough

@@ -6,3 +6,4 @@ pub mod Requests
 pub mod Asked
 pub mod Made
 pub mod Late
+pub mod Sufficing

@@ -10,6 +10,7 @@ mod performing;
 mod plans;
 mod queue;
 mod request;
+mod sufficing;
 mod taken;
 mod waiting;
 
