@@ -181,12 +181,11 @@ impl Elsewhere {
         ensures adds { OnOk result (Adds self.old.limit 0
             (rows_to_run (guess_job_of still self.old.seen player words.now until))
             self.old.jobs self.old.requests self.new.requests) }
-        ensures rest { self.new
-            ≡ record self.old {
-              requests = self.new.requests;
-              jobs = self.new.jobs;
-              taken = self.new.taken;
-            } }
+        ensures rest { self.new ≡ record self.old {
+          requests = self.new.requests;
+          jobs = self.new.jobs;
+          taken = self.new.taken;
+        } }
         ensures leads { (past : List Asks) → Leads past self.old → Leads past self.new }
         ensures declined { IfErr result (IsNotGuessed
             (guess_refusal_of self.old.seen player words.now until)
