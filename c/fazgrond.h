@@ -234,7 +234,7 @@ int32_t fazgrond_graft(fazgrond_session *session, uint32_t job, uint32_t *added)
 int32_t fazgrond_forget(fazgrond_session *session, uint32_t job);
 
 /* For a game with room for so many states: from now on nothing is saved in a slot from this one on. A call that would need one is
- * refused with FAZGROND_NO_MEMORY. Without jobs, the settings' threshold and three are enough. With guesses more are needed: each
+ * refused with FAZGROND_NO_MEMORY. Without guesses, the settings' threshold and two are enough. With guesses more are needed: each
  * job takes a slot for each of its rows until it is forgotten, or its states were grafted and are freed; and while it is out, the
  * slot that it loads isn't freed. A call that is refused for this has changed nothing, and can be made again: a guess once slots
  * were freed, a call that rolls back once jobs were forgotten. */

@@ -2,9 +2,11 @@
 use Rattle.std.specs.Prelude.{◌≡◌, ◌≢◌, ◌⊎◌, ℕ, ℤ, List, [], Option, Some, None, Result, Ok, Err, IfErr, IfOk, OnErr, OnOk, pos, MatchOption}
 use Rattle.roll_frame.specs.Codes.{code_of}
 use Rattle.roll_frame.specs.declared.refusal.Refusal.{Refusal}
-use Rattle.roll_requests.specs.Asked.{rows_to_run, IsHandedIn, IsNotGuessed, IsNumbered}
+use Rattle.roll_requests.specs.Asked.{rows_to_run, IsHandedIn, IsNotGuessed, IsNumbered, SameTaken}
+use Rattle.roll_requests.specs.Declined.{refusal_of}
 use Rattle.roll_requests.specs.Made.{KeepsLeading}
 use Rattle.roll_requests.specs.Requests.{Adds}
+use Rattle.roll_requests.specs.declared.declined.Declined.{Declined}
 use Rattle.roll_session.specs.Gameless.{still}
 use Rattle.roll_session.specs.Guessing.{guess_job_of, guess_refusal_of}
 use Rattle.roll_session.specs.declared.event.Grafted.{Grafted}
@@ -12,32 +14,37 @@ use Rattle.slab.specs.Slab.{get, SameValues, Updates}
 use Rattle.fazgrond_c.specs.declared.live.Live.{Live}
 
 -- the code of a guess: 203 if there is nothing to run
-abbrev pub code_of_guess : Result (Option ℕ) Refusal → ℤ
+abbrev pub code_of_guess : Result (Option ℕ) Declined → ℤ
 code_of_guess (Ok (Some number)) = pos 0
 code_of_guess (Ok None) = pos 203
-code_of_guess (Err why) = pos (code_of why)
+code_of_guess (Err why) = pos (code_of (refusal_of why))
 
 -- the number of a guess's job is written, if there is a job
-abbrev pub number_in : Result (Option ℕ) Refusal → ℕ → ℕ
+abbrev pub number_in : Result (Option ℕ) Declined → ℕ → ℕ
 number_in (Ok (Some number)) before = number
 number_in (Ok None) before = before
 number_in (Err why) before = before
 
 -- a guess was made of an open session, or refused
 pub record IsGuessed (player : ℕ) (words : List ℕ) (until : ℕ) (old new : Live) (before after : ℕ) (code : ℤ) : Type 0 where
-  pub result : Result (Option ℕ) Refusal
+  pub result : Result (Option ℕ) Declined
   pub job : IfOk result (IsNumbered (guess_job_of still old.session.seen player words until)
       old.session new.session)
   pub accepted : OnOk result (guess_refusal_of old.session.seen player words until ≡ None)
   pub adds : OnOk result (Adds old.session.limit 0
       (rows_to_run (guess_job_of still old.session.seen player words until))
       old.session.jobs old.session.requests new.session.requests)
-  pub refused : IfErr result
-      (IsNotGuessed (guess_refusal_of old.session.seen player words until) old.session.jobs)
+  pub declined : IfErr result (IsNotGuessed (guess_refusal_of old.session.seen player words until)
+      (guess_job_of still old.session.seen player words until) old.session)
   pub unasked : OnErr result (new.session.requests ≡ old.session.requests)
   pub unchanged : OnErr result (SameValues old.session.jobs new.session.jobs)
+  pub taken : OnErr result (SameTaken old.session.taken new.session.taken)
   pub rest : new ≡ record old {
-    session = record old.session { requests = new.session.requests; jobs = new.session.jobs };
+    session = record old.session {
+      requests = new.session.requests;
+      jobs = new.session.jobs;
+      taken = new.session.taken;
+    };
   }
   pub leads : KeepsLeading old.session new.session
   pub code_is : code ≡ code_of_guess result

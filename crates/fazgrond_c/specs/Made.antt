@@ -14,7 +14,9 @@ use Rattle.roll_cert.specs.Texts.{claim_lines}
 use Rattle.roll_frame.specs.declared.settings.Settings.{Settings}
 use Rattle.roll_game.specs.Counts.{no_calls}
 use Rattle.roll_requests.specs.Asked.{Asked, IsSettledSlot, Leads}
+use Rattle.roll_requests.specs.Declined.{refusal_of}
 use Rattle.roll_requests.specs.Made.{IsMade as IsMadeOf, IsNotMade as IsNotMadeOf, KeepsLeading}
+use Rattle.roll_requests.specs.declared.declined.Declined.{Declined}
 use Rattle.roll_requests.specs.declared.request.Request.{Request}
 use Rattle.roll_session.specs.Changes.{reserve_refusal, FitsLog, IsWhy}
 use Rattle.roll_session.specs.Headline.{last_claim}
@@ -54,7 +56,7 @@ pub record IsMade (old new : Option Open) (call : Call) (said : Reply) : Type 0 
 abbrev pub IsDeclined : Live → Live → Call → ℤ → Type 0
 IsDeclined before after call code =
     (IsPending before call × (code ≡ pos 202) × (after ≡ before))
-    ⊎ (¬ IsPending before call × ((why : Refusal) × (code ≡ pos (code_of why))
+    ⊎ (¬ IsPending before call × ((why : Declined) × (code ≡ pos (code_of (refusal_of why)))
     × IsNotMadeOf before.session after.session call why))
 
 -- the same through a handle, which may be closed

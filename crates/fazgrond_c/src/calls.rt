@@ -75,7 +75,7 @@ fn make(live: &mut Live, call: Call) -> Result<Reply, i32>
     }
     match live.session.perform(call) {
         Ok(said) => Ok(said),
-        Err(why) => Err(why.code()),
+        Err(why) => Err(why.refusal().code()),
     }
 }
 

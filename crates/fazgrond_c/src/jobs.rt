@@ -8,6 +8,7 @@ use crate::handle::Handle;
 use crate::live::Live;
 use crate::open::Open;
 use roll_frame::Refusal;
+use roll_requests::Declined;
 use std::alloc::Global;
 
 /// A guess: its job is asked for, and numbered.
@@ -84,7 +85,7 @@ fn guess(live: &mut Live, player: u8, words: &[u32], until: u32, job: &mut u32) 
 }
 
 /// Writes the number of a guess's job, if there is a job.
-fn numbered(job: &mut u32, outcome: Result<Option<u32>, Refusal>) -> i32
+fn numbered(job: &mut u32, outcome: Result<Option<u32>, Declined>) -> i32
     ensures code { result ≡ code_of_guess outcome }
     ensures written { job.new ≡ number_in outcome job.old }
 {
@@ -94,7 +95,7 @@ fn numbered(job: &mut u32, outcome: Result<Option<u32>, Refusal>) -> i32
             0
         }
         Ok(None) => NOTHING,
-        Err(why) => why.code(),
+        Err(why) => why.refusal().code(),
     }
 }
 

@@ -1,6 +1,8 @@
 pub mod Carrying
 pub mod Stays
 pub mod Filling
+pub mod Declining
+pub mod Taking
 pub mod Numbering
 pub mod Holding
 pub mod Owning
@@ -9,3 +11,5 @@ pub mod Counting
 pub mod Leads
 pub mod Made
 pub mod Late
+pub mod Ungrafted
+pub mod Enough

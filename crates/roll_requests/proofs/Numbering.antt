@@ -1,6 +1,6 @@
 -- Guesses whose jobs run elsewhere.
-use Rattle.std.proofs.Common.{◌≡◌, ◌≢◌, ◌⊎◌, ℕ, List, [], ◌++◌, length, get_or, refl, ap, sym, subst, ◌∙◌, arith, inl, inr, Option, Some, None, Bool, true, false, unwrap_or, append_assoc, append-nil}
-use Rattle.std.specs.Prelude.{◌==◌, All, IfSome, IsSomeAnd, option_map, if◌then◌else◌}
+use Rattle.std.proofs.Common.{◌≡◌, ◌≢◌, ◌⊎◌, ℕ, List, [], ◌++◌, length, get_or, refl, ap, sym, subst, ◌∙◌, arith, inl, inr, Option, Some, None, Bool, true, false, unwrap_or, is_some, append_assoc, append-nil}
+use Rattle.std.specs.Prelude.{◌==◌, ◌||◌, All, IfSome, IsSomeAnd, option_map, if◌then◌else◌}
 use Rattle.std.proofs.lemmas.Bool.{cases_eq}
 use Rattle.slab.specs.Slab.{Slab, get, Updates}
 use Rattle.roll_branch.specs.Routed.{Routed}
@@ -8,6 +8,7 @@ use Rattle.roll_frame.specs.declared.refusal.Refusal.{Refusal}
 use Rattle.roll_frame.specs.declared.refusal.Refusal.TheVariants.{NoMemory}
 use Rattle.roll_frame.specs.declared.route.Route.{Route}
 use Rattle.roll_frame.specs.Cells.{Rows}
+use Rattle.roll_frame.specs.declared.row.Cell.{Cell}
 use Rattle.roll_frame.specs.Core.{Core, kept, settled}
 use Rattle.roll_frame.specs.Games.{Game, Value}
 use Rattle.roll_frame.specs.Guess.{guessed_time, job_of}
@@ -20,9 +21,12 @@ use Rattle.roll_session.specs.Seen.{Step}
 use Rattle.roll_session.proofs.Rolling.{all_held, snapshot_is, some_is}
 use Rattle.roll_tree.specs.SavedStates.{Saved, state_named}
 use Rattle.roll_requests.specs.Asked.{rows_of_job, rows_to_run, Asked, HasJob, IsNotGuessed, IsNumbered, Leads}
-use Rattle.roll_requests.specs.Carried.{Elsewhere, carried_out, first}
+use Rattle.roll_requests.specs.Planned.{IsShort}
+use Rattle.roll_requests.specs.declared.declined.Declined.{Declined}
+use Rattle.roll_requests.specs.declared.declined.Declined.TheVariants.{Refused, NoSlots}
+use Rattle.roll_requests.specs.Carried.{Elsewhere, carried_all, carried_out, first}
 use Rattle.roll_requests.specs.Requests.{job_requests, requests_of, Adds}
-use Rattle.roll_requests.specs.Slotted.{AreFree, Guessed, IsHeld, IsSlotted, IsTaken}
+use Rattle.roll_requests.specs.Slotted.{free_slots, is_among, is_taken, least_free, AreFree, Guessed, IsHeld, IsSlotted, IsTaken}
 use Rattle.roll_requests.specs.declared.request.Request.{Request}
 use Rattle.roll_requests.proofs.Carrying.{carried_append}
 use Rattle.roll_requests.proofs.Counting.{nothing_added}
@@ -30,18 +34,20 @@ use Rattle.roll_requests.proofs.Holding.{guessed, Holds, IsAside}
 use Rattle.roll_requests.proofs.Filling.{held_kept}
 use Rattle.roll_requests.proofs.Leads.{hold_of}
 use Rattle.roll_requests.proofs.Owning.{own_more}
+use Rattle.roll_requests.proofs.Taking.{job_some}
 
 pub none_numbered : (job : Option Routed) → None ≡ job → (here : Asked) → IsNumbered job here here None
-none_numbered None e here = (refl, (λ key. refl, refl))
+none_numbered None e here = (refl, (λ key. refl, (refl, refl)))
 none_numbered (Some job) e here = absurd cc
 
 pub none_adds : (job : Option Routed) → None ≡ job → (limit : ℕ) (jobs : Slab Guessed) (requests : List Request) → Adds limit 0 (rows_to_run job) jobs requests requests
 none_adds None e limit jobs requests = nothing_added limit jobs requests
 none_adds (Some job) e limit jobs requests = absurd cc
 
-pub numbered : (job : Option Routed) (route : Route) → Some (bare_branch 0 route) ≡ job → (old new : Asked) (n : ℕ) (guessed : Guessed) → guessed.route ≡ route → length guessed.slots ≡ length route.rows.items → get old.jobs n ≡ None → Updates old.jobs new.jobs n (Some guessed) → new.requests ≡ old.requests ++ requests_of guessed → IsNumbered job old new (Some n)
-numbered None route e old new n guessed is_route many vacant u list = absurd cc
-numbered (Some job) route e old new n guessed is_route many vacant u list =
+pub numbered : (job : Option Routed) (route : Route) → Some (bare_branch 0 route) ≡ job → (old new : Asked) (n : ℕ) (guessed : Guessed) → guessed.route ≡ route → length guessed.slots ≡ length route.rows.items → get old.jobs n ≡ None → Updates old.jobs new.jobs n (Some guessed) → new.requests ≡ old.requests ++ requests_of guessed → guessed.slots ≡ least_free (is_taken old.taken) old.limit (length guessed.slots) → ((k : ℕ) → is_taken new.taken k ≡ (is_taken old.taken k || is_among guessed.slots k))
+    → IsNumbered job old new (Some n)
+numbered None route e old new n guessed is_route many vacant u list least taken = absurd cc
+numbered (Some job) route e old new n guessed is_route many vacant u list least taken =
     let same : bare_branch 0 route ≡ job = cc e in
     record {
       guessed = guessed;
@@ -49,11 +55,14 @@ numbered (Some job) route e old new n guessed is_route many vacant u list =
       vacant = vacant;
       jobs = u;
       requests = list;
+      least = least;
+      taken = taken;
     }
 
--- a guess that no test is against has no job for want of memory
-pub no_memory : (refusal : Option Refusal) (jobs : Slab Guessed) (why : Refusal) → refusal ≡ None → why ≡ NoMemory → IsNotGuessed refusal jobs why
-no_memory refusal jobs why none is = inr (is ∙ ap (λ (o : Option Refusal). unwrap_or o NoMemory) (sym none))
+-- a guess that no test is against has no job for want of memory, or of slots for its rows
+pub no_room : (refusal : Option Refusal) (job : Option Routed) (e : Asked) (needed : ℕ) (why : Declined) → refusal ≡ None → needed ≡ rows_to_run job → IsShort (length (free_slots (is_taken e.taken) e.limit)) needed why → IsNotGuessed refusal job e why
+no_room refusal job e needed (Refused why) none rows is = inr (is ∙ ap (λ (o : Option Refusal). unwrap_or o NoMemory) (sym none))
+no_room refusal job e needed NoSlots none rows few = (none, omega (arith, few, rows))
 
 -- a job starts from the settled frame on
 pub base_of : (game : Game) (core : Core) (p until : ℕ) (words : List ℕ) (route : Route) → Some (bare_branch 0 route) ≡ guess_job game core p words until → route.path.base ≡ settled core
@@ -101,11 +110,11 @@ taken_guessed states old new at n limit job before after s free u kept mine =
       current = kept at s.current;
     }
 
-pub leads_guessed : (e : Asked) (requests : List Request) (jobs : Slab Guessed) (taken : List Bool) (n : ℕ) (job : Guessed) → IsSlotted e.saves.tree.states e.jobs e.at taken → AreFree e.limit taken job.slots → length job.slots ≡ length job.route.rows.items → job.route.path.base ≡ e.saves.inputs.settled
-    → IsTaken taken job.start
+pub leads_guessed : (e : Asked) (requests : List Request) (jobs : Slab Guessed) (left : List Bool) (n : ℕ) (job : Guessed) → IsSlotted e.saves.tree.states e.jobs e.at e.taken → AreFree e.limit e.taken job.slots → length job.slots ≡ length job.route.rows.items → job.route.path.base ≡ e.saves.inputs.settled
+    → IsTaken e.taken job.start → ((k : ℕ) → is_taken left k ≡ (is_taken e.taken k || is_among job.slots k))
     → ((step : Step) (opening : Value) (there : ℕ → Option Value) → Holds step opening e.saves there → there job.start ≡ Some (run step opening (rows_of_job e.saves.inputs.players job.route 0)))
-    → requests ≡ e.requests ++ job_requests job.start (λ k. get_or job.route.rows.items k []) job.slots → Updates e.jobs jobs n (Some job) → (past : List Request) → Leads past e → Leads past (record e { requests = requests; jobs = jobs })
-leads_guessed e requests jobs taken n job s free many base is_taken here list u past l =
+    → requests ≡ e.requests ++ job_requests job.start (λ k. get_or job.route.rows.items k []) job.slots → Updates e.jobs jobs n (Some job) → (past : List Request) → Leads past e → Leads past (record e { requests = requests; jobs = jobs; taken = left })
+leads_guessed e requests jobs left n job s free many base is_held filled here list u past l =
     record {
       there = λ step opening.
           let m = made step opening in
@@ -114,13 +123,23 @@ leads_guessed e requests jobs taken n job s free many base is_taken here list u 
       jobs = λ step opening.
           let m = made step opening in
           job_more e.jobs jobs n job u (HasJob step opening e.saves (carried_out step opening (past ++ requests)).slots) m.job_held m.hold.out;
+      taken = λ step opening slot.
+          ap (λ (there : Elsewhere Value). is_some (there.slots slot)) (carried_on step opening)
+          ∙ job_some step job.start row job.slots e.taken (carried_out step opening (past ++ e.requests)) free.rising (l.taken step opening) slot
+          ∙ sym (filled slot);
     }
   where
-    made : (step : Step) (opening : Value) → IsAside step opening e.saves e.jobs e.limit taken job s.are free (carried_out step opening (past ++ e.requests)) (carried_out step opening (past ++ requests))
+    row : ℕ → List Cell
+    row = λ k. get_or job.route.rows.items k []
+
+    carried_on : (step : Step) (opening : Value) → carried_out step opening (past ++ requests) ≡ carried_all step (job_requests job.start row job.slots) (carried_out step opening (past ++ e.requests))
+    carried_on step opening =
+        let more : List Request = job_requests job.start row job.slots in
+        ap (carried_out step opening) (ap (λ (q : List Request). past ++ q) list ∙ sym (append_assoc past e.requests more))
+        ∙ carried_append step (past ++ e.requests) more (first opening)
+
+    made : (step : Step) (opening : Value) → IsAside step opening e.saves e.jobs e.limit e.taken job s.are free (carried_out step opening (past ++ e.requests)) (carried_out step opening (past ++ requests))
     made step opening =
         let before : Elsewhere Value = carried_out step opening (past ++ e.requests) in
-        let more : List Request = job_requests job.start (λ k. get_or job.route.rows.items k []) job.slots in
-        let whole : past ++ requests ≡ (past ++ e.requests) ++ more = ap (λ (q : List Request). past ++ q) list ∙ sym (append_assoc past e.requests more) in
-        subst (IsAside step opening e.saves e.jobs e.limit taken job s.are free before)
-        (sym (ap (carried_out step opening) whole ∙ carried_append step (past ++ e.requests) more (first opening)))
-        (guessed step opening e.saves e.jobs e.limit taken job s.are free before (omega (arith, base)) many is_taken (here step opening before.slots (l.there step opening).held) (hold_of past e l step opening))
+        subst (IsAside step opening e.saves e.jobs e.limit e.taken job s.are free before) (sym (carried_on step opening))
+        (guessed step opening e.saves e.jobs e.limit e.taken job s.are free before (omega (arith, base)) many is_held (here step opening before.slots (l.there step opening).held) (hold_of past e l step opening))

@@ -1,5 +1,5 @@
 -- A session of a game elsewhere as its callers see it, and where its requests lead, for every game.
-use Rattle.std.specs.Prelude.{◌≡◌, ◌⊎◌, ◌≤◌, ◌^◌, ℕ, ◌+◌, ◌<◌, List, [], ◌++◌, length, take, slice_index_or, All, IfSome, IsSomeAnd, Option, Some, None, Result, Ok, Err}
+use Rattle.std.specs.Prelude.{◌≡◌, ◌⊎◌, ◌≤◌, ◌^◌, ℕ, ◌+◌, ◌<◌, ◌||◌, Bool, List, [], ◌++◌, is_some, length, take, slice_index_or, All, IfSome, IsSomeAnd, Option, Some, None, Result, Ok, Err}
 use Rattle.std.specs.Option.{option_map_or}
 use Rattle.roll_branch.specs.Routed.{Routed}
 use Rattle.roll_frame.specs.Cells.{Rows}
@@ -22,11 +22,14 @@ use Rattle.roll_session.specs.Seen.{IsLeast, Seen, Step}
 use Rattle.roll_session.specs.declared.event.Call.{Call}
 use Rattle.roll_session.specs.declared.event.Grafted.{Grafted}
 use Rattle.roll_session.specs.declared.event.Reached.{Reached}
-use Rattle.roll_tree.specs.SavedStates.{SavedStates, state_named}
+use Rattle.roll_tree.specs.SavedStates.{Saved, SavedStates, state_named}
 use Rattle.slab.specs.Slab.{Slab, get, slab_len, SameValues, Updates}
 use Rattle.roll_requests.specs.Carried.{Elsewhere, carried_out}
+use Rattle.roll_requests.specs.Planned.{LacksSlots}
 use Rattle.roll_requests.specs.Requests.{requests_of, Adds}
-use Rattle.roll_requests.specs.Slotted.{Guessed}
+use Rattle.roll_requests.specs.Slotted.{free_slots, is_among, is_needed, is_taken, least_free, Guessed}
+use Rattle.roll_requests.specs.declared.declined.Declined.{Declined}
+use Rattle.roll_requests.specs.declared.declined.Declined.TheVariants.{Refused as RefusedBy, NoSlots}
 use Rattle.roll_requests.specs.declared.job.TheConstants.{JOBS_OUT}
 use Rattle.roll_requests.specs.declared.request.Request.{Request}
 
@@ -42,6 +45,8 @@ pub record Asked : Type 0 where
   pub limit : ℕ
   -- the jobs that are out, by their numbers
   pub jobs : Slab Guessed
+  -- which slots will have a state
+  pub taken : List Bool
 
 -- each kept slot has the run of its path, and the slot of the current state has it
 pub record IsThere (step : Step) (opening : Value) (saves : Standing ℕ) (at : ℕ) (there : Elsewhere Value) : Type 0 where
@@ -59,12 +64,14 @@ pub record HasJob (step : Step) (opening : Value) (saves : Standing ℕ) (slots 
   pub start : slots job.start ≡ Some (run step opening (rows_of_job saves.inputs.players job.route 0))
   pub held : (k d : ℕ) → k < length job.slots → slots (slice_index_or job.slots k d) ≡ Some (run step opening (rows_of_job saves.inputs.players job.route (k + 1)))
 
--- so it is for every game once what was handed out and what is to be handed out is carried out, and the current state is the
--- serial run of the rows that are shown
+-- so it is for every game once what was handed out and what is to be handed out is carried out; the current state is the serial
+-- run of the rows that are shown, and no slot has a state but those that are taken
 pub record Leads (past : List Request) (e : Asked) : Type 0 where
   pub there : (step : Step) (opening : Value) → IsThere step opening e.saves e.at (carried_out step opening (past ++ e.requests))
   pub shown : (step : Step) (opening : Value) → IfSome e.seen.core.shown (λ rows. (carried_out step opening (past ++ e.requests)).current ≡ run step opening rows)
   pub jobs : (step : Step) (opening : Value) (n : ℕ) (job : Guessed) → get e.jobs n ≡ Some job → HasJob step opening e.saves (carried_out step opening (past ++ e.requests)).slots job
+  pub taken : (step : Step) (opening : Value) (slot : ℕ)
+      → is_some ((carried_out step opening (past ++ e.requests)).slots slot) ≡ is_taken e.taken slot
 
 -- nothing is changed, but that more is reserved and the tree was told more of the timeline
 pub record IsIdle (old new : Asked) : Type 0 where
@@ -74,10 +81,21 @@ pub record IsIdle (old new : Asked) : Type 0 where
   pub requests : new.requests ≡ old.requests
   pub limit : new.limit ≡ old.limit
   pub jobs : new.jobs ≡ old.jobs
+  pub taken : new.taken ≡ old.taken
 
--- a call is refused by the rules, or memory or slots ran out
-abbrev pub IsRefusedRoll : Seen → Call → Refusal → Type 0
-IsRefusedRoll s call why = IsReplied still s s (event_of call) (Refused why) ⊎ (why ≡ NoMemory)
+-- a call is refused by the rules, or memory ran out, or it needs more slots than are free
+abbrev pub IsDeclinedRoll : Seen → List (Saved ℕ) → Slab Guessed → (limit : ℕ) → Call → Declined → Type 0
+IsDeclinedRoll s states jobs limit call (RefusedBy why) =
+    IsReplied still s s (event_of call) (Refused why) ⊎ (why ≡ NoMemory)
+IsDeclinedRoll s states jobs limit call NoSlots = LacksSlots s states jobs limit call
+
+-- after a roll of so many frames those slots are taken that a state has that was saved before it, or a job, and the first so many
+-- of the others: whatever nothing needs any more is freed
+abbrev pub TakesNeeded : (old new : Asked) → ℕ → Type 0
+TakesNeeded old new count =
+    (slot : ℕ) → is_taken new.taken slot
+    ≡ (is_needed old.saves.tree.states old.jobs slot
+    || is_among (least_free (is_needed old.saves.tree.states old.jobs) old.limit count) slot)
 
 -- a roll led there: it started from the frame of the deepest state on its way, and asks for the frames from there on, which are
 -- the fewest that any plan runs
@@ -87,36 +105,46 @@ pub record Rolls (old new : Asked) (call : Call) (reached : Reached) : Type 0 wh
   pub rerun_is : reached.rerun ≡ cost old.seen.core reached.frame
   pub least : IsLeast old.seen.core reached.frame
   pub adds : Adds old.limit (cost old.seen.core reached.frame) 0 old.jobs old.requests new.requests
+  pub taken : TakesNeeded old new (cost old.seen.core reached.frame)
 
 -- a job has this route, and a slot for the state after each row
 pub record IsJob (job : Routed) (guessed : Guessed) : Type 0 where
   pub route : guessed.route ≡ job.route
   pub many : length guessed.slots ≡ length job.route.rows.items
 
--- a job was given a number that none had, and its requests were added
+-- the same slots are taken
+abbrev pub SameTaken : List Bool → List Bool → Type 0
+SameTaken old new = (slot : ℕ) → is_taken new slot ≡ is_taken old slot
+
+-- a job was given a number that none had, and the first slots that weren't taken, and its requests were added
 pub record IsGiven (job : Routed) (old new : Asked) (number : ℕ) : Type 0 where
   pub guessed : Guessed
   pub is_job : IsJob job guessed
   pub vacant : get old.jobs number ≡ None
   pub jobs : Updates old.jobs new.jobs number (Some guessed)
   pub requests : new.requests ≡ old.requests ++ requests_of guessed
+  pub least : guessed.slots ≡ least_free (is_taken old.taken) old.limit (length guessed.slots)
+  pub taken : (slot : ℕ) → is_taken new.taken slot ≡ (is_taken old.taken slot || is_among guessed.slots slot)
 
 -- if there is nothing to run, there is none, and nothing is asked for
 abbrev pub IsNumbered : Option Routed → Asked → Asked → Option ℕ → Type 0
 IsNumbered None old new number =
-    (number ≡ None) × (SameValues old.jobs new.jobs × (new.requests ≡ old.requests))
+    (number ≡ None)
+    × (SameValues old.jobs new.jobs × ((new.requests ≡ old.requests) × (new.taken ≡ old.taken)))
 IsNumbered (Some job) old new number = IsSomeAnd number (IsGiven job old new)
 
 -- how many rows a job runs, if there is one
 abbrev pub rows_to_run : Option Routed → ℕ
 rows_to_run job = option_map_or (λ j. length j.route.rows.items) job 0
 
--- why there is no job: 64 are out, or the next number has no room in 32 bits, or the guess is refused, or memory or slots ran
--- out
-abbrev pub IsNotGuessed : Option Refusal → Slab Guessed → Refusal → Type 0
-IsNotGuessed refusal jobs why =
-    ((why ≡ Full) × ((JOBS_OUT ≤ slab_len jobs) ⊎ (2 ^ 32 ≤ jobs.vacant_key)))
+-- why there is no job: 64 are out, or the next number has no room in 32 bits, or the guess is refused, or memory ran out, or the
+-- job has more rows than slots are free
+abbrev pub IsNotGuessed : Option Refusal → Option Routed → Asked → Declined → Type 0
+IsNotGuessed refusal job e (RefusedBy why) =
+    ((why ≡ Full) × ((JOBS_OUT ≤ slab_len e.jobs) ⊎ (2 ^ 32 ≤ e.jobs.vacant_key)))
     ⊎ IsWhy refusal why
+IsNotGuessed refusal job e NoSlots =
+    (refusal ≡ None) × (length (free_slots (is_taken e.taken) e.limit) < rows_to_run job)
 
 -- a job's branch was taken in, or refused, or there is no such job
 abbrev pub IsHandedIn : Seen → Seen → Option Guessed → Result Grafted Refusal → Type 0

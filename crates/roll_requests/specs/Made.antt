@@ -2,10 +2,11 @@
 use Rattle.std.specs.Prelude.{◌≡◌, List, [], ◌∷◌, refl}
 use Rattle.std.proofs.Common.{subst}
 use Rattle.roll_frame.specs.Events.{log_from, reply}
-use Rattle.roll_frame.specs.declared.refusal.Refusal.{Refusal}
 use Rattle.roll_frame.specs.declared.reply.Reply.{Reply}
 use Rattle.roll_frame.specs.declared.reply.Reply.TheVariants.{Refused}
-use Rattle.roll_requests.specs.Asked.{Asked, IsIdle, IsRefusedRoll, Leads, Rolls}
+use Rattle.roll_requests.specs.Asked.{Asked, IsDeclinedRoll, IsIdle, Leads, Rolls}
+use Rattle.roll_requests.specs.declared.declined.Declined.{Declined}
+use Rattle.roll_requests.specs.declared.declined.Declined.TheVariants.{Refused as RefusedBy, NoSlots}
 use Rattle.roll_requests.specs.declared.request.Request.{Request}
 use Rattle.roll_session.specs.Answered.{with_entries, IsAnswered}
 use Rattle.roll_session.specs.Calls.{event_of}
@@ -54,10 +55,17 @@ pub record IsMade (old new : Asked) (call : Call) (said : Reply) : Type 0 where
   pub seen : new.seen ≡ with_entries old.seen (log_from old.seen.settings (game_of still old.seen) old.seen.core (event_of call ∷ [])) old.seen.counts
   pub asks : AsksFor old new call
 
--- a call is refused, by the rules, or for want of memory or slots; nothing is changed, but that more may be reserved
-abbrev pub IsNotMade : Asked → Asked → Call → Refusal → Type 0
-IsNotMade old new Sync why = IsRefusedRoll old.seen Sync why × IsIdle old new
-IsNotMade old new Advance why = IsRefusedRoll old.seen Advance why × IsIdle old new
-IsNotMade old new call why =
+-- a call that rolls is declined: the rules refuse it, or memory or slots ran out; nothing is changed, but that more may be
+-- reserved
+abbrev pub IsNotRolled : Asked → Asked → Call → Declined → Type 0
+IsNotRolled old new call why =
+    IsDeclinedRoll old.seen old.saves.tree.states old.jobs old.limit call why × IsIdle old new
+
+-- any other is refused, by the rules or for want of memory
+abbrev pub IsNotMade : Asked → Asked → Call → Declined → Type 0
+IsNotMade old new Sync why = IsNotRolled old new Sync why
+IsNotMade old new Advance why = IsNotRolled old new Advance why
+IsNotMade old new call (RefusedBy why) =
     IsAnswered still old.seen new.seen (event_of call) (Refused why)
     × (new ≡ record old { seen = new.seen; saves = new.saves })
+IsNotMade old new call NoSlots = ⊥

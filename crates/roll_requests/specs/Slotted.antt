@@ -1,8 +1,9 @@
 -- Slots, and the states and jobs that have some.
-use Rattle.std.specs.Prelude.{◌≡◌, ◌≢◌, ◌<◌, ℕ, List, length, slice_index_or, All, Bool, true, false, ◌&&◌, not, Some}
+use Rattle.std.specs.Prelude.{◌≡◌, ◌≢◌, ◌<◌, ℕ, List, length, take, slice_index_or, All, Bool, true, false, ◌&&◌, ◌||◌, ◌==◌, filter, not, Some}
+use Rattle.std.specs.List.{list_any, range_with_len}
 use Rattle.roll_frame.specs.declared.route.Route.{Route}
 use Rattle.roll_tree.specs.SavedStates.{Saved}
-use Rattle.slab.specs.Slab.{Slab, get}
+use Rattle.slab.specs.Slab.{Slab, entries, get}
 
 -- a job that is out: where it runs, the slot of the state that it starts from, and those of its states, in their order
 pub record Guessed : Type 0 where
@@ -16,6 +17,34 @@ is_taken taken slot = slice_index_or taken slot false
 
 abbrev pub IsTaken : List Bool → ℕ → Type 0
 IsTaken taken slot = is_taken taken slot ≡ true
+
+-- whether a slot is one of these
+abbrev pub is_among : List ℕ → ℕ → Bool
+is_among slots slot = list_any (λ other. other == slot) slots
+
+-- whether a job has a slot, for one of its states or for the one that it starts from
+abbrev pub holds : Guessed → ℕ → Bool
+holds job slot = job.start == slot || is_among job.slots slot
+
+-- whether a saved state has it
+abbrev pub is_saved : List (Saved ℕ) → ℕ → Bool
+is_saved states slot = list_any (λ u. u.snapshot == slot) states
+
+-- whether a job that is out has it
+abbrev pub is_out : Slab Guessed → ℕ → Bool
+is_out jobs slot = list_any (λ out. holds out.1 slot) (entries jobs)
+
+-- whether any of them has it
+abbrev pub is_needed : List (Saved ℕ) → Slab Guessed → ℕ → Bool
+is_needed states jobs slot = is_saved states slot || is_out jobs slot
+
+-- the slots below a limit that are not in use, in their order
+abbrev pub free_slots : (ℕ → Bool) → ℕ → List ℕ
+free_slots is_used limit = filter (λ slot. not (is_used slot)) (range_with_len 0 limit)
+
+-- the first of them
+abbrev pub least_free : (ℕ → Bool) → (limit count : ℕ) → List ℕ
+least_free is_used limit count = take count (free_slots is_used limit)
 
 -- whether a slot is taken that nothing holds
 abbrev pub is_unheld : List Bool → List Bool → ℕ → Bool

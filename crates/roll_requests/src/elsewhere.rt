@@ -1,5 +1,5 @@
 //! A session whose game is played elsewhere.
-ghost use Rattle.std.specs.Prelude.{◌≡◌, ◌==◌, ◌≤◌, ◌<◌, ◌++◌, ◌∷◌, [], drop, false, is_none, is_some, length, max, min, take, IfErr, IfOk, IfSome, List, None, OnErr, OnOk, Some, if◌then◌else◌};
+ghost use Rattle.std.specs.Prelude.{◌≡◌, ◌==◌, ◌≤◌, ◌<◌, ◌++◌, ◌∷◌, [], drop, false, true, is_none, is_some, length, max, min, take, IfErr, IfOk, IfSome, List, None, OnErr, OnOk, Some, if◌then◌else◌};
 ghost use Rattle.roll_frame.specs.Claims.{claim_of, IsRight};
 ghost use Rattle.roll_frame.specs.Settings.{start_refusal};
 ghost use Rattle.roll_frame.specs.Timeline.{row_at};
@@ -12,11 +12,12 @@ ghost use Rattle.roll_session.specs.Guessing.{guess_job_of, guess_refusal_of};
 ghost use Rattle.roll_session.specs.Headline.{last_claim};
 ghost use Rattle.roll_session.specs.Started.{first_seen};
 ghost use Rattle.slab.specs.Slab.{get, SameValues, Updates};
-ghost use Rattle.roll_requests.specs.Asked.{rows_to_run, IsHandedIn, IsIdle, IsNotGuessed, IsNumbered, IsRefusedRoll, IsSettledSlot, Leads, Rolls};
+ghost use Rattle.roll_requests.specs.Asked.{rows_to_run, IsDeclinedRoll, IsHandedIn, IsIdle, IsNotGuessed, IsNumbered, IsSettledSlot, Leads, Rolls, SameTaken};
 ghost use Rattle.roll_requests.specs.Requests.{Adds};
 ghost use Rattle.roll_requests.specs.declared.request.Request.{Request as Asks};
 
 use crate::asking::{ask_job, ask_roll};
+use crate::declined::Declined;
 use crate::job::{Job, free_number};
 use crate::plans::{RollPlan, Room, plan_job, plan_roll};
 use crate::queue::Queue;
@@ -48,7 +49,7 @@ impl Model for Elsewhere {
 
     ghost Value = { Asked };
 
-    ghost view = { λ e. record { seen = e.core.seen; saves = e.core.saves; at = e.at; requests = e.queue.requests; limit = e.limit; jobs = e.jobs } };
+    ghost view = { λ e. record { seen = e.core.seen; saves = e.core.saves; at = e.at; requests = e.queue.requests; limit = e.limit; jobs = e.jobs; taken = e.taken } };
 
     ghost invariant = { λ e. IsSlotted e.core.saves.tree.states e.jobs e.at e.taken };
 }
@@ -65,6 +66,7 @@ impl Elsewhere {
         ensures requests { IfOk result (λ e. e.requests ≡ []) }
         ensures limit { IfOk result (λ e. e.limit ≡ u32.MAX) }
         ensures jobs { IfOk result (λ e. e.jobs.slots ≡ []) }
+        ensures taken { IfOk result (λ e. e.taken ≡ true ∷ []) }
         ensures leads { IfOk result (Leads []) }
         ensures refused { IfErr result (IsWhy (start_refusal settings)) }
     {
@@ -85,7 +87,7 @@ impl Elsewhere {
         })
     }
 
-    /// From now on new states are saved only in slots below this one. Where there is none, a call is refused for want of memory.
+    /// From now on new states are saved only in slots below this one. A call that finds too few of them free is declined.
     pub fn set_limit(&mut self, slots: u32)
         ensures limit { self.new ≡ record self.old { limit = slots } }
         ensures leads { (past : List Asks) → Leads past self.old → Leads past self.new }
@@ -116,8 +118,9 @@ impl Elsewhere {
     ///
     /// # Errors
     ///
-    /// As of the call of a session; `NoMemory` too where no slot is left. Nothing is changed, but for what is reserved.
-    pub fn roll(&mut self, call: Call) -> Result<Reached, Refusal>
+    /// As of the call of a session; `NoSlots` if it runs more frames than there are slots that no saved state and no job has.
+    /// Nothing is changed, but for what is reserved.
+    pub fn roll(&mut self, call: Call) -> Result<Reached, Declined>
         requires { IsRoll call }
         ensures allowed { OnOk result (IsAllowed still self.old.seen call) }
         ensures entered { OnOk result (self.new.seen
@@ -126,7 +129,8 @@ impl Elsewhere {
         ensures jobs { self.new.jobs ≡ self.old.jobs }
         ensures limit { self.new.limit ≡ self.old.limit }
         ensures leads { (past : List Asks) → Leads past self.old → Leads past self.new }
-        ensures refused { IfErr result (IsRefusedRoll self.old.seen call) }
+        ensures declined { IfErr result (IsDeclinedRoll self.old.seen
+            self.old.saves.tree.states self.old.jobs self.old.limit call) }
         ensures unchanged { OnErr result (IsIdle self.old self.new) }
     {
         let plan = plan_roll(
@@ -168,8 +172,8 @@ impl Elsewhere {
     /// # Errors
     ///
     /// `Full` if 64 jobs are out, else what the tests of a guess say, in their order, else `NoMemory` if the allocator has no
-    /// room, or no slot is left.
-    pub fn guess(&mut self, player: u8, words: &[u32], until: u32) -> Result<Option<u32>, Refusal>
+    /// room, or `NoSlots` if too few slots are free.
+    pub fn guess(&mut self, player: u8, words: &[u32], until: u32) -> Result<Option<u32>, Declined>
         ensures job { IfOk result (IsNumbered
             (guess_job_of still self.old.seen player words.now until) self.old self.new) }
         ensures accepted { OnOk result
@@ -177,16 +181,21 @@ impl Elsewhere {
         ensures adds { OnOk result (Adds self.old.limit 0
             (rows_to_run (guess_job_of still self.old.seen player words.now until))
             self.old.jobs self.old.requests self.new.requests) }
-        ensures rest { self.new
-            ≡ record self.old { requests = self.new.requests; jobs = self.new.jobs } }
+        ensures rest { self.new ≡ record self.old {
+          requests = self.new.requests;
+          jobs = self.new.jobs;
+          taken = self.new.taken;
+        } }
         ensures leads { (past : List Asks) → Leads past self.old → Leads past self.new }
-        ensures refused { IfErr result (IsNotGuessed
-            (guess_refusal_of self.old.seen player words.now until) self.old.jobs) }
+        ensures declined { IfErr result (IsNotGuessed
+            (guess_refusal_of self.old.seen player words.now until)
+            (guess_job_of still self.old.seen player words.now until) self.old) }
         ensures unasked { OnErr result (self.new.requests ≡ self.old.requests) }
         ensures unchanged { OnErr result (SameValues self.old.jobs self.new.jobs) }
+        ensures taken { OnErr result (SameTaken self.old.taken self.new.taken) }
     {
         let Some(number) = free_number(&self.jobs) else {
-            return Err(Refusal::Full);
+            return Err(Declined::Refused(Refusal::Full));
         };
         let Some((node, route)) = self.core.guess(player, words, until)? else {
             return Ok(None);

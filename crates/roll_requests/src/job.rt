@@ -1,7 +1,7 @@
 //! Jobs that are out.
-ghost use Rattle.std.specs.Prelude.{◌≡◌, ◌≤◌, ◌⊎◌, ◌^◌, ℕ, length, IfNone, IfSome, None, Some};
+ghost use Rattle.std.specs.Prelude.{◌≡◌, ◌≤◌, ◌⊎◌, ◌^◌, ◌||◌, ℕ, length, IfNone, IfSome, None, Some};
 ghost use Rattle.slab.specs.Slab.{get, slab_len};
-ghost use Rattle.roll_requests.specs.Slotted.{Guessed, HasPlaces, IsHeld, IsTaken};
+ghost use Rattle.roll_requests.specs.Slotted.{holds, is_out, is_taken, Guessed, HasPlaces};
 
 use crate::taken::Taken;
 use roll_branch::PackedRoute;
@@ -64,9 +64,8 @@ pub fn free_number(jobs: &Slab<Job>) -> Option<u32>
 pub fn fill_jobs(slots: &mut Taken, jobs: &Slab<Job>)
     requires { (n : ℕ) (job : Guessed) → get jobs.now n ≡ Some job
         → HasPlaces slots.old job }
-    ensures taken { (n : ℕ) (job : Guessed) → get jobs.now n ≡ Some job
-        → IsHeld slots.new job }
-    ensures kept { (slot : ℕ) → IsTaken slots.old slot → IsTaken slots.new slot }
+    ensures filled { (slot : ℕ) → is_taken slots.new slot
+        ≡ (is_taken slots.old slot || is_out jobs.now slot) }
     ensures many { length slots.new ≡ length slots.old }
 {
     for (_, job) in jobs.iter() {
@@ -77,8 +76,8 @@ pub fn fill_jobs(slots: &mut Taken, jobs: &Slab<Job>)
 /// Takes the slots that a job holds.
 fn fill_job(slots: &mut Taken, job: &Job)
     requires { HasPlaces slots.old job.now }
-    ensures taken { IsHeld slots.new job.now }
-    ensures kept { (slot : ℕ) → IsTaken slots.old slot → IsTaken slots.new slot }
+    ensures filled { (slot : ℕ) → is_taken slots.new slot
+        ≡ (is_taken slots.old slot || holds job.now slot) }
     ensures many { length slots.new ≡ length slots.old }
 {
     slots.fill(job.start());

@@ -2,6 +2,7 @@
 #![tactic(auto)]
 
 mod asking;
+mod declined;
 mod elsewhere;
 mod job;
 mod networked;
@@ -9,9 +10,11 @@ mod performing;
 mod plans;
 mod queue;
 mod request;
+mod sufficing;
 mod taken;
 mod waiting;
 
+pub use declined::Declined;
 pub use elsewhere::Elsewhere;
 pub use job::JOBS_OUT;
 pub use request::Request;

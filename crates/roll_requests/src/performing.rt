@@ -3,8 +3,9 @@ ghost use Rattle.std.specs.Prelude.{◌≡◌, IfErr, IfOk};
 ghost use Rattle.roll_requests.specs.Made.{IsMade, IsNotMade, KeepsLeading};
 ghost use Rattle.roll_session.specs.Calls.{input_reply, IsInput};
 
+use crate::declined::Declined;
 use crate::elsewhere::Elsewhere;
-use roll_frame::{Refusal, Reply};
+use roll_frame::Reply;
 use roll_session::{Call, Heard, Networked, Reached};
 
 impl Elsewhere {
@@ -12,10 +13,10 @@ impl Elsewhere {
     ///
     /// # Errors
     ///
-    /// As of the call of a session; `NoMemory` too if a call rolls and no slot is left. Nothing is changed, but for what is reserved.
-    pub fn perform(&mut self, call: Call) -> Result<Reply, Refusal>
+    /// As of the call of a session; `NoSlots` if it rolls and too few slots are free. Nothing is changed, but for what is reserved.
+    pub fn perform(&mut self, call: Call) -> Result<Reply, Declined>
         ensures made { IfOk result (IsMade self.old self.new call) }
-        ensures refused { IfErr result (IsNotMade self.old self.new call) }
+        ensures declined { IfErr result (IsNotMade self.old self.new call) }
         ensures leads { KeepsLeading self.old self.new }
     {
         match call {
@@ -25,9 +26,9 @@ impl Elsewhere {
         }
     }
 
-    fn synchronize(&mut self) -> Result<Reply, Refusal>
+    fn synchronize(&mut self) -> Result<Reply, Declined>
         ensures made { IfOk result (IsMade self.old self.new Call.Sync) }
-        ensures refused { IfErr result (IsNotMade self.old self.new Call.Sync) }
+        ensures declined { IfErr result (IsNotMade self.old self.new Call.Sync) }
         ensures leads { KeepsLeading self.old self.new }
     {
         self.core().laws();
@@ -36,19 +37,19 @@ impl Elsewhere {
         Ok(Reply::Synchronized(row))
     }
 
-    fn advance(&mut self) -> Result<Reply, Refusal>
+    fn advance(&mut self) -> Result<Reply, Declined>
         ensures made { IfOk result (IsMade self.old self.new Call.Advance) }
-        ensures refused { IfErr result (IsNotMade self.old self.new Call.Advance) }
+        ensures declined { IfErr result (IsNotMade self.old self.new Call.Advance) }
         ensures leads { KeepsLeading self.old self.new }
     {
         let Reached { frame, from, rerun } = self.roll(Call::Advance)?;
         Ok(Reply::Reached { frame, from, rerun })
     }
 
-    fn hear(&mut self, call: Call) -> Result<Reply, Refusal>
+    fn hear(&mut self, call: Call) -> Result<Reply, Declined>
         requires { IsInput call }
         ensures made { IfOk result (IsMade self.old self.new call) }
-        ensures refused { IfErr result (IsNotMade self.old self.new call) }
+        ensures declined { IfErr result (IsNotMade self.old self.new call) }
         ensures leads { KeepsLeading self.old self.new }
     {
         let heard = self.take(call)?;

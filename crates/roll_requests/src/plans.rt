@@ -1,22 +1,23 @@
 //! What a roll or a job needs, so that nothing of it can fail any more.
-ghost use Rattle.std.specs.Prelude.{◌≡◌, ◌≤◌, ◌+◌, ◌*◌, ◌-◌, ℕ, length, max, IfErr, IfOk, OnErr, OnOk};
+ghost use Rattle.std.specs.Prelude.{◌≡◌, ◌≤◌, ◌+◌, ◌*◌, ◌-◌, ℕ, length, max, IfErr, IfOk, OnOk};
 ghost use Rattle.roll_frame.specs.Core.{depth};
 ghost use Rattle.roll_session.specs.Calls.{IsRoll};
 ghost use Rattle.roll_session.specs.Gameless.{CanEnter};
-ghost use Rattle.roll_requests.specs.Asked.{IsRefusedRoll};
-ghost use Rattle.roll_requests.specs.Planned.{IsHardly, IsRoom};
-ghost use Rattle.roll_requests.specs.Slotted.{is_taken, AreFree, AreTaken, AreWithin};
+ghost use Rattle.roll_requests.specs.Asked.{IsDeclinedRoll};
+ghost use Rattle.roll_requests.specs.Planned.{IsHardly, IsRoom, IsShort};
+ghost use Rattle.roll_requests.specs.Slotted.{free_slots, is_needed, is_taken, least_free, AreFree, AreTaken, AreWithin};
 ghost use Rattle.slab.specs.Slab.{HasRoomFor};
 
+use crate::declined::Declined;
 use crate::job::{Job, fill_jobs};
 use crate::queue::Queue;
 use crate::taken::Taken;
 use roll_branch::PackedRoute;
-use roll_frame::{Refusal, Route};
+use roll_frame::Route;
 use roll_session::{Call, Core, Way};
 use roll_tree::Tree;
 use slab::Slab;
-use std::alloc::{AllocError, Global};
+use std::alloc::Global;
 
 /// The slots that the saved states and the jobs hold, and those of a roll's states.
 #[derive(Drop)]
@@ -33,6 +34,10 @@ pub struct RollPlan {
 }
 
 /// Finds slots for so many states of a roll, before which all slots are freed that nothing holds.
+///
+/// # Errors
+///
+/// `NoSlots` if too few are free then, or `NoMemory`.
 fn find_room(
     alloc: Global,
     taken: &Taken,
@@ -40,10 +45,12 @@ fn find_room(
     jobs: &Slab<Job>,
     count: usize,
     limit: u32,
-) -> Result<Room, AllocError>
+) -> Result<Room, Declined>
     requires { AreTaken tree.now.states jobs.now taken.now }
     ensures many { IfOk result (λ room. length room.slots.items ≡ count) }
     ensures room { IfOk result (IsRoom limit tree.now.states jobs.now) }
+    ensures short { IfErr result
+        (IsShort (length (free_slots (is_needed tree.now.states jobs.now) limit)) count) }
 {
     let mut held = taken.cleared(alloc)?;
     held.fill_saved(tree);
@@ -57,7 +64,7 @@ fn find_room(
 ///
 /// # Errors
 ///
-/// As of the call of a session; `NoMemory` too where no slot is left.
+/// As of the call of a session; `NoSlots` if too few slots are free.
 pub fn plan_roll(
     alloc: Global,
     core: &mut Core<u32>,
@@ -66,7 +73,7 @@ pub fn plan_roll(
     jobs: &Slab<Job>,
     limit: u32,
     call: Call,
-) -> Result<RollPlan, Refusal>
+) -> Result<RollPlan, Declined>
     requires roll { IsRoll call }
     requires taken { AreTaken core.old.saves.tree.states jobs.now taken.now }
     ensures can { IfOk result (λ plan. CanEnter core.new call plan.way) }
@@ -82,7 +89,8 @@ pub fn plan_roll(
         (λ plan. 1 + length taken.now + 2 * length plan.room.slots.items ≤ queue.new.room) }
     ensures hardly { IsHardly core.old core.new }
     ensures requests { queue.new.requests ≡ queue.old.requests }
-    ensures refused { IfErr result (IsRefusedRoll core.old.seen call) }
+    ensures declined { IfErr result
+        (IsDeclinedRoll core.old.seen core.old.saves.tree.states jobs.now limit call) }
 {
     let way = core.look(call)?;
     let count = (way.to - way.frame) as usize;
@@ -92,6 +100,10 @@ pub fn plan_roll(
 }
 
 /// Finds slots for the states of a job that starts from the state in a slot, and makes room for all that it needs.
+///
+/// # Errors
+///
+/// `NoSlots` if too few are free, or `NoMemory`.
 pub fn plan_job(
     alloc: Global,
     queue: &mut Queue,
@@ -100,18 +112,21 @@ pub fn plan_job(
     start: u32,
     route: &Route,
     limit: u32,
-) -> Result<Job, Refusal>
+) -> Result<Job, Declined>
     ensures route { IfOk result (λ job. job.route ≡ route.now) }
     ensures start { IfOk result (λ job. job.start ≡ start) }
     ensures many { IfOk result (λ job. length job.slots ≡ length route.now.rows.items) }
     ensures free { IfOk result (λ job. AreFree limit taken.old job.slots) }
+    ensures least { IfOk result
+        (λ job. job.slots ≡ least_free (is_taken taken.old) limit (length job.slots)) }
     ensures within { IfOk result (λ job. AreWithin taken.new job.slots) }
     ensures space { IfOk result (λ job. 1 + 2 * length job.slots ≤ queue.new.room) }
     ensures requests { queue.new.requests ≡ queue.old.requests }
     ensures taken { (slot : ℕ) → is_taken taken.new slot ≡ is_taken taken.old slot }
     ensures jobs { jobs.new ≡ record jobs.old { capacity = jobs.new.capacity } }
     ensures fits { OnOk result (HasRoomFor jobs.new 1) }
-    ensures refused { IfErr result (λ why. why ≡ Refusal.NoMemory) }
+    ensures short { IfErr result (IsShort (length (free_slots (is_taken taken.old) limit))
+        (length route.now.rows.items)) }
 {
     let count = route.rows.len();
     let slots = taken.find(alloc, count, limit)?;

@@ -1,8 +1,10 @@
 //! The slots for states elsewhere.
-ghost use Rattle.std.specs.Prelude.{◌≡◌, ◌≤◌, ◌<◌, ◌∷◌, [], ℕ, length, slice_set, true, All, IfOk, OnOk};
-ghost use Rattle.roll_requests.specs.Slotted.{is_taken, AreFree, IsTaken};
+ghost use Rattle.std.specs.Prelude.{◌≡◌, ◌≤◌, ◌<◌, ◌||◌, ◌∷◌, [], ℕ, false, length, slice_set, true, All, IfErr, IfOk, OnOk};
+ghost use Rattle.roll_requests.specs.Planned.{IsShort};
+ghost use Rattle.roll_requests.specs.Slotted.{free_slots, is_among, is_saved, is_taken, least_free, AreFree};
 ghost use Rattle.roll_tree.specs.SavedStates.{Saved};
 
+use crate::declined::Declined;
 use roll_tree::Tree;
 use std::alloc::{AllocError, Global};
 use std::marker::Model;
@@ -35,7 +37,8 @@ impl Taken {
 
     /// As many slots, of which none is taken.
     pub fn cleared(&self, alloc: Global) -> Result<Taken, AllocError>
-        ensures { IfOk result (λ slots. length slots ≡ length self.now) }
+        ensures many { IfOk result (λ slots. length slots ≡ length self.now) }
+        ensures none { IfOk result (λ slots. (slot : ℕ) → is_taken slots slot ≡ false) }
     {
         Ok(Taken {
             taken: Vec::from_elem(alloc, false, self.taken.len())?,
@@ -71,8 +74,8 @@ impl Taken {
     /// Takes these slots.
     pub fn fill_all(&mut self, slots: &[u32])
         requires { All (λ slot. slot < length self.old) slots.now }
-        ensures taken { All (IsTaken self.new) slots.now }
-        ensures kept { (slot : ℕ) → IsTaken self.old slot → IsTaken self.new slot }
+        ensures filled { (slot : ℕ) → is_taken self.new slot
+            ≡ (is_taken self.old slot || is_among slots.now slot) }
         ensures many { length self.new ≡ length self.old }
     {
         for slot in slots {
@@ -83,8 +86,8 @@ impl Taken {
     /// Takes the slots of the saved states.
     pub fn fill_saved(&mut self, tree: &Tree<u32>)
         requires { All (λ (u : Saved ℕ). u.snapshot < length self.old) tree.now.states }
-        ensures taken { All (λ (u : Saved ℕ). IsTaken self.new u.snapshot) tree.now.states }
-        ensures kept { (slot : ℕ) → IsTaken self.old slot → IsTaken self.new slot }
+        ensures filled { (slot : ℕ) → is_taken self.new slot
+            ≡ (is_taken self.old slot || is_saved tree.now.states slot) }
         ensures many { length self.new ≡ length self.old }
     {
         tree.laws();
@@ -95,9 +98,17 @@ impl Taken {
     }
 
     /// The first slots below a limit that aren't taken.
-    pub fn find(&self, alloc: Global, count: usize, limit: u32) -> Result<Vec<u32>, AllocError>
+    ///
+    /// # Errors
+    ///
+    /// `NoSlots` if there are fewer, or `NoMemory`.
+    pub fn find(&self, alloc: Global, count: usize, limit: u32) -> Result<Vec<u32>, Declined>
         ensures many { IfOk result (λ slots. length slots.items ≡ count) }
         ensures free { IfOk result (λ slots. AreFree limit self.now slots.items) }
+        ensures least { IfOk result
+            (λ slots. slots.items ≡ least_free (is_taken self.now) limit count) }
+        ensures short { IfErr result
+            (IsShort (length (free_slots (is_taken self.now) limit)) count) }
     {
         let mut slots = Vec::with_capacity(alloc, count)?;
         for slot in 0..limit {
@@ -111,7 +122,7 @@ impl Taken {
         if slots.len() == count {
             Ok(slots)
         } else {
-            Err(AllocError)
+            Err(Declined::NoSlots)
         }
     }
 

@@ -163,7 +163,7 @@ impl<G: Game> Session<G> {
     }
 
     /// From now on at most so many states are saved, in the slots below this one: a call that would need one more is refused
-    /// with [`Error::NoMemory`]. Without guesses, the prediction threshold and three are enough. With guesses more are needed: each
+    /// with [`Error::NoMemory`]. Without guesses, the prediction threshold and two are enough. With guesses more are needed: each
     /// job takes a slot for each of its rows until it is dropped, or its states were grafted and nothing needs them any more; and the
     /// state that it starts from is kept as long as it is out. A call that finds too few changes nothing, and can be made again
     /// once jobs were dropped.

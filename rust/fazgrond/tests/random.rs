@@ -257,9 +257,9 @@ impl Script {
         let mut limit = 257 + 64 * 8;
         if kind.has_limit {
             // Without guesses these are enough.
-            limit = rules.threshold + 3;
+            limit = rules.threshold + 2;
             if kind.guesses > 0 {
-                limit = limit - 2 + random.below(8);
+                limit = limit - 1 + random.below(8);
             }
             handle.limit_slots(limit);
             session.limit_slots(limit);

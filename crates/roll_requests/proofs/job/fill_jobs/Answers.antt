@@ -1,8 +1,10 @@
-use Rattle.std.proofs.Common.{◌≡◌, ◌∙◌, [], ℕ, ap, arith, inl, inr, refl, subst, Contains, Some}
+use Rattle.std.proofs.Common.{◌≡◌, ◌∙◌, [], ℕ, List, ap, arith, refl, Contains, Some}
+use Rattle.std.specs.List.{list_any}
+use Rattle.std.specs.Prelude.{◌||◌}
 use Rattle.slab.specs.Slab.{get}
-use Rattle.slab.proofs.SlabLemmas.{Contains-cons, Contains-cons_cases, Contains-entries}
-use Rattle.roll_requests.specs.Slotted.{Guessed, IsHeld}
-use Rattle.roll_requests.proofs.Filling.{held_kept}
+use Rattle.slab.proofs.SlabLemmas.{Contains-cons, Contains-entries}
+use Rattle.roll_requests.specs.Slotted.{holds, is_taken, Guessed}
+use Rattle.roll_requests.proofs.Filling.{or_assoc, or_false}
 use Rattle.roll_requests.proofs.job.fill_jobs.Goals as goal
 
 pub loop-job-init : goal.loop-job-init
@@ -12,8 +14,7 @@ loop-job-init c =
       goes = tt;
       ends = tt;
       left = λ n job there. (Contains-entries c.args.jobs.now n job).0 (rw left at there);
-      done = λ n job found. inl (rw left ((Contains-entries c.args.jobs.now n job).1 found));
-      kept = λ k t. t;
+      filled = λ k. ap (λ (l : List (ℕ × Guessed)). is_taken c.args.slots.now k || list_any (λ (out : ℕ × Guessed). holds out.1 k) l) left;
       many = refl;
     }
 
@@ -32,20 +33,14 @@ pub loop-job-preserved : goal.loop-job-preserved
 loop-job-preserved c =
     let at = c.in-Some.ensures.steps in
     let now = c.loop-job.invariant in
+    let job : Guessed = c.in-Some.job.now in
     let e = c.fill_job.ensures in
+    let before = rw at at now.filled in
     record {
       goes = tt;
       ends = tt;
       left = λ n job there. now.left n job (rw at (Contains-cons _ _ _ there));
-      done = λ n job found.
-          elim (now.done n job found) [
-            | inl there ↦ elim (Contains-cons_cases _ _ _ (rw at at there)) [
-              | inl same ↦ inr (subst (IsHeld c.fill_job.new.slots) (ap (λ e. e.1) same) e.taken)
-              | inr rest ↦ inl rest
-            ]
-            | inr taken ↦ inr (held_kept c.loop-job.slots c.fill_job.new.slots e.kept job taken)
-          ];
-      kept = λ k t. e.kept k (now.kept k t);
+      filled = λ k. ap (λ b. b || list_any (λ (out : ℕ × Guessed). holds out.1 k) c.next.new.self) (e.filled k) ∙ or_assoc (is_taken c.loop-job.slots k) (holds job k) (list_any (λ (out : ℕ × Guessed). holds out.1 k) c.next.new.self) ∙ before k;
       many = e.many ∙ now.many;
     }
 
@@ -53,12 +48,5 @@ pub returns : goal.returns
 returns c =
     let now = c.loop-job.invariant in
     let none : c.loop-job.job-iterator ≡ [] = c.in-None.ensures.steps.0 in
-    record {
-      taken = λ n job found.
-          elim (now.done n job found) [
-            | inl there ↦ let few = (rw none at there).1 in absurd (omega (arith, few))
-            | inr taken ↦ taken
-          ];
-      kept = now.kept;
-      many = now.many;
-    }
+    let all = rw none at now.filled in
+    record { filled = λ k. or_false (is_taken c.loop-job.slots k) ∙ all k; many = now.many }

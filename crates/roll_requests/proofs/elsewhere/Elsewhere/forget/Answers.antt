@@ -10,5 +10,5 @@ invariant_of-self c =
 pub returns-clause-leads : goal.returns-clause-leads
 returns-clause-leads c =
     let i = c.self.inside in
-    let old : Asked = record { seen = i.core.seen; saves = i.core.saves; at = i.at; requests = i.queue.requests; limit = i.limit; jobs = i.jobs } in
+    let old : Asked = record { seen = i.core.seen; saves = i.core.saves; at = i.at; requests = i.queue.requests; limit = i.limit; jobs = i.jobs; taken = i.taken } in
     rw (← c.self.view_is) (leads_left old c.try_remove.new.self c.args.job c.try_remove.ensures.updates)

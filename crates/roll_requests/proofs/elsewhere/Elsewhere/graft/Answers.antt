@@ -13,7 +13,7 @@ invariant_of-self c =
 pub returns-in_default-clause-leads : goal.returns-in_default-clause-leads
 returns-in_default-clause-leads c =
     let i = c.self.inside in
-    let old : Asked = record { seen = i.core.seen; saves = i.core.saves; at = i.at; requests = i.queue.requests; limit = i.limit; jobs = i.jobs } in
+    let old : Asked = record { seen = i.core.seen; saves = i.core.saves; at = i.at; requests = i.queue.requests; limit = i.limit; jobs = i.jobs; taken = i.taken } in
     rw (← c.self.view_is) (leads_left old c.try_remove.new.self c.args.job c.try_remove.ensures.updates)
 
 pub graft-outcome-requires : goal.graft-outcome-requires
@@ -44,6 +44,6 @@ returns-clause-leads c =
     let job : Guessed = record { route = c.job.inside.route; start = c.job.inside.start; slots = c.job.inside.slots.items } in
     let there : get i.jobs c.args.job ≡ Some job = sym c.in-Some.ensures.value ∙ ap Some (sym c.job.view_is) in
     rw (← c.self.view_is)
-    (leads_grafted c.graft-outcome.result i.core c.graft-outcome.new.self i.at i.queue.requests i.limit i.jobs c.try_remove.new.self c.args.job job
+    (leads_grafted c.graft-outcome.result i.core c.graft-outcome.new.self i.at i.queue.requests i.limit i.taken i.jobs c.try_remove.new.self c.args.job job
     (record { log = c.laws.ensures.log; before = c.laws.ensures.inputs; after = c.laws-2.ensures.inputs; accepted = e.accepted; taken = e.taken; keeps = e.branch; unchanged = e.unchanged })
     there c.try_remove.ensures.updates)

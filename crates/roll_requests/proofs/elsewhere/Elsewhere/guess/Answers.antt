@@ -1,5 +1,5 @@
 use Rattle.std.proofs.Common.{◌≡◌, ◌∙◌, ◌++◌, [], ℕ, List, Option, Some, None, ap, get_or, length, lit<, refl, subst, sym}
-use Rattle.std.specs.Prelude.{option_map, All, IfErr, IsSomeAnd}
+use Rattle.std.specs.Prelude.{◌||◌, option_map, All, IfErr, IsSomeAnd}
 use Rattle.slab.specs.Slab.{Slab, Updates}
 use Rattle.roll_branch.specs.Routed.{Routed}
 use Rattle.roll_frame.specs.declared.route.Route.{Route}
@@ -11,14 +11,14 @@ use Rattle.roll_session.specs.Seen.{game_of}
 use Rattle.roll_tree.specs.SavedStates.{Saved, state_named}
 use Rattle.roll_requests.specs.Asked.{rows_to_run, Asked, IsNotGuessed, IsNumbered}
 use Rattle.roll_requests.specs.Requests.{job_requests, Adds}
-use Rattle.roll_requests.specs.Slotted.{Guessed, IsOutside, IsTaken}
+use Rattle.roll_requests.specs.Slotted.{is_among, is_taken, Guessed, IsOutside, IsTaken}
 use Rattle.roll_requests.specs.declared.request.Request.{Request}
 use Rattle.roll_requests.proofs.Apart.{job_apart}
 use Rattle.roll_requests.proofs.Counting.{job_adds}
-use Rattle.roll_requests.proofs.Filling.{are_kept}
+use Rattle.roll_requests.proofs.Declining.{passed_on}
+use Rattle.roll_requests.proofs.Filling.{are_kept, now_taken, still_taken}
 use Rattle.roll_requests.proofs.Leads.{leads_same}
-use Rattle.roll_requests.proofs.Numbering.{base_of, leads_guessed, no_memory, none_adds, none_numbered, numbered, start_has, starts_here, taken_guessed}
-use Rattle.roll_session.proofs.Bares.{handed_on}
+use Rattle.roll_requests.proofs.Numbering.{base_of, leads_guessed, no_room, none_adds, none_numbered, numbered, start_has, starts_here, taken_guessed}
 use Rattle.roll_session.proofs.Rolling.{some_is, some_there}
 use Rattle.roll_requests.proofs.elsewhere.Elsewhere.guess.Goals as goal
 
@@ -30,7 +30,7 @@ none_of c =
 pub returns-in_default-2-clause-job : goal.returns-in_default-2-clause-job
 returns-in_default-2-clause-job c =
     let i = c.self.inside in
-    let here : Asked = record { seen = i.core.seen; saves = i.core.saves; at = i.at; requests = i.queue.requests; limit = i.limit; jobs = i.jobs } in
+    let here : Asked = record { seen = i.core.seen; saves = i.core.saves; at = i.at; requests = i.queue.requests; limit = i.limit; jobs = i.jobs; taken = i.taken } in
     subst (λ (a : Asked). IsNumbered (guess_job_of still a.seen c.args.player c.args.words.now c.args.until) a a None) c.self.view_is
     (none_numbered (guess_job_of still i.core.seen c.args.player c.args.words.now c.args.until) (none_of c) here)
 
@@ -52,9 +52,9 @@ pub returns-in_err-job-clause-leads : goal.returns-in_err-job-clause-leads
 returns-in_err-job-clause-leads c =
     let i = c.self.inside in
     let e = c.plan_job.ensures in
-    let old : Asked = record { seen = i.core.seen; saves = i.core.saves; at = i.at; requests = i.queue.requests; limit = i.limit; jobs = i.jobs } in
+    let old : Asked = record { seen = i.core.seen; saves = i.core.saves; at = i.at; requests = i.queue.requests; limit = i.limit; jobs = i.jobs; taken = i.taken } in
     rw (← c.self.view_is)
-    (leads_same old (record old { requests = c.plan_job.new.queue.requests; jobs = c.plan_job.new.jobs }) e.requests refl refl (λ step opening slots h. rw e.jobs (record { saved = h.saved; out = h.out })))
+    (leads_same old (record old { requests = c.plan_job.new.queue.requests; jobs = c.plan_job.new.jobs; taken = c.plan_job.new.taken }) e.requests refl e.taken refl (λ step opening slots h. rw e.jobs (record { saved = h.saved; out = h.out })))
 
 pub get-start-requires : goal.get-start-requires
 get-start-requires c =
@@ -97,13 +97,21 @@ has_of c P all =
     subst P (sym c.in_ok-job.ensures.start)
     (start_has P c.self.inside.core.saves c.in-Some-2.node c.get-start.result.now c.in-Some-2.route.path.rows.items (rw c.in-Some-2.is at c.in_ok-node.ensures.node) (rw c.saved.ensures at c.get-start.ensures) all)
 
+-- what is taken then
+filled_of : (c : goal.After-insert_reserved) → (k : ℕ) → is_taken c.fill_all.new.self k ≡ (is_taken c.self.inside.taken k || is_among c.in_ok-job.job.slots k)
+filled_of c =
+    let slots = c.in_ok-job.job.slots in
+    let filled = rw c.slots-2.ensures at c.fill_all.ensures.filled in
+    λ k. filled k ∙ ap (λ b. b || is_among slots k) (c.plan_job.ensures.taken k)
+
 pub invariant_of-self-2 : goal.invariant_of-self-2
 invariant_of-self-2 c =
     let i = c.self.inside in
-    let f = c.fill_all.ensures in
-    let kept : (k : ℕ) → IsTaken i.taken k → IsTaken c.fill_all.new.self k = λ k t. f.kept k (c.plan_job.ensures.taken k ∙ t) in
+    let slots = c.in_ok-job.job.slots in
+    let filled = filled_of c in
+    let kept = still_taken i.taken c.fill_all.new.self slots filled in
     taken_guessed i.core.saves.tree.states i.jobs c.insert_reserved.new.self i.at c.in-Some.number i.limit c.in_ok-job.job i.taken c.fill_all.new.self c.self.invariant c.in_ok-job.ensures.free (updates_of c) kept
-    (record { start = kept c.in_ok-job.job.start (has_of c (IsTaken i.taken) c.self.invariant.are.saved); slots = rw c.slots-2.ensures at f.taken })
+    (record { start = kept c.in_ok-job.job.start (has_of c (IsTaken i.taken) c.self.invariant.are.saved); slots = now_taken i.taken c.fill_all.new.self slots filled })
 
 -- what is asked
 list_of : (c : goal.After-insert_reserved) → c.ask_job.new.queue.requests ≡ c.self.inside.queue.requests ++ job_requests c.in_ok-job.job.start (λ k. get_or c.in_ok-job.job.route.rows.items k []) c.in_ok-job.job.slots
@@ -120,10 +128,10 @@ pub returns-clause-job : goal.returns-clause-job
 returns-clause-job c =
     let i = c.self.inside in
     let e = c.in_ok-job.ensures in
-    let old : Asked = record { seen = i.core.seen; saves = i.core.saves; at = i.at; requests = i.queue.requests; limit = i.limit; jobs = i.jobs } in
-    let new : Asked = record old { requests = c.ask_job.new.queue.requests; jobs = c.insert_reserved.new.self } in
+    let old : Asked = record { seen = i.core.seen; saves = i.core.saves; at = i.at; requests = i.queue.requests; limit = i.limit; jobs = i.jobs; taken = i.taken } in
+    let new : Asked = record old { requests = c.ask_job.new.queue.requests; jobs = c.insert_reserved.new.self; taken = c.fill_all.new.self } in
     subst (λ (a : Asked). IsNumbered (guess_job_of still a.seen c.args.player c.args.words.now c.args.until) a new (Some c.in-Some.number)) c.self.view_is
-    (numbered (guess_job_of still i.core.seen c.args.player c.args.words.now c.args.until) c.in-Some-2.route (job_of c) old new c.in-Some.number c.in_ok-job.job e.route e.many c.in-Some.ensures.vacant (updates_of c) (list_of c))
+    (numbered (guess_job_of still i.core.seen c.args.player c.args.words.now c.args.until) c.in-Some-2.route (job_of c) old new c.in-Some.number c.in_ok-job.job e.route e.many c.in-Some.ensures.vacant (updates_of c) (list_of c) e.least (filled_of c))
 
 pub returns-clause-adds : goal.returns-clause-adds
 returns-clause-adds c =
@@ -150,9 +158,9 @@ returns-clause-leads c =
     let base : job.route.path.base ≡ saves.inputs.settled = ap (λ (r : Route). r.path.base) e.route ∙ far in
     let many : length job.slots ≡ length job.route.rows.items = e.many ∙ ap (λ (r : Route). length r.rows.items) (sym e.route) in
     let there : IsSomeAnd (state_named saves.tree c.in-Some-2.node) (λ u. u.path ≡ job.route.path.rows.items) = subst (λ (r : Route). IsSomeAnd (state_named saves.tree c.in-Some-2.node) (λ u. u.path ≡ r.path.rows.items)) (sym e.route) found in
-    let old : Asked = record { seen = i.core.seen; saves = saves; at = i.at; requests = i.queue.requests; limit = i.limit; jobs = i.jobs } in
+    let old : Asked = record { seen = i.core.seen; saves = saves; at = i.at; requests = i.queue.requests; limit = i.limit; jobs = i.jobs; taken = i.taken } in
     rw (← c.self.view_is)
-    (leads_guessed old c.ask_job.new.queue.requests c.insert_reserved.new.self i.taken c.in-Some.number job c.self.invariant e.free many base (has_of c (IsTaken i.taken) c.self.invariant.are.saved)
+    (leads_guessed old c.ask_job.new.queue.requests c.insert_reserved.new.self c.fill_all.new.self c.in-Some.number job c.self.invariant e.free many base (has_of c (IsTaken i.taken) c.self.invariant.are.saved) (filled_of c)
     (starts_here saves c.in-Some-2.node job.start job.route base there told) (list_of c) (updates_of c))
 
 pub returns-clause-accepted : goal.returns-clause-accepted
@@ -163,8 +171,13 @@ pub returns-in_default-2-clause-accepted : goal.returns-in_default-2-clause-acce
 returns-in_default-2-clause-accepted c =
     subst (λ (a : Asked). guess_refusal_of a.seen c.args.player c.args.words.now c.args.until ≡ None) c.self.view_is c.in_ok-node.ensures.accepted
 
-pub returns-in_err-job-clause-refused : goal.returns-in_err-job-clause-refused
-returns-in_err-job-clause-refused c =
-    subst (λ (a : Asked). IfErr c.from_residual-in_err-job.result (IsNotGuessed (guess_refusal_of a.seen c.args.player c.args.words.now c.args.until) a.jobs)) c.self.view_is
-    (handed_on c.from_residual-in_err-job.result c.in_err-job.field-0.0 (IsNotGuessed (guess_refusal_of c.self.inside.core.seen c.args.player c.args.words.now c.args.until) c.self.inside.jobs) c.from_residual-in_err-job.ensures.1
-    (no_memory (guess_refusal_of c.self.inside.core.seen c.args.player c.args.words.now c.args.until) c.self.inside.jobs c.in_err-job.field-0.0 c.in_ok-node.ensures.accepted c.in_err-job.ensures.refused))
+pub returns-in_err-job-clause-declined : goal.returns-in_err-job-clause-declined
+returns-in_err-job-clause-declined c =
+    let i = c.self.inside in
+    let here : Asked = record { seen = i.core.seen; saves = i.core.saves; at = i.at; requests = i.queue.requests; limit = i.limit; jobs = i.jobs; taken = i.taken } in
+    let refusal = guess_refusal_of i.core.seen c.args.player c.args.words.now c.args.until in
+    let job : Option Routed = guess_job_of still i.core.seen c.args.player c.args.words.now c.args.until in
+    let is_job : Some (bare_branch 0 c.in-Some-2.route) ≡ job = ap (option_map (λ (s : ℕ × Route). bare_branch 0 s.1)) (sym c.in-Some-2.is) ∙ c.in_ok-node.ensures.job in
+    subst (λ (a : Asked). IfErr c.from_residual-in_err-job.result (IsNotGuessed (guess_refusal_of a.seen c.args.player c.args.words.now c.args.until) (guess_job_of still a.seen c.args.player c.args.words.now c.args.until) a)) c.self.view_is
+    (passed_on c.from_residual-in_err-job.result c.in_err-job.field-0.0 (IsNotGuessed refusal job here) c.from_residual-in_err-job.ensures.1
+    (no_room refusal job here (length c.in-Some-2.route.rows.items) c.in_err-job.field-0.0 c.in_ok-node.ensures.accepted (ap (λ (o : Option Routed). rows_to_run o) is_job) c.in_err-job.ensures.short))

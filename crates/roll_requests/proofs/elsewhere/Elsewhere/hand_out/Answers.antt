@@ -8,6 +8,6 @@ pub returns-clause-leads : goal.returns-clause-leads
 returns-clause-leads c =
     let i = c.self.inside in
     let n = c.args.count in
-    let e : Asked = record { seen = i.core.seen; saves = i.core.saves; at = i.at; requests = i.queue.requests; limit = i.limit; jobs = i.jobs } in
+    let e : Asked = record { seen = i.core.seen; saves = i.core.saves; at = i.at; requests = i.queue.requests; limit = i.limit; jobs = i.jobs; taken = i.taken } in
     rw (← c.self.view_is)
     (λ past l. subst (λ (left : List Request). Leads (past ++ take n i.queue.requests) (record e { requests = left })) (sym c.hand_out.ensures) (leads_given e n past l))

@@ -9,4 +9,4 @@ returns-in_err-reserve_log-clause-leads c =
 pub returns-clause-leads : goal.returns-clause-leads
 returns-clause-leads c =
     let i = c.self.inside in
-    rw (← c.self.view_is) (rw c.in_ok-reserve_log.ensures.reserved (leads_bare i.core.seen i.core.saves i.at i.queue.requests i.limit i.jobs _))
+    rw (← c.self.view_is) (rw c.in_ok-reserve_log.ensures.reserved (leads_bare i.core.seen i.core.saves i.at i.queue.requests i.limit i.jobs i.taken _))

@@ -1,4 +1,5 @@
 use Rattle.std.proofs.Common.{◌≡◌, ◌++◌, ◌∷◌, ◌∙◌, ◌+◌, ◌-◌, [], ℕ, List, Some, ap, arith, length, max, refl, subst, sym}
+use Rattle.std.specs.Prelude.{◌||◌}
 use Rattle.roll_frame.specs.Core.{Core, cost}
 use Rattle.roll_frame.specs.declared.entry.Entry.{Entry}
 use Rattle.roll_frame.specs.Timeline.{row_at}
@@ -9,12 +10,15 @@ use Rattle.roll_session.specs.Seen.{IsLeast, Seen, game_of}
 use Rattle.roll_session.proofs.Holding.{least_of}
 use Rattle.roll_session.proofs.Rolling.{some_is}
 use Rattle.roll_tree.specs.SavedStates.{Saved, state_named}
+use Rattle.roll_session.specs.Saves.{Standing}
 use Rattle.roll_requests.specs.Asked.{Asked}
+use Rattle.roll_requests.specs.Planned.{IsRoom}
 use Rattle.roll_requests.specs.Requests.{last_or, roll_requests}
 use Rattle.roll_requests.specs.declared.request.Request.{Request}
-use Rattle.roll_requests.specs.Slotted.{AreOwn}
+use Rattle.roll_requests.specs.Slotted.{is_among, is_taken, AreOwn}
 use Rattle.roll_requests.proofs.Apart.{roll_apart}
 use Rattle.roll_requests.proofs.Counting.{roll_adds}
+use Rattle.roll_requests.proofs.Filling.{are_held, needed_now, now_taken, still_taken}
 use Rattle.roll_requests.proofs.Leads.{done_leads, done_taken, leads_looked, slotted_told, start_outside, IsDone}
 use Rattle.roll_frame.specs.declared.row.Cell.{Cell}
 use Rattle.roll_requests.proofs.elsewhere.Elsewhere.roll.Goals as goal
@@ -36,8 +40,8 @@ returns-in_err-plan-clause-leads c =
     let mid = c.plan_roll.new.core in
     let hardly = c.plan_roll.ensures.hardly in
     rw (← c.self.view_is)
-    (leads_looked (record { seen = i.core.seen; saves = i.core.saves; at = i.at; requests = i.queue.requests; limit = i.limit; jobs = i.jobs }) (record { seen = mid.seen; saves = mid.saves; at = i.at; requests = c.plan_roll.new.queue.requests; limit = i.limit; jobs = i.jobs })
-    hardly.saves refl c.plan_roll.ensures.requests refl (ap (λ (s : Seen). s.core.shown) hardly.seen))
+    (leads_looked (record { seen = i.core.seen; saves = i.core.saves; at = i.at; requests = i.queue.requests; limit = i.limit; jobs = i.jobs; taken = i.taken }) (record { seen = mid.seen; saves = mid.saves; at = i.at; requests = c.plan_roll.new.queue.requests; limit = i.limit; jobs = i.jobs; taken = i.taken })
+    hardly.saves refl c.plan_roll.ensures.requests refl refl (ap (λ (s : Seen). s.core.shown) hardly.seen))
 
 pub ask_roll-self-inside-requires-clause-going : goal.ask_roll-self-inside-requires-clause-going
 ask_roll-self-inside-requires-clause-going c = c.in_ok-plan.ensures.can.going
@@ -91,12 +95,17 @@ own_of c =
     let i = c.self.inside in
     (slotted_told i.core.saves c.plan_roll.new.core.saves i.jobs i.at i.taken c.plan_roll.ensures.hardly.saves c.self.invariant).own
 
+-- what is taken after it
+filled_of : (c : goal.After-laws-2) → (k : ℕ) → is_taken c.fill_all.new.self k ≡ (is_taken c.in_ok-plan.plan.room.held k || is_among c.in_ok-plan.plan.room.slots.items k)
+filled_of c = rw c.deref-2.ensures.value at c.fill_all.ensures.filled
+
 pub invariant_of-self-2 : goal.invariant_of-self-2
 invariant_of-self-2 c =
     let a = asked_of c in
-    let f = c.fill_all.ensures in
-    done_taken c.plan_roll.new.core c.enter.new.self c.args.call c.in_ok-plan.plan.way c.in_ok-plan.plan.room c.self.inside.limit c.self.inside.jobs (done_of c) c.fill_all.new.self c.ask_roll-self-inside.result a.0 (own_of c) a.1 a.2.0 f.kept
-    (rw c.deref-2.ensures.value at f.taken)
+    let room = c.in_ok-plan.plan.room in
+    let filled = filled_of c in
+    done_taken c.plan_roll.new.core c.enter.new.self c.args.call c.in_ok-plan.plan.way room c.self.inside.limit c.self.inside.jobs (done_of c) c.fill_all.new.self c.ask_roll-self-inside.result a.0 (own_of c) a.1 a.2.0
+    (still_taken room.held c.fill_all.new.self room.slots.items filled) (now_taken room.held c.fill_all.new.self room.slots.items filled)
 
 pub returns-clause-allowed : goal.returns-clause-allowed
 returns-clause-allowed c =
@@ -125,6 +134,8 @@ returns-clause-rolls c =
     let log = c.laws.ensures.log in
     let least : IsLeast mid.seen.core way.to = subst (λ (k : Core). IsLeast k way.to) (sym log.core) (least_of mid.seen.settings (game_of still mid.seen) mid.seen.log log.log way.to) in
     let many : length room.slots.items ≡ cost i.core.seen.core way.to = omega (arith, e.many, e.from) in
+    let room_is = subst (λ (states : List (Saved ℕ)). IsRoom i.limit states i.jobs room) (ap (λ (s : Standing ℕ). s.tree.states) c.plan_roll.ensures.hardly.saves) e.room in
+    let held = are_held mid.saves.tree.states i.jobs room.held e.room.held in
     let row : ℕ → List Cell = λ k. row_at mid.saves.inputs.players (way.frame + k) in
     let list = a.2.1 ∙ ap (λ (l : List Request). l ++ roll_requests i.at a.0.snapshot i.taken room.held row room.slots.items) c.plan_roll.ensures.requests in
     rw (← c.self.view_is)
@@ -136,8 +147,9 @@ returns-clause-rolls c =
       adds = roll_adds i.limit i.at a.0.snapshot i.taken room.held row room.slots.items (cost i.core.seen.core way.to) i.jobs i.queue.requests c.ask_roll-self-inside.new.queue.requests e.room.free.below many
           (λ n job there.
           let off = start_outside mid c.enter.new.self c.args.call way room i.limit i.jobs (done_of c) (own_of c) a.0 a.1 n job there in
-          roll_apart job room.held (e.room.held.out n job there) i.limit i.at a.0.snapshot i.taken row room.slots.items off e.room.free)
+          roll_apart job room.held (held.out n job there) i.limit i.at a.0.snapshot i.taken row room.slots.items off e.room.free)
           list;
+      taken = needed_now i.core.saves.tree.states i.jobs i.limit (cost i.core.seen.core way.to) room.held c.fill_all.new.self room.slots.items room_is.held room_is.least many (filled_of c);
     })
 
 pub returns-clause-leads : goal.returns-clause-leads
@@ -146,9 +158,10 @@ returns-clause-leads c =
     let mid = c.plan_roll.new.core in
     let a = asked_of c in
     let hardly = c.plan_roll.ensures.hardly in
-    let old : Asked = record { seen = i.core.seen; saves = i.core.saves; at = i.at; requests = i.queue.requests; limit = i.limit; jobs = i.jobs } in
-    let here : Asked = record { seen = mid.seen; saves = mid.saves; at = i.at; requests = c.plan_roll.new.queue.requests; limit = i.limit; jobs = i.jobs } in
+    let old : Asked = record { seen = i.core.seen; saves = i.core.saves; at = i.at; requests = i.queue.requests; limit = i.limit; jobs = i.jobs; taken = i.taken } in
+    let here : Asked = record { seen = mid.seen; saves = mid.saves; at = i.at; requests = c.plan_roll.new.queue.requests; limit = i.limit; jobs = i.jobs; taken = i.taken } in
     rw (← c.self.view_is)
     (λ past l.
-    done_leads mid c.enter.new.self c.args.call c.in_ok-plan.plan.way c.in_ok-plan.plan.room i.limit i.jobs (done_of c) i.taken i.at c.ask_roll-self-inside.result a.0 c.plan_roll.new.queue.requests c.ask_roll-self-inside.new.queue.requests a.1 a.2.0 a.2.1 past
-    (leads_looked old here hardly.saves refl c.plan_roll.ensures.requests refl (ap (λ (s : Seen). s.core.shown) hardly.seen) past l))
+    done_leads mid c.enter.new.self c.args.call c.in_ok-plan.plan.way c.in_ok-plan.plan.room i.limit i.jobs (done_of c) i.taken c.fill_all.new.self i.at c.ask_roll-self-inside.result a.0 c.plan_roll.new.queue.requests c.ask_roll-self-inside.new.queue.requests
+    (slotted_told i.core.saves mid.saves i.jobs i.at i.taken hardly.saves c.self.invariant).are (filled_of c) a.1 a.2.0 a.2.1 past
+    (leads_looked old here hardly.saves refl c.plan_roll.ensures.requests refl refl (ap (λ (s : Seen). s.core.shown) hardly.seen) past l))

@@ -4,7 +4,8 @@ use Rattle.roll_requests.proofs.elsewhere.Elsewhere.start.Goals as goal
 pub returns-clause-leads : goal.returns-clause-leads
 returns-clause-leads c =
     let e = c.in_ok-core.ensures in
-    first_leads c.args.settings c.in_ok-core.core c.new-3.result c.new-2.result.requests 4294967295 e.seen c.laws.ensures.inputs e.alone c.new-3.ensures.empty c.new-2.ensures
+    rw c.in_ok-taken.ensures
+    (first_leads c.args.settings c.in_ok-core.core c.new-3.result c.new-2.result.requests 4294967295 e.seen c.laws.ensures.inputs e.alone c.new-3.ensures.empty c.new-2.ensures)
 
 pub invariant_of-result : goal.invariant_of-result
 invariant_of-result c =

@@ -22,9 +22,9 @@ pub returns-clause-leads : goal.returns-clause-leads
 returns-clause-leads c =
     let i = c.self.inside in
     let new = c.take-outcome.new.self in
-    let old : Asked = record { seen = i.core.seen; saves = i.core.saves; at = i.at; requests = i.queue.requests; limit = i.limit; jobs = i.jobs } in
+    let old : Asked = record { seen = i.core.seen; saves = i.core.saves; at = i.at; requests = i.queue.requests; limit = i.limit; jobs = i.jobs; taken = i.taken } in
     rw (← c.self.view_is)
     (leads_taken old (record old { seen = new.seen; saves = new.saves }) c.take-outcome.ensures.keeps
     (stays_in i.core.seen.settings new.seen.settings i.core.seen.core new.seen.core i.core.saves.inputs new.saves.inputs c.laws.ensures.inputs c.laws-2.ensures.inputs
     (stays_answered still i.core.seen new.seen c.args.call _ c.requires.input c.laws.ensures.log c.take-outcome.ensures.answered))
-    refl refl refl c.take-outcome.ensures.shown)
+    refl refl refl refl c.take-outcome.ensures.shown)

@@ -1,8 +1,8 @@
-use Rattle.std.proofs.Common.{◌≡◌, ◌∙◌, ◌<◌, ℕ, List, arith, get_or, length, refl, subst, take}
-use Rattle.std.specs.Prelude.{All}
+use Rattle.std.proofs.Common.{◌≡◌, ◌∙◌, ◌<◌, ℕ, List, ap, arith, get_or, length, refl, take}
+use Rattle.std.specs.Prelude.{◌||◌}
 use Rattle.std.proofs.lemmas.List.{length-set, take_all}
-use Rattle.roll_requests.specs.Slotted.{IsTaken}
-use Rattle.roll_requests.proofs.Filling.{now_taken, still_taken, taken_more}
+use Rattle.roll_requests.specs.Slotted.{is_among, is_taken}
+use Rattle.roll_requests.proofs.Filling.{filled, filled_more, or_false}
 use Rattle.roll_requests.proofs.taken.Taken.fill_all.Goals as goal
 
 pub fill-requires : goal.fill-requires
@@ -11,7 +11,7 @@ fill-requires c =
     omega (arith, low, c.loop-slot.invariant.many)
 
 pub loop-slot-init : goal.loop-slot-init
-loop-slot-init c = record { many = refl; taken = λ k d few. absurd (omega (arith, few)); kept = λ k t. t }
+loop-slot-init c = record { many = refl; filled = λ k. or_false (is_taken c.args.self.now k) }
 
 pub loop-slot-preserved : goal.loop-slot-preserved
 loop-slot-preserved c =
@@ -24,12 +24,11 @@ loop-slot-preserved c =
     rw c.fill.ensures
     (record {
       many = length-set old slot _ ∙ now.many;
-      taken = taken_more c.args.slots.now n old _ c.loop-slot-test.true now.taken (λ k t. still_taken old slot k t) (now_taken old slot few);
-      kept = λ k t. still_taken old slot k (now.kept k t);
+      filled = λ k. filled old slot k few ∙ filled_more c.args.slots.now n k (is_taken c.args.self.now k) (is_taken old k) c.loop-slot-test.true (now.filled k);
     })
 
 pub returns : goal.returns
 returns c =
     let now = c.loop-slot.invariant in
     let all : take c.loop-slot.slot-index c.args.slots.now ≡ c.args.slots.now = take_all c.loop-slot.slot-index c.args.slots.now (omega (arith, c.loop-slot-test.false)) in
-    record { taken = subst (λ (l : List ℕ). All (IsTaken c.loop-slot.self) l) all now.taken; kept = now.kept; many = now.many }
+    record { filled = λ k. now.filled k ∙ ap (λ (l : List ℕ). is_taken c.args.self.now k || is_among l k) all; many = now.many }

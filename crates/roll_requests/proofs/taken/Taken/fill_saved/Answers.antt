@@ -1,9 +1,9 @@
-use Rattle.std.proofs.Common.{◌≡◌, ◌∙◌, ◌<◌, ℕ, List, ap, arith, length, refl, subst, take}
-use Rattle.std.specs.Prelude.{All}
+use Rattle.std.proofs.Common.{◌≡◌, ◌∙◌, ◌<◌, ℕ, List, ap, arith, length, refl, take}
+use Rattle.std.specs.Prelude.{◌||◌}
 use Rattle.std.proofs.lemmas.List.{length-map as length_map, length-set, take_all}
 use Rattle.roll_tree.specs.SavedStates.{Saved}
-use Rattle.roll_requests.specs.Slotted.{IsTaken}
-use Rattle.roll_requests.proofs.Filling.{is_there, now_taken, of_place, saved_more, still_taken}
+use Rattle.roll_requests.specs.Slotted.{is_saved, is_taken}
+use Rattle.roll_requests.proofs.Filling.{filled, is_there, of_place, or_false, saved_more}
 use Rattle.roll_requests.proofs.taken.Taken.fill_saved.Goals as goal
 
 pub get-requires : goal.get-requires
@@ -20,7 +20,7 @@ fill-requires c =
     omega (arith, low, c.loop-place.invariant.many)
 
 pub loop-place-init : goal.loop-place-init
-loop-place-init c = record { many = refl; taken = λ k d few. absurd (omega (arith, few)); kept = λ k t. t }
+loop-place-init c = record { many = refl; filled = λ k. or_false (is_taken c.args.self.now k) }
 
 pub loop-place-preserved : goal.loop-place-preserved
 loop-place-preserved c =
@@ -34,8 +34,7 @@ loop-place-preserved c =
     rw c.fill.ensures
     (record {
       many = length-set old slot _ ∙ now.many;
-      taken = saved_more t c.names-names.result.now c.names-names.ensures c.loop-place.place c.laws.ensures.named few slot old _ c.get.ensures now.taken (λ k t. still_taken old slot k t) (now_taken old slot within);
-      kept = λ k t. still_taken old slot k (now.kept k t);
+      filled = λ k. filled old slot k within ∙ saved_more t c.names-names.result.now c.names-names.ensures c.loop-place.place c.laws.ensures.named few slot k (is_taken c.args.self.now k) (is_taken old k) c.get.ensures (now.filled k);
     })
 
 pub returns : goal.returns
@@ -44,4 +43,4 @@ returns c =
     let now = c.loop-place.invariant in
     let end : length t.states ≡ length c.names-names.result.now = omega (arith, ap length c.names-names.ensures, length_map t.states (λ (s : Saved ℕ). s.name)) in
     let all : take c.loop-place.place t.states ≡ t.states = take_all c.loop-place.place t.states (omega (arith, c.loop-place-test.false, end)) in
-    record { taken = subst (λ (l : List (Saved ℕ)). All (λ u. IsTaken c.loop-place.self u.snapshot) l) all now.taken; kept = now.kept; many = now.many }
+    record { filled = λ k. now.filled k ∙ ap (λ (l : List (Saved ℕ)). is_taken c.args.self.now k || is_saved l k) all; many = now.many }

@@ -1,15 +1,15 @@
-use Rattle.std.proofs.Common.{◌≡◌, ◌<◌, ◌+◌, ◌∙◌, ◌∷◌, [], List, ℕ, ap, arith, length, rules, subst, sym}
+use Rattle.std.proofs.Common.{◌≡◌, ◌<◌, ◌+◌, ◌∙◌, ◌∷◌, [], List, ℕ, ap, arith, length, refl, rules, subst, sym}
 use Rattle.std.proofs.lemmas.List.{length-append}
 use Rattle.std.specs.Prelude.{All}
-use Rattle.roll_requests.specs.Slotted.{AreFree}
-use Rattle.roll_requests.proofs.Filling.{below_more, below_next, free_more, none_free}
+use Rattle.roll_requests.specs.Slotted.{free_slots, is_taken, AreFree}
+use Rattle.roll_requests.proofs.Filling.{below_more, below_next, free_else, free_more, free_then, least_is, none_free}
 use Rattle.roll_requests.proofs.taken.Taken.find.Goals as goal
-use Rattle.roll_requests.proofs.taken.Taken.find.Goals.{then-not-has, else-not-has}
+use Rattle.roll_requests.proofs.taken.Taken.find.Goals.{then-not-has, else-not-has, else-loop-slot-test, then-loop-slot-test+then-len-count}
 
 pub loop-slot-init : goal.loop-slot-init
 loop-slot-init c =
     let e = c.in_ok-slots.ensures in
-    rw e.items (record { few = omega arith; room = omega (arith, e.capacity); free = none_free c.args.limit c.args.self.now; below = λ k d few. absurd (omega (arith, few)) })
+    rw e.items (record { few = omega arith; room = omega (arith, e.capacity); free = none_free c.args.limit c.args.self.now; below = λ k d few. absurd (omega (arith, few)); first = refl })
 
 pub loop-slot-preserved : goal.loop-slot-preserved
 loop-slot-preserved c =
@@ -26,6 +26,24 @@ loop-slot-preserved c =
             room = omega (arith, now.room, e.capacity);
             free = subst (λ (l : List ℕ). AreFree c.args.limit c.args.self.now l) (sym e.items) (free_more c.args.limit c.args.self.now slots slot now.free now.below (sym w.if-not-has.ensures) c.loop-slot-test.true);
             below = subst (λ (l : List ℕ). All (λ j. j < slot + 1) l) (sym e.items) (below_more slots slot now.below);
+            first = e.items ∙ free_then (is_taken c.args.self.now) slot slots (sym w.if-not-has.ensures) now.first;
           })
-      | else-not-has w ↦ rw w.slots-is (record { few = now.few; room = now.room; free = now.free; below = below_next slots c.loop-slot.slot now.below })
+      | else-not-has w ↦ rw w.slots-is (record { few = now.few; room = now.room; free = now.free; below = below_next slots c.loop-slot.slot now.below; first = free_else (is_taken c.args.self.now) c.loop-slot.slot slots (sym w.if-not-has.ensures) now.first })
+    ]
+
+pub returns-then-len-count-2-clause-least : goal.returns-then-len-count-2-clause-least
+returns-then-len-count-2-clause-least c =
+    let slots = c.loop-slot.slots.items in
+    let many : length slots ≡ c.args.count = omega (arith, c.if-len-count-2.true, c.len-2.ensures, c.loop-slot.slots.ok) in
+    least_is (is_taken c.args.self.now) c.args.limit c.loop-slot.slot c.args.count slots c.loop-slot.auto.slot-end c.loop-slot.invariant.first many
+
+pub returns-else-len-count-2-clause-short : goal.returns-else-len-count-2-clause-short
+returns-else-len-count-2-clause-short c =
+    let now = c.loop-slot.invariant in
+    elim c.loop-slot-test.branch [
+      | else-loop-slot-test w ↦
+          let end : c.loop-slot.slot ≡ c.args.limit = omega (arith, w.loop-slot-test.false, c.loop-slot.auto.slot-end) in
+          let all = ap length (now.first ∙ ap (free_slots (is_taken c.args.self.now)) end) in
+          omega (arith, all, now.few, c.if-len-count-2.false, c.len-2.ensures, c.loop-slot.slots.ok)
+      | then-loop-slot-test+then-len-count w ↦ absurd (c.if-len-count-2.false (c.len-2.ensures ∙ sym w.len.ensures ∙ w.if-len-count.true))
     ]

@@ -1,6 +1,6 @@
-use Rattle.std.proofs.Common.{◌<◌, ◌≤◌, length}
+use Rattle.std.proofs.Common.{◌≡◌, ◌<◌, ◌≤◌, length}
 use Rattle.std.specs.Prelude.{vec_capacity, All}
-use Rattle.roll_requests.specs.Slotted.{AreFree}
+use Rattle.roll_requests.specs.Slotted.{free_slots, is_taken, AreFree}
 use Rattle.roll_requests.proofs.taken.Taken.find.Given as goal
 
 abbrev pub invariant-loop-slot : goal.invariant-loop-slot
@@ -9,4 +9,5 @@ invariant-loop-slot l = record {
   room : l.count ≤ vec_capacity l.slots;
   free : AreFree l.limit l.self l.slots.items;
   below : All (λ j. j < l.slot) l.slots.items;
+  first : l.slots.items ≡ free_slots (is_taken l.self) l.slot;
 }
