@@ -21,7 +21,8 @@ pub struct Feed {
     alloc: Global,
 }
 
-/// A clause sees each spectator's ring, what it was sent, and how many rows it is known to have taken, in the order in which they came.
+/// A clause sees each spectator's ring, what it was sent, and how many rows it is known to have taken, in the order in which they
+/// came.
 impl Model for Feed {
     ghost use Rattle.std.specs.Prelude.{◌≤◌, List, length, vec_capacity};
     ghost use Rattle.roll_spectate.specs.Sent.{Fed};

@@ -23,10 +23,11 @@ use roll_wire::{Body, DATAGRAM_LIMIT, Play};
 use std::alloc::Global;
 use std::marker::Model;
 
-/// The viewer's end of a line: it hears the settled rows of a match from its host, and keeps up to 64 of them until they are taken.
+/// The viewer's end of a line: it hears the settled rows of a match from its host, and keeps up to 64 of them until they are
+/// taken.
 ///
-/// A program calls `receive` for what came of the host, takes the rows that came, and sends what `send` makes, some 60 times a second.
-/// All moments are its own clock's, in milliseconds; the clock begins anew after 2^32.
+/// A program calls `receive` for what came of the host, takes the rows that came, and sends what `send` makes, some 60 times a
+/// second. All moments are its own clock's, in milliseconds; the clock begins anew after 2^32.
 #[derive(Drop)]
 pub struct Viewer {
     line: Line,
@@ -68,8 +69,8 @@ impl Viewer {
         }
     }
 
-    /// Hears bytes that came from the host, at a moment. Of the rows that they tell those are taken in that the viewer lacks, until 64
-    /// wait: how many these were. The others come again.
+    /// Hears bytes that came from the host, at a moment. Of the rows that they tell those are taken in that the viewer lacks, until
+    /// 64 wait: how many these were. The others come again.
     ///
     /// # Errors
     ///
@@ -131,8 +132,8 @@ impl Viewer {
         self.rows.pop()
     }
 
-    /// Sends a `Spectator` the rows that wait, by the ring that [`open_ring`](roll_spectate::open_ring) made, until that is full, and
-    /// says how many. The ring is to be one by which nothing else is sent.
+    /// Sends a `Spectator` the rows that wait, by the ring that [`open_ring`](roll_spectate::open_ring) made, until that is full,
+    /// and says how many. The ring is to be one by which nothing else is sent.
     pub fn hand_to(&mut self, sender: &mut RowSender) -> u32
         ensures rows { IsHandedOn self.old.rows self.new.rows sender.old sender.new result }
         ensures rest { self.new ≡ record self.old { rows = self.new.rows } }
