@@ -65,7 +65,7 @@ pub record HasJob (step : Step) (opening : Value) (saves : Standing ℕ) (slots 
   pub held : (k d : ℕ) → k < length job.slots → slots (slice_index_or job.slots k d) ≡ Some (run step opening (rows_of_job saves.inputs.players job.route (k + 1)))
 
 -- so it is for every game once what was handed out and what is to be handed out is carried out; the current state is the serial
--- run of the rows that are shown, and no slot has a state but those that are taken
+-- run of the rows that are shown, and just the slots that are taken have a state
 pub record Leads (past : List Request) (e : Asked) : Type 0 where
   pub there : (step : Step) (opening : Value) → IsThere step opening e.saves e.at (carried_out step opening (past ++ e.requests))
   pub shown : (step : Step) (opening : Value) → IfSome e.seen.core.shown (λ rows. (carried_out step opening (past ++ e.requests)).current ≡ run step opening rows)
