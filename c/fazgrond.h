@@ -207,9 +207,9 @@ int32_t fazgrond_synchronize_input(fazgrond_session *session, fazgrond_row *row)
  * player gave no word for this frame. FAZGROND_PENDING as above. */
 int32_t fazgrond_advance_frame(fazgrond_session *session, fazgrond_reached *reached);
 
-/* Whether the state that is shown may be out of date: `flag` is 0 if the last entry of the log is SYNC or ADVANCE, else 1. A turn
- * that plays no frame asks this, and calls fazgrond_synchronize_input if it is 1. If it is 0, that call would change nothing but
- * the log, by one entry more. */
+/* Whether the state that is shown may be out of date: `flag` is 0 if the last entry of the log that isn't GRAFT is SYNC or
+ * ADVANCE, else 1. A turn that plays no frame asks this, and calls fazgrond_synchronize_input if it is 1. If it is 0, that call
+ * would change nothing but the log, by one entry more. */
 int32_t fazgrond_has_news(fazgrond_session *session, uint32_t *flag);
 
 /* The requests that were not taken yet, in order: fills `out`, which has room for so many, and says how many it wrote. After each
@@ -337,7 +337,8 @@ typedef struct fazgrond_match {
     uint32_t me;                         /* which machine this is */
     uint32_t machines;                   /* how many there are, 2 to 8 */
     uint32_t owners[FAZGROND_PLAYERS];   /* the machine of each player, player 1 first; FAZGROND_NO_PLAYER if there is none */
-    uint32_t silent_after;               /* milliseconds after which a machine is gone that answers nothing; 0: it never is */
+    uint32_t silent_after;               /* milliseconds after which a machine is gone that answers nothing. 0: it never is, so
+                                          * the match waits for it until you disconnect it, and FAZGROND_MISSING isn't told */
     uint32_t notify_after;               /* milliseconds after which FAZGROND_INTERRUPTED tells of a machine of which nothing
                                           * comes, and FAZGROND_STALLED of one that holds this one up; 0: neither is told */
     uint32_t stalled_after;              /* milliseconds after which a machine is gone that answers, and holds this one up since
@@ -378,7 +379,8 @@ static inline void fazgrond_one_number(fazgrond_match *match, uint64_t number) {
 /* SYNCHRONIZING: `machine` was heard; `count` of `total` steps are done. SYNCHRONIZED: it and this one have heard each other.
  * RUNNING: a play of each has come, and the match begins. DISCONNECTED: `player` has left.
  * TIME_SYNC: this machine is ahead: give no word for `frames_ahead` turns.
- * INTERRUPTED: `machine` is silent, and gone in `disconnect_in` milliseconds. RESUMED: it was heard again.
+ * INTERRUPTED: `machine` is silent, and gone in `disconnect_in` milliseconds; that is 0 if `silent_after` is. RESUMED: it was
+ * heard again.
  * LEFT: `machine` is gone for good. DESYNC: it has another state at the settled frame `frame`.
  * MISMATCH: `machine` means another match: `field` is 1 if it has another number of machines, 2 if other owners, 3 if another
  * digest, 4 if inputs of another number of words. It may come in the middle of a match too. DROPPED: another machine regards this one as gone.
@@ -501,7 +503,8 @@ typedef struct fazgrond_line_settings {
     uint32_t host;                     /* which machine of the match is watched, from 0 */
     uint32_t machines;                 /* as in the match */
     uint32_t owners[FAZGROND_PLAYERS]; /* as in the match */
-    uint32_t silent_after;             /* milliseconds after which the other end is silent, which answers nothing; 0: it never is */
+    uint32_t silent_after;             /* milliseconds after which `is_silent` says that the other end answers nothing. 0: it
+                                        * never says so */
 } fazgrond_line_settings;
 
 typedef struct fazgrond_line_state {

@@ -528,10 +528,12 @@ static void closed_lines(void) {
     settings = watched();
     settings.draw = 0;
     are_refused(&settings, FAZGROND_INVALID_REQUEST);
-    settings = watched();
-    settings.host = 2;
-    are_refused(&settings, FAZGROND_INVALID_MACHINE);
-    for (uint32_t machines = 1; machines < 10; machines += 8) {
+    for (uint32_t host = 2; host < 8; host += 5) {
+        settings = watched();
+        settings.host = host;
+        are_refused(&settings, FAZGROND_INVALID_MACHINE);
+    }
+    for (uint32_t machines = 0; machines < 10; machines += machines == 1 ? 8 : 1) {
         settings = watched();
         settings.machines = machines;
         are_refused(&settings, FAZGROND_INVALID_MACHINE);

@@ -1,9 +1,12 @@
-"""docs/CLAUSES.md: the clauses of each public function, and the wrong bodies of each crate, as the sources have them."""
+"""What pages have of the sources: docs/CLAUSES.md, which is the clauses of each public function and the wrong bodies of each
+crate, and the list of the files of definitions in docs/RULES.md."""
 import re
+import textwrap
 
 from kit import ROOT
 
 PAGE = ROOT / "docs/CLAUSES.md"
+WIDTH = 130
 HEAD = """# Each public function and its clauses
 
 This page is for whoever looks for the place where something is promised. It is written from the sources by
@@ -80,3 +83,21 @@ def section(name):
 def text(names):
     """The page, of crates in this order."""
     return HEAD + "\n".join(line for name in names for line in section(name)) + "\n"
+
+
+def about(path):
+    """The first sentence of the comment that a file of definitions begins with: empty if it begins with none."""
+    comment = re.match(r"(?:-- ?.*\n)*", path.read_text())[0]
+    said = " ".join(line[2:].strip() for line in comment.splitlines())
+    return re.match(r".*?\.(?= [A-Z`]|$)|", said)[0]
+
+
+def definitions(names):
+    """The files of definitions of crates in this order, with what each says of itself: lines of a list."""
+    lines = []
+    for name in names:
+        paths = [it for it in sorted((ROOT / "crates" / name / "specs").glob("*.antt")) if it.stem != "Lib"]
+        lines += [f"- `{name}`"] if paths else []
+        for it in paths:
+            lines += textwrap.wrap(f"  - `{it.stem}`: {about(it)}", WIDTH, subsequent_indent="    ", break_on_hyphens=False)
+    return lines

@@ -185,7 +185,7 @@ pub enum Event {
     Interrupted {
         /// The machine.
         machine: u8,
-        /// In how many milliseconds it is gone.
+        /// In how many milliseconds it is gone; 0 if no machine ever is.
         disconnect_in: u32,
     },
     /// A machine that was silent was heard again.

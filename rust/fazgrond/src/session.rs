@@ -208,8 +208,8 @@ impl<G: Game> Session<G> {
         self.handle.frame()
     }
 
-    /// Whether the state that is shown may be out of date: a call was accepted since the last roll, or there was none yet. Then a
-    /// turn that plays no frame has something to synchronize.
+    /// Whether the state that is shown may be out of date: a call other than a graft was accepted since the last roll, or there was
+    /// none yet. Then a turn that plays no frame has something to synchronize.
     pub fn has_news(&self) -> bool {
         self.handle.has_news()
     }

@@ -1,0 +1,264 @@
+// fazgrond.cs: what fazgrond.h declares, for C#. Its comments say what each call does, and docs/C.md has whole games.
+// Compile it with /unsafe. It is written by c/csharp/declare.
+using System;
+using System.Runtime.InteropServices;
+
+public static unsafe class Fazgrond
+{
+    const string Library = "fazgrond";    // fazgrond.dll, or libfazgrond.so on Linux
+
+    public const uint Version = 0x000100;
+    public const int Players = 8;
+    public const uint NoPlayer = 255;
+    public const int Machines = 8;
+    public const int Datagram = 1200;
+    public const uint Ggpo = 0, Wide = 1;
+    public const uint Load = 1, Save = 2, Step = 3, Free = 4, JobLoad = 5, JobSave = 6, JobStep = 7;
+    public const uint Local = 1, Remote = 2, Disconnect = 3, Sync = 4, Advance = 5, Graft = 6;
+    public const int Ok = 0, InvalidPlayer = 2, PlayerOutOfRange = 3, PredictionThreshold = 4, PlayerDisconnected = 9,
+                     InvalidRequest = 11, LocalInputMissing = 101, InputTwice = 102, Gap = 103, Conflict = 104, QueueFull = 105,
+                     FrameLimit = 106, NoMemory = 107, Stranger = 108, TooFar = 109, Late = 110, Orphan = 111, Dead = 112,
+                     TreeFull = 113, LogFull = 114, NoPlan = 117, Full = 119, NoJob = 120, IsClosed = 201, Pending = 202,
+                     Nothing = 203, TooShort = 204, OtherVersion = 205, NotSealed = 301, NoDatagram = 302, InvalidMachine = 303,
+                     OwnMachine = 304, MachineGone = 305, Mismatched = 306, Overstated = 307, Ended = 308, OtherSender = 309,
+                     NoRows = 310, RowsMissing = 311, Outside = 312, OtherSession = 313;
+    public const uint Synchronizing = 1001, Synchronized = 1002, Running = 1003, Disconnected = 1004, TimeSync = 1005,
+                      Interrupted = 1006, Resumed = 1007, Left = 1101, Desync = 1102, Mismatch = 1103, Dropped = 1104,
+                      Restarted = 1105, Stalled = 1106, Refused = 1107, Missing = 1108;
+
+    [StructLayout(LayoutKind.Sequential)]
+    public struct Session
+    {
+        public byte Full;
+        public IntPtr At;
+    }
+
+    [StructLayout(LayoutKind.Sequential)]
+    public struct Settings
+    {
+        public uint Size;
+        public uint Profile;
+        public uint Players;
+        public uint Local;
+        public uint Threshold;
+        public uint Limit;
+        public uint Log;
+        public fixed uint Delays[Fazgrond.Players];
+        public fixed uint Masks[Fazgrond.Players];
+    }
+
+    [StructLayout(LayoutKind.Sequential)]
+    public struct Row
+    {
+        public uint Count;
+        public uint Gone;
+        public fixed uint Words[Fazgrond.Players];
+    }
+
+    [StructLayout(LayoutKind.Sequential)]
+    public struct Request
+    {
+        public uint Kind;
+        public uint Slot;
+        public Row Row;
+    }
+
+    [StructLayout(LayoutKind.Sequential)]
+    public struct Reached
+    {
+        public uint Frame;
+        public uint From;
+        public uint Rerun;
+    }
+
+    [StructLayout(LayoutKind.Sequential)]
+    public struct Entry
+    {
+        public uint Kind;
+        public uint Player;
+        public uint Frame;
+        public uint Word;
+    }
+
+    [StructLayout(LayoutKind.Sequential)]
+    public struct Peer
+    {
+        public byte Full;
+        public IntPtr At;
+    }
+
+    [StructLayout(LayoutKind.Sequential)]
+    public struct Match
+    {
+        public uint Size;
+        public fixed ulong Numbers[Fazgrond.Machines];
+        public ulong Draw;
+        public ulong Digest;
+        public uint Me;
+        public uint Machines;
+        public fixed uint Owners[Fazgrond.Players];
+        public uint SilentAfter;
+        public uint NotifyAfter;
+        public uint StalledAfter;
+        public uint Words;
+    }
+
+    [StructLayout(LayoutKind.Sequential)]
+    public struct Event
+    {
+        public uint Code;
+        public uint Machine;
+        public uint Player;
+        public uint Count;
+        public uint Total;
+        public uint FramesAhead;
+        public uint DisconnectIn;
+        public uint Frame;
+        public uint Field;
+    }
+
+    [StructLayout(LayoutKind.Sequential)]
+    public struct Stats
+    {
+        public uint IsMeasured;
+        public uint RoundTrip;
+        public uint Sent;
+        public uint Received;
+        public uint Lost;
+        public uint WordsQueued;
+        public int FramesBehind;
+        public int TheirFramesBehind;
+        public uint Refused;
+    }
+
+    [StructLayout(LayoutKind.Sequential)]
+    public struct Line
+    {
+        public byte Full;
+        public IntPtr At;
+    }
+
+    [StructLayout(LayoutKind.Sequential)]
+    public struct Viewer
+    {
+        public byte Full;
+        public IntPtr At;
+    }
+
+    [StructLayout(LayoutKind.Sequential)]
+    public struct LineSettings
+    {
+        public ulong Number;
+        public ulong Draw;
+        public ulong Digest;
+        public uint Host;
+        public uint Machines;
+        public fixed uint Owners[Fazgrond.Players];
+        public uint SilentAfter;
+    }
+
+    [StructLayout(LayoutKind.Sequential)]
+    public struct LineState
+    {
+        public uint Rows;
+        public uint Settled;
+        public uint Silence;
+        public uint IsPlaying;
+        public uint HasEnded;
+        public uint IsSilent;
+    }
+
+    [DllImport(Library)] public static extern uint fazgrond_version();
+    [DllImport(Library)] public static extern UIntPtr fazgrond_text(int code, byte* @out, UIntPtr room);
+    [DllImport(Library)] public static extern int fazgrond_open(Session* session, Settings* settings);
+    [DllImport(Library)] public static extern void fazgrond_close(Session* session);
+    [DllImport(Library)] public static extern int fazgrond_add_local_input(Session* session, byte player, uint word);
+    [DllImport(Library)] public static extern int fazgrond_remote_input(Session* session, byte player, uint frame, uint word,
+                                                                        uint* repeated);
+    [DllImport(Library)] public static extern int fazgrond_disconnect_player(Session* session, byte player);
+    [DllImport(Library)] public static extern int fazgrond_synchronize_input(Session* session, Row* row);
+    [DllImport(Library)] public static extern int fazgrond_advance_frame(Session* session, Reached* reached);
+    [DllImport(Library)] public static extern int fazgrond_has_news(Session* session, uint* flag);
+    [DllImport(Library)] public static extern UIntPtr fazgrond_take_requests(Session* session, Request* @out, UIntPtr room);
+    [DllImport(Library)] public static extern int fazgrond_guess(Session* session, byte player, uint* words, UIntPtr count,
+                                                                 uint until, uint* job);
+    [DllImport(Library)] public static extern int fazgrond_graft(Session* session, uint job, uint* added);
+    [DllImport(Library)] public static extern int fazgrond_forget(Session* session, uint job);
+    [DllImport(Library)] public static extern int fazgrond_limit_slots(Session* session, uint slots);
+    [DllImport(Library)] public static extern int fazgrond_reserve_log(Session* session, uint events);
+    [DllImport(Library)] public static extern int fazgrond_frame(Session* session, uint* frame);
+    [DllImport(Library)] public static extern int fazgrond_settled(Session* session, uint* rows);
+    [DllImport(Library)] public static extern int fazgrond_settled_row(Session* session, uint frame, Row* row);
+    [DllImport(Library)] public static extern int fazgrond_settled_slot(Session* session, uint* frame, uint* slot);
+    [DllImport(Library)] public static extern int fazgrond_confirmed(Session* session, byte player, uint* words);
+    [DllImport(Library)] public static extern int fazgrond_confirmed_word(Session* session, byte player, uint frame, uint* word);
+    [DllImport(Library)] public static extern int fazgrond_input_frame(Session* session, byte player, uint* frame);
+    [DllImport(Library)] public static extern int fazgrond_log_length(Session* session, UIntPtr* entries);
+    [DllImport(Library)] public static extern int fazgrond_log_entry(Session* session, UIntPtr place, Entry* entry);
+    [DllImport(Library)] public static extern int fazgrond_note_advantages(Session* session, int local, int remote);
+    [DllImport(Library)] public static extern int fazgrond_frames_ahead(Session* session, uint* frames);
+    [DllImport(Library)] public static extern int fazgrond_claim(Session* session, byte* @out, UIntPtr room, UIntPtr* length);
+    [DllImport(Library)] public static extern int fazgrond_peer_open(Peer* peer, Session* session, Match* match);
+    [DllImport(Library)] public static extern int fazgrond_peer_receive(Peer* peer, Session* session, byte* bytes,
+                                                                        UIntPtr length, uint now);
+    [DllImport(Library)] public static extern int fazgrond_peer_poll(Peer* peer, Session* session, uint now);
+    [DllImport(Library)] public static extern int fazgrond_peer_is_running(Peer* peer, uint* flag);
+    [DllImport(Library)] public static extern int fazgrond_peer_send(Peer* peer, Session* session, byte machine, uint now,
+                                                                     byte* @out, UIntPtr room, UIntPtr* length);
+    [DllImport(Library)] public static extern int fazgrond_peer_bye(Peer* peer, byte machine, byte* @out, UIntPtr room,
+                                                                    UIntPtr* length);
+    [DllImport(Library)] public static extern int fazgrond_peer_disconnect(Peer* peer, byte machine);
+    [DllImport(Library)] public static extern int fazgrond_peer_note_settled(Peer* peer, Session* session, ulong digest);
+    [DllImport(Library)] public static extern int fazgrond_peer_event(Peer* peer, Event* @event);
+    [DllImport(Library)] public static extern int fazgrond_peer_stats(Peer* peer, byte machine, Stats* stats);
+    [DllImport(Library)] public static extern int fazgrond_line_open(Line* line, LineSettings* settings);
+    [DllImport(Library)] public static extern int fazgrond_line_receive(Line* line, byte* bytes, UIntPtr length, uint now);
+    [DllImport(Library)] public static extern int fazgrond_line_send(Line* line, Session* session, uint now, byte* @out,
+                                                                     UIntPtr room, UIntPtr* length);
+    [DllImport(Library)] public static extern int fazgrond_line_bye(Line* line, byte* @out, UIntPtr room, UIntPtr* length);
+    [DllImport(Library)] public static extern int fazgrond_line_look(Line* line, uint now, LineState* state);
+    [DllImport(Library)] public static extern int fazgrond_viewer_open(Viewer* viewer, LineSettings* settings);
+    [DllImport(Library)] public static extern int fazgrond_viewer_receive(Viewer* viewer, byte* bytes, UIntPtr length, uint now,
+                                                                          uint* rows);
+    [DllImport(Library)] public static extern int fazgrond_viewer_send(Viewer* viewer, uint now, byte* @out, UIntPtr room,
+                                                                       UIntPtr* length);
+    [DllImport(Library)] public static extern int fazgrond_viewer_bye(Viewer* viewer, byte* @out, UIntPtr room, UIntPtr* length);
+    [DllImport(Library)] public static extern int fazgrond_viewer_row(Viewer* viewer, Row* row);
+    [DllImport(Library)] public static extern int fazgrond_viewer_look(Viewer* viewer, uint now, LineState* state);
+
+    public static Settings fazgrond_settings_for(uint players)
+    {
+        var settings = new Settings();
+        settings.Size = (uint)sizeof(Settings);
+        settings.Profile = players <= 4 ? Ggpo : Wide;
+        settings.Players = players;
+        settings.Threshold = players <= 4 ? 8u : 15u;
+        settings.Limit = 1048576;
+        settings.Log = 16777216;
+        for (int at = 0; at < Players; at++)
+            settings.Masks[at] = 0xffffffff;
+        return settings;
+    }
+
+    public static Match fazgrond_match_for(uint machines, uint me)
+    {
+        var match = new Match();
+        match.Size = (uint)sizeof(Match);
+        match.Me = me;
+        match.Machines = machines;
+        match.Words = 1;
+        for (int at = 0; at < Players; at++)
+            match.Owners[at] = NoPlayer;
+        return match;
+    }
+
+    public static void fazgrond_one_number(Match* match, ulong number)
+    {
+        for (int at = 0; at < Machines; at++)
+            match->Numbers[at] = number;
+    }
+
+    public static void fazgrond_peer_close(Peer* peer) { fazgrond_close((Session*)peer); }
+    public static void fazgrond_line_close(Line* line) { fazgrond_close((Session*)line); }
+    public static void fazgrond_viewer_close(Viewer* viewer) { fazgrond_close((Session*)viewer); }
+}
