@@ -1,6 +1,7 @@
 mod Answered
 mod Sealed
 mod ReadBack
+mod Hearing
 mod Padding
 mod Once
 mod Decoded

@@ -24,10 +24,10 @@ number_of line (Greets h) = refl
 number_of line (Plays t) = refl
 number_of line Leaves = refl
 
-has_number : (key : Key) (sender : ℕ) (what : Content) → HasNumber key.number (spelling (message_by key sender what))
+pub has_number : (key : Key) (sender : ℕ) (what : Content) → HasNumber key.number (spelling (message_by key sender what))
 has_number key sender what = refl
 
-long : (key : Key) (sender : ℕ) (what : Content) → 12 ≤ length (spelling (message_by key sender what))
+pub long : (key : Key) (sender : ℕ) (what : Content) → 12 ≤ length (spelling (message_by key sender what))
 long key sender what = omega arith
 
 named_said : (line : Line) (sender : ℕ) (what : Content)

@@ -14,18 +14,20 @@ use Rattle.roll_frame.specs.declared.settings.Settings.{Settings}
 use Rattle.roll_laws.specs.Sessions.{IsLog}
 use Rattle.roll_session.specs.Standing.{settled_rows}
 use Rattle.roll_spectate.specs.Sent.{IsFirstPart}
-use Rattle.roll_wire.specs.Spelling.{Content, Greets, Leaves, Plays, Turn}
+use Rattle.roll_wire.specs.Spelling.{Content, Fits, Greets, Leaves, Plays, Turn}
 use Rattle.roll_wire.specs.declared.datagram.Clocks.{Clocks}
+use Rattle.roll_wire.specs.declared.limits.TheConstants.{DATAGRAM_LIMIT}
 use Rattle.roll_viewer.specs.Ends.{host_says, host_sends, ignored_by_viewer, opened_viewer, unread, with_told, Hears, HearsRows, Hosted, Viewing}
-use Rattle.roll_viewer.specs.Lines.{clocks_at, greeting, opened, players_of, said, IsSealedFor}
+use Rattle.roll_viewer.specs.Lines.{clocks_at, greeting, message_of, opened, players_of, said, IsSealedFor}
 use Rattle.roll_viewer.specs.Queued.{IsFull}
 use Rattle.roll_viewer.specs.Rows.{are_rows, first_row, news_in, rows_in, AreTaken}
-use Rattle.roll_viewer.specs.Seeing.{AreCalls, ChangesLine, GivesRows, HasFirst, HearsBytes, IsCall, IsOfHost, IsOfTurn, ViewersSeeSettledRows, Watching}
+use Rattle.roll_viewer.specs.Seeing.{AreCalls, CanHear, ChangesLine, GivesRows, HasFirst, HearsBytes, IsCall, IsOfHost, IsOfTurn, ViewersSeeSettledRows, Watching}
 use Rattle.roll_viewer.specs.Telling.{room_after, told_to, with_clocks}
 use Rattle.roll_viewer.specs.declared.line.Line.{Line}
 use Rattle.roll_viewer.specs.declared.refusal.LineRefusal.TheVariants.{Gap, NoRows}
+use Rattle.roll_viewer.proofs.Hearing.{not_refused, turn_opened}
 use Rattle.roll_viewer.proofs.ReadBack.{read_back}
-use Rattle.roll_viewer.proofs.Told.{first_if, many_told, more_first, part_short}
+use Rattle.roll_viewer.proofs.Told.{first_if, many_told, more_first, part_short, told_first, told_rows}
 
 -- ---- which play came
 
@@ -252,6 +254,27 @@ module _ (settings : Settings) (game : Game) (log : List Entry) (l : IsLog setti
             | inr full ↦ inr full
           ]
 
+  -- ---- what is heard
+
+  all_heard : (viewer : Viewing) (bytes : List ℕ) (s : IsOfTurn settings log viewer.line.settings.number bytes)
+      → players_of viewer.line.settings ≡ settings.players → CanHear s.host.line viewer.line → says_hello s.host.line.contact ≡ false
+      → length bytes ≤ DATAGRAM_LIMIT → s.host.had ≤ viewer.rows.count
+      → ignored_by_viewer viewer (opened viewer.line viewer.line.settings.host bytes) ≡ None
+  all_heard viewer bytes s players can playing most low =
+      let core : Core = replay settings s.earlier in
+      let clocks : Option Clocks = clocks_at s.host.line (with_told s.host core).told s.now in
+      let t : Turn = with_clocks clocks (told_to core s.host.had) in
+      let says : host_says s.host core s.now ≡ Plays t =
+      ap (λ (b : Bool). if b then greeting s.host.line else Plays t) playing in
+      let is : bytes ≡ said s.host.line s.host.line.settings.host (Plays t) =
+      said_in s.host core s.now bytes s.sent ∙ ap (said s.host.line s.host.line.settings.host) says in
+      let fits : Fits (message_of s.host.line s.host.line.settings.host (Plays t)) =
+      subst (λ (what : Content). Fits (message_of s.host.line s.host.line.settings.host what)) says s.fits in
+      let are : are_rows (players_of viewer.line.settings) t ≡ true =
+      ap (λ (n : ℕ). are_rows n t) players ∙ told_rows settings game log s.earlier s.later s.parts l s.host.had in
+      ap (ignored_by_viewer viewer) (turn_opened s.host.line viewer.line t bytes can is fits most)
+      ∙ not_refused viewer t are (told_first settings game log s.earlier s.later s.parts l s.host.had viewer.rows.count low)
+
 -- ---- the law
 
 pub viewers_see_settled_rows : ViewersSeeSettledRows
@@ -260,4 +283,5 @@ viewers_see_settled_rows = record {
       all_called settings game log l (record { viewer = opened_viewer told; seen = [] }) later
       (record { told = players; first = refl; all = refl }) calls;
   come = λ settings game log old new h s l players playing some. brings settings game log l old new h s players playing some;
+  heard = λ settings game log viewer bytes s l players can playing most low. all_heard settings game log l viewer bytes s players can playing most low;
 }

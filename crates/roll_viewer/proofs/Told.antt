@@ -1,5 +1,6 @@
 -- What a host told goes on from the rows that a viewer has.
-use Rattle.std.proofs.Common.{◌≡◌, ◌∙◌, ◌≤◌, ◌<◌, ◌⊎◌, ◌+◌, ◌-◌, ℕ, zero, suc, List, [], ◌++◌, length, get_or, drop, take, refl, sym, ap, subst, arith, inl, inr, append-nil, length-append}
+use Rattle.std.proofs.Common.{◌≡◌, ◌∙◌, ◌≤◌, ◌<◌, ◌⊎◌, ◌+◌, ◌-◌, ℕ, zero, suc, List, [], ◌++◌, length, get_or, drop, take, refl, sym, ap, subst, arith, Bool, true, false, inl, inr, append-nil, length-append}
+use Rattle.std.specs.Prelude.{◌==◌, if◌then◌else◌}
 use Rattle.std.proofs.lemmas.Bool.{cases_lt, cond-false, ne_eqb}
 use Rattle.std.proofs.lemmas.List.{get_or-append_right, get_or-drop, get_or-take, get_or_append_left, length-drop, length-take}
 use Rattle.std.proofs.lemmas.List.FromFn.{fill_by_all}
@@ -16,7 +17,7 @@ use Rattle.roll_session.specs.Standing.{settled_rows}
 use Rattle.roll_spectate.specs.Sent.{IsFirstPart}
 use Rattle.roll_spectate.proofs.Growing.{log_begins, sent_rows_stay}
 use Rattle.roll_spectate.proofs.Parts.{part_itself}
-use Rattle.roll_viewer.specs.Rows.{first_row, rows_in}
+use Rattle.roll_viewer.specs.Rows.{are_rows, first_row, rows_in}
 use Rattle.roll_viewer.specs.Seeing.{TellsRows}
 use Rattle.roll_viewer.specs.Telling.{room_after, told_to}
 use Rattle.roll_viewer.proofs.Settled.{known_log, players_log, tells}
@@ -123,6 +124,18 @@ module _ (settings : Settings) (game : Game) (log earlier later : List Entry) (p
     no_room none =
         let zero_is : room_after (replay settings earlier) had ≡ 0 = omega (arith, none) in
         ap (λ n. take n (drop had (settled_rows (replay settings earlier)))) zero_is
+
+    -- they are read as rows, which begin no later than those end that the host knows of
+    pub told_rows : are_rows settings.players (told_to (replay settings earlier) had) ≡ true
+    told_rows =
+        ap (λ n. are_rows n (told_to (replay settings earlier) had)) (sym (players_log settings game earlier was_log)) ∙ is.are_rows
+
+    pub told_first : (count : ℕ) → had ≤ count → first_row (told_to (replay settings earlier) had) ≤ count
+    told_first count low = subst (λ (n : ℕ). n ≤ count) (sym is.first) (go (room_after (replay settings earlier) had == 0))
+      where
+        go : (b : Bool) → (if b then 0 else had) ≤ count
+        go true = omega arith
+        go false = low
 
     -- as many rows are told as there is room for
     pub many_told : length (rows_in settings.players (told_to (replay settings earlier) had)) ≡ room_after (replay settings earlier) had

@@ -1,6 +1,6 @@
 -- Viewers see settled rows, whatever the network does: from the bytes that a host's line sends to the rows that a viewer has.
 use Rattle.std.specs.Prelude.{◌≡◌, ◌⊎◌, ◌≤◌, ℕ, ◌+◌, List, [], ◌∷◌, ◌++◌, length, drop, take, true, false, All, ⊤, Some, None, ◌==◌, if◌then◌else◌}
-use Rattle.roll_contact.specs.Contacts.{says_hello}
+use Rattle.roll_contact.specs.Contacts.{is_playing, says_hello}
 use Rattle.roll_contact.specs.Seals.{IsSealed}
 use Rattle.roll_frame.specs.Cells.{Rows}
 use Rattle.roll_frame.specs.Core.{Core}
@@ -11,8 +11,9 @@ use Rattle.roll_frame.specs.declared.settings.Settings.{Settings}
 use Rattle.roll_laws.specs.Sessions.{IsLog}
 use Rattle.roll_session.specs.Standing.{settled_rows}
 use Rattle.roll_wire.specs.Spelling.{Fits, Leaves}
+use Rattle.roll_wire.specs.declared.limits.TheConstants.{DATAGRAM_LIMIT}
 use Rattle.roll_viewer.specs.Ends.{host_message, host_sends, ignored_by_viewer, opened_viewer, Hosted, ViewerHears, Viewing}
-use Rattle.roll_viewer.specs.Lines.{farewell, key_of_both, message_of, opened, players_of}
+use Rattle.roll_viewer.specs.Lines.{farewell, key_of_both, message_of, opened, own_key, players_of}
 use Rattle.roll_viewer.specs.Queued.{with_taken, IsFull}
 use Rattle.roll_viewer.specs.Rows.{are_rows, first_row, rows_in}
 use Rattle.roll_viewer.specs.Telling.{room_after, told_to}
@@ -95,13 +96,21 @@ AreCalls settings log old (new ∷ later) =
 
 -- ---- the law
 
+-- the two ends have opened one line, believe each other's draws, and neither has said bye
+pub record CanHear (host viewer : Line) : Type 0 where
+  pub going_on : viewer.ended ≡ false
+  pub playing : is_playing viewer.contact.stage ≡ true
+  pub keys : own_key host ≡ key_of_both viewer
+  pub named : host.settings.host ≡ viewer.settings.host
+
 -- the rows that the viewer has had are the first of these, in order and each once: as many as it says that came
 pub record HasFirst (settled : Rows) (w : Watching) : Type 0 where
   pub few : w.viewer.rows.count ≤ length settled
   pub first : w.seen ++ w.viewer.rows.waiting ≡ take w.viewer.rows.count settled
 
 -- whichever bytes of a host come to a viewer, in whichever order and however often: the rows that it has had are the host's first
--- settled rows. And once it has heard a play, it has had all rows up to those that the play tells, unless no more may wait
+-- settled rows. Once it has heard a play, it has had all rows up to those that the play tells, unless no more may wait. And it does
+-- hear each play of a host that believes it to have no more rows than it has
 pub record ViewersSeeSettledRows : Type 0 where
   pub first : (settings : Settings) (game : Game) (log : List Entry) (told : LineSettings)
       (later : List Watching) → IsLog settings game log → players_of told ≡ settings.players
@@ -114,3 +123,9 @@ pub record ViewersSeeSettledRows : Type 0 where
       → 1 ≤ room_after (replay settings t.earlier) t.host.had
       → (t.host.had + room_after (replay settings t.earlier) t.host.had ≤ new.viewer.rows.count)
       ⊎ IsFull new.viewer.rows
+  pub heard : (settings : Settings) (game : Game) (log : List Entry) (viewer : Viewing) (bytes : List ℕ)
+      (t : IsOfTurn settings log viewer.line.settings.number bytes)
+      → IsLog settings game log → players_of viewer.line.settings ≡ settings.players
+      → CanHear t.host.line viewer.line → says_hello t.host.line.contact ≡ false
+      → length bytes ≤ DATAGRAM_LIMIT → t.host.had ≤ viewer.rows.count
+      → ignored_by_viewer viewer (opened viewer.line viewer.line.settings.host bytes) ≡ None

@@ -1,5 +1,5 @@
 //! The rows that came to a viewer.
-ghost use Rattle.std.specs.Prelude.{◌≡◌, ◌≤◌, ◌⊎◌, [], ◌∷◌, ◌++◌, drop, slice_get, IfOk, IsFalse, IsTrue};
+ghost use Rattle.std.specs.Prelude.{◌≡◌, ◌≤◌, [], slice_get, IfOk, IsFalse, IsTrue};
 ghost use Rattle.roll_frame.specs.declared.limits.TheConstants.{FRAME_LIMIT as MOST_FRAMES};
 ghost use Rattle.roll_viewer.specs.Queued.{with_next, with_taken, IsFull, IsHandedOn};
 
