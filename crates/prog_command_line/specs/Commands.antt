@@ -122,9 +122,9 @@ line_app = with_rules (new_app (codes "match")) (
 -- and as far as its sessions go
 abbrev pub sessions_app : Choices → Choices → App
 sessions_app games guesses = with_rules line_app (
-    number_rule (codes "delay") (codes "0") 0 255 ∷
-    number_rule (codes "threshold") (codes "8") 0 255 ∷
-    guesses_rule guesses ∷ number_rule (codes "jobs") (codes "4") 1 32 ∷ game_rule games ∷ [])
+    number_rule (codes "delay") (codes "0") 0 8 ∷
+    number_rule (codes "threshold") (codes "8") 1 15 ∷
+    guesses_rule guesses ∷ free_number_rule (codes "jobs") 1 32 ∷ game_rule games ∷ [])
 
 abbrev pub match_app : Choices → Choices → App
 match_app games guesses = with_rules (with_rules (sessions_app games guesses) (

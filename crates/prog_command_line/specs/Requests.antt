@@ -1,5 +1,5 @@
 -- What the words ask for.
-use Rattle.std.specs.Prelude.{◌≡◌, ◌≤◌, ◌+◌, ◌-◌, ◌^◌, ◌&&◌, ◌||◌, ℕ, Bool, false, List, [], Option, None, Some, ⊤, codes, if◌then◌else◌, is_some, map, min, nat_le, nat_lt, option_and_then, option_map, unwrap_or}
+use Rattle.std.specs.Prelude.{◌≡◌, ◌≤◌, ◌+◌, ◌-◌, ◌^◌, ◌&&◌, ◌||◌, ℕ, Bool, false, List, [], Option, None, Some, ⊤, codes, if◌then◌else◌, is_some, map, min, nat_le, nat_lt, not, option_and_then, option_map, unwrap_or}
 use Rattle.std.specs.Option.{option_map_or}
 use Rattle.std.specs.Str.{bytes_eq}
 use Rattle.std.specs.Str.Parse.{digits_value, without_leading_plus}
@@ -7,8 +7,8 @@ use Rattle.clap.specs.Simple.{subcommand_of}
 use Rattle.clap.specs.ValueTests.{is_numeral}
 use Rattle.clap.specs.Walk.{Row, Text, all_of, byte_or_zero, first_of}
 use Rattle.prog_command_line.specs.Commands.{rollduel_app}
-use Rattle.prog_command_line.specs.declared.picture.PictureFault.{PictureFault}
-use Rattle.prog_command_line.specs.declared.picture.PictureFault.TheVariants.{NoFrames, NoPicture}
+use Rattle.prog_command_line.specs.declared.picture.OptionFault.{OptionFault}
+use Rattle.prog_command_line.specs.declared.picture.OptionFault.TheVariants.{FromPastEnd, ManyFrames, NoFrames, NoGuesses, NoPicture, ToPastEnd, TreePastEnd}
 use Rattle.prog_command_line.specs.declared.picture.PictureRequest.{PictureRequest}
 use Rattle.prog_command_line.specs.declared.picture.PictureWindow.{PictureWindow}
 use Rattle.prog_command_line.specs.declared.picture.TheConstants.{FRAME_LIMIT}
@@ -82,6 +82,10 @@ task_named name game frames = if bytes_eq name (codes "certify") then Certify
 abbrev pub live_named : (Text → Option Text) → LiveOptions
 live_named value = record { game = game_named (value (codes "game")); workers = workers_named (value (codes "workers")) }
 
+-- the number that the value of an option names, if it is given
+abbrev pub frame_named : Option Text → Option ℕ
+frame_named = option_map (number_in 32)
+
 -- how a match is to be played
 abbrev pub options_named : (Text → Option Text) → MatchRequest
 options_named value = record {
@@ -93,13 +97,9 @@ options_named value = record {
   delay = number_named 32 (value (codes "delay"));
   threshold = number_named 32 (value (codes "threshold"));
   guesses = guesses_named (value (codes "guesses"));
-  jobs = number_named 32 (value (codes "jobs"));
+  jobs = unwrap_or (frame_named (value (codes "jobs"))) 4;
   game = game_named (value (codes "game"));
 }
-
--- the number of a frame that the value of an option names, if it is given
-abbrev pub frame_named : Option Text → Option ℕ
-frame_named = option_map (number_in 32)
 
 -- the frame after the last one of a picture that begins at this frame, if none is named
 abbrev pub end_after : ℕ → ℕ
@@ -128,19 +128,52 @@ abbrev pub names_part : (Text → Option Text) → Bool
 names_part value =
     is_some (value (codes "from")) || (is_some (value (codes "to")) || is_some (value (codes "tree")))
 
--- why what is said of a picture can't be followed: a part of no picture is named, or one without a frame
-abbrev pub picture_fault : (Text → Option Text) → Option PictureFault
-picture_fault value = if is_some (value (codes "picture"))
-    then (if nat_lt (window_named value).from (window_named value).to then None else Some NoFrames)
-    else (if names_part value then Some NoPicture else None)
+-- why no saved states of a frame are shown, if one is named, of a match of so many: it has no such frame
+abbrev pub tree_fault : Option ℕ → ℕ → Option OptionFault
+tree_fault None frames = None
+tree_fault (Some tree) frames = if nat_lt frames tree then Some (TreePastEnd tree frames) else None
+
+-- the same of the frame after the last one of a picture, if it is named, and else this
+abbrev pub to_fault : Option ℕ → ℕ → Option OptionFault → Option OptionFault
+to_fault None frames other = other
+to_fault (Some to) frames other = if nat_lt frames to then Some (ToPastEnd to frames) else other
+
+-- why no picture of a match of so many frames shows this, where this end is named
+abbrev pub end_fault : PictureWindow → Option ℕ → ℕ → Option OptionFault
+end_fault window to frames =
+    if nat_le frames window.from then Some (FromPastEnd window.from frames)
+    else to_fault to frames (tree_fault window.tree frames)
+
+-- why no picture shows this, of a match of so many frames if it is one: it has no frame, or too many, or the match ends before
+abbrev pub window_fault : PictureWindow → Option ℕ → Option ℕ → Option OptionFault
+window_fault window to frames =
+    if nat_le window.to window.from then Some NoFrames else
+    (if nat_lt FRAME_LIMIT (window.to - window.from) then Some (ManyFrames window.from window.to) else
+    option_and_then (end_fault window to) frames)
+
+-- whether guesses are asked for
+abbrev pub is_best : Option Text → Bool
+is_best None = false
+is_best (Some value) = bytes_eq value (codes "best")
+
+abbrev pub makes_guesses : (Text → Option Text) → Bool
+makes_guesses value = is_best (value (codes "guesses"))
+
+-- why what options say can't be followed: there are jobs and no guesses, a picture that can't be drawn, or a part of no picture
+abbrev pub option_fault : (Text → Option Text) → Option OptionFault
+option_fault value =
+    if is_some (value (codes "jobs")) && not (makes_guesses value) then Some NoGuesses else
+    (if is_some (value (codes "picture"))
+    then window_fault (window_named value) (frame_named (value (codes "to"))) (frame_named (value (codes "frames")))
+    else (if names_part value then Some NoPicture else None))
 
 -- what is asked for: something with a text, the path of which is none where it is standard input, and whether that is
--- to be explained; a script that is played live; a match; or nothing, for what is said of a picture can't be followed
+-- to be explained; a script that is played live; a match; or nothing, for what options say can't be followed
 pub data Asked : Type 0 where
   on_text : Option Text → TextTask → Bool → Asked
   live : Option Text → LiveOptions → Asked
   «match» : Asked
-  refused : PictureFault → Asked
+  refused : OptionFault → Asked
 
 abbrev pub asked_of : Request → Asked
 asked_of (request.Text asked) = on_text (path_of asked.input) asked.task asked.explain
@@ -174,13 +207,13 @@ work_named name value = if bytes_eq name (codes "live") then live (path_named (v
     else (if bytes_eq name (codes "match") then «match»
     else on_text (path_named (value (codes "FILE"))) (task_named name (value (codes "game")) (value (codes "frames"))) (is_named (value (codes "explain"))))
 
--- the same, unless what is said of a picture can't be followed
-abbrev pub unless : Option PictureFault → Asked → Asked
+-- the same, unless what options say can't be followed
+abbrev pub unless : Option OptionFault → Asked → Asked
 unless None asked = asked
 unless (Some fault) asked = refused fault
 
 abbrev pub asked_named : Text → (Text → Option Text) → Asked
-asked_named name value = unless (picture_fault value) (work_named name value)
+asked_named name value = unless (option_fault value) (work_named name value)
 
 -- what a command with these arguments asks for, or no command
 abbrev pub asked_in : Option (Text × List Row) → Asked

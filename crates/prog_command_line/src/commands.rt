@@ -181,10 +181,10 @@ fn sessions_command<'a>(
     ensures local { IfOk result (λ command. (fields_of command).has_globals ≡ false) }
 {
     let arguments = [
-        Argument::Number(DELAY, "D", "0", 0, 255, help::DELAY),
-        Argument::Number(THRESHOLD, "K", "8", 0, 255, help::THRESHOLD),
+        Argument::Number(DELAY, "D", "0", 0, 8, help::DELAY),
+        Argument::Number(THRESHOLD, "K", "8", 1, 15, help::THRESHOLD),
         Argument::Guesses(guesses),
-        Argument::Number(JOBS, "J", "4", 1, 32, help::JOBS),
+        Argument::FreeNumber(JOBS, "J", 1, 32, help::JOBS),
         Argument::Game(games),
     ];
     let command = line_command(alloc)?;

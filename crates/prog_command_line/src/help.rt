@@ -15,7 +15,10 @@ A game for such a session has to come out the same each time that frames are run
 looks for one that doesn't: `rollduel synctest --help` tells how.
 
 A claim says of one rollback that none from a saved state that it lists would have run fewer
-frames. It can be checked without the session that made it: `rollduel certify --help` tells how.";
+frames. It can be checked without the session that made it: `rollduel certify --help` tells how.
+
+With `--explain` play, synctest and certify say more on standard error: which file can't be read and
+why, what is wrong with a line, and which call was refused for what.";
 
 pub const PLAY: &str = "Plays a script, and prints what the session answers to each line";
 
@@ -206,11 +209,13 @@ pub const STOP: &str =
 
 pub const HOSTILE: &str = "Hostile datagrams come too, drawn from this seed";
 
-pub const PICTURE: &str = "Draws the play as an SVG into this file";
+pub const PICTURE: &str =
+    "Draws the play as an SVG into this file; one that is there is overwritten only if it is a picture";
 
 pub const FROM: &str = "The first frame of the picture; 0 if not given";
 
-pub const TO: &str = "The frame after its last one; 600 frames at most";
+pub const TO: &str =
+    "The frame after its last one, 600 past the first at most; if not given, so many or up to the end";
 
 pub const TREE: &str =
     "Shows the states saved at this frame's rollback; if not given, at the deepest one";
@@ -227,9 +232,11 @@ pub const HOLD: &str = "For how many frames a player holds a word on average, up
 
 pub const DELAY: &str = "Each machine's input delay in frames, up to 8";
 
-pub const THRESHOLD: &str = "How many frames a machine may go past the confirmed ones, from 1 to 8";
+pub const THRESHOLD: &str =
+    "How many frames a machine may go past the confirmed ones, from 1 to 8, or 15 if there are more than 4";
 
-pub const JOBS: &str = "How many of the best guesses are run in each tick, up to 32";
+pub const JOBS: &str =
+    "How many of the best guesses are run in each tick, up to 32; 4 if not given";
 
 pub const SYNCTEST: &str =
     "Tests whether a game comes out the same twice, and prints what is found at each row";

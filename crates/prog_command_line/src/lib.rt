@@ -10,7 +10,7 @@ mod reading;
 mod request;
 
 pub use help::SCRIPT;
-pub use picture::{FRAME_LIMIT, PictureFault, PictureRequest, PictureWindow};
+pub use picture::{FRAME_LIMIT, OptionFault, PictureRequest, PictureWindow};
 pub use reading::read;
 pub use request::{
     CommandLine, Game, GuessOption, Input, LiveOptions, MatchRequest, PeersRequest, Request,

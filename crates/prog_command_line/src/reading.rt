@@ -12,7 +12,7 @@ use crate::commands::{
     DELAY, EXPLAIN, FILE, FRAMES, GAME, GUESSES, HOLD, HOSTILE, JOBS, LATE, LOST, PEERS, SEED,
     STOP, THRESHOLD, WORKERS, games, guesses, program_command,
 };
-use crate::picture::{picture_fault, picture_of};
+use crate::picture::{frame_of, option_fault, picture_of};
 use crate::request::{
     CommandLine, Game, GuessOption, Input, LiveOptions, MatchRequest, PeersRequest, Request,
     TextRequest, TextTask,
@@ -75,7 +75,7 @@ fn request_of<'a>(
     ensures options { IfOk result (HasOptions (rows_of (found_of found.now))) }
     ensures workers { IfOk result HasWorkers }
 {
-    match picture_fault(found) {
+    match option_fault(found) {
         Some(fault) => Ok(Request::Refused(fault)),
         None => work_of(alloc, name, found),
     }
@@ -173,7 +173,7 @@ fn options_of(found: &ArgMatches<'_>) -> MatchRequest
         delay: number_of(found, DELAY),
         threshold: number_of(found, THRESHOLD),
         guesses: guesses_of(found),
-        jobs: number_of(found, JOBS),
+        jobs: frame_of(found, JOBS).unwrap_or(4),
         game: game_of(found),
     }
 }

@@ -1,6 +1,6 @@
 //! What words ask for, by the options that they name.
 
-use crate::picture::{PictureFault, PictureRequest};
+use crate::picture::{OptionFault, PictureRequest};
 
 /// What the words ask for.
 #[derive(Drop)]
@@ -19,8 +19,8 @@ pub enum Request<'a> {
     Live { input: Input<'a>, live: LiveOptions },
     /// A match is to be played, of which nothing is read.
     Match(PeersRequest<'a>),
-    /// Nothing, for what is said of a picture can't be followed.
-    Refused(PictureFault),
+    /// Nothing, for what options say can't be followed.
+    Refused(OptionFault),
 }
 
 /// What is to be done with a text.

@@ -19,7 +19,8 @@ use Rattle.prog_replies.specs.Output.{first_playing, game_from}
 use Rattle.prog_scripts.specs.Headers.{settings_of}
 use Rattle.prog_scripts.specs.Plays.{Play}
 use Rattle.prog_scripts.specs.declared.command.Command.{Command}
-use Rattle.prog_explain.specs.Pictured.{AreDrawn, IsDrawn, seen_by, seen_in, session_after, session_at}
+use Rattle.prog_observer.specs.Drawing.{IsDrawn}
+use Rattle.prog_explain.specs.Pictured.{AreDrawn, seen_by, seen_in, session_after, session_at}
 
 -- a refusal other than for want of memory is that of the start
 pub is_refused : (o : Option Refusal) (why : Refusal) → why ≡ unwrap_or o NoMemory → why ≢ NoMemory → IsSome o

@@ -1,5 +1,5 @@
 -- What is seen of a script's play, and drawn of it.
-use Rattle.std.specs.Prelude.{◌≡◌, ◌&&◌, ℕ, List, [], ◌∷◌, fold, length, map, min, Bool, true, false, Option, None, Some, is_none, option_map, IfSome, IsNone, IsSome, MatchBool, ⊤}
+use Rattle.std.specs.Prelude.{◌≡◌, ◌&&◌, ℕ, List, [], ◌∷◌, fold, length, Bool, true, false, Option, None, Some, is_none, IfSome, IsNone, IsSome, MatchBool, ⊤}
 use Rattle.std.specs.Int.{is_in_range}
 use Rattle.std.specs.String.{string_bytes}
 use Rattle.std.specs.declared.alloc.Global.{Global}
@@ -11,15 +11,12 @@ use Rattle.roll_frame.specs.declared.settings.Settings.{Settings}
 use Rattle.roll_game.specs.Counts.{no_calls}
 use Rattle.roll_session.specs.Seen.{Seen}
 use Rattle.roll_text.specs.Lines.{text_of}
-use Rattle.prog_observer.specs.Hearing.{lane_in, lane_shown}
+use Rattle.prog_observer.specs.Drawing.{IsDrawn}
 use Rattle.prog_observer.specs.Observing.{Observed, after_watch, nothing_seen}
-use Rattle.prog_observer.specs.declared.observer.Sample.{Sample}
 use Rattle.prog_parts.specs.declared.ending.GameName.{GameName}
 use Rattle.prog_parts.specs.declared.ending.GameName.TheVariants.{Tally, Duel}
 use Rattle.prog_parts.specs.declared.task.Task.{Task}
 use Rattle.prog_parts.specs.declared.task.Task.TheVariants.{Play as PlayTask, SyncTest, Certify}
-use Rattle.prog_picture.specs.Pictures.{HasRolls}
-use Rattle.prog_picture.specs.declared.scene.Scene.{Scene}
 use Rattle.prog_picture.specs.declared.scene.Window.{Window}
 use Rattle.prog_replies.specs.Output.{Playing, after_command, duel_game, first_playing, refusal_by, tally_game}
 use Rattle.prog_scripts.specs.Headers.{settings_of}
@@ -86,16 +83,6 @@ session_after game play =
     let settings = settings_of play.setup in
     session_at settings game
     (played_by settings game (first_playing settings) play.commands).core
-
--- a picture shows what was seen of a session, as it is at the end: its rolls are the rollbacks that were seen
-pub record IsDrawn (s : Seen) (seen : Observed) (picture : List ℕ) : Type 0 where
-  pub scene : Scene
-  pub from : scene.from ≡ seen.window.from
-  pub to : scene.to ≡ min seen.window.to seen.frame
-  pub lanes : map lane_shown scene.lanes.items ≡ map (lane_in s seen.firsts) seen.heard
-  pub rolls : scene.rolls.items ≡ seen.rolls
-  pub tree : scene.tree ≡ option_map (λ (sample : Sample). sample.claim) seen.sample
-  pub drawn : HasRolls scene picture
 
 -- a picture shows what is seen of commands from here on, where this window is asked for
 abbrev pub AreDrawn : Settings → Game → Playing → List Command → Window → List ℕ → Type 0

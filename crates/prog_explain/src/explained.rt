@@ -12,10 +12,10 @@ ghost use Rattle.prog_parts.specs.declared.fault.PlayFault.TheVariants.{Write as
 
 use crate::refusals::push_refused;
 use prog_parts::{Ending, GameName, PlayFault, Task};
-use prog_scripts::{Command, RowsFile, Script, diagnose};
+use prog_scripts::{Command, Header, RowsFile, Script, Version, diagnose};
 use roll_cli::{Playing, run};
 use roll_duel::Duel;
-use roll_frame::Refusal;
+use roll_frame::{Profile, Refusal};
 use roll_game::{RawGame, Shown, Tally};
 use roll_session::Session;
 use roll_synctest::SyncTest;
@@ -232,8 +232,23 @@ fn note_session<G: Shown + Drop>(
             let mut playing = Playing::new(alloc, session, helper);
             note_all(alloc, notes, &mut playing, &script.commands)
         }
-        Err(fault) => note_not_started(notes, fault.why),
+        Err(fault) => {
+            note_not_started(notes, fault.why)?;
+            Ok(note_wide(notes, &script.header)?)
+        }
     }
+}
+
+/// Notes which first line opens a session of so many players, if this one doesn't.
+fn note_wide(notes: &mut String, header: &Header) -> Result<(), AllocError> {
+    let players = header.players;
+    if header.version == Version::Wide || players <= u32::from(Profile::Ggpo.player_limit()) {
+        return Ok(());
+    }
+    writeln!(
+        notes,
+        "line 1: {players} players need `roll 3`; `roll 1` and `roll 2` take 4 at most"
+    )
 }
 
 /// Plays the commands, of which the first stands in line 2, and notes each refusal with its line.

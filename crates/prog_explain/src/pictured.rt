@@ -6,7 +6,8 @@ ghost use Rattle.prog_scripts.specs.Plays.{IsPlay, play_of};
 ghost use Rattle.prog_replies.specs.Output.{game_from};
 ghost use Rattle.roll_cli.specs.Playings.{game_of};
 ghost use Rattle.roll_cli.specs.Programs.{Ends};
-ghost use Rattle.prog_explain.specs.Pictured.{AreDrawn, IsDrawn, IsGameDrawn, IsPlayDrawn, IsShown, is_roll, played_by, seen_by};
+ghost use Rattle.prog_observer.specs.Drawing.{IsDrawn};
+ghost use Rattle.prog_explain.specs.Pictured.{AreDrawn, IsGameDrawn, IsPlayDrawn, IsShown, is_roll, played_by, seen_by};
 ghost use Rattle.prog_observer.specs.Observing.{observed};
 ghost use Rattle.prog_parts.specs.declared.fault.PlayFault.TheVariants.{Write as CannotWrite};
 

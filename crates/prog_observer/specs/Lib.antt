@@ -1,3 +1,4 @@
 pub mod Changes
+pub mod Drawing
 pub mod Hearing
 pub mod Observing

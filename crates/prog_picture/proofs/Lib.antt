@@ -1,1 +1,2 @@
+mod Bare
 mod Texts

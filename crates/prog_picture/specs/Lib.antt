@@ -1,3 +1,4 @@
+pub mod Bars
 pub mod Cells
 pub mod Escapes
 pub mod Pictures

@@ -58,8 +58,8 @@ cause_of late Nothing = codes ". No word had changed</title>"
 -- a bar of this style, from one place to another
 abbrev pub bar_text : List ℕ → ℕ → ℕ → ℕ → List ℕ
 bar_text style x y end =
-    codes "<path class=\"" ++ (style ++ (codes "\" d=\"M" ++ (decimal x ++ (codes " " ++ (decimal y
-    ++ (codes "H" ++ (decimal end ++ (codes "v9H" ++ (decimal x ++ codes "z\"/>")))))))))
+    codes "<rect class=\"" ++ (style ++ (codes "\" x=\"" ++ (decimal x ++ (codes "\" y=\"" ++ (decimal y
+    ++ (codes "\" width=\"" ++ (decimal (end - x) ++ codes "\" height=\"9\"/>")))))))
 
 -- the element of a mark: its numbers, its cause, the frames that GGPO runs, and on them those that were run again
 unfoldable pub roll_text : RollMark → List ℕ

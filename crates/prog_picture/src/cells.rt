@@ -1,5 +1,6 @@
 //! The words of a lane.
-ghost use Rattle.std.specs.Prelude.{◌≡◌, ◌≤◌, IfOk};
+ghost use Rattle.std.specs.Prelude.{◌≡◌, ◌≤◌, IfOk, OnOk};
+ghost use Rattle.prog_picture.specs.Bars.{AddsNoBar, LacksBars};
 ghost use Rattle.prog_picture.specs.Cells.{cell_marks, goes_on, look_of, mark_at};
 ghost use Rattle.prog_picture.specs.Views.{IsView};
 
@@ -103,29 +104,44 @@ pub fn runs(alloc: Global, marks: &[CellMark]) -> Result<Vec<Run>, AllocError> {
 /// Writes a run, or a word: its colour, the line to the frame in which it was heard, and what is told of it.
 pub fn push_run(out: &mut String, run: &Run, view: &View, colour: usize) -> Result<(), AllocError>
     requires { IsView view.now }
+    ensures { OnOk result (AddsNoBar out.old out.new) }
 {
     let Run { first, count } = *run;
-    let CellMark { frame, cell } = first;
-    let look = first.look();
-    let x = view.x_of(frame);
-    let wide = view.x_of(frame.saturating_add(count)).saturating_sub(x);
-    let class = class_of(look);
+    let x = view.x_of(first.frame);
+    let wide = view
+        .x_of(first.frame.saturating_add(count))
+        .saturating_sub(x);
     out.push_str("<g><title>")?;
     push_told(out, run)?;
-    write!(
-        out,
-        "</title><path class=\"{class}{colour}\" d=\"M{x} 0h{wide}v{CELL_HEIGHT}h-{wide}z\""
-    )?;
-    out.push_str(opacity_of(look))?;
-    if let Some(heard) = cell.heard {
-        push_late(out, look, x, view, heard)?;
-    }
-    push_word(out, cell.word, x, wide)?;
+    push_ground(out, first.look(), x, wide, colour)?;
+    push_late(out, &first, view)?;
+    push_word(out, "class=\"n\" y=\"15\"", first.cell.word, x, wide)?;
+    push_wrong(out, &first, x, wide)?;
     out.push_str("</g>\n")
 }
 
+/// Writes the ground of a word of this colour.
+fn push_ground(
+    out: &mut String,
+    look: Look,
+    x: u32,
+    wide: u32,
+    colour: usize,
+) -> Result<(), AllocError>
+    ensures { OnOk result (AddsNoBar out.old out.new) }
+{
+    let class = class_of(look);
+    let end = opacity_of(look);
+    write!(
+        out,
+        "</title><path class=\"{class}{colour}\" d=\"M{x} 0h{wide}v{CELL_HEIGHT}h-{wide}z\"{end}"
+    )
+}
+
 /// Writes what is told of a run, or of a word.
-fn push_told(out: &mut String, run: &Run) -> Result<(), AllocError> {
+fn push_told(out: &mut String, run: &Run) -> Result<(), AllocError>
+    ensures { OnOk result (AddsNoBar out.old out.new) }
+{
     let CellMark { frame, cell } = run.first;
     let Cell { word, shown, heard } = cell;
     if run.count > 1 {
@@ -141,64 +157,68 @@ fn push_told(out: &mut String, run: &Run) -> Result<(), AllocError> {
 }
 
 /// The first letter of the name of a word's style.
-fn class_of(look: Look) -> char {
+fn class_of(look: Look) -> &'static str
+    ensures { LacksBars result.now }
+{
     match look {
-        Look::Known => 'c',
-        Look::Predicted | Look::Wrong | Look::Unheard => 'p',
+        Look::Known => "c",
+        Look::Predicted | Look::Wrong | Look::Unheard => "p",
     }
 }
 
 /// How a word that hasn't come looks, and the end of its element.
-fn opacity_of(look: Look) -> &'static str {
+fn opacity_of(look: Look) -> &'static str
+    ensures { LacksBars result.now }
+{
     match look {
         Look::Unheard => " opacity=\".45\"/>",
         Look::Known | Look::Predicted | Look::Wrong => "/>",
     }
 }
 
-/// Writes the line from a late word to the frame in which it was heard, and crosses out one that was shown wrong.
-fn push_late(
-    out: &mut String,
-    look: Look,
-    x: u32,
-    view: &View,
-    heard: u32,
-) -> Result<(), AllocError>
-    requires view { IsView view.now }
-    requires x { x ≤ 36100 }
+/// Writes the line from a word that came late to the frame in which it was heard.
+fn push_late(out: &mut String, mark: &CellMark, view: &View) -> Result<(), AllocError>
+    requires { IsView view.now }
+    ensures { OnOk result (AddsNoBar out.old out.new) }
 {
-    let step = view.step;
-    let end = view.x_of(heard);
-    let middle = x + step / 2;
-    let class = match look {
+    let Some(heard) = mark.cell.heard else {
+        return Ok(());
+    };
+    let class = match mark.look() {
         Look::Known | Look::Unheard => return Ok(()),
         Look::Predicted => "l",
         Look::Wrong => "w",
     };
+    let middle = view.x_of(mark.frame) + view.step / 2;
+    let end = view.x_of(heard);
+    let bottom = CELL_HEIGHT + HEARD_DEPTH;
     write!(
         out,
-        "<path class=\"{class}\" d=\"M{middle} {CELL_HEIGHT}L{end} "
-    )?;
-    write!(out, "{}", CELL_HEIGHT + HEARD_DEPTH)?;
-    if look == Look::Wrong {
-        write!(
-            out,
-            "M{x} 0l{step} {CELL_HEIGHT}M{x} {CELL_HEIGHT}l{step} -{CELL_HEIGHT}"
-        )?;
-    }
-    out.push_str("\"/>")
+        "<path class=\"{class}\" d=\"M{middle} {CELL_HEIGHT}L{end} {bottom}\"/>"
+    )
 }
 
-/// Writes a word's number, if there is room for it.
-fn push_word(out: &mut String, word: u32, x: u32, wide: u32) -> Result<(), AllocError>
+/// Marks a word in whose place another was shown: a red foot, and above the word the other one, struck out.
+fn push_wrong(out: &mut String, mark: &CellMark, x: u32, wide: u32) -> Result<(), AllocError>
     requires { x ≤ 36100 }
+    ensures { OnOk result (AddsNoBar out.old out.new) }
+{
+    if mark.look() != Look::Wrong {
+        return Ok(());
+    }
+    write!(out, "<path class=\"r\" d=\"M{x} 19h{wide}v3h-{wide}z\"/>")?;
+    push_word(out, "class=\"z\" y=\"-3\"", mark.cell.shown, x, wide)
+}
+
+/// Writes a word's number in this style, if there is room for it.
+fn push_word(out: &mut String, style: &str, word: u32, x: u32, wide: u32) -> Result<(), AllocError>
+    requires style { LacksBars style.now }
+    requires x { x ≤ 36100 }
+    ensures { OnOk result (AddsNoBar out.old out.new) }
 {
     if wide < 12 || 99 < word {
         return Ok(());
     }
     let middle = x.saturating_add(wide / 2);
-    write!(
-        out,
-        "<text class=\"n\" x=\"{middle}\" y=\"15\">{word}</text>"
-    )
+    write!(out, "<text {style} x=\"{middle}\">{word}</text>")
 }

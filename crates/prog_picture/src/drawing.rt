@@ -1,11 +1,14 @@
 //! A picture from a scene.
-ghost use Rattle.std.specs.Prelude.{◌≤◌, IfOk};
+ghost use Rattle.std.specs.Prelude.{◌≤◌, IfOk, OnOk};
 ghost use Rattle.std.specs.String.{string_bytes};
+ghost use Rattle.prog_picture.specs.Bars.{AddsNoBar, LacksBars};
 ghost use Rattle.prog_picture.specs.Pictures.{HasRolls};
 ghost use Rattle.prog_picture.specs.Views.{IsView};
 
 use crate::cells::{CELL_HEIGHT, HEARD_DEPTH, cell_marks, push_run, runs};
-use crate::page::{COLOURS, push_axis, push_colours, push_head, push_legend, push_title};
+use crate::heading::{height_of, push_title, push_view, title_lines};
+use crate::legend::{LEGEND_HEIGHT, push_legend};
+use crate::page::{COLOURS, push_axis, push_colours, push_head};
 use crate::rolls::{ROW_HEIGHT, ROWS, RollMark, push_rolls, roll_marks, worst};
 use crate::scene::{Lane, Scene};
 use crate::tree::{Node, nodes, push_tree, tree_height, tree_width};
@@ -23,7 +26,7 @@ const LANE_HEIGHT: u32 = CELL_HEIGHT + HEARD_DEPTH + 18;
 const LANE_LIMIT: usize = 8;
 
 /// The picture of a scene, as the text of an SVG: the element of each rollback that is shown, once and in order, with its
-/// numbers.
+/// numbers, and no rectangle but those of the rollbacks.
 ///
 /// # Errors
 ///
@@ -67,22 +70,64 @@ fn front(
     nodes: &[Node],
 ) -> Result<String, AllocError>
     requires { IsView view.now }
+    ensures { IfOk result (λ front. LacksBars (string_bytes front)) }
 {
     let mut out = String::new(alloc);
-    let lanes = lane_count(scene);
-    let rolls = rolls_top(lanes);
+    let rolls = rolls_top(lane_count(scene));
     let bottom = rolls + ROWS * ROW_HEIGHT;
     let width = view.x_of(view.to).max(tree_width(nodes)).max(1080) + 40;
-    push_head(&mut out, width, tree_top(bottom) + tree_height(nodes))?;
-    push_title(alloc, &mut out, scene, view)?;
+    let height = tree_top(bottom) + tree_height(nodes);
+    push_top(alloc, &mut out, scene, width, height)?;
+    push_view(&mut out, view)?;
     push_worst(&mut out, worst(marks), TOP - 4, bottom)?;
     push_axis(&mut out, view, TOP - 10, bottom)?;
-    for (place, lane) in scene.lanes.iter().take(LANE_LIMIT).enumerate() {
-        push_lane(alloc, &mut out, lane, view, palette, place as u32)?;
-    }
-    write!(out, "<text x=\"12\" y=\"{}\">rollbacks</text>", rolls + 24)?;
-    writeln!(out, "<g transform=\"translate(0 {rolls})\">")?;
+    push_lanes(alloc, &mut out, scene, view, palette)?;
+    push_rolls_head(&mut out, rolls)?;
     Ok(out)
+}
+
+/// Writes the beginning of the page, so wide and so tall below its title, and the title.
+fn push_top(
+    alloc: Global,
+    out: &mut String,
+    scene: &Scene,
+    width: u32,
+    height: u32,
+) -> Result<(), AllocError>
+    requires { height ≤ 10000 }
+    ensures { OnOk result (AddsNoBar out.old out.new) }
+{
+    let lines = title_lines(alloc, &scene.title)?;
+    let down = height_of(&lines);
+    push_head(out, width, down + height)?;
+    push_title(alloc, out, scene, &lines)?;
+    writeln!(out, "<g transform=\"translate(0 {down})\">")
+}
+
+/// Writes the words of all players.
+fn push_lanes(
+    alloc: Global,
+    out: &mut String,
+    scene: &Scene,
+    view: &View,
+    palette: &[u32],
+) -> Result<(), AllocError>
+    requires { IsView view.now }
+    ensures { OnOk result (AddsNoBar out.old out.new) }
+{
+    for (place, lane) in scene.lanes.iter().take(LANE_LIMIT).enumerate() {
+        push_lane(alloc, out, lane, view, palette, place as u32)?;
+    }
+    Ok(())
+}
+
+/// Writes what stands to the left of the rollbacks, and where they begin.
+fn push_rolls_head(out: &mut String, top: u32) -> Result<(), AllocError>
+    requires { top ≤ 1000 }
+    ensures { OnOk result (AddsNoBar out.old out.new) }
+{
+    write!(out, "<text x=\"12\" y=\"{}\">rollbacks</text>", top + 24)?;
+    writeln!(out, "<g transform=\"translate(0 {top})\">")
 }
 
 /// Writes the words of a player.
@@ -96,25 +141,32 @@ fn push_lane(
 ) -> Result<(), AllocError>
     requires view { IsView view.now }
     requires place { place ≤ 8 }
+    ensures { OnOk result (AddsNoBar out.old out.new) }
 {
     let marks = cell_marks(alloc, &lane.cells, view)?;
     let y = TOP + place * LANE_HEIGHT;
     let runs = runs(alloc, &marks)?;
-    let player = lane.player;
     let heard = CELL_HEIGHT + HEARD_DEPTH;
     let end = view.x_of(view.to);
-    writeln!(
-        out,
-        "<g transform=\"translate(0 {y})\"><text x=\"12\" y=\"16\">player {player}</text>"
-    )?;
-    if lane.is_local {
-        out.push_str("<text class=\"s\" x=\"12\" y=\"32\">local</text>")?;
-    }
+    writeln!(out, "<g transform=\"translate(0 {y})\">")?;
+    push_player(out, lane)?;
     writeln!(out, "<path class=\"h\" d=\"M100 {heard}H{end}\"/>")?;
     for run in &runs {
         push_run(out, run, view, colour_of(palette, run.first.cell.word))?;
     }
     out.push_str("</g>\n")
+}
+
+/// Writes a player's number, and whether the player is at the session's own machine.
+fn push_player(out: &mut String, lane: &Lane) -> Result<(), AllocError>
+    ensures { OnOk result (AddsNoBar out.old out.new) }
+{
+    let player = lane.player;
+    writeln!(out, "<text x=\"12\" y=\"16\">player {player}</text>")?;
+    if !lane.is_local {
+        return Ok(());
+    }
+    out.push_str("<text class=\"s\" x=\"12\" y=\"32\">local</text>")
 }
 
 /// The colour of a word: its place among those that have one, or the last.
@@ -148,26 +200,23 @@ fn note_word(palette: &mut Vec<u32>, word: u32) -> Result<(), AllocError> {
 /// Where the saved states begin.
 fn tree_top(bottom: u32) -> u32
     requires { bottom ≤ 2000 }
-    ensures { result ≤ 2100 }
+    ensures { result ≤ 2200 }
 {
-    bottom + 74
+    bottom + LEGEND_HEIGHT + 54
 }
 
 /// All that stands after the rollbacks.
-fn end(
-    alloc: Global,
-    scene: &Scene,
-    palette: &[u32],
-    nodes: &[Node],
-) -> Result<String, AllocError> {
+fn end(alloc: Global, scene: &Scene, palette: &[u32], nodes: &[Node]) -> Result<String, AllocError>
+    ensures { IfOk result (λ end. LacksBars (string_bytes end)) }
+{
     let mut out = String::new(alloc);
     let bottom = rolls_top(lane_count(scene)) + ROWS * ROW_HEIGHT;
     out.push_str("</g>\n")?;
-    push_legend(&mut out, bottom + 16)?;
-    push_colours(&mut out, palette, bottom + 44)?;
+    push_legend(&mut out, bottom + 22)?;
+    push_colours(&mut out, palette, bottom + LEGEND_HEIGHT + 22)?;
     if let Some(claim) = &scene.tree {
         push_tree(&mut out, claim, nodes, tree_top(bottom))?;
     }
-    out.push_str("</svg>\n")?;
+    out.push_str("</g>\n</svg>\n")?;
     Ok(out)
 }

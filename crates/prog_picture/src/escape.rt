@@ -18,13 +18,22 @@ pub fn push_escaped(
     ensures { OnOk result
         (string_bytes out.new ≡ string_bytes out.old ++ flat_map escaped (take most (chars text.now))) }
 {
-    for c in &characters(alloc, text, most)? {
+    push_characters(out, &characters(alloc, text, most)?)
+}
+
+/// Writes characters.
+pub fn push_characters(out: &mut String, all: &[char]) -> Result<(), AllocError>
+    ensures { OnOk result
+        (string_bytes out.new ≡ string_bytes out.old ++ flat_map escaped all.now) }
+{
+    for c in all {
         push_char(out, *c)?;
     }
     Ok(())
 }
 
-fn characters(alloc: Global, text: &str, most: usize) -> Result<Vec<char>, AllocError>
+/// The first characters of a text, so many at most.
+pub fn characters(alloc: Global, text: &str, most: usize) -> Result<Vec<char>, AllocError>
     ensures { IfOk result (λ found. found.items ≡ take most (chars text.now)) }
 {
     text.chars().take(most).collect(alloc)

@@ -4,6 +4,8 @@
 mod cells;
 mod drawing;
 mod escape;
+mod heading;
+mod legend;
 mod page;
 mod rolls;
 mod scene;
@@ -12,6 +14,6 @@ mod view;
 mod worst;
 
 pub use drawing::draw;
-pub use page::TITLE_LIMIT;
+pub use heading::TITLE_LIMIT;
 pub use scene::{Cause, Cell, Lane, Roll, Scene, Sight, Window};
 pub use view::FRAME_LIMIT;

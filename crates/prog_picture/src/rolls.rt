@@ -135,12 +135,16 @@ fn push_cause(out: &mut String, cause: Cause, late: u32) -> Result<(), AllocErro
     }
 }
 
-/// Writes a bar of a row.
+/// Writes a bar of a row: a rectangle, as nothing else of a picture is.
 fn push_bar(out: &mut String, style: &str, x: u32, y: u32, end: u32) -> Result<(), AllocError>
     ensures { OnOk result
         (string_bytes out.new ≡ string_bytes out.old ++ bar_text style.now x y end) }
 {
-    write!(out, "<path class=\"{style}\" d=\"M{x} {y}H{end}v9H{x}z\"/>")
+    let width = end.saturating_sub(x);
+    write!(
+        out,
+        "<rect class=\"{style}\" x=\"{x}\" y=\"{y}\" width=\"{width}\" height=\"9\"/>"
+    )
 }
 
 /// How many frames the deepest rollback ran again.

@@ -1,5 +1,6 @@
 //! The saved states at a rollback: the way of the timeline, branches of guesses, and what the rollback passed over.
-ghost use Rattle.std.specs.Prelude.{◌≤◌, length};
+ghost use Rattle.std.specs.Prelude.{◌≤◌, OnOk, length};
+ghost use Rattle.prog_picture.specs.Bars.{AddsNoBar, LacksBars};
 
 use roll_frame::{Cell, Claim, Differ, PATH_LIMIT, Path, Row};
 use std::alloc::{AllocError, Global};
@@ -175,7 +176,8 @@ pub fn push_tree(
     nodes: &[Node],
     top: u32,
 ) -> Result<(), AllocError>
-    requires { top ≤ 2100 }
+    requires { top ≤ 2200 }
+    ensures { OnOk result (AddsNoBar out.old out.new) }
 {
     push_heading(out, claim, top)?;
     writeln!(out, "<g transform=\"translate(0 {})\">", top + 52)?;
@@ -190,7 +192,8 @@ pub fn push_tree(
 
 /// Writes what is shown, and what its marks mean.
 fn push_heading(out: &mut String, claim: &Claim, top: u32) -> Result<(), AllocError>
-    requires { top ≤ 2100 }
+    requires { top ≤ 2200 }
+    ensures { OnOk result (AddsNoBar out.old out.new) }
 {
     let from = claim.from;
     let target = frame_at(claim, claim.time.len());
@@ -212,7 +215,9 @@ fn push_heading(out: &mut String, claim: &Claim, top: u32) -> Result<(), AllocEr
 }
 
 /// Writes the numbers of the frames.
-fn push_frames(out: &mut String, claim: &Claim) -> Result<(), AllocError> {
+fn push_frames(out: &mut String, claim: &Claim) -> Result<(), AllocError>
+    ensures { OnOk result (AddsNoBar out.old out.new) }
+{
     for depth in 0..claim.time.len().saturating_add(1) {
         let (x, frame) = (x_at(depth), frame_at(claim, depth));
         writeln!(out, "<text class=\"s\" x=\"{x}\" y=\"6\">{frame}</text>")?;
@@ -221,15 +226,11 @@ fn push_frames(out: &mut String, claim: &Claim) -> Result<(), AllocError> {
 }
 
 /// Writes a state: what is told of it, the line from the state before it, and its row.
-fn push_node(out: &mut String, claim: &Claim, node: &Node) -> Result<(), AllocError> {
-    let Node {
-        depth,
-        lane,
-        before,
-        ..
-    } = *node;
-    let x = x_at(depth);
-    let y = y_at(lane);
+fn push_node(out: &mut String, claim: &Claim, node: &Node) -> Result<(), AllocError>
+    ensures { OnOk result (AddsNoBar out.old out.new) }
+{
+    let x = x_at(node.depth);
+    let y = y_at(node.lane);
     let differ = differ_of(claim, node);
     out.push_str("<g><title>")?;
     push_told(out, claim, node, differ)?;
@@ -238,18 +239,26 @@ fn push_node(out: &mut String, claim: &Claim, node: &Node) -> Result<(), AllocEr
         out,
         "</title><path class=\"{style}\" d=\"M{x} {y}h46v18h-46z\"/>"
     )?;
-    if depth > 0 {
-        let (start, height) = (x.saturating_sub(FRAME_WIDTH) + 46, y_at(before) + 9);
-        write!(
-            out,
-            "<path class=\"h\" d=\"M{start} {height}L{x} {}\"/>",
-            y + 9
-        )?;
-    }
-    if let Some(row) = row_of(claim, node) {
-        push_row(out, row, x + 23, y + 13)?;
-    }
+    push_link(out, node, x, y)?;
+    push_row(out, row_of(claim, node), x + 23, y + 13)?;
     out.push_str("</g>\n")
+}
+
+/// Writes the line to a state, here, from the one before it, if there is one.
+fn push_link(out: &mut String, node: &Node, x: u32, y: u32) -> Result<(), AllocError>
+    requires x { x ≤ 2000 }
+    requires y { y ≤ 1100 }
+    ensures { OnOk result (AddsNoBar out.old out.new) }
+{
+    if node.depth == 0 {
+        return Ok(());
+    }
+    let (start, height) = (x.saturating_sub(FRAME_WIDTH) + 46, y_at(node.before) + 9);
+    write!(
+        out,
+        "<path class=\"h\" d=\"M{start} {height}L{x} {}\"/>",
+        y + 9
+    )
 }
 
 /// Where a lane begins.
@@ -280,7 +289,9 @@ fn differ_of(claim: &Claim, node: &Node) -> Option<Differ> {
 }
 
 /// The style of a state.
-fn style_of(claim: &Claim, node: &Node, differ: Option<Differ>) -> &'static str {
+fn style_of(claim: &Claim, node: &Node, differ: Option<Differ>) -> &'static str
+    ensures { LacksBars result.now }
+{
     if node.place.is_none() {
         "o"
     } else if differ.is_some() {
@@ -300,14 +311,12 @@ fn push_told(
     claim: &Claim,
     node: &Node,
     differ: Option<Differ>,
-) -> Result<(), AllocError> {
+) -> Result<(), AllocError>
+    ensures { OnOk result (AddsNoBar out.old out.new) }
+{
     let frame = frame_at(claim, node.depth);
     write!(out, "frame {frame}: ")?;
-    if let Some(row) = row_of(claim, node) {
-        out.push_str("inputs ")?;
-        push_words(out, row)?;
-        out.push_str(", ")?;
-    }
+    push_inputs(out, row_of(claim, node))?;
     match differ {
         Some(Differ { frame, player, .. }) => {
             write!(
@@ -321,8 +330,25 @@ fn push_told(
     }
 }
 
-/// Writes the words of a row, if they are short.
-fn push_row(out: &mut String, row: &Row, x: u32, y: u32) -> Result<(), AllocError> {
+/// Writes the inputs that lead to a state, if there are any.
+fn push_inputs(out: &mut String, row: Option<&Row>) -> Result<(), AllocError>
+    ensures { OnOk result (AddsNoBar out.old out.new) }
+{
+    let Some(row) = row else {
+        return Ok(());
+    };
+    out.push_str("inputs ")?;
+    push_words(out, row)?;
+    out.push_str(", ")
+}
+
+/// Writes the words of a row, if there is one and they are short.
+fn push_row(out: &mut String, row: Option<&Row>, x: u32, y: u32) -> Result<(), AllocError>
+    ensures { OnOk result (AddsNoBar out.old out.new) }
+{
+    let Some(row) = row else {
+        return Ok(());
+    };
     if row.count() > 4 || row.words().iter().any(|word| *word > SHORT_WORD) {
         return Ok(());
     }
@@ -332,15 +358,29 @@ fn push_row(out: &mut String, row: &Row, x: u32, y: u32) -> Result<(), AllocErro
 }
 
 /// Writes the words of a row, and x for a player who is gone.
-fn push_words(out: &mut String, row: &Row) -> Result<(), AllocError> {
+fn push_words(out: &mut String, row: &Row) -> Result<(), AllocError>
+    ensures { OnOk result (AddsNoBar out.old out.new) }
+{
     for (place, cell) in row.cells().iter().enumerate() {
-        if place > 0 {
-            out.push(',')?;
-        }
-        match cell {
-            Cell::Word(word) => write!(out, "{word}")?,
-            Cell::Gone => out.push('x')?,
-        }
+        out.push_str(separator(place))?;
+        push_cell(out, cell)?;
     }
     Ok(())
+}
+
+/// What stands before a word of a row.
+fn separator(place: usize) -> &'static str
+    ensures { LacksBars result.now }
+{
+    if place > 0 { "," } else { "" }
+}
+
+/// Writes a word, or an x.
+fn push_cell(out: &mut String, cell: &Cell) -> Result<(), AllocError>
+    ensures { OnOk result (AddsNoBar out.old out.new) }
+{
+    match cell {
+        Cell::Word(word) => write!(out, "{word}"),
+        Cell::Gone => out.push_str("x"),
+    }
 }

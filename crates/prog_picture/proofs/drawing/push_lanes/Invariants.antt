@@ -1,0 +1,5 @@
+use Rattle.prog_picture.specs.Bars.{AddsNoBar}
+use Rattle.prog_picture.proofs.drawing.push_lanes.Given as goal
+
+abbrev pub invariant-loop-place : goal.invariant-loop-place
+invariant-loop-place l = AddsNoBar l.fn.out l.out

@@ -1,0 +1,5 @@
+use Rattle.prog_picture.specs.Bars.{AddsNoBar}
+use Rattle.prog_picture.proofs.page.push_colours.Given as goal
+
+abbrev pub invariant-loop-colour : goal.invariant-loop-colour
+invariant-loop-colour l = AddsNoBar l.fn.out l.out
