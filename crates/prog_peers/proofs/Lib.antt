@@ -1,6 +1,6 @@
 pub mod Agreed
 pub mod Alls
-pub mod Drawn
+pub mod Costs
 pub mod Greatest
 pub mod Guessed
 pub mod Named

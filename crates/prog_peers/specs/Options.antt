@@ -6,9 +6,11 @@ use Rattle.prog_sides.specs.declared.options.Guesses.{Guesses}
 use Rattle.prog_sides.specs.declared.options.Guesses.TheVariants as guesses
 use Rattle.prog_parts.specs.declared.ending.GameName.{GameName}
 use Rattle.prog_parts.specs.declared.ending.GameName.TheVariants.{Duel, Tally}
+use Rattle.roll_frame.specs.Settings.{most_players, most_threshold}
+use Rattle.roll_frame.specs.declared.profile.Profile.TheVariants.{Ggpo, Wide}
 use Rattle.roll_mesh.specs.declared.limits.TheConstants.{MACHINE_LIMIT}
 use Rattle.prog_peers.specs.declared.options.PeersFault.{PeersFault}
-use Rattle.prog_peers.specs.declared.options.PeersFault.TheVariants.{Machines, Ships, NobodyStays, NoMachine, Frame}
+use Rattle.prog_peers.specs.declared.options.PeersFault.TheVariants.{Machines, Ships, Threshold, NobodyStays, NoMachine, Frame}
 use Rattle.prog_peers.specs.declared.options.PeersOptions.{PeersOptions}
 use Rattle.prog_peers.specs.declared.options.TheConstants.{SHIP_LIMIT}
 
@@ -36,6 +38,14 @@ abbrev pub lacks_ships : GameName → ℕ → Bool
 lacks_ships Duel machines = nat_lt SHIP_LIMIT machines
 lacks_ships Tally machines = false
 
+-- the greatest threshold of a session of so many players, and whether no such session has the one that is asked for
+abbrev pub threshold_for : ℕ → ℕ
+threshold_for machines = most_threshold (if nat_lt (most_players Ggpo) machines then Wide else Ggpo)
+
+abbrev pub has_odd_threshold : PeersOptions → Bool
+has_odd_threshold options =
+    nat_lt options.common.threshold 1 || nat_lt (threshold_for options.machines) options.common.threshold
+
 -- whether a machine that is to stop can't: there is none, or the match has no such frame
 abbrev pub is_odd_stop : PeersOptions → ℕ → Bool
 is_odd_stop options machine = option_map_or
@@ -58,5 +68,6 @@ abbrev pub fault_of : PeersOptions → Option PeersFault
 fault_of options =
     if nat_lt options.machines 2 || nat_lt MACHINE_LIMIT options.machines then Some Machines
     else (if lacks_ships options.common.game options.machines then Some Ships
+    else (if has_odd_threshold options then Some (Threshold (threshold_for options.machines) options.machines)
     else (if not (has_staying options) then Some NobodyStays
-    else stop_fault_of options (odd_stop_of options)))
+    else stop_fault_of options (odd_stop_of options))))

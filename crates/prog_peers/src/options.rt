@@ -1,10 +1,11 @@
 //! What a match of several machines is played with, and why one isn't played.
 ghost use Rattle.std.specs.Prelude.{◌≡◌, count_by};
 ghost use Rattle.std.specs.List.{range_with_len};
-ghost use Rattle.prog_peers.specs.Options.{fault_of, first_staying, has_staying, is_odd_stop, lacks_ships, makes_guesses, odd_stop_of, stays, stop_fault_at, stop_of};
+ghost use Rattle.prog_peers.specs.Options.{fault_of, first_staying, has_odd_threshold, has_staying, is_odd_stop, lacks_ships, makes_guesses, odd_stop_of, stays, stop_fault_at, stop_of, threshold_for};
 
 use prog_parts::GameName;
 use prog_sides::{Guesses, MatchOptions};
+use roll_frame::Profile;
 use roll_mesh::MACHINE_LIMIT;
 use thiserror::Error;
 
@@ -33,6 +34,14 @@ pub enum PeersFault {
     /// A duel has no ship for a fifth machine.
     #[error("--game duel has ships for 4 machines at most")]
     Ships,
+    /// A session of so many players goes so far ahead at most.
+    #[error("--threshold takes 1 to {most} with {machines} machines")]
+    Threshold {
+        /// How far at most.
+        most: u8,
+        /// How many machines there are.
+        machines: u8,
+    },
     /// What is to stop has another form.
     #[error("--stop takes MACHINE:FRAME, as 2:30")]
     Unreadable,
@@ -111,12 +120,25 @@ impl PeersOptions {
             Some(PeersFault::Machines)
         } else if lacks_ships(self.common.game, self.machines) {
             Some(PeersFault::Ships)
+        } else if self.has_odd_threshold() {
+            Some(PeersFault::Threshold {
+                most: most_threshold(self.machines),
+                machines: self.machines,
+            })
         } else if !self.has_staying() {
             Some(PeersFault::NobodyStays)
         } else {
             let machine = self.odd_stop()?;
             Some(self.stop_fault(machine))
         }
+    }
+
+    /// Whether no session of so many players has this threshold.
+    fn has_odd_threshold(&self) -> bool
+        ensures { result ≡ has_odd_threshold self.now }
+    {
+        let threshold = self.common.threshold;
+        threshold < 1 || u32::from(most_threshold(self.machines)) < threshold
     }
 
     /// Whether any guesses are made.
@@ -154,6 +176,17 @@ impl PeersOptions {
         } else {
             PeersFault::Frame { machine }
         }
+    }
+}
+
+/// The greatest threshold of a session of so many players.
+fn most_threshold(machines: u8) -> u8
+    ensures { result ≡ threshold_for machines }
+{
+    if machines > Profile::Ggpo.player_limit() {
+        Profile::Wide.threshold_limit()
+    } else {
+        Profile::Ggpo.threshold_limit()
     }
 }
 

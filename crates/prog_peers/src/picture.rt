@@ -1,10 +1,10 @@
 //! The picture of a match: what the first machine that stays saw of it.
-ghost use Rattle.std.specs.Prelude.{◌≡◌, IfOk, IsSome, None, unwrap_or};
+ghost use Rattle.std.specs.Prelude.{◌≡◌, IfOk, IfSome, IsSome, None, map, unwrap_or};
 ghost use Rattle.std.specs.String.{string_bytes};
 ghost use Rattle.prog_observer.specs.Observing.{nothing_seen, observed};
-ghost use Rattle.prog_peers.specs.Sights.{IsPictured};
-ghost use Rattle.prog_picture.specs.Pictures.{HasRolls};
-ghost use Rattle.prog_picture.specs.declared.scene.Scene.{Scene};
+ghost use Rattle.prog_observer.specs.Drawing.{IsDrawn};
+ghost use Rattle.prog_peers.specs.Sights.{IsOfFirst};
+ghost use Rattle.roll_peer.specs.Peered.{beside};
 
 use crate::machine::Machine;
 use crate::options::PeersOptions;
@@ -45,7 +45,12 @@ pub fn picture_of<G: Shown + Drop>(
     machines: &mut [Machine<G>],
 ) -> Result<Option<String>, Refusal>
     ensures none { IfOk result (λ picture. window ≡ None → picture ≡ None) }
-    ensures pictured { IfOk result (λ picture. IsSome window → IsPictured picture) }
+    ensures made { IfOk result (λ picture. IsSome window → IsSome picture) }
+    ensures drawn { IfOk result (λ picture. IfSome picture (λ text. IsOfFirst options.now
+        (map (λ machine. record {
+          seated = record { me = machine.me; member = beside machine.session machine.peer };
+          seen = observed machine.observer;
+        }) machines.old) (string_bytes text))) }
 {
     match window {
         None => Ok(None),
@@ -59,7 +64,11 @@ fn view_of<G: Shown + Drop>(
     options: &PeersOptions,
     machines: &mut [Machine<G>],
 ) -> Result<String, Refusal>
-    ensures { IfOk result (λ picture. (scene : Scene) × HasRolls scene (string_bytes picture)) }
+    ensures { IfOk result (λ picture. IsOfFirst options.now
+        (map (λ machine. record {
+          seated = record { me = machine.me; member = beside machine.session machine.peer };
+          seen = observed machine.observer;
+        }) machines.old) (string_bytes picture)) }
 {
     let Some(place) = first_that_stays(options, machines) else {
         return Err(Refusal::InvalidRequest);
@@ -77,7 +86,7 @@ fn draw_seen<G: Shown>(
     machine: &Machine<G>,
     observer: Observer,
 ) -> Result<String, AllocError>
-    ensures { IfOk result (λ picture. (scene : Scene) × HasRolls scene (string_bytes picture)) }
+    ensures { IfOk result (λ picture. IsDrawn machine.now.session (observed observer) (string_bytes picture)) }
 {
     let scene = match title_of(alloc, options, machine.me) {
         Ok(title) => observer.into_scene(alloc, &machine.session, title)?,

@@ -3,15 +3,14 @@ ghost use Rattle.std.specs.Prelude.{◌≡◌, ◌⊎◌, ◌≤◌, ◌++◌, �
 ghost use Rattle.prog_parts.specs.declared.fault.PlayFault.TheVariants.{Write as CannotWrite};
 ghost use Rattle.prog_peers.specs.Agreement.{HasAgreed};
 ghost use Rattle.prog_peers.specs.Options.{fault_of};
-ghost use Rattle.prog_peers.specs.Sights.{IsPictured};
-ghost use Rattle.prog_peers.specs.declared.playing.End.TheVariants.{Over as IsEnded};
+ghost use Rattle.prog_peers.specs.Sights.{IsPictured, IsPlayed, asked_picture};
 ghost use Rattle.std.specs.List.{range_with_len};
 
 use crate::machine::Machine;
 use crate::options::PeersOptions;
 use crate::picture::{observer_of, picture_of};
 use crate::playing::Table;
-use crate::report::{Report, sum_up};
+use crate::report::{Report, state_of, sum_up};
 use crate::table::push_report;
 use prog_parts::{Ending, GameName, PlayFault};
 use prog_picture::{Sight, Window};
@@ -23,10 +22,11 @@ use roll_text::write_all;
 use std::alloc::Global;
 use std::io::Write;
 
-/// What came of a match, and the picture of it if one was asked for.
+/// What came of a match, the text of the state that was settled last, and the picture if one was asked for.
 #[derive(Drop)]
 struct Played {
     report: Report,
+    state: Vec<u8>,
     picture: Option<String>,
 }
 
@@ -45,7 +45,8 @@ pub fn run<W: Write>(
         (λ fault. (fault ≡ CannotWrite) ⊎ (writer.new ≡ writer.old)) }
     ensures window { sight.new.window ≡ sight.old.window }
     ensures none { sight.old.window ≡ None → sight.new ≡ sight.old }
-    ensures pictured { result.status ≡ 0 → IsSome sight.old.window → IsPictured sight.new.picture }
+    ensures pictured { result.status ≡ 0 → IsPictured options.now (asked_picture sight.new) }
+    ensures made { result.status ≡ 0 → IsSome sight.old.window → IsSome sight.new.picture }
 {
     match perform(alloc, options, sight, writer) {
         Ok(true) => Ending {
@@ -72,8 +73,10 @@ fn perform<W: Write>(
     ensures untouched { IfErr result (λ fault. (fault ≡ CannotWrite) ⊎ (writer.new ≡ writer.old)) }
     ensures window { sight.new.window ≡ sight.old.window }
     ensures none { sight.old.window ≡ None → sight.new ≡ sight.old }
-    ensures pictured { IfOk result (λ well. IsTrue well → IsSome sight.old.window
-        → IsPictured sight.new.picture) }
+    ensures pictured { IfOk result (λ well. IsTrue well
+        → IsPictured options.now (asked_picture sight.new)) }
+    ensures made { IfOk result (λ well. IsTrue well → IsSome sight.old.window
+        → IsSome sight.new.picture) }
 {
     let mut out = String::new(alloc);
     let well = tell(alloc, options, sight, &mut out)?;
@@ -92,12 +95,14 @@ fn tell(
     ensures agreed { IfOk result (λ well. IsTrue well → HasAgreed options.now) }
     ensures window { sight.new.window ≡ sight.old.window }
     ensures none { sight.old.window ≡ None → sight.new ≡ sight.old }
-    ensures pictured { IfOk result (λ well. IsTrue well → IsSome sight.old.window
-        → IsPictured sight.new.picture) }
+    ensures pictured { IfOk result (λ well. IsTrue well
+        → IsPictured options.now (asked_picture sight.new)) }
+    ensures made { IfOk result (λ well. IsTrue well → IsSome sight.old.window
+        → IsSome sight.new.picture) }
 {
     match play(alloc, options, sight.window) {
         Ok(played) => {
-            push_report(out, options, &played.report)?;
+            push_report(out, options, &played.report, &played.state)?;
             let well = played.report.is_well();
             keep(sight, played.picture);
             Ok(well)
@@ -114,7 +119,7 @@ fn tell(
 fn keep(sight: &mut Sight, picture: Option<String>)
     ensures window { sight.new.window ≡ sight.old.window }
     ensures none { picture ≡ None → sight.new ≡ sight.old }
-    ensures pictured { IsPictured picture → IsPictured sight.new.picture }
+    ensures kept { IsSome picture → sight.new.picture ≡ picture }
 {
     if let Some(picture) = picture {
         sight.picture = Some(picture);
@@ -124,10 +129,9 @@ fn keep(sight: &mut Sight, picture: Option<String>)
 /// Plays a match, and answers how it came out.
 fn play(alloc: Global, options: &PeersOptions, window: Option<Window>) -> Result<Played, Refusal>
     ensures played { OnOk result (fault_of options.now ≡ None) }
-    ensures agreed { IfOk result (λ p. p.report.end ≡ IsEnded → IsTrue p.report.agree
-        → HasAgreed options.now) }
+    ensures was { IfOk result (λ p. IsPlayed options.now p.report p.picture) }
     ensures none { IfOk result (λ p. window ≡ None → p.picture ≡ None) }
-    ensures pictured { IfOk result (λ p. IsSome window → IsPictured p.picture) }
+    ensures made { IfOk result (λ p. IsSome window → IsSome p.picture) }
 {
     if options.fault().is_some() {
         return Err(Refusal::InvalidRequest);
@@ -143,10 +147,9 @@ fn play_tally(
     options: &PeersOptions,
     window: Option<Window>,
 ) -> Result<Played, Refusal>
-    ensures agreed { IfOk result (λ p. p.report.end ≡ IsEnded → IsTrue p.report.agree
-        → HasAgreed options.now) }
+    ensures was { IfOk result (λ p. IsPlayed options.now p.report p.picture) }
     ensures none { IfOk result (λ p. window ≡ None → p.picture ≡ None) }
-    ensures pictured { IfOk result (λ p. IsSome window → IsPictured p.picture) }
+    ensures made { IfOk result (λ p. IsSome window → IsSome p.picture) }
 {
     let mut table: Table<Tally> = Table::new(alloc, options);
     for me in 0..options.machines {
@@ -160,10 +163,9 @@ fn play_duel(
     options: &PeersOptions,
     window: Option<Window>,
 ) -> Result<Played, Refusal>
-    ensures agreed { IfOk result (λ p. p.report.end ≡ IsEnded → IsTrue p.report.agree
-        → HasAgreed options.now) }
+    ensures was { IfOk result (λ p. IsPlayed options.now p.report p.picture) }
     ensures none { IfOk result (λ p. window ≡ None → p.picture ≡ None) }
-    ensures pictured { IfOk result (λ p. IsSome window → IsPictured p.picture) }
+    ensures made { IfOk result (λ p. IsSome window → IsSome p.picture) }
 {
     let mut table: Table<Duel> = Table::new(alloc, options);
     for me in 0..options.machines {
@@ -200,27 +202,17 @@ fn play_and_show<G: Shown + Drop>(
 ) -> Result<Played, Refusal>
     requires { map (λ m. m.me) table.old.machines.items
         ≡ range_with_len 0 options.now.machines }
-    ensures agreed { IfOk result (λ p. p.report.end ≡ IsEnded → IsTrue p.report.agree
-        → HasAgreed options.now) }
+    ensures was { IfOk result (λ p. IsPlayed options.now p.report p.picture) }
     ensures none { IfOk result (λ p. window ≡ None → p.picture ≡ None) }
-    ensures pictured { IfOk result (λ p. IsSome window → IsPictured p.picture) }
-{
-    let report = play_out(alloc, options, table)?;
-    let picture = picture_of(alloc, options, window, &mut table.machines)?;
-    Ok(Played { report, picture })
-}
-
-/// Plays a match whose machines have taken their places.
-fn play_out<G: Shown + Drop>(
-    alloc: Global,
-    options: &PeersOptions,
-    table: &mut Table<G>,
-) -> Result<Report, Refusal>
-    requires { map (λ m. m.me) table.old.machines.items
-        ≡ range_with_len 0 options.now.machines }
-    ensures { IfOk result (λ report. report.end ≡ IsEnded → IsTrue report.agree
-        → HasAgreed options.now) }
+    ensures made { IfOk result (λ p. IsSome window → IsSome p.picture) }
 {
     let end = table.play(alloc, options)?;
-    sum_up(alloc, options, table, end)
+    let report = sum_up(options, &table.machines, end)?;
+    let picture = picture_of(alloc, options, window, &mut table.machines)?;
+    let state = state_of(alloc, options, &mut table.machines)?;
+    Ok(Played {
+        report,
+        state,
+        picture,
+    })
 }

@@ -1,9 +1,11 @@
 //! How a match came out.
-ghost use Rattle.std.specs.Prelude.{◌≡◌, ◌<◌, ◌-◌, length, IfOk, IfSome, IsTrue};
+ghost use Rattle.std.specs.Prelude.{◌≡◌, ◌<◌, ◌-◌, length, map, IfOk, IfSome, IsTrue, Some};
 ghost use Rattle.std.specs.List.{All};
 ghost use Rattle.prog_peers.specs.Agreement.{AreAlike, IfStays};
 ghost use Rattle.prog_observer.specs.Observing.{observed};
 ghost use Rattle.prog_peers.specs.Guessing.{grafts_in, is_graft_at};
+ghost use Rattle.prog_peers.specs.Options.{first_staying};
+ghost use Rattle.prog_peers.specs.Sights.{cost_by, told_cost};
 ghost use Rattle.prog_peers.specs.Totals.{totals_of};
 ghost use Rattle.prog_peers.specs.declared.playing.End.TheVariants.{Over as IsEnded};
 ghost use Rattle.roll_member.specs.Joined.{Joined};
@@ -13,7 +15,7 @@ use crate::agreement::all_agree;
 use crate::claims::Claims;
 use crate::machine::{Counts, Machine};
 use crate::options::PeersOptions;
-use crate::playing::{End, Table};
+use crate::playing::End;
 use crate::totals::{self, Totals};
 use arrayvec::ArrayVec;
 use roll_frame::Refusal;
@@ -62,9 +64,8 @@ pub struct Report {
     pub staying: usize,
     /// Whether they agree.
     pub agree: bool,
-    /// How many rows are settled at the first machine that stays, and the text of the state after them.
+    /// How many rows are settled at the first machine that stays.
     pub settled: u32,
-    pub state: Vec<u8>,
 }
 
 impl Report {
@@ -87,39 +88,47 @@ impl Report {
 }
 
 /// Sums up how a match came out.
-pub fn sum_up<G: Shown + Drop>(
-    alloc: Global,
+pub fn sum_up<G: Shown>(
     options: &PeersOptions,
-    table: &mut Table<G>,
+    machines: &[Machine<G>],
     end: End,
 ) -> Result<Report, Refusal>
     ensures end { IfOk result (λ report. report.end ≡ end) }
+    ensures told { IfOk result (λ report. map told_cost report.outcomes.items
+        ≡ map (λ machine. cost_by machine.me (observed machine.observer)) machines.now) }
     ensures alike { IfOk result (λ report. IsTrue report.agree → (first : Joined) × All
         (λ machine. IfStays options.now (AreAlike G.step first)
-        (record { me = machine.me; member = beside machine.session machine.peer })) table.old.machines.items) }
+        (record { me = machine.me; member = beside machine.session machine.peer })) machines.now) }
 {
-    let Some(place) = first_that_stays(options, &table.machines) else {
+    let Some(place) = first_that_stays(options, machines) else {
         return Err(Refusal::InvalidRequest);
     };
-    let first = &table.machines[place];
-    let agree = all_agree(options, &table.machines, first);
-    let outcomes = each_outcome(&table.machines, first)?;
-    let settled = first.session.settled();
-    let staying = options.count_staying();
-    let state = table.machines[place].settled_text(alloc)?;
+    let first = &machines[place];
     Ok(Report {
-        outcomes,
+        outcomes: each_outcome(machines, first)?,
         end,
-        staying,
-        agree,
-        settled,
-        state,
+        staying: options.count_staying(),
+        agree: all_agree(options, machines, first),
+        settled: first.session.settled(),
     })
+}
+
+/// The text of the state that is settled at the first machine that stays.
+pub fn state_of<G: Shown + Drop>(
+    alloc: Global,
+    options: &PeersOptions,
+    machines: &mut [Machine<G>],
+) -> Result<Vec<u8>, Refusal> {
+    match first_that_stays(options, machines) {
+        Some(place) => machines[place].settled_text(alloc),
+        None => Err(Refusal::InvalidRequest),
+    }
 }
 
 /// The place of the first machine that stays.
 pub fn first_that_stays<G: Shown>(options: &PeersOptions, machines: &[Machine<G>]) -> Option<usize>
-    ensures { IfSome result (λ place. place < length machines.now) }
+    ensures first { IfSome result (λ place. first_staying options.now ≡ Some place) }
+    ensures there { IfSome result (λ place. place < length machines.now) }
 {
     let place = usize::from(options.first_staying()?);
     if place < machines.len() {
@@ -133,16 +142,22 @@ pub fn first_that_stays<G: Shown>(options: &PeersOptions, machines: &[Machine<G>
 fn each_outcome<G: Shown>(
     machines: &[Machine<G>],
     first: &Machine<G>,
-) -> Result<ArrayVec<Outcome, MACHINE_LIMIT>, Refusal> {
+) -> Result<ArrayVec<Outcome, MACHINE_LIMIT>, Refusal>
+    ensures { IfOk result (λ outcomes. map told_cost outcomes.items
+        ≡ map (λ machine. cost_by machine.me (observed machine.observer)) machines.now) }
+{
     let mut outcomes = ArrayVec::new();
     for machine in machines {
-        let _ = outcomes.try_push(outcome_of(machine, first)?);
+        let Ok(()) = outcomes.try_push(outcome_of(machine, first)?) else {
+            return Err(Refusal::InvalidRequest);
+        };
     }
     Ok(outcomes)
 }
 
 /// What came of a machine: refused for want of memory if it rolled 4,294,967,296 times, for which there is none.
 fn outcome_of<G: Shown>(machine: &Machine<G>, first: &Machine<G>) -> Result<Outcome, Refusal>
+    ensures machine { IfOk result (λ outcome. outcome.machine ≡ machine.now.me) }
     ensures jobs { IfOk result (λ outcome. outcome.jobs ≡ machine.now.session.counts.copies - 1) }
     ensures taken { IfOk result (λ outcome. outcome.taken ≡ grafts_in machine.now.session.log) }
     ensures ahead { IfOk result (λ outcome. outcome.ahead ≡ (G.call_counts machine.now.helper).turns) }

@@ -16,6 +16,7 @@ pub fn push_report(
     out: &mut String,
     options: &PeersOptions,
     report: &Report,
+    state: &[u8],
 ) -> Result<(), AllocError> {
     push_heading(out, options)?;
     push_played(out, options, report)?;
@@ -24,8 +25,8 @@ pub fn push_report(
     if options.hostile.is_some() {
         push_hostile(out, report)?;
     }
-    push_end(out, report)?;
-    push_line(out, options, report)
+    push_end(out, report, state)?;
+    push_line(out, options, report, state)
 }
 
 /// What the match was played with, in words.
@@ -188,7 +189,7 @@ fn push_hostile(out: &mut String, report: &Report) -> Result<(), AllocError> {
 }
 
 /// Whether the machines that stay agree.
-fn push_end(out: &mut String, report: &Report) -> Result<(), AllocError> {
+fn push_end(out: &mut String, report: &Report, state: &[u8]) -> Result<(), AllocError> {
     let (count, settled) = (report.staying, report.settled);
     if report.end == End::Late {
         return writeln!(out, "THE MATCH DOESN'T END: frame {settled} is settled");
@@ -202,7 +203,7 @@ fn push_end(out: &mut String, report: &Report) -> Result<(), AllocError> {
     write!(out, "all {count} that stay agree: frame {settled} settled")?;
     push_lefts(out, report)?;
     out.push_str(", state ")?;
-    push_text(out, &report.state)
+    push_text(out, state)
 }
 
 /// At which frame each player left.
@@ -225,7 +226,12 @@ fn push_text(out: &mut String, state: &[u8]) -> Result<(), AllocError> {
 }
 
 /// The line for scripts: what was asked for, and what came of each machine.
-fn push_line(out: &mut String, options: &PeersOptions, report: &Report) -> Result<(), AllocError> {
+fn push_line(
+    out: &mut String,
+    options: &PeersOptions,
+    report: &Report,
+    state: &[u8],
+) -> Result<(), AllocError> {
     push_options(out, options)?;
     push_each(out, "rollbacks", report, |outcome| outcome.totals.rollbacks)?;
     push_each(out, "rerun", report, |outcome| outcome.totals.rerun)?;
@@ -241,7 +247,7 @@ fn push_line(out: &mut String, options: &PeersOptions, report: &Report) -> Resul
     push_each(out, "wrong", report, |outcome| outcome.claims.wrong)?;
     let agree = if report.is_well() { "yes" } else { "no" };
     write!(out, " settled={} agree={agree} state=", report.settled)?;
-    push_text(out, &report.state)
+    push_text(out, state)
 }
 
 fn push_options(out: &mut String, options: &PeersOptions) -> Result<(), AllocError> {
