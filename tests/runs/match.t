@@ -74,29 +74,41 @@ Words that are held for long are predicted right more often.
   $ echo "$(value rerun < short),$(value rerun < long)" | awk -F, '{ print ($1 > $3), ($2 > $4) }'
   1 1
 
-Settings that no session starts with are refused, and nothing else is written.
+Settings that no session starts with are refused, and nothing else is written. Up to four machines go 8 frames ahead at most, and
+more of them 15.
 
-  $ rollduel match --threshold 20
-  refused 11
-  [1]
-  $ rollduel match --threshold 0
-  refused 11
-  [1]
-  $ rollduel match --delay 9 --game duel
-  refused 11
-  [1]
-  $ rollduel match --threshold 20 --delay 9 --guesses best
-  refused 11
-  [1]
-  $ rollduel match --threshold 20 2>&1 >/dev/null
-  [1]
+  $ rollduel match --threshold 16 2>&1 | sed -n 1p
+  error: invalid value '16' for '--threshold <K>': 16 is not in 1..=15
+  $ rollduel match --threshold 0 2>&1 | sed -n 1p
+  error: invalid value '0' for '--threshold <K>': 0 is not in 1..=15
+  $ rollduel match --threshold 9
+  error: --threshold takes 1 to 8 with 2 machines
+  [2]
+  $ rollduel match --threshold 9 --peers 4 --guesses best
+  error: --threshold takes 1 to 8 with 4 machines
+  [2]
+  $ rollduel match --threshold 15 --peers 5 --frames 20 | value threshold
+  15
+  $ rollduel match --delay 8 --frames 20 | value delay
+  8
+  $ rollduel match --threshold 9 2>/dev/null
+  [2]
+
+Jobs are those of guesses.
+
+  $ rollduel match --jobs 4
+  error: --jobs can't be used without --guesses best
+  [2]
+  $ rollduel match --jobs 4 --guesses none
+  error: --jobs can't be used without --guesses best
+  [2]
 
 What can't be written is a fault.
 
   $ rollduel match --frames 60 > /dev/full
   rollduel: cannot write
   [2]
-  $ rollduel match --threshold 20 > /dev/full
+  $ rollduel match --frames 60 --guesses best > /dev/full
   rollduel: cannot write
   [2]
 
@@ -115,10 +127,10 @@ Words that can't be understood.
   error: invalid value '100' for '--lost <P>': 100 is not in 0..=99
   $ rollduel match --hold 0 2>&1 | sed -n 1p
   error: invalid value '0' for '--hold <H>': 0 is not in 1..=1000000
-  $ rollduel match --delay 256 2>&1 | sed -n 1p
-  error: invalid value '256' for '--delay <D>': 256 is not in 0..=255
+  $ rollduel match --delay 9 --game duel 2>&1 | sed -n 1p
+  error: invalid value '9' for '--delay <D>': 9 is not in 0..=8
   $ rollduel match --threshold 256 2>&1 | sed -n 1p
-  error: invalid value '256' for '--threshold <K>': 256 is not in 0..=255
+  error: invalid value '256' for '--threshold <K>': 256 is not in 1..=15
   $ rollduel match --seed 18446744073709551616 2>&1 | sed -n 1p
   error: invalid value '18446744073709551616' for '--seed <S>': number too large to fit in target type
   $ rollduel match --frames ten 2>&1 | sed -n 1p

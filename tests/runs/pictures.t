@@ -53,15 +53,45 @@ Parts of no picture, and no part.
   $ rollduel match --frames 5 --picture x.svg --from 3 --to 3
   error: --to has to be past --from
   [2]
+  $ rollduel match --frames 3600 --picture x.svg --from 100 --to 701
+  error: --from 100 --to 701: a picture shows 600 frames at most
+  [2]
+  $ rollduel play ../examples/late-input.roll --picture x.svg --to 601
+  error: --from 0 --to 601: a picture shows 600 frames at most
+  [2]
+  $ rollduel match --frames 5 --picture x.svg --from 5
+  error: --from 5: the match ends at frame 5
+  [2]
+  $ rollduel match --frames 5 --picture x.svg --to 6
+  error: --to 6: the match ends at frame 5
+  [2]
+  $ rollduel match --frames 5 --picture x.svg --tree 6
+  error: --tree 6: the match ends at frame 5
+  [2]
   $ ls x.svg 2> why
   [2]
+  $ rollduel match --frames 700 --picture x.svg --from 100 --to 700 --tree 700 > told && grep -o 'frames 100 to 699' x.svg
+  frames 100 to 699
+  $ rm x.svg
+
+A file that is no picture isn't overwritten, but a picture is.
+
+  $ echo 'my notes' > notes.svg
+  $ rollduel match --frames 5 --picture notes.svg > told
+  error: --picture notes.svg: this file is no picture, and isn't overwritten
+  [2]
+  $ cat notes.svg
+  my notes
+  $ rollduel match --frames 5 | cmp - told
+  $ cp ../docs/pictures/match-lost.svg old.svg
+  $ rollduel play ../examples/late-input.roll --picture old.svg > told && grep -c 'Worst rollback: 2 frames' old.svg
+  1
 
 Nothing is drawn if nothing is played, or if the text can't be read.
 
-  $ rollduel match --frames 5 --threshold 0 --picture x.svg
-  refused 11
-  no picture: nothing was played
-  [1]
+  $ rollduel match --frames 5 --threshold 9 --picture x.svg
+  error: --threshold takes 1 to 8 with 2 machines
+  [2]
   $ printf 'roll 1 players 5 local 1 delay 0,0,0,0,0 threshold 8\nS\n' > five
   $ rollduel play five --picture x.svg
   refused 3

@@ -251,6 +251,11 @@ And so is what a refusal means, by its line.
   refused 11
   line 1: refused 11: InvalidRequest: invalid request
   [1]
+  $ printf 'roll 1 players 5 local 1 delay 0,0,0,0,0 threshold 8\n' | rollduel play --explain -
+  refused 3
+  line 1: refused 3: PlayerOutOfRange: the number of players is out of range
+  line 1: 5 players need `roll 3`; `roll 1` and `roll 2` take 4 at most
+  [1]
   $ printf 'roll 1 players 1 local 1 delay 0 threshold 8\n' | rollduel play --explain - --game duel
   refused 3
   line 1: refused 3: PlayerOutOfRange: the number of players is out of range

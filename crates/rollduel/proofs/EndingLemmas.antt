@@ -73,10 +73,13 @@ match_out rows asked fault ending faults = match_fails rows asked ending (never_
 
 -- after a picture was saved, or couldn't be
 
-pub match_saved : (rows : List Row) (asked : Asked) (before ending : Ending) → (ending ≡ before) ⊎ (ending ≡ faulted Write)
+pub match_saved : (rows : List Row) (asked : Asked) (before ending : Ending)
+    → (ending ≡ before) ⊎ (ending ≡ misused) ⊎ (ending ≡ faulted Write)
     → IfMatch asked (EndsMatch rows before) → IfMatch asked (EndsMatch rows ending)
 match_saved rows asked before ending (inl same) ends = subst (λ (e : Ending). IfMatch asked (EndsMatch rows e)) (sym same) ends
-match_saved rows asked before ending (inr faults) ends = match_out rows asked Write ending faults
+match_saved rows asked before ending (inr (inl other)) ends =
+    match_fails rows asked ending (λ well. omega (arith, well, ap (λ (e : Ending). e.status) other))
+match_saved rows asked before ending (inr (inr faults)) ends = match_out rows asked Write ending faults
 
 no_picture_after : (fault : Option PlayFault) (path : Option Text) → picture_after fault path None ≡ None
 no_picture_after (Some fault) path = refl

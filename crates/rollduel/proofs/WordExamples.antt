@@ -6,7 +6,7 @@ use Rattle.clap.specs.Faults.{fault_of}
 use Rattle.clap.specs.Walk.{Text, first_of}
 use Rattle.prog_command_line.specs.Commands.{rollduel_app}
 use Rattle.prog_command_line.specs.Requests.{number_named, options_named, rows_by}
-use Rattle.prog_command_line.specs.declared.picture.PictureFault.TheVariants.{NoFrames, NoPicture}
+use Rattle.prog_command_line.specs.declared.picture.OptionFault.TheVariants.{ManyFrames, NoFrames, NoGuesses, NoPicture, ToPastEnd, TreePastEnd}
 use Rattle.prog_parts.specs.declared.ending.Ending.{Ending}
 use Rattle.prog_parts.specs.declared.ending.GameName.TheVariants.{Tally, Duel}
 use Rattle.prog_parts.specs.declared.task.Task.TheVariants.{Play, SyncTest, Certify}
@@ -85,14 +85,14 @@ pub plays_as_help_says : options_by (codes "rollduel" ∷ codes "match" ∷ []) 
 unfolding clap_on_literals
 plays_as_help_says = refl
 
-pub plays_a_match_so : options_by (codes "rollduel" ∷ codes "match" ∷ codes "--seed=18446744073709551615" ∷ codes "--delay" ∷ codes "9"
+pub plays_a_match_so : options_by (codes "rollduel" ∷ codes "match" ∷ codes "--seed=18446744073709551615" ∷ codes "--delay" ∷ codes "8"
     ∷ codes "--guesses" ∷ codes "best" ∷ codes "--jobs=32" ∷ codes "--game=duel" ∷ codes "--lost=99" ∷ []) ≡ record {
       frames = 1000;
       seed = 18446744073709551615;
       late = 8;
       lost = 99;
       hold = 10;
-      delay = 9;
+      delay = 8;
       threshold = 8;
       guesses = Best;
       jobs = 32;
@@ -147,6 +147,22 @@ draws_no_frame = refl
 pub draws_a_part_of_nothing : asked_by (codes "rollduel" ∷ codes "match" ∷ codes "--tree=9" ∷ []) ≡ refused NoPicture
 unfolding clap_on_literals
 draws_a_part_of_nothing = refl
+
+pub draws_past_the_end : asked_by (codes "rollduel" ∷ codes "match" ∷ codes "--frames=5" ∷ codes "--picture=b.svg" ∷ codes "--to=6" ∷ []) ≡ refused (ToPastEnd 6 5)
+unfolding clap_on_literals
+draws_past_the_end = refl
+
+pub shows_states_past_the_end : asked_by (codes "rollduel" ∷ codes "match" ∷ codes "--frames=5" ∷ codes "--picture=b.svg" ∷ codes "--tree=6" ∷ []) ≡ refused (TreePastEnd 6 5)
+unfolding clap_on_literals
+shows_states_past_the_end = refl
+
+pub draws_too_much : asked_by (codes "rollduel" ∷ codes "play" ∷ codes "a.roll" ∷ codes "--picture=b.svg" ∷ codes "--to=601" ∷ []) ≡ refused (ManyFrames 0 601)
+unfolding clap_on_literals
+draws_too_much = refl
+
+pub guesses_nothing : asked_by (codes "rollduel" ∷ codes "match" ∷ codes "--jobs=4" ∷ []) ≡ refused NoGuesses
+unfolding clap_on_literals
+guesses_nothing = refl
 
 -- without a file the program ends with status 2
 pub no_file_status : (ending : Ending) → EndsRefused (fault_of rollduel_app (codes "rollduel" ∷ codes "play" ∷ [])) ending → ending.status ≡ 2

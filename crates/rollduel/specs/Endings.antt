@@ -16,7 +16,7 @@ use Rattle.prog_parts.specs.declared.task.Task.{Task}
 use Rattle.prog_picture.specs.declared.scene.Window.{Window}
 use Rattle.rollduel.specs.Requests.{AreNamed}
 use Rattle.rollduel.specs.declared.picture.Done.{Done}
-use Rattle.prog_command_line.specs.declared.picture.PictureFault.{PictureFault}
+use Rattle.prog_command_line.specs.declared.picture.OptionFault.{OptionFault}
 
 -- the program ends with a fault
 abbrev pub faulted : PlayFault → Ending
@@ -36,7 +36,7 @@ EndsMatch rows ending = ending.status ≡ 0
     → (options : PeersOptions) × AreNamed rows options × HasAgreed options
 
 -- how the program ends at words of which the picture can't be drawn
-abbrev pub EndsUnpictured : Ending → PictureFault → Type 0
+abbrev pub EndsUnpictured : Ending → OptionFault → Type 0
 EndsUnpictured ending fault = (ending ≡ misused) ⊎ (ending ≡ faulted NoMemory)
 
 -- the file and the text of the picture that is to be saved: one that was made, where nothing failed

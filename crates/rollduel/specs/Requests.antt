@@ -3,7 +3,7 @@ use Rattle.std.specs.Prelude.{◌≡◌, ◌≤◌, Bool, List, Option, None, So
 use Rattle.clap.specs.Walk.{Row, Text, first_of}
 use Rattle.prog_command_line.specs.Requests as line
 use Rattle.prog_command_line.specs.Requests.{number_in, number_named, options_named, path_of, stop_texts}
-use Rattle.prog_command_line.specs.declared.picture.PictureFault.{PictureFault}
+use Rattle.prog_command_line.specs.declared.picture.OptionFault.{OptionFault}
 use Rattle.prog_command_line.specs.declared.picture.PictureWindow.{PictureWindow}
 use Rattle.prog_command_line.specs.declared.request.Game.{Game}
 use Rattle.prog_command_line.specs.declared.request.Game.TheVariants as game
@@ -84,7 +84,7 @@ pub data Asked : Type 0 where
   on_text : Option Text → Task → Bool → Asked
   live : Option Text → Live → Asked
   «match» : Asked
-  refused : PictureFault → Asked
+  refused : OptionFault → Asked
 
 abbrev pub asked_of : Request → Asked
 asked_of (request.Text asked) = on_text (path_of asked.input) asked.task asked.explain
@@ -153,6 +153,6 @@ IfMatch «match» P = P
 IfMatch _ P = ⊤
 
 -- a fact where what is said of a picture can't be followed
-abbrev pub IfRefused : Asked → (PictureFault → Type 0) → Type 0
+abbrev pub IfRefused : Asked → (OptionFault → Type 0) → Type 0
 IfRefused (refused fault) P = P fault
 IfRefused _ P = ⊤

@@ -11,7 +11,7 @@ ghost use Rattle.rollduel.specs.Requests.{HasOptions, HasWorkers, IsOf, asked_as
 use crate::picture::PictureRequest;
 use clap::Error;
 use prog_command_line::{
-    Game, GuessOption, Input, LiveOptions, MatchRequest, PeersRequest, PictureFault,
+    Game, GuessOption, Input, LiveOptions, MatchRequest, OptionFault, PeersRequest,
     PictureRequest as AskedPicture, PictureWindow, Request as Asked, TextRequest as AskedText,
     TextTask,
 };
@@ -43,7 +43,7 @@ pub enum Request<'a> {
     /// A match is to be played, of which nothing is read, or why it can't be.
     Match(Result<PeersOptions, PeersFault>),
     /// Nothing, for what is said of a picture can't be followed.
-    Refused(PictureFault),
+    Refused(OptionFault),
 }
 
 /// What is to be done with a text.

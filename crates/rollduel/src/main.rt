@@ -26,7 +26,7 @@ mod work;
 use clap::Error;
 use clap::error::ErrorKind;
 use command_line::Request;
-use picture::{Done, path_of, save, sight_of};
+use picture::{Done, is_picture, path_of, save, sight_of};
 use prog_explain::Notes;
 use prog_parts::{Ending, PlayFault};
 use std::alloc::AllocGlobal;
@@ -108,6 +108,7 @@ where
     ) {
         Ok(done) => save(
             done,
+            |path: &str| is_other(rt, path),
             |path: &str, text: &str| fs::write(rt, path, text),
             notes,
         ),
@@ -205,6 +206,17 @@ where
             path,
             picture: None,
         }),
+    }
+}
+
+/// Whether a file stands there that is no picture.
+fn is_other<R: Runtime + AllocGlobal>(rt: &R, path: &str) -> bool {
+    match fs::metadata(rt, path) {
+        Ok(about) if about.is_file() => match fs::open(rt, path) {
+            Ok(mut file) => !is_picture(&mut file),
+            Err(_) => false,
+        },
+        _ => false,
     }
 }
 

@@ -1,14 +1,18 @@
 //! The picture that is asked for, and how it is saved.
-ghost use Rattle.std.specs.Fn.{FnOnceReturnsAtPair};
-ghost use Rattle.std.specs.Prelude.{◌≡◌, ◌⊎◌, MatchOption, option_map};
+ghost use Rattle.std.specs.Fn.{FnOnceReturnsAt, FnOnceReturnsAtPair};
+ghost use Rattle.std.specs.Prelude.{◌≡◌, ◌⊎◌, Bool, MatchBool, MatchOption, option_map};
 ghost use Rattle.prog_parts.specs.declared.fault.PlayFault.TheVariants.{Write as CannotWrite};
-ghost use Rattle.rollduel.specs.Endings.{ending_after, faulted, to_save};
+ghost use Rattle.rollduel.specs.Endings.{ending_after, faulted, misused, to_save};
 
 use prog_explain::Notes;
 use prog_parts::{Ending, PlayFault};
 use prog_picture::{Sight, Window};
 use std::fmt::Write as _;
 use std::io;
+use std::io::Read;
+
+/// How a picture begins.
+const PICTURE_HEAD: &str = "<svg xmlns=";
 
 /// A picture that is asked for.
 #[derive(Clone, Copy)]
@@ -52,33 +56,84 @@ pub fn path_of<'a>(asked: Option<PictureRequest<'a>>) -> Option<&'a str>
     }
 }
 
-/// Saves the picture that was made, and answers how the program ends. One that can't be written is a fault. Where none was
-/// made though nothing failed, that is noted.
-pub fn save<P: FnOnce(&str, &str) -> io::Result<()>>(
+/// Saves the picture that was made, and answers how the program ends. A file that is no picture isn't overwritten, and that is
+/// told. One that can't be written is a fault. Where none was made though nothing failed, that is noted.
+pub fn save<L: FnOnce(&str) -> bool, P: FnOnce(&str, &str) -> io::Result<()>>(
     done: Done<'_>,
+    looker: L,
     saver: P,
     notes: &mut Notes,
 ) -> Ending
-    requires { P.IsAlwaysCallable saver }
+    requires looker { L.IsAlwaysCallable looker }
+    requires saver { P.IsAlwaysCallable saver }
     ensures saved { MatchOption (to_save done.entry) (result ≡ done.entry.ending) (λ picture.
-        (saved : _) × FnOnceReturnsAtPair P.FnOnce saver picture.0 picture.1 saved
-        × (result ≡ ending_after done.entry.ending saved)) }
-    ensures ends { (result ≡ done.entry.ending) ⊎ (result ≡ faulted CannotWrite) }
+        (other : Bool) × FnOnceReturnsAt L.FnOnce looker picture.0 other
+        × MatchBool other (result ≡ misused)
+        ((saved : _) × FnOnceReturnsAtPair P.FnOnce saver picture.0 picture.1 saved
+        × (result ≡ ending_after done.entry.ending saved))) }
+    ensures ends { (result ≡ done.entry.ending) ⊎ (result ≡ misused) ⊎ (result ≡ faulted CannotWrite) }
 {
     if done.ending.fault.is_some() {
         return done.ending;
     }
     match (done.path, done.picture) {
-        (Some(path), Some(text)) => match saver(path, text.as_str()) {
-            Ok(()) => done.ending,
-            Err(_) => Ending::from(PlayFault::Write),
-        },
+        (Some(path), Some(text)) => {
+            save_at(path, text.as_str(), done.ending, looker, saver, notes)
+        }
         (Some(_), None) => {
             note_no_picture(&done.ending, notes);
             done.ending
         }
         (None, _) => done.ending,
     }
+}
+
+/// Saves a picture in a file, unless another file stands there, after the work ended so.
+fn save_at<L: FnOnce(&str) -> bool, P: FnOnce(&str, &str) -> io::Result<()>>(
+    path: &str,
+    text: &str,
+    ending: Ending,
+    looker: L,
+    saver: P,
+    notes: &mut Notes,
+) -> Ending
+    requires looker { L.IsAlwaysCallable looker }
+    requires saver { P.IsAlwaysCallable saver }
+    ensures saved { (other : Bool) × FnOnceReturnsAt L.FnOnce looker path.now other
+        × MatchBool other (result ≡ misused)
+        ((saved : _) × FnOnceReturnsAtPair P.FnOnce saver path.now text.now saved
+        × (result ≡ ending_after ending saved)) }
+    ensures ends { (result ≡ ending) ⊎ (result ≡ misused) ⊎ (result ≡ faulted CannotWrite) }
+{
+    if looker(path) {
+        return refuse_other(path, notes);
+    }
+    match saver(path, text) {
+        Ok(()) => ending,
+        Err(_) => Ending::from(PlayFault::Write),
+    }
+}
+
+/// Tells that a file isn't overwritten. Its name may hold anything: what a terminal would obey is escaped.
+fn refuse_other(path: &str, notes: &mut Notes) -> Ending
+    ensures { result ≡ misused }
+{
+    let name = path.escape_debug();
+    notes.is_cut |= writeln!(
+        notes.text,
+        "error: --picture {name}: this file is no picture, and isn't overwritten"
+    )
+    .is_err();
+    Ending {
+        status: 2,
+        fault: None,
+    }
+}
+
+/// Whether a file begins as a picture does.
+pub fn is_picture<F: Read>(file: &mut F) -> bool {
+    let mut head = [0; PICTURE_HEAD.len()];
+    file.read_exact(&mut head).is_ok() && head.as_slice() == PICTURE_HEAD.as_bytes()
 }
 
 /// Notes that there is nothing to draw, unless the words were refused, of which more was told.
