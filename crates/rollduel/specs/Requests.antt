@@ -1,5 +1,5 @@
 -- What the words ask for, as the parts of the program take it.
-use Rattle.std.specs.Prelude.{◌≡◌, ◌≤◌, Bool, List, Option, None, Some, ⊤, codes, IfOk, map, option_map}
+use Rattle.std.specs.Prelude.{◌≡◌, ◌≤◌, Bool, List, Option, None, ⊤, codes, IfOk, map, option_map}
 use Rattle.clap.specs.Walk.{Row, Text, first_of}
 use Rattle.prog_command_line.specs.Requests as line
 use Rattle.prog_command_line.specs.Requests.{number_in, number_named, options_named, path_of, stop_texts}
