@@ -12,9 +12,8 @@ const KNOWN: &str = r#"<path class="c1" d="M0 0h24v14h-24z"/>"#;
 
 const RIGHT: &str = r#"<path class="p1" d="M0 0h24v14h-24z"/>"#;
 
-const WRONG: &str = "\
-    <path class=\"p1\" d=\"M0 0h24v14h-24z\"/><path class=\"r\" d=\"M0 12h24v3h-24z\"/>\
-    <text class=\"n\" x=\"12\" y=\"11\">3</text><text class=\"z\" x=\"12\" y=\"-3\">0</text>";
+const WRONG: &str =
+    r#"<path class="p1" d="M0 0h24v14h-24z"/><path class="r" d="M0 12h24v3h-24z"/><text class="n" x="12" y="11">3</text><text class="z" x="12" y="-3">0</text>"#;
 
 const UNHEARD: &str = r#"<path class="p1" opacity=".45" d="M0 0h24v14h-24z"/>"#;
 
