@@ -91,13 +91,12 @@ No machine runs more frames again than GGPO, however many there are, and also wh
   $ costs --peers 5 --frames 200 --lost 10 --stop 1:100 | awk '{ more += $3 > $4; all += $4 } END { print NR, more, (all > 0) }'
   5 0 1
 
-Standard input isn't read, and a session that doesn't start is refused.
+Standard input isn't read, and a delay that no session has is refused.
 
   $ echo nothing | ($match | cmp - plain; cat)
   nothing
-  $ rollduel match --peers 3 --delay 9
-  refused 11
-  [1]
+  $ rollduel match --peers 3 --delay 9 2>&1 | sed -n 1p
+  error: invalid value '9' for '--delay <D>': 9 is not in 0..=8
   $ rollduel match --peers 5 --frames 60 --threshold 15 | agreement | sed 's/,.*//'
   all 5 that stay agree: frame 60 settled
 
