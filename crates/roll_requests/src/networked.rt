@@ -1,7 +1,7 @@
 //! A session of a game elsewhere as the network of a match sees it.
 use crate::elsewhere::Elsewhere;
 use roll_frame::{Event, Refusal, Row, Settings};
-use roll_session::{Call, Heard, Networked, Source};
+use roll_session::{Call, Heard, Networked, Settling, Source};
 
 impl Networked for Elsewhere {
     ghost use Rattle.roll_requests.specs.Made.{keeps_itself, keeps_on, Keeps};
@@ -45,14 +45,6 @@ impl Networked for Elsewhere {
         self.core().source(player, frame)
     }
 
-    fn settled(&self) -> u32 {
-        self.core().settled()
-    }
-
-    fn settled_row(&self, frame: u32) -> Option<Row> {
-        self.core().settled_row(frame)
-    }
-
     fn laws(&self) {
         self.core().laws();
     }
@@ -72,5 +64,15 @@ impl Networked for Elsewhere {
     fn disconnect_player(&mut self, player: u8) -> Result<Event, Refusal> {
         self.take(Call::Disconnect { player })?;
         Ok(Event::DisconnectedFromPeer { player })
+    }
+}
+
+impl Settling for Elsewhere {
+    fn settled(&self) -> u32 {
+        self.core().settled()
+    }
+
+    fn settled_row(&self, frame: u32) -> Option<Row> {
+        self.core().settled_row(frame)
     }
 }

@@ -17,7 +17,7 @@ mod way;
 pub use event::{Call, Grafted, Reached, ReplayFault, Request};
 pub use gameless::Core;
 pub use log::{Log, Logged};
-pub use networked::Networked;
+pub use networked::{Networked, Settling};
 pub use roll_game::StartFault;
 pub use roll_inputs::{Heard, Source};
 pub use roll_plan::Plan;

@@ -64,15 +64,6 @@ pub trait Networked {
         ensures { result
             ≡ option_map (source_at frame) (player_at (seen self.now).core.players player) };
 
-    /// How many rows are settled.
-    fn settled(&self) -> u32
-        ensures { result ≡ settled_frame (seen self.now).core };
-
-    /// A settled row. None from the settled frame on.
-    fn settled_row(&self, frame: u32) -> Option<Row>
-        ensures { result ≡ (if nat_lt frame (settled_frame (seen self.now).core)
-            then Some (row_of (seen self.now).core.players frame) else None) };
-
     /// The log is one that events of a session leave.
     fn laws(&self)
         ensures { FollowsLog step (seen self.now) };
@@ -118,6 +109,18 @@ pub trait Networked {
         ensures keeps { keeps self.old self.new };
 }
 
+/// A session whose settled rows can be told. All of it is as of [`Session`].
+pub trait Settling: Networked {
+    /// How many rows are settled.
+    fn settled(&self) -> u32
+        ensures { result ≡ settled_frame (Self.seen self.now).core };
+
+    /// A settled row. None from the settled frame on.
+    fn settled_row(&self, frame: u32) -> Option<Row>
+        ensures { result ≡ (if nat_lt frame (settled_frame (Self.seen self.now).core)
+            then Some (row_of (Self.seen self.now).core.players frame) else None) };
+}
+
 impl<G: Game> Networked for Session<G> {
     ghost use Rattle.roll_session.specs.Others.{hears_more, hears_nothing, Hears};
 
@@ -159,14 +162,6 @@ impl<G: Game> Networked for Session<G> {
         self.source(player, frame)
     }
 
-    fn settled(&self) -> u32 {
-        self.settled()
-    }
-
-    fn settled_row(&self, frame: u32) -> Option<Row> {
-        self.settled_row(frame)
-    }
-
     fn laws(&self) {
         self.laws();
     }
@@ -181,6 +176,16 @@ impl<G: Game> Networked for Session<G> {
 
     fn disconnect_player(&mut self, player: u8) -> Result<Event, Refusal> {
         self.disconnect_player(player)
+    }
+}
+
+impl<G: Game> Settling for Session<G> {
+    fn settled(&self) -> u32 {
+        self.settled()
+    }
+
+    fn settled_row(&self, frame: u32) -> Option<Row> {
+        self.settled_row(frame)
     }
 }
 
@@ -225,14 +230,6 @@ impl<S: Drop> Networked for Core<S> {
         self.saves.board().source(player, frame)
     }
 
-    fn settled(&self) -> u32 {
-        self.saves.board().settled()
-    }
-
-    fn settled_row(&self, frame: u32) -> Option<Row> {
-        self.saves.settled_row(frame)
-    }
-
     fn laws(&self) {
         self.laws();
     }
@@ -252,5 +249,15 @@ impl<S: Drop> Networked for Core<S> {
     fn disconnect_player(&mut self, player: u8) -> Result<Event, Refusal> {
         self.take(Call::Disconnect { player })?;
         Ok(Event::DisconnectedFromPeer { player })
+    }
+}
+
+impl<S: Drop> Settling for Core<S> {
+    fn settled(&self) -> u32 {
+        self.saves.board().settled()
+    }
+
+    fn settled_row(&self, frame: u32) -> Option<Row> {
+        self.saves.settled_row(frame)
     }
 }

@@ -15,7 +15,7 @@ use crate::telling::{room_after, tells_rows, told_to};
 use arrayvec::ArrayVec;
 use roll_contact::Stage;
 use roll_mesh::PLAYER_LIMIT;
-use roll_session::Networked;
+use roll_session::Settling;
 use roll_wire::{Body, DATAGRAM_LIMIT, Play};
 use std::marker::Model;
 
@@ -122,7 +122,7 @@ impl ViewerLine {
     /// The bytes to send to the viewer in this turn of the match's session, at a moment: a hello, until its draw is believed, and
     /// then now and again until its first play comes; else the settled rows that it hasn't said that it has, as many as fit.
     /// None once the line has ended.
-    pub fn send<S: Networked>(
+    pub fn send<S: Settling>(
         &mut self,
         session: &S,
         now: u32,
@@ -147,7 +147,7 @@ impl ViewerLine {
     }
 
     /// The next rows, which the viewer is told from now on.
-    fn tell<S: Networked>(&mut self, session: &S, now: u32) -> Play
+    fn tell<S: Settling>(&mut self, session: &S, now: u32) -> Play
         ensures play { turn result ≡ with_clocks
             (clocks_at self.old.line (with_told self.old (S.seen session.now).core).told now)
             (told_to (S.seen session.now).core self.old.had) }

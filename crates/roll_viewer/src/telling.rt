@@ -15,13 +15,13 @@ ghost use Rattle.roll_viewer.specs.Telling.{has_by, has_of, room_after, said_as,
 use crate::rows::has_words;
 use arrayvec::ArrayVec;
 use roll_mesh::{MACHINE_LIMIT, Offer, PLAYER_LIMIT, View};
-use roll_session::Networked;
+use roll_session::Settling;
 use roll_wire::{Clocks, Head, Play, WORD_LIMIT};
 
 const NONE: Offer = Offer { first: 0, end: 0 };
 
 /// How many rows more are told a viewer who has so many.
-pub(crate) fn room_after<S: Networked>(session: &S, had: u32) -> u32
+pub(crate) fn room_after<S: Settling>(session: &S, had: u32) -> u32
     ensures room { result ≡ room_after (S.seen session.now).core had }
     ensures fits { had + result ≤ u32.MAX }
 {
@@ -33,7 +33,7 @@ pub(crate) fn room_after<S: Networked>(session: &S, had: u32) -> u32
 }
 
 /// In how many settled rows the player at a place has a word. None if there is no such player.
-fn has_of<S: Networked>(session: &S, place: usize) -> Option<u32>
+fn has_of<S: Settling>(session: &S, place: usize) -> Option<u32>
     requires { place < PLAYER_LIMIT }
     ensures { result ≡ option_map (has_of (settled (S.seen session.now).core))
         (slice_get (S.seen session.now).core.players place) }
@@ -44,7 +44,7 @@ fn has_of<S: Networked>(session: &S, place: usize) -> Option<u32>
 }
 
 /// In how many settled rows each player has a word.
-fn counts<S: Networked>(session: &S) -> [u32; PLAYER_LIMIT]
+fn counts<S: Settling>(session: &S) -> [u32; PLAYER_LIMIT]
     ensures { result ≡ has_by (S.seen session.now).core }
 {
     let mut counts = [0; PLAYER_LIMIT];
@@ -55,7 +55,7 @@ fn counts<S: Networked>(session: &S) -> [u32; PLAYER_LIMIT]
 }
 
 /// Where the words of the player at a place stand in so many rows from those on that a viewer has.
-fn span_of<S: Networked>(session: &S, place: usize, had: u32, room: u32) -> Offer
+fn span_of<S: Settling>(session: &S, place: usize, had: u32, room: u32) -> Offer
     requires { place < PLAYER_LIMIT }
     ensures { result ≡ option_map_or (span_of (settled (S.seen session.now).core) had room)
         (slice_get (S.seen session.now).core.players place) none_offered }
@@ -70,7 +70,7 @@ fn span_of<S: Networked>(session: &S, place: usize, had: u32, room: u32) -> Offe
 }
 
 /// Each player's words in the rows that are told a viewer.
-fn spans_to<S: Networked>(session: &S, had: u32) -> [Offer; PLAYER_LIMIT]
+fn spans_to<S: Settling>(session: &S, had: u32) -> [Offer; PLAYER_LIMIT]
     ensures { result ≡ spans_to (S.seen session.now).core had }
 {
     let room = room_after(session, had);
@@ -111,7 +111,7 @@ fn said_once(spans: &[Offer; PLAYER_LIMIT]) -> [Offer; PLAYER_LIMIT]
 }
 
 /// Adds a player's words of a span.
-fn push_words<S: Networked>(
+fn push_words<S: Settling>(
     words: &mut ArrayVec<u32, WORD_LIMIT>,
     session: &S,
     player: u8,
@@ -129,7 +129,7 @@ fn push_words<S: Networked>(
 }
 
 /// The words in these spans.
-fn words_in<S: Networked>(session: &S, spans: &[Offer]) -> ArrayVec<u32, WORD_LIMIT>
+fn words_in<S: Settling>(session: &S, spans: &[Offer]) -> ArrayVec<u32, WORD_LIMIT>
     requires players { length spans.now ≤ PLAYER_LIMIT }
     requires room { count_of spans.now ≤ WORD_LIMIT }
     ensures { result.items ≡ words_in (S.seen session.now).core.players spans.now }
@@ -142,7 +142,7 @@ fn words_in<S: Networked>(session: &S, spans: &[Offer]) -> ArrayVec<u32, WORD_LI
 }
 
 /// What a host tells a viewer who has so many rows, with these clocks.
-pub(crate) fn told_to<S: Networked>(session: &S, had: u32, clocks: Option<Clocks>) -> Play
+pub(crate) fn told_to<S: Settling>(session: &S, had: u32, clocks: Option<Clocks>) -> Play
     ensures told { turn result ≡ with_clocks clocks (told_to (S.seen session.now).core had) }
     ensures whole { is_turn (turn result) ≡ true }
 {
@@ -187,7 +187,7 @@ pub(crate) fn acknowledged(players: usize, rows: u32, clocks: Option<Clocks>) ->
 }
 
 /// What a host tells is its settled rows.
-pub(crate) fn tells_rows<S: Networked>(session: &S, had: u32)
+pub(crate) fn tells_rows<S: Settling>(session: &S, had: u32)
     ensures { TellsRows (S.seen session.now).core had }
 {
     session.laws();
