@@ -7,9 +7,11 @@ mod history;
 mod queue;
 mod queues;
 mod record;
+mod remote_word;
 mod source;
 
 pub use board::Board;
 pub use heard::Heard;
 pub use record::Record;
+pub use remote_word::RemoteWord;
 pub use source::Source;

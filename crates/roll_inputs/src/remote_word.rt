@@ -1,0 +1,10 @@
+//! A remote word.
+
+/// A word of a remote player, who gave it in this frame.
+#[derive(Clone, Copy, Debug, PartialEq, Eq)]
+pub struct RemoteWord {
+    /// The player, from 1 on.
+    pub player: u8,
+    pub frame: u32,
+    pub word: u32,
+}
