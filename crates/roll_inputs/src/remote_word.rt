@@ -1,7 +1,7 @@
 //! A remote word.
 
 /// A word of a remote player, who gave it in this frame.
-#[derive(Clone, Copy, Debug, PartialEq, Eq)]
+#[derive(Clone, Copy, Debug, Default, PartialEq, Eq)]
 pub struct RemoteWord {
     /// The player, from 1 on.
     pub player: u8,

@@ -106,7 +106,7 @@ module _ (step : Step) where
   }
 
   -- a word that is heard for the first time is played
-  heard_played : (mid new : Seen) (p frame word : ℕ) → IsHeard mid new p frame word HeardNow
+  pub heard_played : (mid new : Seen) (p frame word : ℕ) → IsHeard mid new p frame word HeardNow
       → IsPlayed step mid new (plain (Remote p frame word) ∷ [])
   heard_played mid new p frame word b = go (remote_answered step mid new p frame word (Ok HeardNow) b tt tt)
     where

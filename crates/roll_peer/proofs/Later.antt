@@ -20,14 +20,10 @@ use Rattle.roll_session.specs.Headline.{words_of}
 use Rattle.roll_session.specs.Others.{bare}
 use Rattle.roll_session.specs.Seen.{game_of, FollowsLog, Seen, Step}
 use Rattle.roll_session.specs.declared.event.Reached.{Reached}
-use Rattle.roll_peer.specs.PeerWorlds.{IsCalled}
+use Rattle.roll_peer.specs.PeerWorlds.{Continues, IsCalled}
 use Rattle.roll_peer.specs.Turning.{ends_in_roll, GoesOn, Plays, PlaysIf}
 use Rattle.roll_peer.specs.declared.refusal.PeerRefusal.{PeerRefusal}
 use Rattle.roll_peer.specs.declared.refusal.PeerRefusal.TheVariants.{OtherSession, Session}
-
--- each player's words begin with those before
-abbrev pub Continues : Seen → Seen → Type 0
-Continues old new = (p : ℕ) → (more : List ℕ) × (words_of new (p + 1) ≡ words_of old (p + 1) ++ more)
 
 -- ---- the players
 

@@ -26,7 +26,7 @@ use Rattle.roll_member.proofs.Known.{known_few, known_other}
 use Rattle.roll_member.proofs.Tied.{seated_fine, seat_inputs}
 use Rattle.roll_wire.specs.Spelling.{are_offers, count_of, Content, Fits, Greets, Leaves, Plays, Turn}
 use Rattle.roll_wire.specs.declared.limits.TheConstants.{WORD_LIMIT}
-use Rattle.roll_peer.specs.PeerWorlds.{nobody, IsPlayedTo, sent_in, Acts, AreSteps, Calls, Deed, Disconnects, Does, IsStep, NotesSettled, Opens, PeerWorld, Polls, Receives, SaysBye, Sends, SendsNone, TakesEvent, TakesTurn}
+use Rattle.roll_peer.specs.PeerWorlds.{nobody, IsPlayedTo, sent_in, Acts, AreSteps, Calls, CallsHolding, Deed, Disconnects, Does, IsStep, NotesSettled, NotesStateAt, Opens, PeerWorld, Polls, Receives, SaysBye, Sends, SendsNone, TakesEvent, TakesTurn}
 use Rattle.roll_peer.specs.Peered.{beside, Peered}
 use Rattle.roll_peer.specs.Receiving.{is_refusal, meeting, opened, packet_of, sender_of, ticking, Hears, HearsTurn, IsIgnored}
 use Rattle.roll_peer.specs.Requests.{Beside, HearsBytes}
@@ -383,6 +383,10 @@ module _ (match : Match) (world : WordWorld) (i : ℕ) (from : IsFrom match worl
       (subst (λ (p : Peered). Stands match world i new.session p) (sym does.1)
       (stands_on match world i from there old.session new.session old.peer
       (called_on step old.session new.session follows does.0) stands))
+  acts step sent CallsHolding old new follows was does stands =
+      silent match world i from there new
+      (subst (λ (p : Peered). Stands match world i new.session p) (sym does.1)
+      (stands_on match world i from there old.session new.session old.peer does.0 stands))
   acts step sent (Receives bytes now said) old new follows was does stands =
       silent match world i from there new
       (heard_stands step old new now bytes said does.0
@@ -440,6 +444,11 @@ module _ (match : Match) (world : WordWorld) (i : ℕ) (from : IsFrom match worl
       (stands_as match world i from there old.session (meeting old.session old.peer) new.peer
       (ap (λ (p : Peered). p.member.mesh) does.1) (ap (λ (p : Peered). p.settings) does.1)
       (stands_met match world i from there old.session old.peer does.0 stands)))
+  acts step sent (NotesStateAt frame digest) old new follows was does stands =
+      silent match world i from there new
+      (subst (λ (s : Seen). Stands match world i s new.peer) (sym does.1)
+      (stands_as match world i from there old.session old.peer new.peer
+      (ap (λ (p : Peered). p.member.mesh) does.0) (ap (λ (p : Peered). p.settings) does.0) stands))
   acts step sent TakesEvent old new follows was does stands =
       silent match world i from there new
       (subst (λ (s : Seen). Stands match world i s new.peer) (sym does.1)

@@ -1,6 +1,6 @@
 -- All machines of a match, each with its session and the network beside it, and all datagrams that they ever sent: each may come
 -- at any time, at any machine, any number of times, or never.
-use Rattle.std.specs.Prelude.{◌≡◌, ◌≢◌, ◌⊎◌, ◌<◌, ℕ, List, [], ◌∷◌, ◌++◌, Option, Some, None, Result, Ok, IfSome, slice_get}
+use Rattle.std.specs.Prelude.{◌≡◌, ◌≢◌, ◌⊎◌, ◌<◌, ℕ, ◌+◌, List, [], ◌∷◌, ◌++◌, Option, Some, None, Result, Ok, IfSome, slice_get}
 use Rattle.roll_contact.specs.Seals.{message_by}
 use Rattle.roll_frame.specs.Core.{settled}
 use Rattle.roll_frame.specs.Events.{CoreEvent}
@@ -10,6 +10,7 @@ use Rattle.roll_mesh.specs.Machines.{leave}
 use Rattle.roll_mesh.specs.Meshes.{stepped}
 use Rattle.roll_mesh.specs.Worlds.{Match, seat_of}
 use Rattle.roll_session.specs.Answered.{IsPlayed, IsShort}
+use Rattle.roll_session.specs.Headline.{words_of}
 use Rattle.roll_session.specs.Others.{bare}
 use Rattle.roll_session.specs.Seen.{FollowsLog, Seen, Step}
 use Rattle.roll_session.specs.declared.event.Reached.{Reached}
@@ -36,9 +37,11 @@ pub record PeerWorld : Type 0 where
 abbrev pub nobody : PeerWorld
 nobody = record { machines = λ machine. None; sent = [] }
 
--- a call that a machine's program makes, with what it is answered: of its session; or of the network, as its functions are named
+-- a call that a machine's program makes, with what it is answered: of its session; of a session from which words are held back, which the
+-- network sees as if it had heard them; or of the network, as its functions are named
 pub data Deed : Type 0 where
   Calls : Deed
+  CallsHolding : Deed
   Receives : (bytes : List ℕ) (now : ℕ) → Result Received Ignored → Deed
   Polls : (now : ℕ) → Result Unit PeerRefusal → Deed
   TakesTurn : (now : ℕ) → Result (Option Reached) PeerRefusal → Deed
@@ -47,6 +50,7 @@ pub data Deed : Type 0 where
   SaysBye : (machine : ℕ) → List ℕ → Deed
   Disconnects : (machine : ℕ) → Deed
   NotesSettled : (digest : ℕ) → Deed
+  NotesStateAt : (frame digest : ℕ) → Deed
   TakesEvent : Deed
 
 abbrev pub sent_if : Option (List ℕ) → List (List ℕ)
@@ -67,6 +71,10 @@ IsCalled step old new =
     ⊎ ((event : CoreEvent) × IsShort step old new event)
     ⊎ (new ≡ record old { counts = new.counts })
 
+-- each player's words begin with those before
+abbrev pub Continues : Seen → Seen → Type 0
+Continues old new = (p : ℕ) → (more : List ℕ) × (words_of new (p + 1) ≡ words_of old (p + 1) ++ more)
+
 -- if bytes are heard as a play, a machine of the match sent them: whoever hasn't the key seals nothing
 abbrev pub IsGenuine : List (List ℕ) → Peered → List ℕ → Type 0
 IsGenuine sent peer bytes = (t : Turn) → opened peer bytes ≡ Ok (Plays t)
@@ -75,6 +83,7 @@ IsGenuine sent peer bytes = (t : Turn) → opened peer bytes ≡ Ok (Plays t)
 -- what a call makes of a machine, where so much was sent before: what its contract says
 abbrev pub Does : Step → List (List ℕ) → Deed → (old new : Beside) → Type 0
 Does step sent Calls old new = IsCalled step old.session new.session × (new.peer ≡ old.peer)
+Does step sent CallsHolding old new = Continues old.session new.session × (new.peer ≡ old.peer)
 Does step sent (Receives bytes now said) old new =
     HearsBytes step old new now bytes said
     × IsGenuine sent (meeting old.session (ticking now old.peer)) bytes
@@ -104,6 +113,8 @@ Does step sent (NotesSettled digest) old new =
     × (new.peer ≡ record (meeting old.session old.peer) {
       digests = noted (settled old.session.core) digest old.peer.digests;
     }) × (new.session ≡ old.session)
+Does step sent (NotesStateAt frame digest) old new =
+    (new.peer ≡ record old.peer { digests = noted frame digest old.peer.digests }) × (new.session ≡ old.session)
 Does step sent TakesEvent old new =
     (new.peer ≡ record old.peer { waiting = popped old.peer.waiting }) × (new.session ≡ old.session)
 

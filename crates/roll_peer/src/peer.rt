@@ -21,7 +21,7 @@ use crate::stall::Stall;
 use roll_contact::{Clock, Contact, Stage};
 use roll_member::Member;
 use roll_mesh::{MACHINE_LIMIT, Mesh, MeshRefusal};
-use roll_session::Networked;
+use roll_session::{Networked, Settling};
 use std::alloc::Global;
 use std::marker::Model;
 
@@ -142,7 +142,7 @@ impl Peer {
     /// # Errors
     ///
     /// If the session isn't this match's. Nothing is changed then.
-    pub fn note_settled<S: Networked>(
+    pub fn note_settled<S: Settling>(
         &mut self,
         session: &S,
         digest: u64,
@@ -159,6 +159,14 @@ impl Peer {
         }
         self.digests.note(session.settled(), digest);
         Ok(())
+    }
+
+    /// Notes the digest of a state that the session has settled at a frame, for a program that holds words back: its session has
+    /// settled less than the network knows. Else as `note_settled`.
+    pub fn note_state_at(&mut self, frame: u32, digest: u64)
+        ensures { self.new ≡ record self.old { digests = noted frame digest self.old.digests } }
+    {
+        self.digests.note(frame, digest);
     }
 
     /// What happened, the oldest first. If 64 events wait, the oldest of them is dropped for a new one.

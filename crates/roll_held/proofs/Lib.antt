@@ -1,0 +1,3 @@
+pub mod Told
+pub mod Seeing
+pub mod Same

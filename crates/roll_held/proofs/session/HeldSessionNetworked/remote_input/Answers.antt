@@ -1,0 +1,89 @@
+use Rattle.std.proofs.Common.{◌≡◌, ◌∙◌, ◌+◌, ◌-◌, ◌∷◌, ◌++◌, [], List, ap, arith, length, subst, sym, true}
+use Rattle.std.specs.Prelude.{unwrap_or}
+use Rattle.roll_frame.specs.declared.refusal.Refusal.TheVariants.{NoMemory}
+use Rattle.roll_inputs.specs.declared.remote_word.RemoteWord.{RemoteWord}
+use Rattle.roll_session.specs.Changes.{FitsLog}
+use Rattle.roll_session.specs.Seen.{Seen}
+use Rattle.roll_held.specs.Told.{is_next, roomless, told, Takes}
+use Rattle.roll_held.proofs.Told.{as_told_same, full_same, held_more, next_refusal, next_taken, takes_room, told_room}
+use Rattle.roll_held.proofs.session.HeldSessionNetworked.remote_input.Given as given
+use Rattle.roll_held.proofs.session.HeldSessionNetworked.remote_input.Goals as goal
+
+pub hold-requires-clause-takes : goal.hold-requires-clause-takes
+hold-requires-clause-takes g c =
+    let old = c.args.self.now in
+    let s = g.S.Networked.seen old.session.now in
+    let mid = g.S.Networked.seen c.make_room.new.self.session.now in
+    let words = old.held.now.words.items in
+    let w : RemoteWord = record { player = c.args.player; frame = c.args.frame; word = c.args.word } in
+    let i = c.in-Ok.ensures in
+    let next : is_next s words w ≡ true =
+    subst (λ (ws : List RemoteWord). is_next s ws w ≡ true) c.as_slice.ensures.value (sym c.if-is_next.ensures) in
+    let room : FitsLog s (length words + 1) = omega (
+      arith,
+      i.log,
+      ap (λ (x : Seen). x.core.logged) i.same,
+      ap (λ (x : Seen). x.settings.log) i.same,
+      ap (λ (ws : List RemoteWord). length ws) i.words,
+    ) in
+    let takes = next_taken g.S.Networked.step s words w c.laws.ensures old.fits room next in
+    subst (λ (x : Seen). Takes x w) (sym (c.make_place.ensures.same ∙ ap (told mid) i.words))
+    (takes_room (told s words) (told mid words) w (sym (told_room mid s words i.same)) takes)
+
+pub returns-in-Ok-clause-heard : goal.returns-in-Ok-clause-heard
+returns-in-Ok-clause-heard g c =
+    let old = c.args.self.now in
+    let s = g.S.Networked.seen old.session.now in
+    let mid = g.S.Networked.seen c.make_room.new.self.session.now in
+    let place = g.S.Networked.seen c.make_place.new.self.session.now in
+    let words = old.held.now.words.items in
+    let held = c.make_place.new.self.held.now.words.items in
+    let w : RemoteWord = record { player = c.args.player; frame = c.args.frame; word = c.args.word } in
+    let i = c.in-Ok.ensures in
+    let next : is_next s words w ≡ true =
+    subst (λ (ws : List RemoteWord). is_next s ws w ≡ true) c.as_slice.ensures.value (sym c.if-is_next.ensures) in
+    let room : FitsLog s (length words + 1) = omega (
+      arith,
+      i.log,
+      ap (λ (x : Seen). x.core.logged) i.same,
+      ap (λ (x : Seen). x.settings.log) i.same,
+      ap (λ (ws : List RemoteWord). length ws) i.words,
+    ) in
+    let takes = next_taken g.S.Networked.step s words w c.laws.ensures old.fits room next in
+    let reserved = c.hold.ensures.reserved ∙ ap (λ n. n - 1) (c.make_place.ensures.reserved ∙ i.reserved) in
+    (
+      takes.fresh,
+      takes.taken,
+      as_told_same (g.S.Networked.seen c.hold.new.self.session.now) place c.hold.new.self.held.now.words.items (held ++ w ∷ [])
+      c.hold.new.self.reserved (old.reserved - 1) (ap (λ x. roomless (g.S.Networked.seen x)) c.hold.ensures.session)
+      c.hold.ensures.words reserved
+      ∙ held_more s mid place words held w old.reserved i.same (c.make_place.ensures.same ∙ ap (told mid) i.words),
+    )
+
+pub returns-in-Err-clause-fresh : goal.returns-in-Err-clause-fresh
+returns-in-Err-clause-fresh g c =
+    let old = c.args.self.now in
+    let s = g.S.Networked.seen old.session.now in
+    let words = old.held.now.words.items in
+    let w : RemoteWord = record { player = c.args.player; frame = c.args.frame; word = c.args.word } in
+    let next : is_next s words w ≡ true =
+    subst (λ (ws : List RemoteWord). is_next s ws w ≡ true) c.as_slice.ensures.value (sym c.if-is_next.ensures) in
+    (next_refusal g.S.Networked.step s words w c.laws.ensures old.fits next).0
+
+pub returns-in-Err-clause-refused : goal.returns-in-Err-clause-refused
+returns-in-Err-clause-refused g c =
+    let old = c.args.self.now in
+    let s = g.S.Networked.seen old.session.now in
+    let mid = g.S.Networked.seen c.make_room.new.self.session.now in
+    let words = old.held.now.words.items in
+    let w : RemoteWord = record { player = c.args.player; frame = c.args.frame; word = c.args.word } in
+    let i = c.in-Err.ensures in
+    let next : is_next s words w ≡ true =
+    subst (λ (ws : List RemoteWord). is_next s ws w ≡ true) c.as_slice.ensures.value (sym c.if-is_next.ensures) in
+    let why = (next_refusal g.S.Networked.step s words w c.laws.ensures old.fits next).1 ∙ full_same s words in
+    record {
+      said = i.refused ∙ ap (λ o. unwrap_or o NoMemory) (sym why);
+      unchanged = as_told_same mid s c.make_room.new.self.held.now.words.items words c.make_room.new.self.reserved old.reserved
+          i.same i.words i.reserved;
+      reserved = λ none. i.unreserved;
+    }

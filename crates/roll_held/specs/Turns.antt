@@ -1,0 +1,1 @@
+-- For how many turns words were held back.

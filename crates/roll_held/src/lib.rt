@@ -1,0 +1,12 @@
+//! Words of others that are held back from a session until another thread has run their frames.
+#![tactic(auto)]
+
+mod fault;
+mod held;
+mod laws;
+mod session;
+mod words;
+
+pub use fault::HeldFault;
+pub use held::{HELD_LIMIT, Held};
+pub use laws::held_words_are_heard;

@@ -1,0 +1,211 @@
+//! A session and the words that are held back from it, as the network of a match sees them.
+ghost use Rattle.std.specs.Prelude.{◌≡◌, ◌+◌, ◌-◌, ◌≤◌, ◌<◌, [], ◌∷◌, ◌++◌, length, IfErr, OnErr, OnOk};
+ghost use Rattle.roll_held.specs.Told.{as_told, roomless, told, Fits, Takes};
+ghost use Rattle.roll_held.specs.declared.held.TheConstants.{HELD_LIMIT as MOST_HELD};
+ghost use Rattle.roll_session.specs.Changes.{reserve_refusal, FitsLog, IsWhy};
+
+use crate::held::Held;
+use crate::words::{count_among, is_next, tell, word_among};
+use arrayvec::ArrayVec;
+use roll_frame::{Event, Refusal, Settings};
+use roll_session::{Heard, Networked, RemoteWord, Settling, Source};
+use std::mem;
+
+/// A session as if it had heard the words that are held back from it.
+#[derive(Drop)]
+pub(crate) struct HeldSession<'a, S: Settling> {
+    pub(crate) session: &'a mut S,
+    pub(crate) held: &'a mut Held,
+    pub(crate) reserved: u32,
+    ghost fits: { Fits (S.seen session.now) held.now.words.items },
+    ghost room: { length held.now.words.items + reserved ≤ (S.seen session.now).reserved },
+    ghost log: { FitsLog (S.seen session.now) (length held.now.words.items + reserved) },
+}
+
+impl<'a, S: Settling> HeldSession<'a, S> {
+    /// Tells the session all words that are held back.
+    fn tell_all(&mut self)
+        ensures none { self.new.held.now.words.items ≡ [] }
+        ensures session { S.seen self.new.session.now
+            ≡ told (S.seen self.old.session.now) self.old.held.now.words.items }
+        ensures reserved { self.new.reserved ≡ self.old.reserved }
+        ensures same_session { self.new.session.ghost_name ≡ self.old.session.ghost_name }
+        ensures same_held { self.new.held.ghost_name ≡ self.old.held.ghost_name }
+        ensures keeps { S.keeps self.old.session.now self.new.session.now }
+    {
+        let words = mem::replace(&mut self.held.words, ArrayVec::new());
+        tell(self.session, words.as_slice());
+    }
+
+    /// There is room for one event more: for certain, if one is reserved.
+    fn make_room(&mut self) -> Result<(), Refusal>
+        ensures room { OnOk result (1
+            ≤ (told (S.seen self.new.session.now) self.new.held.now.words.items).reserved) }
+        ensures log { OnOk result (FitsLog (S.seen self.new.session.now)
+            (length self.new.held.now.words.items + 1)) }
+        ensures refused { IfErr result (IsWhy (reserve_refusal (S.seen self.old.session.now)
+            (length self.old.held.now.words.items + 1))) }
+        ensures unreserved { OnErr result (self.old.reserved ≡ 0) }
+        ensures same { roomless (S.seen self.new.session.now) ≡ roomless (S.seen self.old.session.now) }
+        ensures words { self.new.held.now.words.items ≡ self.old.held.now.words.items }
+        ensures reserved { self.new.reserved ≡ self.old.reserved }
+        ensures same_session { self.new.session.ghost_name ≡ self.old.session.ghost_name }
+        ensures same_held { self.new.held.ghost_name ≡ self.old.held.ghost_name }
+        ensures keeps { S.keeps self.old.session.now self.new.session.now }
+    {
+        if self.reserved > 0 {
+            return Ok(());
+        }
+        let waiting = self.held.words.len() as u32;
+        match self.session.reserve_log(waiting + 1) {
+            Ok(()) => Ok(()),
+            Err(why) => Err(why),
+        }
+    }
+
+    /// There is a place for one word more: if as many are held back as can be, they are told.
+    fn make_place(&mut self)
+        ensures few { length self.new.held.now.words.items < MOST_HELD }
+        ensures same { told (S.seen self.new.session.now) self.new.held.now.words.items
+            ≡ told (S.seen self.old.session.now) self.old.held.now.words.items }
+        ensures reserved { self.new.reserved ≡ self.old.reserved }
+        ensures same_session { self.new.session.ghost_name ≡ self.old.session.ghost_name }
+        ensures same_held { self.new.held.ghost_name ≡ self.old.held.ghost_name }
+        ensures keeps { S.keeps self.old.session.now self.new.session.now }
+    {
+        if self.held.words.is_full() {
+            self.tell_all();
+        }
+    }
+
+    /// Holds back one word more.
+    fn hold(&mut self, word: RemoteWord)
+        requires few { length self.old.held.now.words.items < MOST_HELD }
+        requires takes { Takes
+            (told (S.seen self.old.session.now) self.old.held.now.words.items) word }
+        requires some { 1 ≤ (told (S.seen self.old.session.now) self.old.held.now.words.items).reserved }
+        ensures words { self.new.held.now.words.items ≡ self.old.held.now.words.items ++ word ∷ [] }
+        ensures reserved { self.new.reserved ≡ self.old.reserved - 1 }
+        ensures session { self.new.session.now ≡ self.old.session.now }
+        ensures same_session { self.new.session.ghost_name ≡ self.old.session.ghost_name }
+        ensures same_held { self.new.held.ghost_name ≡ self.old.held.ghost_name }
+    {
+        self.reserved = self.reserved.saturating_sub(1);
+        self.held.words.push(word);
+    }
+}
+
+impl<'a, S: Settling> Networked for HeldSession<'a, S> {
+    ghost use Rattle.std.specs.Prelude.{◌≡◌, refl};
+    ghost use Rattle.std.proofs.Common.{◌∙◌};
+    ghost use Rattle.roll_held.specs.Told.{as_told};
+
+    ghost seen = { λ h. as_told (S.seen h.session.now) h.held.now.words.items h.reserved };
+
+    ghost step = { S.step };
+
+    ghost keeps = { λ old new. (new.session.ghost_name ≡ old.session.ghost_name)
+        × ((new.held.ghost_name ≡ old.held.ghost_name) × S.keeps old.session.now new.session.now) };
+
+    ghost keeps_itself = { λ it. (refl, (refl, S.keeps_itself it.session.now)) };
+
+    ghost keeps_on = { λ a b c one two. (two.0 ∙ one.0, (two.1.0 ∙ one.1.0,
+        S.keeps_on a.session.now b.session.now c.session.now one.1.1 two.1.1)) };
+
+    fn settings(&self) -> &Settings {
+        self.session.settings()
+    }
+
+    fn frame(&self) -> u32 {
+        self.session.frame()
+    }
+
+    fn players(&self) -> u8 {
+        self.session.players()
+    }
+
+    fn is_local(&self, player: u8) -> bool {
+        self.session.is_local(player)
+    }
+
+    fn confirmed(&self, player: u8) -> Option<u32> {
+        self.laws();
+        let count = self.session.confirmed(player)?;
+        Some(count + count_among(self.held.words.as_slice(), player) as u32)
+    }
+
+    fn confirmed_word(&self, player: u8, frame: u32) -> Option<u32> {
+        let count = self.session.confirmed(player)?;
+        if frame < count {
+            self.session.confirmed_word(player, frame)
+        } else {
+            word_among(self.held.words.as_slice(), player, frame - count)
+        }
+    }
+
+    fn source(&self, player: u8, frame: u32) -> Option<Source> {
+        if frame < self.confirmed(player)? {
+            Some(Source::Confirmed)
+        } else {
+            self.session.source(player, frame)
+        }
+    }
+
+    fn laws(&self) {
+        self.session.laws();
+    }
+
+    fn reserve_log(&mut self, events: u32) -> Result<(), Refusal> {
+        self.session.laws();
+        let waiting = self.held.words.len() as u32;
+        match self.session.reserve_log(waiting.saturating_add(events)) {
+            Ok(()) => {
+                self.reserved = self.reserved.max(events);
+                Ok(())
+            }
+            Err(why) => Err(why),
+        }
+    }
+
+    fn remote_input(&mut self, player: u8, frame: u32, word: u32) -> Result<Heard, Refusal> {
+        let word = RemoteWord {
+            player,
+            frame,
+            word,
+        };
+        if is_next(self.session, self.held.words.as_slice(), &word) {
+            self.session.laws();
+            return match self.make_room() {
+                Ok(()) => {
+                    self.make_place();
+                    self.hold(word);
+                    Ok(Heard::Taken)
+                }
+                Err(why) => Err(why),
+            };
+        }
+        self.tell_all();
+        let reserved = self.reserved;
+        self.reserved = reserved.saturating_sub(1);
+        match self.session.remote_input(player, frame, word.word) {
+            Ok(Heard::Taken) => Ok(Heard::Taken),
+            said => {
+                self.reserved = reserved;
+                said
+            }
+        }
+    }
+
+    fn disconnect_player(&mut self, player: u8) -> Result<Event, Refusal> {
+        self.tell_all();
+        let reserved = self.reserved;
+        self.reserved = reserved.saturating_sub(1);
+        match self.session.disconnect_player(player) {
+            Ok(event) => Ok(event),
+            Err(why) => {
+                self.reserved = reserved;
+                Err(why)
+            }
+        }
+    }
+}
