@@ -1,8 +1,8 @@
 -- What is seen of a session that was told words.
-use Rattle.std.proofs.Common.{◌≡◌, ◌∙◌, ◌⊎◌, ℕ, ◌+◌, ◌-◌, ◌<◌, ◌≤◌, List, [], ◌∷◌, ◌++◌, length, get_or, take, refl, ap, sym, arith, Bool, true, false, cond, inl, inr, Option, Some, None, eqb, length-append}
-use Rattle.std.specs.Prelude.{◌==◌, nat_lt, slice_get, if◌then◌else◌}
+use Rattle.std.proofs.Common.{◌≡◌, ◌∙◌, ℕ, ◌+◌, ◌-◌, ◌<◌, ◌≤◌, List, ◌++◌, length, refl, ap, sym, arith, Bool, true, false, Option, Some, None, length-append}
+use Rattle.std.specs.Prelude.{slice_get}
 use Rattle.std.specs.Option.{option_and_then, option_map, option_map_or}
-use Rattle.std.proofs.lemmas.Bool.{cases_Bool, cases_lt, le-ltb, lt-ltb}
+use Rattle.std.proofs.lemmas.Bool.{le-ltb}
 use Rattle.circular_buffer.proofs.Places.{slice_get-append_left, slice_get-append_right}
 use Rattle.roll_frame.specs.Core.{settled}
 use Rattle.roll_frame.specs.Inputs.{of_player, player_at, with_words}
@@ -11,15 +11,13 @@ use Rattle.roll_frame.specs.declared.limits.TheConstants.{DELAY_LIMIT, FRAME_LIM
 use Rattle.roll_inputs.proofs.Players.{is_at}
 use Rattle.roll_inputs.specs.Boards.{confirmed_word, source_at}
 use Rattle.roll_inputs.specs.declared.remote_word.RemoteWord.{RemoteWord}
-use Rattle.roll_inputs.specs.declared.source.Source.{Source}
-use Rattle.roll_inputs.specs.declared.source.Source.TheVariants.{Confirmed}
 use Rattle.roll_laws.proofs.Bounds.{queues_are_short}
 use Rattle.roll_laws.proofs.Fronts.{settled_is}
 use Rattle.roll_laws.proofs.Sound.{Sound, sound_played}
 use Rattle.roll_session.proofs.Following.{law_of, small_of}
 use Rattle.roll_session.specs.Seen.{FollowsLog, Seen, Step}
-use Rattle.roll_held.specs.Told.{told, words_among, Fits}
-use Rattle.roll_held.proofs.Told.{follows_told, player_told}
+use Rattle.roll_held.specs.Told.{told, words_among}
+use Rattle.roll_held.proofs.Told.{player_told}
 
 abbrev pub count_in : Option Player → Option ℕ
 count_in o = option_map (λ player. length player.words) o

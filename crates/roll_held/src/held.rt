@@ -1,25 +1,161 @@
-//! Words that are held back.
-ghost use Rattle.std.specs.Prelude.{◌≡◌, [], drop, min, length};
+//! Words that are held back, and for how many turns.
+ghost use Rattle.std.specs.Prelude.{◌≡◌, ◌≤◌, [], drop, is_none, length, min, not, take, true, IfErr, IfOk, IfSome, OnErr, OnOk};
+ghost use Rattle.std.specs.Int.{is_in_range};
+ghost use Rattle.roll_held.specs.Told.{are_next, roomless, told, IsHeldFault};
+ghost use Rattle.roll_held.specs.Turns.{after_turn, due, lessened};
 
+use crate::fault::HeldFault;
+use crate::words::{make_room, tell};
 use arrayvec::ArrayVec;
-use roll_session::RemoteWord;
+use roll_session::{RemoteWord, Settling};
 
-/// The most words that are held back.
+/// The most words that are held back. If one more comes, all are handed over.
 pub const HELD_LIMIT: usize = 64;
+
+/// The most turns for which a word can be held back.
+pub const TURN_LIMIT: usize = 8;
 
 pub(crate) type Waiting = ArrayVec<RemoteWord, HELD_LIMIT>;
 
-/// Words of others that came, and that a session isn't told yet.
+/// Words of others that came, and that a session isn't told yet: meanwhile another thread can run their frames, by a guess that is
+/// right. The session's program asks which wait, and hands them over once their frames are there.
+///
+/// A program makes a `turn` of it in each turn of its main loop: so a word is held back for so many turns at most.
 #[derive(Debug, Drop)]
 pub struct Held {
     pub(crate) words: Waiting,
+    pub(crate) waited: ArrayVec<usize, TURN_LIMIT>,
+    pub(crate) turns: usize,
 }
 
 impl Held {
+    /// Nothing waits, and what will come does for so many turns at most. None if these are none, or more than 8.
+    pub fn new(turns: u8) -> Option<Held>
+        ensures none { IfSome result (λ held. (held.words.items ≡ []) × (held.waited.items ≡ [])) }
+        ensures turns { IfSome result (λ held. held.turns ≡ turns) }
+        ensures refused { is_none result ≡ not (is_in_range 1 8 turns) }
+    {
+        if turns == 0 || usize::from(turns) > TURN_LIMIT {
+            return None;
+        }
+        Some(Held {
+            words: ArrayVec::new(),
+            waited: ArrayVec::new(),
+            turns: usize::from(turns),
+        })
+    }
+
     /// The words that wait, in the order in which they came.
     pub fn waiting(&self) -> &[RemoteWord]
         ensures { result.now ≡ self.now.words.items }
     {
         self.words.as_slice()
     }
+
+    /// Hands the first so many words that wait over to their session, or all if there are fewer: it hears them as they came.
+    ///
+    /// # Errors
+    ///
+    /// `OtherSession` if they aren't the session's next words; `LogFull` or `NoMemory` if there is no room for all that wait. Nothing
+    /// is changed then.
+    pub fn hand_over<S: Settling>(
+        &mut self,
+        session: &mut S,
+        count: usize,
+    ) -> Result<(), HeldFault>
+        ensures handed { OnOk result (roomless (S.seen session.new)
+            ≡ roomless (told (S.seen session.old) (take count self.old.words.items))) }
+        ensures rest { OnOk result (self.new.words.items ≡ drop count self.old.words.items) }
+        ensures waited { OnOk result (self.new.waited.items
+            ≡ lessened (min count (length self.old.words.items)) self.old.waited.items) }
+        ensures turns { self.new.turns ≡ self.old.turns }
+        ensures accepted { OnOk result (are_next (S.seen session.old) self.old.words.items ≡ true) }
+        ensures refused { IfErr result (IsHeldFault (S.seen session.old) self.old.words.items) }
+        ensures session { OnErr result (session.new ≡ session.old) }
+        ensures unchanged { OnErr result (self.new ≡ self.old) }
+        ensures keeps { S.keeps session.old session.new }
+    {
+        match make_room(session, &self.words) {
+            Ok(()) => {
+                let count = count.min(self.words.len());
+                tell(session, &self.words[..count]);
+                self.words = rest_of(&self.words, count);
+                self.waited = less(&self.waited, count);
+                Ok(())
+            }
+            Err(why) => Err(why),
+        }
+    }
+
+    /// A turn of the program's main loop is over: the words that have waited for as many turns as they may are handed over. Says how
+    /// many they were.
+    ///
+    /// # Errors
+    ///
+    /// As `hand_over`. Nothing is changed then, and the next turn tries it again.
+    pub fn turn<S: Settling>(&mut self, session: &mut S) -> Result<usize, HeldFault>
+        ensures due { IfOk result (λ count. count ≡ due self.old.turns (after_turn (length self.old.words.items) self.old.waited.items)) }
+        ensures handed { IfOk result (λ count. roomless (S.seen session.new)
+            ≡ roomless (told (S.seen session.old) (take count self.old.words.items))) }
+        ensures rest { IfOk result (λ count. self.new.words.items ≡ drop count self.old.words.items) }
+        ensures waited { IfOk result (λ count. self.new.waited.items
+            ≡ lessened count (after_turn (length self.old.words.items) self.old.waited.items)) }
+        ensures turns { self.new.turns ≡ self.old.turns }
+        ensures refused { IfErr result (IsHeldFault (S.seen session.old) self.old.words.items) }
+        ensures session { OnErr result (session.new ≡ session.old) }
+        ensures unchanged { OnErr result (self.new ≡ self.old) }
+        ensures keeps { S.keeps session.old session.new }
+    {
+        let waited = one_turn_more(&self.waited, self.words.len());
+        let due = due_of(&waited, self.turns);
+        match self.hand_over(session, due) {
+            Ok(()) => {
+                self.waited = less(&waited, due);
+                Ok(due)
+            }
+            Err(why) => Err(why),
+        }
+    }
+}
+
+/// Words but the first so many.
+fn rest_of(words: &Waiting, count: usize) -> Waiting
+    requires { count ≤ length words.now.items }
+    ensures { result.items ≡ drop count words.now.items }
+{
+    let mut rest = ArrayVec::new();
+    rest.try_extend_from_slice(&words[count..]).unwrap();
+    rest
+}
+
+/// How many of the first words have waited one turn, two turns and so on, once a turn is over in which so many wait.
+fn one_turn_more(waited: &ArrayVec<usize, TURN_LIMIT>, words: usize) -> ArrayVec<usize, TURN_LIMIT>
+    ensures { result.items ≡ after_turn words waited.now.items }
+{
+    let mut more = ArrayVec::new();
+    more.push(words);
+    let known = waited.len().min(TURN_LIMIT - 1);
+    more.try_extend_from_slice(&waited[..known]).unwrap();
+    more
+}
+
+/// How many have waited for so many turns.
+fn due_of(waited: &ArrayVec<usize, TURN_LIMIT>, turns: usize) -> usize
+    ensures { result ≡ due turns waited.now.items }
+{
+    match waited.get(turns.saturating_sub(1)) {
+        Some(count) => *count,
+        None => 0,
+    }
+}
+
+/// What is left of these counts without the first so many words.
+fn less(waited: &ArrayVec<usize, TURN_LIMIT>, count: usize) -> ArrayVec<usize, TURN_LIMIT>
+    ensures { result.items ≡ lessened count waited.now.items }
+{
+    let mut left = ArrayVec::new();
+    for all in waited.as_slice() {
+        left.push(all.saturating_sub(count));
+    }
+    left
 }

@@ -4,9 +4,10 @@
 mod fault;
 mod held;
 mod laws;
+mod network;
 mod session;
 mod words;
 
 pub use fault::HeldFault;
-pub use held::{HELD_LIMIT, Held};
+pub use held::{HELD_LIMIT, Held, TURN_LIMIT};
 pub use laws::held_words_are_heard;

@@ -1,4 +1,4 @@
-use Rattle.std.proofs.Common.{◌≡◌, ◌∙◌, ℕ, List, None, Some, ap, arith, cond, eq-eqb, get_or, length, ne_eqb, subst, sym, take}
+use Rattle.std.proofs.Common.{◌≡◌, ◌∙◌, List, ap, arith, eq-eqb, get_or, length, ne_eqb, sym, take}
 use Rattle.std.specs.Prelude.{slice_get}
 use Rattle.std.proofs.lemmas.List.{take_all}
 use Rattle.std.proofs.lemmas.Option.{slice_get_past}

@@ -1,6 +1,5 @@
-use Rattle.std.proofs.Common.{◌≡◌, ◌∙◌, ◌+◌, ap, arith, length, max, subst, sym}
+use Rattle.std.proofs.Common.{◌+◌, ap, arith}
 use Rattle.roll_session.specs.Seen.{Seen}
-use Rattle.roll_held.specs.Told.{Fits}
 use Rattle.roll_held.proofs.Told.{room_made, stand_on, told_stays}
 use Rattle.roll_held.proofs.session.HeldSession.make_room.Goals as goal
 

@@ -1,4 +1,4 @@
-use Rattle.std.proofs.Common.{◌≡◌, ◌∙◌, ◌-◌, List, ap, sym}
+use Rattle.std.proofs.Common.{◌∙◌, ◌-◌, List, ap}
 use Rattle.std.specs.Prelude.{slice_get}
 use Rattle.roll_inputs.specs.declared.remote_word.RemoteWord.{RemoteWord}
 use Rattle.roll_held.specs.Told.{words_among}

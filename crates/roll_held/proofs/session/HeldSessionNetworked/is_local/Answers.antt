@@ -1,4 +1,4 @@
-use Rattle.std.proofs.Common.{◌≡◌, ◌∙◌, ap, arith, refl, sym, length}
+use Rattle.std.proofs.Common.{◌∙◌, refl, sym}
 use Rattle.roll_frame.specs.Timeline.{Player}
 use Rattle.roll_held.proofs.Seeing.{test_told}
 use Rattle.roll_held.proofs.session.HeldSessionNetworked.is_local.Goals as goal

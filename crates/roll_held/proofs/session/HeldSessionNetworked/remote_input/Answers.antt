@@ -6,7 +6,6 @@ use Rattle.roll_session.specs.Changes.{FitsLog}
 use Rattle.roll_session.specs.Seen.{Seen}
 use Rattle.roll_held.specs.Told.{is_next, roomless, told, Takes}
 use Rattle.roll_held.proofs.Told.{as_told_same, full_same, held_more, next_refusal, next_taken, takes_room, told_room}
-use Rattle.roll_held.proofs.session.HeldSessionNetworked.remote_input.Given as given
 use Rattle.roll_held.proofs.session.HeldSessionNetworked.remote_input.Goals as goal
 
 pub hold-requires-clause-takes : goal.hold-requires-clause-takes

@@ -1,0 +1,18 @@
+use Rattle.std.proofs.Common.{rules, ◌≡◌}
+use Rattle.roll_held.specs.Heard.{beside, HearsHeld}
+use Rattle.roll_held.specs.Told.{as_told}
+use Rattle.roll_held.proofs.Ahead.{hears_held, unheard_same}
+use Rattle.roll_held.proofs.held.Held.receive.Goals as goal
+
+pub returns-in-Ok-clause-heard : goal.returns-in-Ok-clause-heard
+returns-in-Ok-clause-heard g c =
+    let seen = g.S.Networked.seen in
+    let new = c.receive.new.session in
+    let hears : HearsHeld g.S.Networked.step (beside (seen c.args.session.now) c.args.self.now.words.items c.args.peer.now)
+    (beside (seen new.session.now) new.held.now.words.items c.receive.new.self) c.args.now c.args.bytes.now c.receive.result =
+    hears_held (seen c.args.session.now) (seen c.make_room.new.session) (seen new.session.now) c.args.self.now.words.items
+    new.held.now.words.items new.reserved c.in-Ok.ensures.same g.S.Networked.step c.args.peer.now
+    c.receive.new.self c.args.now c.args.bytes.now c.receive.result c.receive.ensures.accepted c.receive.ensures.received
+    c.receive.ensures.refused
+    (unheard_same (λ h. as_told (seen h.session.now) h.held.now.words.items h.reserved) c.receive.result new _ c.receive.ensures.session) in
+    search (hears, rules)
