@@ -8,7 +8,7 @@ use Rattle.roll_member.specs.Beside.{IsOf}
 use Rattle.roll_peer.proofs.Running.{heard_bytes}
 use Rattle.roll_peer.specs.Peered.{Peered}
 use Rattle.roll_peer.specs.Receiving.{meeting, ticking, IsIgnored, Receives}
-use Rattle.roll_peer.specs.Requests.{Beside, HearsBytes}
+use Rattle.roll_peer.specs.Requests.{HearsBytes}
 use Rattle.roll_peer.specs.Turning.{IsPolled}
 use Rattle.roll_peer.specs.declared.received.Ignored.{Ignored}
 use Rattle.roll_peer.specs.declared.received.Received.{Received}
@@ -64,7 +64,3 @@ pub unheard_same : {X E Y : Type 0} (seen : X → Y) (result : Result E Ignored)
     → OnErr result (seen new ≡ seen old)
 unheard_same seen (Ok it) new old same = tt
 unheard_same seen (Err why) new old same = ap seen same
-
-pub other_sent : {X E : Type 0} {A B : Type 0} (result : Result X E) → OnErr result A → OnErr result B → OnErr result (A × B)
-other_sent (Ok it) a b = tt
-other_sent (Err why) a b = (a, b)

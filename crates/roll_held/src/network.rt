@@ -103,7 +103,8 @@ impl Held {
         ensures accepted { IfOk result (λ said. OnOk said
             (IsOf (as_told (S.seen session.old) self.old.words.items 0) peer.old.member)) }
         ensures other { IfOk result (λ said. OnErr said
-            (IsOther (as_told (S.seen session.old) self.old.words.items 0) peer.old × (peer.new ≡ ticking now peer.old))) }
+            (IsOther (as_told (S.seen session.old) self.old.words.items 0) peer.old)) }
+        ensures ticked { IfOk result (λ said. OnErr said (peer.new ≡ ticking now peer.old)) }
         ensures same { self.new ≡ self.old }
         ensures refused { IfErr result (IsHeldFault (S.seen session.old) self.old.words.items) }
         ensures unchanged { OnErr result ((session.new ≡ session.old) × (peer.new ≡ peer.old)) }

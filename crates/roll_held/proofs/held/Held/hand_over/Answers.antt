@@ -1,4 +1,4 @@
-use Rattle.std.proofs.Common.{◌≡◌, ◌∙◌, List, ap, arith, min, length, subst, sym, take}
+use Rattle.std.proofs.Common.{◌≡◌, ◌∙◌, List, ap, min, subst, sym, take}
 use Rattle.roll_inputs.specs.declared.remote_word.RemoteWord.{RemoteWord}
 use Rattle.roll_held.specs.Told.{roomless, told, Fits}
 use Rattle.roll_held.proofs.Ahead.{fits_take, take_few}

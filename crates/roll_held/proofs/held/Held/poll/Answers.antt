@@ -1,4 +1,4 @@
-use Rattle.std.proofs.Common.{rules, ◌≡◌}
+use Rattle.std.proofs.Common.{rules}
 use Rattle.roll_held.specs.Heard.{beside, PollsHeld}
 use Rattle.roll_held.proofs.Ahead.{polls_held}
 use Rattle.roll_held.proofs.held.Held.poll.Goals as goal

@@ -1,4 +1,4 @@
-use Rattle.std.proofs.Common.{rules, ◌≡◌}
+use Rattle.std.proofs.Common.{rules}
 use Rattle.roll_held.specs.Heard.{beside, HearsHeld}
 use Rattle.roll_held.specs.Told.{as_told}
 use Rattle.roll_held.proofs.Ahead.{hears_held, unheard_same}

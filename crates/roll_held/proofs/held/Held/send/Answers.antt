@@ -4,7 +4,7 @@ use Rattle.roll_member.specs.Beside.{IsOf}
 use Rattle.roll_peer.specs.Receiving.{meeting, ticking, IsOther}
 use Rattle.roll_peer.specs.Sending.{after_send, IsSent}
 use Rattle.roll_session.specs.Seen.{Seen}
-use Rattle.roll_held.proofs.Ahead.{before_is, other_sent}
+use Rattle.roll_held.proofs.Ahead.{before_is}
 use Rattle.roll_held.proofs.held.Held.send.Goals as goal
 
 pub returns-in-Ok-clause-sent : goal.returns-in-Ok-clause-sent
@@ -37,8 +37,6 @@ pub returns-in-Ok-clause-other : goal.returns-in-Ok-clause-other
 returns-in-Ok-clause-other g c =
     let seen = g.S.Networked.seen in
     let words = c.args.self.now.words.items in
-    other_sent c.send.result
-    (subst (λ (x : Seen). OnErr c.send.result (IsOther x c.args.peer.now))
+    subst (λ (x : Seen). OnErr c.send.result (IsOther x c.args.peer.now))
     (before_is (seen c.args.session.now) (seen c.make_room.new.session) (seen c.make_room.new.session) words words 0 c.in-Ok.ensures.same)
-    c.send.ensures.other)
-    c.send.ensures.unchanged
+    c.send.ensures.other
