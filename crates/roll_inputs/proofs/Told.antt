@@ -15,7 +15,7 @@ use Rattle.roll_frame.specs.Refusals.{first_refusal}
 use Rattle.roll_frame.specs.Timeline.{Player, cell_at, row_at}
 use Rattle.roll_frame.proofs.Refused.{all_fail, first_refusal-behind}
 use Rattle.roll_inputs.specs.Boards.{players_of, queue_at}
-use Rattle.roll_inputs.specs.Foretold.{each_tests, foretold, next_tests, told}
+use Rattle.roll_inputs.specs.Foretold.{each_tests, foretold, foretold_refusal, foretold_tests, next_tests, told}
 use Rattle.roll_inputs.specs.Queues.{Known}
 use Rattle.roll_inputs.specs.declared.remote_word.RemoteWord.{RemoteWord}
 use Rattle.roll_inputs.proofs.Players.{at_changed, at_other, found, is_at, of_player_at, queue_at-player, queue_is, row_changed, IsAt}
@@ -125,6 +125,10 @@ pub next_missing : (queues : List Known) (before : List RemoteWord) (w : RemoteW
 next_missing queues before w e =
     let none : player_at (players_of queues) w.player ≡ None = sym (queue_at-player queues w.player) ∙ ap (option_map (λ (q : Known). q.player)) (sym e) in
     next_is (foretold (players_of queues) before) w None (foretold_at (players_of queues) before w.player ∙ ap (option_map (with_words (words_of w.player before))) none)
+
+-- the tests of each word are behind that of their number
+pub each_of : (players : List Player) (words : List RemoteWord) → foretold_refusal players words ≡ None → first_refusal (each_tests players words) ≡ None
+each_of players words e = let tests = all_fail (foretold_tests players words) e in sym (first_refusal-behind (take 1 (foretold_tests players words)) (each_tests players words) (tests.0, tt)) ∙ e
 
 -- the tests from a word on
 pub each_front : (players : List Player) (words : List RemoteWord) → first_refusal (each_tests players words) ≡ None → (k : ℕ) (d : RemoteWord) → k < length words → first_refusal (next_tests (foretold players (take k words)) (get_or words k d)) ≡ None
