@@ -9,3 +9,5 @@ pub mod Changes
 mod Replies
 mod Recorded
 mod Starts
+pub mod Refusals
+pub mod Told

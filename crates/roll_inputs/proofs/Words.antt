@@ -40,3 +40,9 @@ pub guessed_past : (t : ℕ) (player : Player) (words : List ℕ) → player.gon
 guessed_past t player words there some past =
     let long : length (player.words ++ words) ≤ t = omega (arith, past, length-append player.words words) in
     rw (le-ltb t (length (player.words ++ words)) long, there) (ap (λ w. Word (bit_and w player.mask)) (last_word-append player.words words some))
+
+-- the cell of a player of whom a word more is told
+pub next_cell : (t word : ℕ) (x : Player) → x.gone ≡ false → length x.words < t → cell_at t (with_words (word ∷ []) x) ≡ Word (bit_and word x.mask)
+next_cell t word x there past =
+    let long : length (x.words ++ word ∷ []) ≤ t = omega (arith, past, length-append x.words (word ∷ [])) in
+    rw (le-ltb t (length (x.words ++ word ∷ [])) long, there) (ap (λ w. Word (bit_and w x.mask)) (last_word-push x.words word))

@@ -1,3 +1,4 @@
 pub mod Queues
 pub mod Recorded
 pub mod Boards
+pub mod Foretold

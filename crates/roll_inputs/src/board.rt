@@ -3,19 +3,23 @@ ghost use Rattle.std.specs.Prelude.{◌≡◌, ◌≢◌, ◌+◌, ◌≤◌, []
 ghost use Rattle.roll_frame.specs.Core.{row_possible};
 ghost use Rattle.roll_frame.specs.Events.{all_given};
 ghost use Rattle.roll_frame.specs.Inputs.{changed, of_player, player_at, is_repeated, with_words, with_given, with_gone, with_none_given};
+ghost use Rattle.roll_frame.specs.Refusals.{first_refusal};
 ghost use Rattle.roll_frame.specs.Settings.{most_threshold, start_refusal};
 ghost use Rattle.roll_frame.specs.declared.limits.TheConstants.{FRAME_LIMIT, PLAYER_LIMIT};
 ghost use Rattle.roll_frame.specs.declared.profile.Profile.TheVariants.{Wide};
 ghost use Rattle.roll_frame.specs.Timeline.{timeline, front as front_of, row_at as row_of};
 ghost use Rattle.roll_inputs.specs.Boards.{first_inputs, with_player, local_refusal, remote_refusal, disconnect_refusal, guess_refusal, confirmed_word, count_of, source_at, KeepsCells};
+ghost use Rattle.roll_inputs.specs.Foretold.{foretold, foretold_refusal, foretold_until_refusal, until_tests};
 ghost use Rattle.std.specs.Option.{option_map};
 
+use crate::foretold::{foretold_row, words_refusal};
 use crate::heard::Heard;
 use crate::queue::Queue;
 use crate::queues::{
     allows, first_queues, front, is_missing, queue_of, row_at, settle_all, start_frames,
 };
 use crate::record::Record;
+use crate::remote_word::RemoteWord;
 use crate::source::Source;
 use roll_frame::{PATH_LIMIT, Refusal, Row, Settings};
 use std::alloc::Global;
@@ -234,13 +238,50 @@ impl Board {
             Some(Refusal::PlayerDisconnected)
         } else if words.is_empty() || words.len() > PATH_LIMIT {
             Some(Refusal::InvalidRequest)
-        } else if until <= self.settled || until - self.settled > PATH_LIMIT as u32 {
+        } else {
+            self.until_refusal(until)
+        }
+    }
+
+    /// Why words that have come can't be told, if they can't: each has to be the next of its player, after those before it.
+    pub fn words_refusal(&self, words: &[RemoteWord]) -> Option<Refusal>
+        ensures { result ≡ foretold_refusal self.now.players words.now }
+    {
+        words_refusal(&self.queues, words)
+    }
+
+    /// Why a guess would be refused: that these words are told, with rows up to a frame.
+    pub fn foretold_refusal(&self, words: &[RemoteWord], until: u32) -> Option<Refusal>
+        ensures { result ≡ foretold_until_refusal self.now words.now until }
+    {
+        let refusal = self.words_refusal(words);
+        if refusal.is_some() {
+            refusal
+        } else {
+            self.until_refusal(until)
+        }
+    }
+
+    /// Why rows wouldn't be guessed up to a frame.
+    fn until_refusal(&self, until: u32) -> Option<Refusal>
+        ensures { result ≡ first_refusal (until_tests self.now.settled self.now.limit until) }
+    {
+        if until <= self.settled || until - self.settled > PATH_LIMIT as u32 {
             Some(Refusal::InvalidRequest)
         } else if until > self.limit {
             Some(Refusal::InvalidRequest)
         } else {
             None
         }
+    }
+
+    /// The timeline's row of a frame, if these words were told.
+    pub fn foretold(&self, words: &[RemoteWord], frame: u32) -> Row
+        requires held { self.now.settled ≤ frame }
+        requires next { foretold_refusal self.now.players words.now ≡ None }
+        ensures { result ≡ row_of (foretold self.now.players words.now) frame }
+    {
+        foretold_row(&self.queues, words, frame)
     }
 
     /// The timeline's row of a frame, if this player gave these words next.

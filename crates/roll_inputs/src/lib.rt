@@ -2,6 +2,7 @@
 #![tactic(auto)]
 
 mod board;
+mod foretold;
 mod heard;
 mod history;
 mod queue;
@@ -13,5 +14,5 @@ mod source;
 pub use board::Board;
 pub use heard::Heard;
 pub use record::Record;
-pub use remote_word::RemoteWord;
+pub use remote_word::{FORETOLD_LIMIT, RemoteWord};
 pub use source::Source;

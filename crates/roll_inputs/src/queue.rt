@@ -4,12 +4,13 @@ ghost use Rattle.roll_frame.specs.Core.{cell_possible};
 ghost use Rattle.roll_frame.specs.Inputs.{is_repeated, remote_tests, with_words, with_given, with_gone, with_none_given};
 ghost use Rattle.roll_frame.specs.Refusals.{first_refusal};
 ghost use Rattle.roll_frame.specs.Settings.{first_player, delay_at};
-ghost use Rattle.roll_frame.specs.Timeline.{cell_at};
+ghost use Rattle.roll_frame.specs.Timeline.{cell_at, Player};
 ghost use Rattle.roll_inputs.specs.Boards.{source_at};
 
 use crate::heard::Heard;
 use crate::history::History;
 use crate::record::Record;
+use crate::remote_word::RemoteWord;
 use crate::source::Source;
 use circular_buffer::HeapCircularBuffer;
 use roll_frame::{Cell, DELAY_LIMIT, PLAYER_LIMIT, QUEUE_LIMIT, Refusal, Settings};
@@ -124,6 +125,21 @@ impl Queue {
             Cell::Word(words[place])
         } else {
             Cell::Word(words[words.len() - 1] & self.mask)
+        }
+    }
+
+    /// The player's cell of a frame once a word more is told, from what it was before, whatever words were told meanwhile.
+    pub(crate) fn next_cell(&self, cell: Cell, told: &RemoteWord, frame: u32) -> Cell
+        ensures { (player : Player) → player.mask ≡ self.now.player.mask → player.gone ≡ false
+            → length player.words ≡ told.now.frame → cell ≡ cell_at frame player
+            → result ≡ cell_at frame (with_words (told.now.word ∷ []) player) }
+    {
+        if frame < told.frame {
+            cell
+        } else if frame == told.frame {
+            Cell::Word(told.word)
+        } else {
+            Cell::Word(told.word & self.mask)
         }
     }
 

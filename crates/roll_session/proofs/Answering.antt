@@ -13,7 +13,7 @@ use Rattle.roll_frame.specs.declared.reply.Reply.TheVariants.{Refused, Repeated}
 use Rattle.roll_inputs.specs.declared.heard.Heard.{Heard}
 use Rattle.roll_inputs.specs.declared.heard.Heard.TheVariants.{Taken as HeardNow, Repeated as HeardBefore}
 use Rattle.roll_game.specs.declared.counts.Counts.{Counts}
-use Rattle.roll_session.proofs.Holding.{first_refusal-some}
+use Rattle.roll_inputs.proofs.Refusals.{first_refusal-some}
 use Rattle.roll_session.proofs.Runs.{replied_accepted, replied_refused, replied_repeated}
 use Rattle.roll_session.specs.Answered.{counts_by, replied, with_entries, IsAnswered, IsCutShort, IsReplied, IsShort}
 use Rattle.roll_frame.specs.Core.{Core}

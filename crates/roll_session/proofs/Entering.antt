@@ -32,7 +32,8 @@ use Rattle.roll_session.specs.Saves.{HaveValues, Standing, rows_to, settled_by, 
 use Rattle.roll_session.specs.Seen.{Step, plain}
 use Rattle.roll_session.specs.Standing.{as_planned}
 use Rattle.roll_session.proofs.Between.{IsBetween, can_settle}
-use Rattle.roll_session.proofs.Holding.{accepted, can_be_partial_advance, can_be_partial_sync, partial_accepted, first_refusal-front}
+use Rattle.roll_inputs.proofs.Refusals.{first_refusal-front}
+use Rattle.roll_session.proofs.Holding.{accepted, can_be_partial_advance, can_be_partial_sync, partial_accepted}
 use Rattle.roll_session.proofs.Rolled.{Added, between_after_advance, between_after_partial, between_after_sync, cost_is, depth_is, frame_is, near, paths_fit, roll_fits, roll_plan, session_event, shown_value, time_fits}
 
 -- an event later there is room for one less

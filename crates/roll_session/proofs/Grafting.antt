@@ -43,7 +43,8 @@ use Rattle.roll_session.specs.Standing.{from_start, settled_rows}
 use Rattle.roll_session.proofs.Between.{IsBetween, can_settle}
 use Rattle.roll_session.proofs.Grows.{filter_whole, prefixes_on}
 use Rattle.roll_session.proofs.NewStates.{rest_fits}
-use Rattle.roll_session.proofs.Holding.{accepted, first_refusal-front}
+use Rattle.roll_inputs.proofs.Refusals.{first_refusal-front}
+use Rattle.roll_session.proofs.Holding.{accepted}
 use Rattle.roll_session.proofs.Judging.{judged, kept_possible, long_start, new_are, orphan_is, same_there, whole_split}
 use Rattle.roll_session.proofs.Rolled.{roll_fits, session_event}
 

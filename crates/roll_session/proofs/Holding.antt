@@ -54,6 +54,7 @@ use Rattle.roll_laws.proofs.Bounds.{players_stay, frames_end, log_ends}
 use Rattle.roll_laws.proofs.Least.{rolls_are_least}
 use Rattle.roll_laws.proofs.Logs.{log_is_counted}
 use Rattle.roll_inputs.specs.Boards.{first_inputs}
+use Rattle.roll_inputs.proofs.Refusals.{first_refusal-front}
 use Rattle.roll_plan.specs.Plans.{Planned}
 use Rattle.roll_tree.specs.SavedStates.{Saved, has_other, paths_of}
 use Rattle.roll_session.specs.Saves.{Standing, taken_inputs, taken_states}
@@ -83,15 +84,6 @@ is_small settings game log l =
 pub least_of : (settings : Settings) (game : Game) (log : List Entry) → IsLog settings game log → (m : ℕ) → IsLeast (replay settings log) m
 least_of settings game log l = always_holds (λ s core. (m : ℕ) (path rows : Rows) → IsPlan core m path rows → cost core m ≤ length rows) rolls_are_least settings game log l
 
--- tests of which one fails
-pub first_refusal-some : (tests more : List (Bool × Refusal)) (why : Refusal) → first_refusal tests ≡ Some why → first_refusal (tests ++ more) ≡ Some why
-first_refusal-some [] more why h = cc
-first_refusal-some (test ∷ tests) more why h = failed test.0 test.1 (first_refusal tests) (first_refusal (tests ++ more)) why (first_refusal-some tests more why) h
-  where
-    failed : (b : Bool) (first : Refusal) (rest all : Option Refusal) (why : Refusal) → (rest ≡ Some why → all ≡ Some why) → cond b (Some first) rest ≡ Some why → cond b (Some first) all ≡ Some why
-    failed true first rest all why f e = e
-    failed false first rest all why f e = f e
-
 -- an event that no test refuses
 pub accepted : (settings : Settings) (game : Game) (core : Core) (event : CoreEvent) → is_repeat core event.entry ≡ false → refusal settings game core event ≡ None → is_accepted settings game core event ≡ true
 accepted settings game core event h e = rw (h, e) refl
@@ -109,15 +101,6 @@ can_be_partial_advance core made g h =
     let other : eqb (core.frame + 1) core.frame ≡ false = grind (arith, nat_tests) in
     let same : eqb (core.frame + 1) (core.frame + 1) ≡ true = grind (arith, nat_tests) in
     rw (other, same, g, le-leb made (cost core (core.frame + 1)) h) refl
-
--- tests of which none fails, of which these are the first
-pub first_refusal-front : (tests more : List (Bool × Refusal)) → first_refusal (tests ++ more) ≡ None → first_refusal tests ≡ None
-first_refusal-front [] more h = refl
-first_refusal-front (test ∷ tests) more h = passed test.0 test.1 (first_refusal-front tests more) h
-  where
-    passed : (t : Bool) (first : Refusal) → (first_refusal (tests ++ more) ≡ None → first_refusal tests ≡ None) → cond t (Some first) (first_refusal (tests ++ more)) ≡ None → cond t (Some first) (first_refusal tests) ≡ None
-    passed true first rest h = h
-    passed false first rest h = rest h
 
 if_ok : {A E : Type 0} (r : Result A E) (P Q : A → Type 0) → ((x : A) → P x → Q x) → IfOk r P → IfOk r Q
 if_ok (Ok x) P Q f h = f x h

@@ -43,7 +43,7 @@ use Rattle.roll_session.specs.Held.{IsSession, inputs_of}
 use Rattle.roll_session.specs.Saves.{HaveValues, Standing}
 use Rattle.roll_session.specs.Seen.{Step}
 use Rattle.roll_session.specs.Standing.{from_start, settled_rows}
-use Rattle.roll_session.proofs.Holding.{first_refusal-some}
+use Rattle.roll_inputs.proofs.Refusals.{first_refusal-some}
 use Rattle.roll_session.proofs.Rows.{longest_on}
 use Rattle.roll_session.proofs.Settles.{start_root}
 

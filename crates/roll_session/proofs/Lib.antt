@@ -1,7 +1,9 @@
 pub mod Grafting
 pub mod BranchRows
 pub mod NewStates
+pub mod Ahead
 pub mod Guessing
+pub mod Foretelling
 pub mod Judging
 pub mod Placed
 pub mod Holding

@@ -2,12 +2,12 @@
 use Rattle.std.specs.Prelude.{◌≡◌, ◌⊎◌, ℕ, ◌-◌, List, ◌++◌, drop, length, take, nat_lt, true, false, if◌then◌else◌, Option, Some, None, Result, Ok, Err, option_map}
 use Rattle.roll_branch.specs.Routed.{Routed}
 use Rattle.roll_frame.specs.Cells.{Rows}
-use Rattle.roll_frame.specs.Core.{Core}
+use Rattle.roll_frame.specs.Core.{Core, kept}
 use Rattle.roll_frame.specs.Games.{Game, Value}
 use Rattle.roll_frame.specs.Grafts.{Branch, start_of}
-use Rattle.roll_frame.specs.Guess.{guess_tests, guessed_job}
+use Rattle.roll_frame.specs.Guess.{guess_tests, guessed_job, job_of}
 use Rattle.roll_frame.specs.Inputs.{changed, with_words}
-use Rattle.roll_frame.specs.Paths.{longest, run}
+use Rattle.roll_frame.specs.Paths.{contains, longest, run}
 use Rattle.roll_frame.specs.Refusals.{first_refusal}
 use Rattle.roll_frame.specs.Timeline.{timeline}
 use Rattle.roll_frame.specs.declared.limits.TheConstants.{BRANCH_LIMIT}
@@ -58,6 +58,10 @@ job_from game core branch =
       route = record { path = branch.path; rows = record { items = branch.rows } };
       from = run game.step game.opening (start_of core branch);
     }
+
+-- the branch that is to be run of rows from frame 0 on; none where all of them are kept
+abbrev pub rows_job : Core → Rows → Option Branch
+rows_job core rows = if contains (kept core) rows then None else Some (job_of core rows)
 
 -- the job of a guess that is not refused; none where all of its rows are kept
 abbrev pub guess_job : Game → Core → ℕ → List ℕ → ℕ → Option Routed

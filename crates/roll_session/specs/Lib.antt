@@ -13,6 +13,7 @@ pub mod Requests
 pub mod Headline
 pub mod Grafting
 pub mod Guessing
+pub mod Foretold
 pub mod Replaying
 pub mod Changes
 pub mod Others

@@ -12,6 +12,7 @@ ghost use Rattle.roll_session.specs.Answered.{replied, with_entries, IsAnswered}
 ghost use Rattle.roll_session.specs.Calls.{entry_of, event_of, input_reply, judged, IsAdmitted, IsAllowed, IsInput, IsRoll, IsRollTo};
 ghost use Rattle.roll_session.specs.Changes.{after_graft, graft_refusal, reserve_refusal, FitsLog, IsRefused, IsWhy};
 ghost use Rattle.roll_session.specs.Gameless.{bare_branch, route_refusal_of, still, CanEnter, IsLooked, KeepsAll, KeepsBranch, KeepsGiven, KeepsGrafted};
+ghost use Rattle.roll_session.specs.Foretold.{guess_words_refusal_of, rerun_of, words_job_of, words_refusal_of};
 ghost use Rattle.roll_session.specs.Guessing.{guess_job_of, guess_refusal_of};
 ghost use Rattle.roll_session.specs.Headline.{last_claim};
 ghost use Rattle.roll_session.specs.Held.{inputs_of};
@@ -22,7 +23,7 @@ ghost use Rattle.roll_session.specs.Ways.{IsGoing};
 ghost use Rattle.roll_tree.specs.SavedStates.{paths_of, state_named};
 
 use crate::event::{Call, Grafted};
-use crate::guess::{guessed_rows, start_along};
+use crate::guess::{count_rerun, foretold_rows, guessed_rows, start_along};
 use crate::log::Log;
 use crate::place::{add_new_states, route_refusal};
 use crate::room::Room;
@@ -30,7 +31,7 @@ use crate::saves::Saves;
 use crate::way::{Way, add_rolled};
 use roll_branch::PackedRoute;
 use roll_frame::{Claim, Refusal, Reply, Route, Row, Settings};
-use roll_inputs::{Board, Heard};
+use roll_inputs::{Board, Heard, RemoteWord};
 use roll_plan::Planner;
 use roll_tree::Tree;
 use std::alloc::Global;
@@ -242,6 +243,52 @@ impl<S> Core<S> {
         }
         let rows = guessed_rows(board, player, words, until);
         Ok(start_along(&self.saves, rows.as_slice()))
+    }
+
+    /// A guess with words that have come, but that it isn't told yet, as that of a session. Answers the state that its job starts
+    /// from, by name, and the job's route. None if all of it is kept.
+    ///
+    /// # Errors
+    ///
+    /// What the tests of the words and of the frame say, in their order.
+    pub fn guess_words(
+        &self,
+        words: &[RemoteWord],
+        until: u32,
+    ) -> Result<Option<(usize, Route)>, Refusal>
+        ensures job { IfOk result (λ start. option_map (λ s. bare_branch 0 s.1) start
+            ≡ words_job_of still self.now.seen words.now until) }
+        ensures node { IfOk result (λ start. IfSome start
+            (λ s. IsSomeAnd (state_named self.now.saves.tree s.0)
+            (λ u. u.path ≡ s.1.path.rows.items))) }
+        ensures accepted { OnOk result
+            (guess_words_refusal_of self.now.seen words.now until ≡ None) }
+        ensures refused { IfErr result
+            (λ why. guess_words_refusal_of self.now.seen words.now until ≡ Some why) }
+    {
+        let board = self.saves.board();
+        if let Some(why) = board.foretold_refusal(words, until) {
+            return Err(why);
+        }
+        let rows = foretold_rows(board, words, until);
+        Ok(start_along(&self.saves, rows.as_slice()))
+    }
+
+    /// How many frames a roll to the current frame would run, if it were told these words, as of a session.
+    ///
+    /// # Errors
+    ///
+    /// What the tests of the words say, in their order.
+    pub fn rerun(&self, words: &[RemoteWord]) -> Result<u32, Refusal>
+        ensures frames { IfOk result (λ frames. frames ≡ rerun_of self.now.seen words.now) }
+        ensures accepted { OnOk result (words_refusal_of self.now.seen words.now ≡ None) }
+        ensures refused { IfErr result
+            (λ why. words_refusal_of self.now.seen words.now ≡ Some why) }
+    {
+        if let Some(why) = self.saves.board().words_refusal(words) {
+            return Err(why);
+        }
+        Ok(count_rerun(&self.saves, words))
     }
 
     /// The claim of the last roll: what was kept before it, and why it started where it did.

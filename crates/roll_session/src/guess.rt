@@ -1,10 +1,12 @@
-//! What is to be run for a guess of what a player does next.
-ghost use Rattle.std.specs.Prelude.{◌≡◌, ◌≤◌, ◌<◌, ◌+◌, ◌↔◌, ◌⊎◌, [], length, drop, take, true, false, IsNone, IfSome, IsSomeAnd, IfOk, IfErr, OnOk, OnErr};
+//! What is to be run for a guess of what players do next.
+ghost use Rattle.std.specs.Prelude.{◌≡◌, ◌≤◌, ◌<◌, ◌+◌, ◌↔◌, ◌⊎◌, [], length, drop, take, true, false, None, IsNone, IfSome, IsSomeAnd, IfOk, IfErr, OnOk, OnErr};
 ghost use Rattle.roll_frame.specs.Games.{Value};
 ghost use Rattle.roll_frame.specs.Inputs.{player_at};
 ghost use Rattle.roll_frame.specs.Timeline.{timeline};
 ghost use Rattle.roll_game.specs.Counts.{counted};
 ghost use Rattle.roll_game.specs.declared.counts.Call.TheVariants.{Copy as Copies};
+ghost use Rattle.roll_inputs.specs.Foretold.{foretold_refusal};
+ghost use Rattle.roll_session.specs.Foretold.{foretold_rows, rerun_along};
 ghost use Rattle.roll_session.specs.Guessing.{guessed_rows, job_along, kept_of, route_along, IsCopied};
 ghost use Rattle.roll_session.specs.Saves.{HaveValues};
 ghost use Rattle.roll_tree.specs.SavedStates.{state_named};
@@ -14,7 +16,7 @@ use arrayvec::ArrayVec;
 use roll_branch::{Job, PackedRoute};
 use roll_frame::{BRANCH_LIMIT, PATH_LIMIT, Path, Refusal, Route, Row};
 use roll_game::Game;
-use roll_inputs::Board;
+use roll_inputs::{Board, RemoteWord};
 use std::alloc::Global;
 
 /// The rows from the settled frame to another, if this player gave these words next.
@@ -36,6 +38,33 @@ pub fn guessed_rows(
         rows.push(board.guessed(player, words, settled + k as u32));
     }
     rows
+}
+
+/// The rows from the settled frame to another, if these words were told.
+pub fn foretold_rows(board: &Board, words: &[RemoteWord], until: u32) -> ArrayVec<Row, PATH_LIMIT>
+    requires next { foretold_refusal board.now.players words.now ≡ None }
+    requires from { board.now.settled ≤ until }
+    requires near { until ≤ board.now.settled + PATH_LIMIT }
+    ensures { result.items ≡ foretold_rows board.now words.now until }
+{
+    let settled = board.settled();
+    let mut rows = ArrayVec::new();
+    for k in 0..(until - settled) as usize {
+        rows.push(board.foretold(words, settled + k as u32));
+    }
+    rows
+}
+
+/// How many rows up to the current frame lead past the deepest saved state on their way, if these words were told.
+pub fn count_rerun<S>(saves: &Saves<S>, words: &[RemoteWord]) -> u32
+    requires { foretold_refusal saves.now.inputs.players words.now ≡ None }
+    ensures { result ≡ rerun_along saves.now words.now }
+{
+    saves.laws();
+    let frame = saves.board().frame();
+    let rows = foretold_rows(saves.board(), words, frame);
+    let (_, end) = saves.tree().longest(rows.as_slice());
+    frame - end
 }
 
 /// Rows from the settled frame on, so many of them as a path, and the next as the rows to run.

@@ -14,6 +14,7 @@ ghost use Rattle.roll_frame.specs.Timeline.{row_at as row_of, timeline};
 ghost use Rattle.roll_game.specs.Counts.{counted};
 ghost use Rattle.roll_game.specs.declared.counts.Call.TheVariants.{Load as Loads, Copy as Copies};
 ghost use Rattle.roll_inputs.specs.Boards.{confirmed_word, source_at};
+ghost use Rattle.roll_session.specs.Foretold.{guess_words_refusal_of, rerun_of, words_job_of, words_refusal_of};
 ghost use Rattle.roll_session.specs.Guessing.{guess_job_of, guess_refusal_of, IsCopied};
 ghost use Rattle.roll_session.specs.Held.{Shows};
 ghost use Rattle.roll_session.specs.Planned.{IsPlanOfRoll};
@@ -25,7 +26,7 @@ ghost use Rattle.roll_session.specs.Started.{first_seen, IsGivenBack};
 ghost use Rattle.roll_session.specs.Headline.{last_claim, value_shown};
 
 use crate::event::{Call, Grafted, Reached};
-use crate::guess::{guessed_rows, job_along};
+use crate::guess::{count_rerun, foretold_rows, guessed_rows, job_along};
 use crate::log::Log;
 use crate::place::{add_new_states, branch_refusal};
 use crate::roll::{Rolled, roll};
@@ -34,7 +35,7 @@ use crate::saves::Saves;
 use roll_branch::{Branch, Job, Parts as BranchParts};
 use roll_frame::{Claim, Event, Path, Refusal, Reply, Route, Row, Settings};
 use roll_game::{Game, StartFault};
-use roll_inputs::{Board, Heard, Source};
+use roll_inputs::{Board, Heard, RemoteWord, Source};
 use roll_plan::{Plan, Planner};
 use std::alloc::Global;
 use std::marker::Model;
@@ -296,6 +297,55 @@ impl<G: Game> Session<G> {
         }
         let rows = guessed_rows(board, player, words, until);
         job_along(&mut self.game, &self.saves, alloc, rows.as_slice())
+    }
+
+    /// A guess with words that have come, but that it isn't told yet, in their order: each has to be the next of its player,
+    /// 1 to 64 of them. The job is to run the timeline that they would make, as that of [`guess`](Self::guess).
+    ///
+    /// # Errors
+    ///
+    /// What the tests of the words and of the frame say, in their order, else `NoMemory` if the allocator has no room, or the
+    /// game refuses its copy, for which it is asked last.
+    pub fn guess_words(
+        &mut self,
+        alloc: Global,
+        words: &[RemoteWord],
+        until: u32,
+    ) -> Result<Option<Job<G>>, Refusal>
+        ensures job { IfOk result (λ job. job ≡ words_job_of G.step self.old words.now until) }
+        ensures accepted { OnOk result
+            (guess_words_refusal_of self.old words.now until ≡ None) }
+        ensures refused { IfErr result
+            (IsWhy (guess_words_refusal_of self.old words.now until)) }
+        ensures unasked { IsSome (guess_words_refusal_of self.old words.now until)
+            → self.new ≡ self.old }
+        ensures asked { IsCopied self.old.counts self.new.counts result }
+        ensures same { self.new ≡ record self.old { counts = self.new.counts } }
+    {
+        let board = self.saves.board();
+        if let Some(why) = board.foretold_refusal(words, until) {
+            return Err(why);
+        }
+        let rows = foretold_rows(board, words, until);
+        job_along(&mut self.game, &self.saves, alloc, rows.as_slice())
+    }
+
+    /// How many frames a roll to the current frame would run, if it were told these words, which are as those of
+    /// [`guess_words`](Self::guess_words).
+    ///
+    /// # Errors
+    ///
+    /// What the tests of the words say, in their order.
+    pub fn rerun(&self, words: &[RemoteWord]) -> Result<u32, Refusal>
+        ensures frames { IfOk result (λ frames. frames ≡ rerun_of self.now words.now) }
+        ensures accepted { OnOk result (words_refusal_of self.now words.now ≡ None) }
+        ensures refused { IfErr result
+            (λ why. words_refusal_of self.now words.now ≡ Some why) }
+    {
+        if let Some(why) = self.saves.board().words_refusal(words) {
+            return Err(why);
+        }
+        Ok(count_rerun(&self.saves, words))
     }
 
     /// Takes a player's input, or sees that it was taken before.

@@ -3,6 +3,8 @@
 #![tactic(auto)]
 
 #[cfg(test)]
+mod foretold;
+#[cfg(test)]
 mod guess;
 #[cfg(test)]
 mod mesh;
