@@ -380,7 +380,7 @@ def share(kind, way, budget):
     counts = [0, 0, 0]
     for seed in (1, 2, 3):
         match = Match.of(kind, 1000, seed)
-        chooser = {"words": lambda: Chooser(()), "parts": lambda: PartChooser(PAD, ()), "chosen": lambda: BothChooser(PAD, ())}[way]()
+        chooser = Chooser(()) if way == "words" else (PartChooser if way == "parts" else BothChooser)(PAD, ())
         match.play(chooser.choose, chooser.note, budget)
         counts = [had + more for had, more in zip(counts, (match.rerun, match.ggpo, match.jobs))]
     return counts

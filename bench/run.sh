@@ -15,7 +15,8 @@
 #     bench/run.sh --links|--match TEST_THREADS [COUNT]
 # The match takes 12 minutes, the links a few.
 set -euo pipefail
-usage="usage: bench/run.sh ROLLDUEL|--choices [ROLLDUEL]|--choices --parts [TRIALS], or bench/run.sh --all|--links|--match TEST_THREADS [COUNT]"
+usage="usage: bench/run.sh ROLLDUEL|--choices [ROLLDUEL]|--choices --parts [TRIALS],
+    or bench/run.sh --all|--links|--match TEST_THREADS [COUNT]"
 here=$(dirname -- "$(realpath -- "$0")")
 work=$(mktemp -d)
 trap 'rm -rf -- "$work"' EXIT

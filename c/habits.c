@@ -1,4 +1,5 @@
-/* What a player's habits answer: refusals, and guesses that were worked out by bench/choices.py. Says nothing if all is as it has to be. */
+/* What a player's habits answer: refusals, and guesses that were worked out by bench/choices.py. Says nothing if all is as it has
+ * to be. */
 #include <fazgrond.h>
 #include <stdio.h>
 #include <stdlib.h>

@@ -1,7 +1,8 @@
 /* A fuzzer of the C interface: the input is a list of calls of a session, and perhaps of a peer beside it, of the two ends of a
- * viewer's line and of a player's habits, with whatever arguments keep what the header asks. Handles of one kind are given for those of another too. Memory
- * runs out now and then, as the input says. Requests must be such that a game can carry them out; where all that is shown is
- * settled, the game's state must be that of the settled rows; and what another handle's call answers changes no session. */
+ * viewer's line and of a player's habits, with whatever arguments keep what the header asks. Handles of one kind are given for
+ * those of another too. Memory runs out now and then, as the input says. Requests must be such that a game can carry them out;
+ * where all that is shown is settled, the game's state must be that of the settled rows; and what another handle's call answers
+ * changes no session. */
 #include "game.h"
 
 /* The library's memory, in place of heap.c: after so many grants it runs out. */

@@ -1,6 +1,6 @@
-/* What guesses save that are chosen by habits: two players and so many frames, of which player 2's words are heard 0 to 8 frames late,
- * in order. After each frame the best guesses are made until so many of them gave jobs, and each job is run at once. Counted are
- * the frames that are run again. bench/choices.py follows the same matches by a choice of its own, and has to count the same. */
+/* What guesses save that are chosen by habits: two players, of whom player 2's words are heard 0 to 8 frames late, in order. After
+ * each frame the best guesses are made until so many of them gave jobs, and each job is run at once. Counted are the frames that
+ * are run again. bench/choices.py follows the same matches by a choice of its own, and has to count the same. */
 #include "trials.h"
 
 #include <stdlib.h>
@@ -10,7 +10,8 @@ enum { FRAMES = 1000, LATEST = 8, AHEAD = 8, ROWS = 24, RANKED = 32 };
 
 /* ---- The players. */
 
-/* One who plays with a pad: a direction is held for some twenty frames, A is tapped, and B now and then. And one who has four words. */
+/* One who plays with a pad: a direction is held for some twenty frames, A is tapped, and B now and then; and one who has four
+ * words. */
 typedef enum kind { PAD, FEW, KINDS } kind;
 
 static const char *const kinds[KINDS] = { "pad", "few" };

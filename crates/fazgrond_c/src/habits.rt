@@ -7,7 +7,7 @@ use crate::calls::{CLOSED, open_in};
 use crate::handle::Handle;
 use crate::open::Open;
 use roll_frame::{PATH_LIMIT, Refusal};
-use roll_guess::{Guess, Parts, PlayerHabits};
+use roll_guess::{Guess, PlayerHabits, WordParts};
 use std::alloc::Global;
 
 /// Words that may come next: so many, how good a guess they are, and these.
@@ -34,7 +34,8 @@ impl ForeseenOut {
     }
 }
 
-/// Opens the habits of a player, of whom nothing was seen yet, by these parts of its words. The words are those that are likely.
+/// Opens the habits of a player, of whom nothing was seen yet, by these parts of its words. The
+/// words are those that are likely.
 #[unsafe(no_mangle)]
 pub extern "C" fn fazgrond_habits_open(
     alloc: Global,
@@ -46,7 +47,7 @@ pub extern "C" fn fazgrond_habits_open(
         handle.new.hold.value result }
     ensures why { result ≢ pos 0 → IsWhyClosed parts.now result }
 {
-    let Ok(parts) = Parts::new(parts) else {
+    let Ok(parts) = WordParts::new(parts) else {
         return Refusal::InvalidRequest.code();
     };
     let habits = PlayerHabits::new(&parts, likely);
@@ -70,8 +71,8 @@ pub extern "C" fn fazgrond_habits_note(alloc: Global, handle: &mut Handle, word:
     0
 }
 
-/// Writes the best guesses of the player's next words to the front of a buffer, if so many frames have no word of it yet, and says
-/// how many these are.
+/// Writes the best guesses of the player's next words to the front of a buffer, if so many frames
+/// have no word of it yet, and says how many these are.
 #[unsafe(no_mangle)]
 pub extern "C" fn fazgrond_habits_guesses(
     alloc: Global,
@@ -79,7 +80,8 @@ pub extern "C" fn fazgrond_habits_guesses(
     frames: u32,
     out: &mut [ForeseenOut],
 ) -> usize
-    ensures { AreForeseenBy frames handle.old.hold.value handle.new.hold.value out.old out.new result }
+    ensures { AreForeseenBy frames handle.old.hold.value handle.new.hold.value out.old out.new
+        result }
 {
     let Some(held) = handle.take(alloc) else {
         return 0;

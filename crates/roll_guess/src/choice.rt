@@ -50,7 +50,8 @@ impl Habits {
     /// changes. Empty if no frame waits for a word of the player, or the session takes no guess of it.
     pub fn choose<G: Game>(&self, session: &Session<G>, player: u8) -> Ranking
         ensures accepted { All (λ guess. guess_refusal_of session.now player guess.words.items guess.until ≡ None) result.items }
-        ensures suits { All (Suits (worth_of_words self.now (view_of session.now player)) (view_of session.now player)) result.items }
+        ensures suits { let view = view_of session.now player in
+            All (Suits (worth_of_words self.now view) view) result.items }
         ensures falling { IsFalling result.items }
         ensures unlike { AreUnlike result.items }
         ensures complete { IsTrue (takes_guesses session.now player)
@@ -87,8 +88,8 @@ impl Habits {
         requires few { view.now.unknown ≤ UNKNOWN_LIMIT }
         requires course { IsCourse self.now course }
         requires ranked { IsRanking (worth_of_words self.now view.now) view.now ranking.old.items }
-        ensures { AreOffered (worth_of_words self.now view.now) view.now (IsChange self.now view.now course.words.items)
-            ranking.old.items ranking.new.items }
+        ensures { AreOffered (worth_of_words self.now view.now) view.now
+            (IsChange self.now view.now course.words.items) ranking.old.items ranking.new.items }
     {
         let mut course = course;
         while course.words.len() < usize::from(view.unknown) {

@@ -21,6 +21,6 @@ pub use limits::{
     UNKNOWN_LIMIT,
 };
 pub use part_habits::{Part, PartHabits};
-pub use parts::{Parts, PartsRefusal};
+pub use parts::{PartsRefusal, WordParts};
 pub use player::PlayerHabits;
 pub use ranking::{Guess, Ranking, View};

@@ -18,12 +18,15 @@ use roll_game::Game;
 use roll_session::Session;
 
 impl PartHabits {
-    /// The guesses of a player's next words that are worth making now, best first: that its word is held for some frames
-    /// and then one part of it changes to a known value, and perhaps one more in the same frame. None is left out for one that
-    /// is worth less; a second part is changed in the 32 best. The session is to have taken all words that were noted.
+    /// The guesses of a player's next words that are worth making now, best first: that its word is
+    /// held for some frames and then one part of it changes to a known value, and perhaps one more
+    /// in the same frame. None is left out for one that is worth less; a second part is changed in
+    /// the 32 best. The session is to have taken all words that were noted.
     pub fn choose<G: Game>(&self, session: &Session<G>, player: u8) -> Ranking
-        ensures accepted { All (λ guess. guess_refusal_of session.now player guess.words.items guess.until ≡ None) result.items }
-        ensures suits { All (Suits (worth_by_parts self.now (view_of session.now player)) (view_of session.now player)) result.items }
+        ensures accepted { All (λ guess.
+            guess_refusal_of session.now player guess.words.items guess.until ≡ None) result.items }
+        ensures suits { let view = view_of session.now player in
+            All (Suits (worth_by_parts self.now view) view) result.items }
         ensures falling { IsFalling result.items }
         ensures unlike { AreUnlike result.items }
         ensures complete { IsTrue (takes_guesses session.now player)
@@ -36,7 +39,8 @@ impl PartHabits {
         }
     }
 
-    /// The guesses in which one part is changed, and those of a second one in the frame of the best of these.
+    /// The guesses in which one part is changed, and those of a second one in the frame of the best
+    /// of these.
     pub(crate) fn ranking(&self, view: &View) -> Ranking
         requires reach { view.now.settled < view.now.reach }
         requires few { view.now.unknown ≤ UNKNOWN_LIMIT }
@@ -52,14 +56,14 @@ impl PartHabits {
         ranking
     }
 
-    /// Offers the guesses that the word is held on for some frames, or none, and that a part is then changed, within the frames
-    /// that have no word yet.
+    /// Offers the guesses that the word is held on for some frames, or none, and that a part is
+    /// then changed, within the frames that have no word yet.
     fn offer_first_changes(&self, view: &View, ranking: &mut Ranking)
         requires reach { view.now.settled < view.now.reach }
         requires few { view.now.unknown ≤ UNKNOWN_LIMIT }
         requires ranked { IsRanking (worth_by_parts self.now view.now) view.now ranking.old.items }
-        ensures { AreOffered (worth_by_parts self.now view.now) view.now (IsFirstChange self.now view.now)
-            ranking.old.items ranking.new.items }
+        ensures { AreOffered (worth_by_parts self.now view.now) view.now
+            (IsFirstChange self.now view.now) ranking.old.items ranking.new.items }
     {
         let mut course = PartCourse::start(self);
         while course.words.len() < usize::from(view.unknown) {
@@ -74,22 +78,24 @@ impl PartHabits {
         requires some { 1 ≤ length words.now }
         requires few { length words.now ≤ PATH_LIMIT }
         requires ranked { IsRanking (worth_by_parts self.now view.now) view.now ranking.old.items }
-        ensures { AreOffered (worth_by_parts self.now view.now) view.now (IsWiderChange self.now words.now)
-            ranking.old.items ranking.new.items }
+        ensures { AreOffered (worth_by_parts self.now view.now) view.now
+            (IsWiderChange self.now words.now) ranking.old.items ranking.new.items }
     {
         let last = words.len() - 1;
         let course = PartCourse::along(self, &words[..last]);
         self.offer_changes_of(view, &course, words[last], ranking);
     }
 
-    /// Offers the guesses that after a course this word comes, but that a part is changed that is in it as it is held.
+    /// Offers the guesses that after a course this word comes, but that a part is changed that is
+    /// in it as it is held.
     fn offer_changes_of(&self, view: &View, course: &PartCourse, word: u32, ranking: &mut Ranking)
         requires reach { view.now.settled < view.now.reach }
         requires course { IsPartCourse self.now course.now }
         requires room { length course.now.words.items < PATH_LIMIT }
         requires ranked { IsRanking (worth_by_parts self.now view.now) view.now ranking.old.items }
         ensures { AreOffered (worth_by_parts self.now view.now) view.now
-            (IsPartChange self.now.parts.items course.now.words.items word) ranking.old.items ranking.new.items }
+            (IsPartChange self.now.parts.items course.now.words.items word)
+            ranking.old.items ranking.new.items }
     {
         for part in self.parts.as_slice() {
             if word & part.mask == part.habits.held.word {
@@ -98,7 +104,8 @@ impl PartHabits {
         }
     }
 
-    /// Offers the guesses that after a course this word comes, but with each other value of a part that is known.
+    /// Offers the guesses that after a course this word comes, but with each other value of a part
+    /// that is known.
     fn offer_values(
         &self,
         view: &View,
@@ -112,7 +119,8 @@ impl PartHabits {
         requires room { length course.now.words.items < PATH_LIMIT }
         requires ranked { IsRanking (worth_by_parts self.now view.now) view.now ranking.old.items }
         ensures { AreOffered (worth_by_parts self.now view.now) view.now
-            (IsValueChange course.now.words.items word part.now) ranking.old.items ranking.new.items }
+            (IsValueChange course.now.words.items word part.now)
+            ranking.old.items ranking.new.items }
     {
         for value in part.habits.known.as_slice() {
             if *value != part.habits.held.word {

@@ -8,7 +8,8 @@ use crate::part_habits::PartHabits;
 use arrayvec::ArrayVec;
 use roll_frame::PATH_LIMIT;
 
-/// Words that may come next, all but the last as the one that is held, and how likely they are by parts.
+/// Words that may come next, all but the last as the one that is held, and how likely they are by
+/// parts.
 #[derive(Debug, Drop)]
 pub(crate) struct PartCourse {
     pub(crate) words: ArrayVec<u32, PATH_LIMIT>,

@@ -6,7 +6,7 @@ ghost use Rattle.roll_guess.specs.declared.limits.TheConstants.{PART_LIMIT};
 
 use crate::habits::{Habits, Held, portion};
 use crate::limits::{ALL_PARTS, CERTAIN};
-use crate::parts::Parts;
+use crate::parts::WordParts;
 use arrayvec::ArrayVec;
 
 /// Bits that belong together, and what was seen of them, as if they were the word.
@@ -28,7 +28,8 @@ impl Part {
         Part { mask, habits }
     }
 
-    /// The chance that the part comes next as it is in a word, after it was held for some frames more.
+    /// The chance that the part comes next as it is in a word, after it was held for some frames
+    /// more.
     fn chance(&self, more: u32, word: u32) -> u32
         ensures { result ≡ part_chance self.now more word }
     {
@@ -59,7 +60,7 @@ pub struct PartHabits {
 
 impl PartHabits {
     /// Nothing was seen yet. The words are those that are likely: of each part its values in them.
-    pub fn new(parts: &Parts, likely: &[u32]) -> PartHabits
+    pub fn new(parts: &WordParts, likely: &[u32]) -> PartHabits
         ensures { result ≡ first_parts parts.now.masks.items likely.now }
     {
         let mut seen = ArrayVec::new();

@@ -35,17 +35,18 @@ fn meets_any(masks: &[u32], mask: u32) -> bool
     false
 }
 
-/// Which bits of a word belong together: a cross, each button, an axis. The bits that are in no part that the game names
-/// belong together as a last one.
+/// Which bits of a word belong together: a cross, each button, an axis. The bits that are in no
+/// part that the game names belong together as a last one.
 #[derive(Debug, Drop)]
-pub struct Parts {
+pub struct WordParts {
     masks: ArrayVec<u32, PART_LIMIT>,
 }
 
-impl Parts {
+impl WordParts {
     /// The parts with these bits. Without any a word is one part, as a whole.
-    pub fn new(masks: &[u32]) -> Result<Parts, PartsRefusal>
-        ensures parts { IfOk result (λ parts. (parts.masks.items ≡ masks.now) × AreParts masks.now) }
+    pub fn new(masks: &[u32]) -> Result<WordParts, PartsRefusal>
+        ensures parts { IfOk result (λ parts.
+            (parts.masks.items ≡ masks.now) × AreParts masks.now) }
         ensures refused { IfErr result (IsReason masks.now) }
     {
         let mut parts = ArrayVec::new();
@@ -61,7 +62,7 @@ impl Parts {
             }
             parts.push(*mask);
         }
-        Ok(Parts { masks: parts })
+        Ok(WordParts { masks: parts })
     }
 
     /// The bits of each part that the game named.

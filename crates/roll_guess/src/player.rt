@@ -9,7 +9,7 @@ ghost use Rattle.roll_session.specs.Guessing.{guess_refusal_of};
 use crate::habits::Habits;
 use crate::limits::SCORE_FADE;
 use crate::part_habits::PartHabits;
-use crate::parts::Parts;
+use crate::parts::WordParts;
 use crate::ranking::{Ranking, View};
 use roll_game::Game;
 use roll_session::Session;
@@ -21,8 +21,9 @@ fn scored(score: u32, chance: u32) -> u32
     (score - score / SCORE_FADE).saturating_add(chance)
 }
 
-/// What was seen of one player by now, by whole words and by parts of them. Each foresees the next change with a chance, and what
-/// foresaw more of the last changes chooses the guesses: whole words of a player who has few, parts of one who plays with a pad.
+/// What was seen of one player by now, by whole words and by parts of them. Each foresees the next
+/// change with a chance, and what foresaw more of the last changes chooses the guesses: whole words
+/// of a player who has few, parts of one who plays with a pad.
 #[derive(Debug, Drop)]
 pub struct PlayerHabits {
     pub words: Habits,
@@ -34,8 +35,9 @@ pub struct PlayerHabits {
 }
 
 impl PlayerHabits {
-    /// Nothing was seen yet: until a change, guesses are by whole words. The words are those that are likely, as for `Habits::new`.
-    pub fn new(parts: &Parts, likely: &[u32]) -> PlayerHabits
+    /// Nothing was seen yet: until a change, guesses are by whole words. The words are those that
+    /// are likely, as for `Habits::new`.
+    pub fn new(parts: &WordParts, likely: &[u32]) -> PlayerHabits
         ensures { result ≡ first_player parts.now.masks.items likely.now }
     {
         PlayerHabits {
@@ -65,10 +67,12 @@ impl PlayerHabits {
         self.of_words < self.of_parts
     }
 
-    /// The guesses of the player's next words that are worth making now, best first, by what foresaw more of its last changes:
-    /// those of `Habits::choose`, or of `PartHabits::choose`. The session is to have taken all words that were noted.
+    /// The guesses of the player's next words that are worth making now, best first, by what
+    /// foresaw more of its last changes: those of `Habits::choose`, or of `PartHabits::choose`. The
+    /// session is to have taken all words that were noted.
     pub fn choose<G: Game>(&self, session: &Session<G>, player: u8) -> Ranking
-        ensures accepted { All (λ guess. guess_refusal_of session.now player guess.words.items guess.until ≡ None) result.items }
+        ensures accepted { All (λ guess.
+            guess_refusal_of session.now player guess.words.items guess.until ≡ None) result.items }
         ensures falling { IsFalling result.items }
         ensures unlike { AreUnlike result.items }
         ensures chosen { IsTrue (takes_guesses session.now player)
@@ -82,8 +86,9 @@ impl PlayerHabits {
         }
     }
 
-    /// The guesses of the player's next words, best first, if these many frames have no word of it yet: of them the first 16
-    /// count. This asks no session: how far each is run is up to whoever makes it.
+    /// The guesses of the player's next words, best first, if these many frames have no word of it
+    /// yet: of them the first 16 count. This asks no session: how far each is run is up to whoever
+    /// makes it.
     pub fn guesses(&self, unknown: u32) -> Ranking
         ensures falling { IsFalling result.items }
         ensures unlike { AreUnlike result.items }

@@ -50,7 +50,8 @@ impl View {
         }
     }
 
-    /// The frame to which a guess of so many words is run: as far past its last change as a job goes.
+    /// The frame to which a guess of so many words is run: as far past its last change as a job
+    /// goes.
     fn until(&self, words: u32) -> u32
         requires { self.now.settled < self.now.reach }
         ensures { result ≡ until_of self.now words }
@@ -70,7 +71,8 @@ impl View {
     pub(crate) fn guess(&self, words: ArrayVec<u32, PATH_LIMIT>, chance: u32) -> Guess
         requires reach { self.now.settled < self.now.reach }
         requires some { 1 ≤ length words.items }
-        ensures suits { (worths : List ℕ → ℕ) → worths words.items ≡ worth_of self.now (length words.items) chance
+        ensures suits { (worths : List ℕ → ℕ)
+            → worths words.items ≡ worth_of self.now (length words.items) chance
             → Suits worths self.now result }
         ensures words { result.words.items ≡ words.items }
     {
@@ -120,11 +122,13 @@ fn make_room(ranking: &mut Ranking)
     }
 }
 
-/// Puts a guess in its place, unless there is one of the same words. From a full list the last one goes, or none if this
-/// one would come after it.
+/// Puts a guess in its place, unless there is one of the same words. From a full list the last one
+/// goes, or none if this one would come after it.
 pub(crate) fn offer(ranking: &mut Ranking, guess: Guess)
-    ensures { (worths : List ℕ → ℕ) (view : View) → IsRanking worths view ranking.old.items → Suits worths view guess
-        → AreOffered worths view (λ words. words ≡ guess.words.items) ranking.old.items ranking.new.items }
+    ensures { (worths : List ℕ → ℕ) (view : View)
+        → IsRanking worths view ranking.old.items → Suits worths view guess
+        → AreOffered worths view (λ words. words ≡ guess.words.items)
+        ranking.old.items ranking.new.items }
 {
     let place = place_of(ranking.as_slice(), guess.worth);
     if place < GUESS_LIMIT && !has_words(ranking.as_slice(), guess.words.as_slice()) {

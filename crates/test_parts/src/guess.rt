@@ -2,7 +2,7 @@
 //! the same words.
 use roll_frame::{Refusal, Settings};
 use roll_game::Tally;
-use roll_guess::{Guess, Habits, PartHabits, Parts, PartsRefusal, PlayerHabits};
+use roll_guess::{Guess, Habits, PartHabits, PartsRefusal, PlayerHabits, WordParts};
 use roll_session::Session;
 use std::alloc::Global;
 use std::test::Fail;
@@ -82,7 +82,7 @@ const PAD: [u32; 2] = [240, 256];
 
 /// Why masks aren't parts, if they aren't.
 fn refused(masks: &[u32]) -> Option<PartsRefusal> {
-    Parts::new(masks).err()
+    WordParts::new(masks).err()
 }
 
 #[test]
@@ -92,14 +92,14 @@ fn takes_parts_that_have_no_bit_in_common(rt: HostRuntime) -> Result<(), Fail> {
     assert_eq!(rt; refused(&[240, 256, 16]), Some(PartsRefusal::Overlap));
     assert_eq!(rt; refused(&[240, 0]), Some(PartsRefusal::Empty));
     assert_eq!(rt; refused(&[1; 33]), Some(PartsRefusal::TooMany));
-    assert_eq!(rt; Parts::new(&PAD)?.rest(), 0xffff_fe0f);
+    assert_eq!(rt; WordParts::new(&PAD)?.rest(), 0xffff_fe0f);
     Ok(())
 }
 
 #[test]
 fn guesses_words_that_never_came_by_their_parts(rt: HostRuntime) -> Result<(), Fail> {
     let session = open_with(rt.alloc(), &TAPPED)?;
-    let mut habits = PartHabits::new(&Parts::new(&PAD)?, &[]);
+    let mut habits = PartHabits::new(&WordParts::new(&PAD)?, &[]);
     for word in TAPPED {
         habits.note(word);
     }
@@ -123,7 +123,7 @@ fn guesses_words_that_never_came_by_their_parts(rt: HostRuntime) -> Result<(), F
 
 /// What was seen of one who gave these words, by whole words and by parts.
 fn seen_both(words: &[u32], masks: &[u32]) -> Result<PlayerHabits, PartsRefusal> {
-    let mut habits = PlayerHabits::new(&Parts::new(masks)?, &[]);
+    let mut habits = PlayerHabits::new(&WordParts::new(masks)?, &[]);
     for word in words {
         habits.note(*word);
     }
@@ -132,7 +132,7 @@ fn seen_both(words: &[u32], masks: &[u32]) -> Result<PlayerHabits, PartsRefusal>
 
 /// What was seen in 120 frames of one who holds each of five buttons for as long as it is let go.
 fn five_buttons() -> Result<PlayerHabits, PartsRefusal> {
-    let mut habits = PlayerHabits::new(&Parts::new(&[1, 2, 4, 8, 16])?, &[]);
+    let mut habits = PlayerHabits::new(&WordParts::new(&[1, 2, 4, 8, 16])?, &[]);
     for frame in 0..120u32 {
         let mut word = 0;
         for (button, held) in [6, 10, 14, 9, 22].iter().enumerate() {

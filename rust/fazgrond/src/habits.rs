@@ -35,9 +35,9 @@ pub struct Habits {
 impl Habits {
     /// Nothing was seen of the player yet.
     ///
-    /// Each of the parts has those bits of a word that belong together: the four of a cross, one for each button, those of an axis. All
-    /// other bits belong together as one part more; with no parts a word is one as a whole. The likely words are those that the
-    /// player will probably give: the last 8 count.
+    /// Each of the parts has those bits of a word that belong together: the four of a cross, one for each button, those
+    /// of an axis. All other bits belong together as one part more; with no parts a word is one as a whole. The likely
+    /// words are those that the player will probably give: the last 8 count.
     ///
     /// # Errors
     ///
@@ -61,8 +61,9 @@ impl Habits {
         debug_assert_eq!(code, 0);
     }
 
-    /// The best guesses of the player's next words, best first, if so many frames have no word of it yet: of these the first 16 count.
-    /// They are made of whole words or of their parts: of what foresaw more of the player's last changes.
+    /// The best guesses of the player's next words, best first, if so many frames have no word of it yet: of these the
+    /// first 16 count. They are made of whole words or of their parts: of what foresaw more of the player's last
+    /// changes.
     pub fn guesses(&self, frames: u32) -> Vec<Foreseen> {
         let mut best = vec![Foreseen::default(); MOST];
         let count = unsafe { raw::fazgrond_habits_guesses(self.raw(), frames, best.as_mut_ptr(), best.len()) };

@@ -1,7 +1,7 @@
 use Rattle.std.proofs.Common.{◌≡◌, ◌≢◌, take, length, All}
 use Rattle.std.specs.Prelude.{AllPairs}
 use Rattle.roll_guess.specs.Parts.{AreApart}
-use Rattle.roll_guess.proofs.parts.Parts.new.Given as goal
+use Rattle.roll_guess.proofs.parts.WordParts.new.Given as goal
 
 abbrev pub invariant-loop-mask : goal.invariant-loop-mask
 invariant-loop-mask l = record {
