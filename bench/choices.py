@@ -1,4 +1,4 @@
-"""Measures which guesses are worth making: python3 bench/choices.py [ROLLDUEL]
+"""Measures which guesses are worth making: python3 bench/choices.py [ROLLDUEL], or --parts [TRIALS]
 
 Two players and 1,000 frames. Each player's words are among four, and are held for 3, 10 or 30 frames on average; or they are
 those of the bots of c/duel, which take another of sixteen words in one frame of eight. Player 2's are heard 0 to 8 frames late, in order, and told with a sync. After each advance guesses of them are made, in the order of
@@ -9,7 +9,11 @@ Which states are kept is followed here, by their paths, so the table needs no pr
 each match are played through it too, as a script, and it must count the same jobs and the same frames. And a second table is
 printed, of 20 of its own matches for each number of jobs: `rollduel match --guesses best`.
 
-The chooser is written again here from its definition, crates/roll_guess/specs.
+With --parts the players of c/trials/habits.c are measured: one who plays with a pad, and one who has four words. The guesses are
+chosen by whole words, by parts, and by what foresaw more. TRIALS is the program of c/trials: it must count the same
+frames and jobs, unless there was no room for the states of some; this follows no such limit.
+
+The choosers are written again here from their definitions, crates/roll_guess/specs.
 """
 import random
 import subprocess
@@ -105,6 +109,132 @@ class Chooser:
             yield words, max(settled + 1, min(heard + len(words) + 7, settled + PATH_LIMIT))
 
 
+class PartChooser:
+    """The chooser by parts of a word."""
+
+    def __init__(self, masks, likely):
+        rest = 2**32 - 1
+        for mask in masks:
+            rest &= ~mask
+        masks = [*masks, rest] if rest else masks
+        self.held, self.parts = 0, [(mask, Chooser([word & mask for word in likely])) for mask in masks]
+
+    def note(self, word):
+        self.held = word
+        for mask, part in self.parts:
+            part.note(word & mask)
+
+    def chance(self, more, word):
+        chance = Chooser.CERTAIN
+        for mask, part in self.parts:
+            chance = chance * part.chance(part.held, part.age + more, word & mask) // Chooser.CERTAIN
+        return chance
+
+    def foreseen(self, word):
+        chance = Chooser.CERTAIN
+        for mask, part in self.parts:
+            chance = chance * foreseen(part, word & mask) // Chooser.CERTAIN
+        return chance
+
+    def changed(self, word):
+        """The words that come of one by a change of a part that is in it as it is held."""
+        for mask, part in self.parts:
+            if word & mask == part.held:
+                yield from (word & ~mask | value for value in part.known if value != part.held)
+
+    def offer_changes(self, ranking, holds, word, unknown):
+        more, chance = holds
+        for word in self.changed(word):
+            worth = (chance * self.chance(more, word) // Chooser.CERTAIN) * (unknown - more)
+            place = sum(worth <= other for other, _ in ranking)
+            words = [self.held] * more + [word]
+            if place < Chooser.GUESSES and all(words != others for _, others in ranking):
+                ranking[Chooser.GUESSES - 1 :] = []
+                ranking.insert(place, (worth, words))
+
+    def ranking(self, unknown):
+        holds = [(0, Chooser.CERTAIN)]
+        for more in range(unknown):
+            holds.append((more + 1, holds[more][1] * self.chance(more, self.held) // Chooser.CERTAIN))
+        singles = []
+        for more in range(unknown):
+            self.offer_changes(singles, holds[more], self.held, unknown)
+        ranking = [*singles]
+        for _, words in singles:
+            self.offer_changes(ranking, holds[len(words) - 1], words[-1], unknown)
+        return ranking
+
+    def choose(self, now, heard, last, settled):
+        for _, words in self.ranking(min(max(now - heard, 0), Chooser.UNKNOWN)):
+            yield words, max(settled + 1, min(heard + len(words) + 7, settled + PATH_LIMIT))
+
+
+def foreseen(chooser, word):
+    """The chance that a chooser gave a word that came."""
+    return chooser.chance(chooser.held, chooser.age, word) if word in chooser.known else 0
+
+
+class BothChooser:
+    """The choice between whole words and parts."""
+
+    def __init__(self, masks, likely):
+        self.words, self.parts, self.of_words, self.of_parts = Chooser(likely), PartChooser(masks, likely), 0, 0
+
+    def note(self, word):
+        if word != self.words.held:
+            self.of_words += foreseen(self.words, word) - self.of_words // 16
+            self.of_parts += self.parts.foreseen(word) - self.of_parts // 16
+        self.words.note(word)
+        self.parts.note(word)
+
+    def choose(self, *where):
+        return (self.parts if self.of_words < self.of_parts else self.words).choose(*where)
+
+
+class Player:
+    """The players of c/trials/habits.c."""
+
+    WAYS, FEW = (16, 32, 64, 128, 64, 128), (0, 64, 128, 256)
+
+    def __init__(self, kind, state):
+        self.kind, self.state, self.held, self.until = kind, state, [0, 0, 0], [0, 0, 0]
+
+    def draw(self, below):
+        self.state = (self.state * 6364136223846793005 + 1442695040888963407) % 2**64
+        return (self.state >> 33) % below
+
+    def another(self):
+        word = self.FEW[self.draw(4)]
+        return word if word != self.held[0] else self.another()
+
+    def cross(self):
+        if self.draw(4) and self.held[0]:
+            return 0, 2 + self.draw(12)
+        return self.WAYS[self.draw(6)], 8 + self.draw(25)
+
+    def a(self):
+        pause = self.draw(8) == 0
+        if not self.held[1]:
+            return 256, 4 + self.draw(4)
+        return 0, 60 if pause else 6 + self.draw(15)
+
+    def b(self):
+        return (0, 60 + self.draw(120)) if self.held[2] else (1, 5 + self.draw(10))
+
+    def few(self):
+        return self.another(), 5 + self.draw(11)
+
+    def word(self, frame):
+        for at, press in enumerate((self.cross, self.a, self.b) if self.kind == "pad" else (self.few,)):
+            if frame >= self.until[at]:
+                self.held[at], more = press()
+                self.until[at] = frame + more
+        return sum(self.held)
+
+
+PAD = (240, 256, 1, 2, 4, 8, 512, 1024, 2048)
+
+
 def bot(seed, number):
     """The words of a bot of c/duel, as `draw_word` there has them."""
     state, word = 0x9E3779B97F4A7C15 * (4 * seed + number) % 2**64, 0
@@ -127,8 +257,25 @@ class Match:
         else:
             self.own, self.words = ([*self.drawn(frames, held, draw)] for _ in range(2))
         self.when = [*accumulate((frame + draw.randrange(THRESHOLD + 1) for frame in range(frames)), max)]
+        self.begin()
+
+    def begin(self):
         self.kept, self.settled, self.heard = {}, 0, 0
         self.lines, self.jobs, self.rerun, self.ggpo = [HEADER], 0, 0, 0
+
+    @staticmethod
+    def of(kind, frames, seed):
+        """A match of c/trials/habits.c."""
+        match = Match.__new__(Match)
+        one, two, line = Player(kind, 2 * seed), Player(kind, 2 * seed + 1), Player(kind, seed)
+        late, match.own, match.words = [], [], []
+        for frame in range(frames):
+            late.append(frame + line.draw(THRESHOLD + 1))
+            match.own.append(one.word(frame))
+            match.words.append(two.word(frame))
+        match.when = [*accumulate(late, max)]
+        match.begin()
+        return match
 
     @staticmethod
     def drawn(frames, held, draw):
@@ -228,7 +375,38 @@ def print_matches(program):
         print(f"| {held} frames | `best` |", " | ".join(cells), "|", flush=True)
 
 
+def share(kind, way, budget):
+    """What the guesses of a way leave in three matches: frames run again, those of GGPO, and jobs."""
+    counts = [0, 0, 0]
+    for seed in (1, 2, 3):
+        match = Match.of(kind, 1000, seed)
+        chooser = Chooser(()) if way == "words" else (PartChooser if way == "parts" else BothChooser)(PAD, ())
+        match.play(chooser.choose, chooser.note, budget)
+        counts = [had + more for had, more in zip(counts, (match.rerun, match.ggpo, match.jobs))]
+    return counts
+
+
+def parts(programs):
+    said = "".join(subprocess.run([it, "shares"], stdout=subprocess.PIPE, check=True).stdout.decode() for it in programs)
+    told = dict(line.split(": ") for line in said.splitlines())
+    print("| A player | Guesses |", " | ".join(f"{budget} jobs" for budget in BUDGETS), "|")
+    print("|---|---|" + "---|" * len(BUDGETS))
+    for kind in ("pad", "few"):
+        for way in ("words", "parts", "chosen"):
+            cells = []
+            for budget in BUDGETS:
+                rerun, ggpo, jobs = counts = share(kind, way, budget)
+                name = f"{kind} {way} {budget}"
+                *said, full = map(int, told.get(name, "0 0 0 1").split())
+                if full == 0 and said != counts:
+                    sys.exit(f"{name}: the program counts {said}, and not {counts}")
+                cells.append(f"{rerun / ggpo:.2f} ({jobs / 3000:.1f})")
+            print(f"| {kind} | {way} |", " | ".join(cells), "|", flush=True)
+
+
 def main():
+    if sys.argv[1:2] == ["--parts"]:
+        return parts(sys.argv[2:])
     print("| Words held for | Guesses |", " | ".join(f"{budget} jobs" for budget in BUDGETS), "|")
     print("|---|---|" + "---|" * len(BUDGETS))
     for held in (3, 10, 30, BOTS):

@@ -7,13 +7,16 @@
 #
 # Measures which guesses are worth making, in some two minutes; with ROLLDUEL it plays a part of each match through it too:
 #     bench/run.sh --choices [ROLLDUEL]
+# The same by parts of a word, in some five minutes; with the program of c/trials it compares counts:
+#     bench/run.sh --choices --parts [TRIALS]
 #
 # Measures what of the library needs threads by test_threads, both tables or one of them (`bench/threads.py`):
 #     bench/run.sh --all TEST_THREADS
 #     bench/run.sh --links|--match TEST_THREADS [COUNT]
 # The match takes 12 minutes, the links a few.
 set -euo pipefail
-usage="usage: bench/run.sh ROLLDUEL|--choices [ROLLDUEL], or bench/run.sh --all|--links|--match TEST_THREADS [COUNT]"
+usage="usage: bench/run.sh ROLLDUEL|--choices [ROLLDUEL]|--choices --parts [TRIALS],
+    or bench/run.sh --all|--links|--match TEST_THREADS [COUNT]"
 here=$(dirname -- "$(realpath -- "$0")")
 work=$(mktemp -d)
 trap 'rm -rf -- "$work"' EXIT

@@ -12,6 +12,7 @@ public static unsafe class Fazgrond
     public const uint NoPlayer = 255;
     public const int Machines = 8;
     public const int Datagram = 1200;
+    public const int GuessWords = 24;
     public const uint Ggpo = 0, Wide = 1;
     public const uint Load = 1, Save = 2, Step = 3, Free = 4, JobLoad = 5, JobSave = 6, JobStep = 7;
     public const uint Local = 1, Remote = 2, Disconnect = 3, Sync = 4, Advance = 5, Graft = 6;
@@ -168,6 +169,21 @@ public static unsafe class Fazgrond
         public uint IsSilent;
     }
 
+    [StructLayout(LayoutKind.Sequential)]
+    public struct Habits
+    {
+        public byte Full;
+        public IntPtr At;
+    }
+
+    [StructLayout(LayoutKind.Sequential)]
+    public struct Foreseen
+    {
+        public uint Count;
+        public uint Worth;
+        public fixed uint Words[Fazgrond.GuessWords];
+    }
+
     [DllImport(Library)] public static extern uint fazgrond_version();
     [DllImport(Library)] public static extern UIntPtr fazgrond_text(int code, byte* @out, UIntPtr room);
     [DllImport(Library)] public static extern int fazgrond_open(Session* session, Settings* settings);
@@ -225,6 +241,11 @@ public static unsafe class Fazgrond
     [DllImport(Library)] public static extern int fazgrond_viewer_bye(Viewer* viewer, byte* @out, UIntPtr room, UIntPtr* length);
     [DllImport(Library)] public static extern int fazgrond_viewer_row(Viewer* viewer, Row* row);
     [DllImport(Library)] public static extern int fazgrond_viewer_look(Viewer* viewer, uint now, LineState* state);
+    [DllImport(Library)] public static extern int fazgrond_habits_open(Habits* habits, uint* parts, UIntPtr part_count,
+                                                                       uint* likely, UIntPtr likely_count);
+    [DllImport(Library)] public static extern int fazgrond_habits_note(Habits* habits, uint word);
+    [DllImport(Library)] public static extern UIntPtr fazgrond_habits_guesses(Habits* habits, uint frames, Foreseen* @out,
+                                                                              UIntPtr room);
 
     public static Settings fazgrond_settings_for(uint players)
     {
@@ -261,4 +282,5 @@ public static unsafe class Fazgrond
     public static void fazgrond_peer_close(Peer* peer) { fazgrond_close((Session*)peer); }
     public static void fazgrond_line_close(Line* line) { fazgrond_close((Session*)line); }
     public static void fazgrond_viewer_close(Viewer* viewer) { fazgrond_close((Session*)viewer); }
+    public static void fazgrond_habits_close(Habits* habits) { fazgrond_close((Session*)habits); }
 }

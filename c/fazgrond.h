@@ -567,6 +567,44 @@ int32_t fazgrond_viewer_row(fazgrond_viewer *viewer, fazgrond_row *row);
 /* How far the two ends are. */
 int32_t fazgrond_viewer_look(fazgrond_viewer *viewer, uint32_t now, fazgrond_line_state *state);
 
+/* ---- What another player may press next: which guesses (fazgrond_guess) are worth making, by what was seen of the player. */
+
+/* The habits of a player, in the game's memory, as a fazgrond_session. Begin with FAZGROND_CLOSED. */
+typedef struct fazgrond_habits {
+    uint8_t full;
+    void *at;
+} fazgrond_habits;
+
+/* The most words of a guess. */
+#define FAZGROND_GUESS_WORDS 24
+
+typedef struct fazgrond_foreseen {
+    uint32_t count;                       /* how many words they are */
+    uint32_t worth;                       /* the chance that they come, of 32768, times the frames from the last of them on */
+    uint32_t words[FAZGROND_GUESS_WORDS]; /* the words for the next frames; the last of them is held on. Behind them are zeros */
+} fazgrond_foreseen;
+
+/* Opens the habits of a player of whom nothing was seen yet. Each of `parts` has those bits of a word that belong together: the
+ * four of a cross, one for each button, those of an axis. All other bits belong together as one part more; with no parts a word
+ * is one as a whole. FAZGROND_INVALID_REQUEST: they are more than 32, one has no bit, or two have a bit in common. `likely` are
+ * words that the player will probably give, though none is needed: the last 8 count. A list of none needs a pointer too. */
+int32_t fazgrond_habits_open(fazgrond_habits *habits, const uint32_t *parts, size_t part_count, const uint32_t *likely,
+                             size_t likely_count);
+
+/* Closes them. Nothing happens if they are closed. */
+static inline void fazgrond_habits_close(fazgrond_habits *habits) {
+    fazgrond_close((fazgrond_session *)(void *)habits);
+}
+
+/* Notes the player's next confirmed word. Tell each once, in the order of their frames. */
+int32_t fazgrond_habits_note(fazgrond_habits *habits, uint32_t word);
+
+/* The best guesses of the player's next words, best first, if so many frames have no word of it yet (the current frame, less
+ * fazgrond_confirmed); of these the first 16 count. They are made of whole words or of their parts: of what foresaw more of the
+ * player's last changes. Fills `out`, which has room for so many, and says how many it wrote: 32 at most, and 0 if the habits are
+ * closed. */
+size_t fazgrond_habits_guesses(fazgrond_habits *habits, uint32_t frames, fazgrond_foreseen *out, size_t room);
+
 #ifdef __cplusplus
 }
 #endif

@@ -10,6 +10,7 @@
 #include <memory>
 #include <optional>
 #include <string>
+#include <vector>
 
 namespace fazgrond {
 
@@ -119,6 +120,11 @@ struct Closer {
 
     void operator()(fazgrond_viewer *handle) const {
         fazgrond_viewer_close(handle);
+        delete handle;
+    }
+
+    void operator()(fazgrond_habits *handle) const {
+        fazgrond_habits_close(handle);
         delete handle;
     }
 };
@@ -388,6 +394,37 @@ public:
 
 private:
     Owned<fazgrond_viewer> handle;
+};
+
+// Words that a player may give next, and how good a guess they are.
+using Foreseen = fazgrond_foreseen;
+
+// What was seen of a player, closed at first.
+class Habits {
+public:
+    Habits() : handle(new fazgrond_habits FAZGROND_CLOSED) {}
+
+    // Each of `parts` has those bits of a word that belong together. `likely` are words that the player will probably give.
+    Code open(const std::vector<std::uint32_t> &parts, const std::vector<std::uint32_t> &likely = {}) {
+        static const std::uint32_t none = 0;
+        return Code(fazgrond_habits_open(handle.get(), parts.empty() ? &none : parts.data(), parts.size(),
+                                         likely.empty() ? &none : likely.data(), likely.size()));
+    }
+
+    void close() { fazgrond_habits_close(handle.get()); }
+
+    // The player's next confirmed word, each once.
+    Code note(std::uint32_t word) { return Code(fazgrond_habits_note(handle.get(), word)); }
+
+    // The best guesses, best first, if so many frames have no word of the player yet: `most` of them, and never more than 32.
+    std::vector<Foreseen> guesses(std::uint32_t frames, std::size_t most) {
+        std::vector<Foreseen> best(most < 32 ? most : 32);
+        best.resize(best.empty() ? 0 : fazgrond_habits_guesses(handle.get(), frames, best.data(), best.size()));
+        return best;
+    }
+
+private:
+    Owned<fazgrond_habits> handle;
 };
 
 } // namespace fazgrond

@@ -103,3 +103,12 @@ AT(fazgrond_line_state, silence, 8);
 AT(fazgrond_line_state, is_playing, 12);
 AT(fazgrond_line_state, has_ended, 16);
 AT(fazgrond_line_state, is_silent, 20);
+
+HAS(fazgrond_habits, 16);
+AT(fazgrond_habits, full, 0);
+AT(fazgrond_habits, at, 8);
+
+HAS(fazgrond_foreseen, 104);
+AT(fazgrond_foreseen, count, 0);
+AT(fazgrond_foreseen, worth, 4);
+AT(fazgrond_foreseen, words, 8);

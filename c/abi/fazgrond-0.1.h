@@ -208,9 +208,9 @@ int32_t fazgrond_synchronize_input(fazgrond_session *session, fazgrond_row *row)
  * player gave no word for this frame. FAZGROND_PENDING as above. */
 int32_t fazgrond_advance_frame(fazgrond_session *session, fazgrond_reached *reached);
 
-/* Whether the state that is shown may be out of date: `flag` is 0 if the last entry of the log is SYNC or ADVANCE, else 1. A turn
- * that plays no frame asks this, and calls fazgrond_synchronize_input if it is 1. If it is 0, that call would change nothing but
- * the log, by one entry more. */
+/* Whether the state that is shown may be out of date: `flag` is 0 if the last entry of the log that isn't GRAFT is SYNC or
+ * ADVANCE, else 1. A turn that plays no frame asks this, and calls fazgrond_synchronize_input if it is 1. If it is 0, that call
+ * would change nothing but the log, by one entry more. */
 int32_t fazgrond_has_news(fazgrond_session *session, uint32_t *flag);
 
 /* The requests that were not taken yet, in order: fills `out`, which has room for so many, and says how many it wrote. After each
@@ -235,7 +235,7 @@ int32_t fazgrond_graft(fazgrond_session *session, uint32_t job, uint32_t *added)
 int32_t fazgrond_forget(fazgrond_session *session, uint32_t job);
 
 /* For a game with room for so many states: from now on nothing is saved in a slot from this one on. A call that would need one is
- * refused with FAZGROND_NO_MEMORY. Without jobs, the settings' threshold and three are enough. With guesses more are needed: each
+ * refused with FAZGROND_NO_MEMORY. Without guesses, the settings' threshold and two are enough. With guesses more are needed: each
  * job takes a slot for each of its rows until it is forgotten, or its states were grafted and are freed; and while it is out, the
  * slot that it loads isn't freed. A call that is refused for this has changed nothing, and can be made again: a guess once slots
  * were freed, a call that rolls back once jobs were forgotten. */
@@ -338,7 +338,8 @@ typedef struct fazgrond_match {
     uint32_t me;                         /* which machine this is */
     uint32_t machines;                   /* how many there are, 2 to 8 */
     uint32_t owners[FAZGROND_PLAYERS];   /* the machine of each player, player 1 first; FAZGROND_NO_PLAYER if there is none */
-    uint32_t silent_after;               /* milliseconds after which a machine is gone that answers nothing; 0: it never is */
+    uint32_t silent_after;               /* milliseconds after which a machine is gone that answers nothing. 0: it never is, so
+                                          * the match waits for it until you disconnect it, and FAZGROND_MISSING isn't told */
     uint32_t notify_after;               /* milliseconds after which FAZGROND_INTERRUPTED tells of a machine of which nothing
                                           * comes, and FAZGROND_STALLED of one that holds this one up; 0: neither is told */
     uint32_t stalled_after;              /* milliseconds after which a machine is gone that answers, and holds this one up since
@@ -379,7 +380,8 @@ static inline void fazgrond_one_number(fazgrond_match *match, uint64_t number) {
 /* SYNCHRONIZING: `machine` was heard; `count` of `total` steps are done. SYNCHRONIZED: it and this one have heard each other.
  * RUNNING: a play of each has come, and the match begins. DISCONNECTED: `player` has left.
  * TIME_SYNC: this machine is ahead: give no word for `frames_ahead` turns.
- * INTERRUPTED: `machine` is silent, and gone in `disconnect_in` milliseconds. RESUMED: it was heard again.
+ * INTERRUPTED: `machine` is silent, and gone in `disconnect_in` milliseconds; that is 0 if `silent_after` is. RESUMED: it was
+ * heard again.
  * LEFT: `machine` is gone for good. DESYNC: it has another state at the settled frame `frame`.
  * MISMATCH: `machine` means another match: `field` is 1 if it has another number of machines, 2 if other owners, 3 if another
  * digest, 4 if inputs of another number of words. It may come in the middle of a match too. DROPPED: another machine regards this one as gone.
@@ -502,7 +504,8 @@ typedef struct fazgrond_line_settings {
     uint32_t host;                     /* which machine of the match is watched, from 0 */
     uint32_t machines;                 /* as in the match */
     uint32_t owners[FAZGROND_PLAYERS]; /* as in the match */
-    uint32_t silent_after;             /* milliseconds after which the other end is silent, which answers nothing; 0: it never is */
+    uint32_t silent_after;             /* milliseconds after which `is_silent` says that the other end answers nothing. 0: it
+                                        * never says so */
 } fazgrond_line_settings;
 
 typedef struct fazgrond_line_state {
@@ -564,6 +567,44 @@ int32_t fazgrond_viewer_row(fazgrond_viewer *viewer, fazgrond_row *row);
 
 /* How far the two ends are. */
 int32_t fazgrond_viewer_look(fazgrond_viewer *viewer, uint32_t now, fazgrond_line_state *state);
+
+/* ---- What another player may press next: which guesses (fazgrond_guess) are worth making, by what was seen of the player. */
+
+/* The habits of a player, in the game's memory, as a fazgrond_session. Begin with FAZGROND_CLOSED. */
+typedef struct fazgrond_habits {
+    uint8_t full;
+    void *at;
+} fazgrond_habits;
+
+/* The most words of a guess. */
+#define FAZGROND_GUESS_WORDS 24
+
+typedef struct fazgrond_foreseen {
+    uint32_t count;                       /* how many words they are */
+    uint32_t worth;                       /* the chance that they come, of 32768, times the frames from the last of them on */
+    uint32_t words[FAZGROND_GUESS_WORDS]; /* the words for the next frames; the last of them is held on. Behind them are zeros */
+} fazgrond_foreseen;
+
+/* Opens the habits of a player of whom nothing was seen yet. Each of `parts` has those bits of a word that belong together: the
+ * four of a cross, one for each button, those of an axis. All other bits belong together as one part more; with no parts a word
+ * is one as a whole. FAZGROND_INVALID_REQUEST: they are more than 32, one has no bit, or two have a bit in common. `likely` are
+ * words that the player will probably give, though none is needed: the last 8 count. A list of none needs a pointer too. */
+int32_t fazgrond_habits_open(fazgrond_habits *habits, const uint32_t *parts, size_t part_count, const uint32_t *likely,
+                             size_t likely_count);
+
+/* Closes them. Nothing happens if they are closed. */
+static inline void fazgrond_habits_close(fazgrond_habits *habits) {
+    fazgrond_close((fazgrond_session *)(void *)habits);
+}
+
+/* Notes the player's next confirmed word. Tell each once, in the order of their frames. */
+int32_t fazgrond_habits_note(fazgrond_habits *habits, uint32_t word);
+
+/* The best guesses of the player's next words, best first, if so many frames have no word of it yet (the current frame, less
+ * fazgrond_confirmed); of these the first 16 count. They are made of whole words or of their parts: of what foresaw more of the
+ * player's last changes. Fills `out`, which has room for so many, and says how many it wrote: 32 at most, and 0 if the habits are
+ * closed. */
+size_t fazgrond_habits_guesses(fazgrond_habits *habits, uint32_t frames, fazgrond_foreseen *out, size_t room);
 
 #ifdef __cplusplus
 }

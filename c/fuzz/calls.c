@@ -1,7 +1,8 @@
-/* A fuzzer of the C interface: the input is a list of calls of a session, and perhaps of a peer beside it and of the two ends of a
- * viewer's line, with whatever arguments keep what the header asks. Handles of one kind are given for those of another too. Memory
- * runs out now and then, as the input says. Requests must be such that a game can carry them out; where all that is shown is
- * settled, the game's state must be that of the settled rows; and what another handle's call answers changes no session. */
+/* A fuzzer of the C interface: the input is a list of calls of a session, and perhaps of a peer beside it, of the two ends of a
+ * viewer's line and of a player's habits, with whatever arguments keep what the header asks. Handles of one kind are given for
+ * those of another too. Memory runs out now and then, as the input says. Requests must be such that a game can carry them out;
+ * where all that is shown is settled, the game's state must be that of the settled rows; and what another handle's call answers
+ * changes no session. */
 #include "game.h"
 
 /* The library's memory, in place of heap.c: after so many grants it runs out. */
@@ -43,6 +44,7 @@ typedef struct subject {
     fazgrond_peer peer;
     fazgrond_line line;
     fazgrond_viewer viewer;
+    fazgrond_habits habits;
     fazgrond_settings settings;
     game game;
     uint32_t now;
@@ -347,6 +349,27 @@ static void call_beside(subject *self, input *in, uint32_t what, size_t room) {
     free(bytes);
 }
 
+static void call_of_habits(subject *self, input *in) {
+    uint32_t what = take_byte(in), masks[4], frames;
+    fazgrond_foreseen best[40];
+    size_t room = take_some(in, 40), count;
+    for (int at = 0; at < 4; at++)
+        masks[at] = take_byte(in) << 8 * (at & 3);
+    switch (what % 4) {
+    case 0: fazgrond_habits_open(&self->habits, masks, what / 4 % 5, masks, what / 32 % 5); break;
+    case 1:
+        frames = take_byte(in);
+        count = fazgrond_habits_guesses(&self->habits, frames, best, room);
+        MUST(count <= room && count <= 32);
+        for (size_t at = 0; at < count; at++) {
+            MUST(1 <= best[at].count && best[at].count <= frames && best[at].count <= 16);
+            MUST(at == 0 || best[at].worth <= best[at - 1].worth);
+        }
+        break;
+    default: fazgrond_habits_note(what == 255 ? (fazgrond_habits *)(void *)&self->viewer : &self->habits, masks[what % 3]);
+    }
+}
+
 static void call_of_peer(subject *self, input *in) {
     uint32_t what = take_byte(in), flag, frame, slot;
     uint8_t bytes[1300];
@@ -379,6 +402,8 @@ static void call_of_peer(subject *self, input *in) {
     default:
         if (what == 15)
             fazgrond_peer_close(&self->peer);
+        else if (what & 128)
+            call_of_habits(self, in);
         else if (what & 64)
             open_peer(self, in);
         else
@@ -406,5 +431,6 @@ int LLVMFuzzerTestOneInput(const uint8_t *data, size_t size) {
     fazgrond_peer_close(&self.peer);
     fazgrond_line_close(&self.line);
     fazgrond_viewer_close(&self.viewer);
+    fazgrond_habits_close(&self.habits);
     return 0;
 }

@@ -8,7 +8,9 @@
 static const char usage[] =
     "trials                          all trials, a few cases of each; the last line is `N passed, M failed`\n"
     "trials NAME [COUNT [SEED]]      one of them: rematches, restarts, copies, clocks, stalls, standing, honest, lies,\n"
-    "                                viewers, sessions, guesses\n"
+    "                                viewers, sessions, guesses, habits\n"
+    "trials shares [COUNT [SEED]]    what guesses by habits save: frames run again, those of GGPO, jobs, and\n"
+    "                                those for whose states there was no room\n"
     "trials play [OPTIONS] [FAULT..] a match, and what its machines are told; without more it says how\n";
 
 static char name[128];
@@ -107,12 +109,15 @@ static const struct {
     { "clocks", trial_clocks, 1 },       { "stalls", trial_stalls, 1 },     { "standing", trial_standing, 1 },
     { "honest", trial_honest, 8 },       { "lies", trial_lies, 1 },         { "viewers", trial_viewers, 2 },
     { "sessions", trial_sessions, 2 },   { "guesses", trial_guesses, 1 },
+    { "habits", trial_habits, 1 },
 };
 
 int main(int count, char **words) {
     bool is_found = count == 1;
     if (count > 1 && strcmp(words[1], "play") == 0)
         return trial_play(count - 1, words + 1);
+    if (count > 1 && strcmp(words[1], "shares") == 0)
+        return trial_shares(count > 2 ? (uint32_t)atoi(words[2]) : 3, count > 3 ? (uint32_t)atoi(words[3]) : 1);
     for (size_t at = 0; at < sizeof trials / sizeof *trials; at++) {
         if (count > 1 && strcmp(words[1], trials[at].name) != 0)
             continue;

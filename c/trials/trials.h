@@ -43,9 +43,13 @@ void trial_lies(uint32_t count, uint32_t seed);
 void trial_viewers(uint32_t count, uint32_t seed);
 void trial_sessions(uint32_t count, uint32_t seed);
 void trial_guesses(uint32_t count, uint32_t seed);
+void trial_habits(uint32_t count, uint32_t seed);
 
 /* From now on each machine guesses the others' words in each turn. */
 void trial_let_guess(world *self);
+
+/* What guesses by habits save: counts, printed. */
+int trial_shares(uint32_t count, uint32_t seed);
 
 /* A match as the command line says, with what is told. */
 int trial_play(int count, char **words);

@@ -68,3 +68,9 @@ CALL(int32_t, fazgrond_viewer_bye, (fazgrond_viewer *viewer, uint8_t *out, size_
      (viewer, out, room, length))
 CALL(int32_t, fazgrond_viewer_row, (fazgrond_viewer *viewer, fazgrond_row *row), (viewer, row))
 CALL(int32_t, fazgrond_viewer_look, (fazgrond_viewer *viewer, uint32_t now, fazgrond_line_state *state), (viewer, now, state))
+CALL(int32_t, fazgrond_habits_open,
+     (fazgrond_habits *habits, const uint32_t *parts, size_t part_count, const uint32_t *likely, size_t likely_count),
+     (habits, parts, part_count, likely, likely_count))
+CALL(int32_t, fazgrond_habits_note, (fazgrond_habits *habits, uint32_t word), (habits, word))
+CALL(size_t, fazgrond_habits_guesses, (fazgrond_habits *habits, uint32_t frames, fazgrond_foreseen *out, size_t room),
+     (habits, frames, out, room))

@@ -10,7 +10,8 @@
 //!   datagrams, and says what happened ([`PeerEvent`]). The session stays the program's, and is lent to its calls.
 //! - **Beside other threads**: [`Host`] has a session, [`Link`]s that bring remote words from the network's thread, and the
 //!   workers of a [`Crew`], which run guesses ahead.
-//! - **Guesses** worth making: [`Habits`] has what was seen of a player, and chooses them.
+//! - **Guesses** worth making: [`Habits`] has what was seen of a player, and chooses them. [`PlayerHabits`] chooses them by parts of
+//!   its words too, if the game says which bits belong together ([`WordParts`]).
 //! - **Spectators** get the settled rows from a [`Feed`], and run them on any thread: [`Spectator`]. On other machines they get
 //!   them by datagrams: [`ViewerLine`] is the host's end, [`Viewer`] the viewer's.
 //! - **Claims** of rollbacks are checked, written and read by [`claims`].
@@ -33,7 +34,7 @@ pub use roll_frame::{
     Refusal, Reply, Row, Settings, SettingsFault,
 };
 pub use roll_game as game;
-pub use roll_guess::{Guess, Habits, Ranking};
+pub use roll_guess::{Guess, Habits, PartHabits, PartsRefusal, PlayerHabits, Ranking, WordParts};
 pub use roll_host::{Absorbed, Host, HostReply, HostRequest, LINK_LIMIT, Pumped, TURN_LIMIT};
 pub use roll_link::{Finished, LINK_ROOM, Link, LinkSender, Remote, SendFault};
 pub use roll_member::{JoinRefusal, Taken};

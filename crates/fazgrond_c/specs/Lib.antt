@@ -1,5 +1,6 @@
 pub mod Holds
 pub mod Kinds
+pub mod Habits
 pub mod Handles
 pub mod Made
 pub mod Jobs

@@ -4,6 +4,7 @@
 ghost use Rattle.std.specs.Prelude.{◌≡◌, ◌++◌, drop, length, take, None};
 
 mod calls;
+mod habits;
 mod handle;
 mod hold;
 mod jobs;
@@ -29,6 +30,7 @@ mod viewers;
 ghost use Rattle.fazgrond_c.specs.Texts.{sentence_of, version_of};
 
 pub use calls::{CLOSED, NOTHING, OTHER_VERSION, PENDING, TOO_SHORT};
+pub use habits::ForeseenOut;
 pub use handle::Handle;
 pub use kinds::{EntryOut, ReachedOut, RequestOut, RowOut, SETTINGS_SIZE, SettingsIn};
 pub use line_kinds::{LineIn, LineState};

@@ -1,13 +1,16 @@
 //! What a handle may have open.
 use crate::live::Live;
+use roll_guess::PlayerHabits;
 use roll_peer::Peer;
 use roll_viewer::{Viewer, ViewerLine};
 
-/// What a handle has open: a session, the network of a match, a host's end of a viewer's line, or a viewer.
+/// What a handle has open: a session, the network of a match, a host's end of a viewer's line, a viewer, or a
+/// player's habits.
 #[derive(Drop)]
 pub enum Open {
     Session(Live),
     Peer(Peer),
     Line(ViewerLine),
     Viewer(Viewer),
+    Habits(PlayerHabits),
 }

@@ -3,7 +3,7 @@ use Rattle.std.proofs.Common.{◌≡◌, ℕ, ◌+◌, ◌-◌, ◌<◌, ◌≤�
 use Rattle.std.specs.Prelude.{replicate, ◌==◌}
 use Rattle.std.proofs.lemmas.Bool.{cases_lt}
 use Rattle.std.proofs.lemmas.List.{append-nil, append_assoc, length-append, replicate_more}
-use Rattle.roll_guess.specs.Guesses.{along, AreOffered, IsChange, IsChangeAfter, IsCourse}
+use Rattle.roll_guess.specs.Guesses.{worth_of_words, along, AreOffered, IsChange, IsChangeAfter, IsCourse}
 use Rattle.roll_guess.specs.Habits.{held_after}
 use Rattle.roll_guess.specs.declared.course.Course.{Course}
 use Rattle.roll_guess.specs.declared.habits.Habits.{Habits}
@@ -112,13 +112,13 @@ module _ (habits : Habits) where
     -- the changes in one frame more were offered
     pub changes_more : (course next : Course) (between new : List Guess) → IsCourse habits course → HoldsOn habits start course
         → next.words.items ≡ course.words.items ++ course.held.word ∷ []
-        → AreOffered habits view (IsChangeBefore habits start (length course.words.items)) old between
-        → AreOffered habits view (IsChangeAfter habits course.words.items 0) between new
-        → AreOffered habits view (IsChangeBefore habits start (length next.words.items)) old new
+        → AreOffered (worth_of_words habits view) view (IsChangeBefore habits start (length course.words.items)) old between
+        → AreOffered (worth_of_words habits view) view (IsChangeAfter habits course.words.items 0) between new
+        → AreOffered (worth_of_words habits view) view (IsChangeBefore habits start (length next.words.items)) old new
     changes_more course next between new is holds words before here =
-        subst (λ end. AreOffered habits view (IsChangeBefore habits start end) old new)
+        subst (λ end. AreOffered (worth_of_words habits view) view (IsChangeBefore habits start end) old new)
         (sym (ap length words ∙ length-append course.words.items (course.held.word ∷ [])))
-        (offered_both habits view (IsChangeBefore habits start (length course.words.items))
+        (offered_both (worth_of_words habits view) view (IsChangeBefore habits start (length course.words.items))
         (IsChangeAfter habits course.words.items 0) (IsChangeBefore habits start (length course.words.items + 1))
         old between new before here
         (change_earlier start (length course.words.items)) (change_last start course is holds)
@@ -126,10 +126,10 @@ module _ (habits : Habits) where
 
     -- those in all frames were
     pub changes_all : (end : ℕ) (new : List Guess) → view.unknown ≤ end → end ≤ max view.unknown (length start)
-        → AreOffered habits view (IsChangeBefore habits start end) old new
-        → AreOffered habits view (IsChange habits view start) old new
+        → AreOffered (worth_of_words habits view) view (IsChangeBefore habits start end) old new
+        → AreOffered (worth_of_words habits view) view (IsChange habits view start) old new
     changes_all end new from to before =
-        offered_as habits view (IsChangeBefore habits start end) (IsChange habits view start) old new before within later
+        offered_as (worth_of_words habits view) view (IsChangeBefore habits start end) (IsChange habits view start) old new before within later
       where
         within : (next : List ℕ) → IsChangeBefore habits start end next → IsChange habits view start next
         within next (more, early, change) = (more, omega (arith, early, to), change)

@@ -5,8 +5,7 @@ use Rattle.std.proofs.lemmas.Bool.{cases_lt}
 use Rattle.std.proofs.lemmas.List.{get_or_default, get_or-take, length-take}
 use Rattle.std.proofs.lemmas.List.Edits.{get_or-insert_at, get_or-insert_below, get_or-insert_above, length-insert}
 use Rattle.std.proofs.lemmas.List.Elements.{All-append, All-cons, All-drop, All-take}
-use Rattle.roll_guess.specs.Guesses.{worth_of_words, AreOffered, HasNone, HasOne, IsBeaten, IsPlace, IsRanking, RanksAll, StandsOrIsBeaten, Suits}
-use Rattle.roll_guess.specs.declared.habits.Habits.{Habits}
+use Rattle.roll_guess.specs.Guesses.{AreOffered, HasNone, HasOne, IsBeaten, IsPlace, IsRanking, RanksAll, StandsOrIsBeaten, Suits}
 use Rattle.roll_guess.specs.declared.ranking.Guess.{Guess}
 use Rattle.roll_guess.specs.declared.ranking.View.{View}
 use Rattle.roll_guess.proofs.Rankings.{offered}
@@ -51,22 +50,22 @@ module _ (place : ℕ) (guesses : List Guess) (guess : Guess) (within : place �
           one_at (insert (take 31 guesses) place guess) words (k + 1) x x (omega (arith, few, early, there))
           (get_or-insert_above (take 31 guesses) place guess x k high within ∙ taken) same
 
-module _ (habits : Habits) (view : View) where
+module _ (worths : List ℕ → ℕ) (view : View) where
   module _ (place : ℕ) (guesses : List Guess) (guess : Guess) (low : place ≤ 31) (few : length guesses ≤ 32)
-      (ranked : IsRanking habits view guesses) (at : IsPlace guesses guess.worth place) where
+      (ranked : IsRanking worths view guesses) (at : IsPlace guesses guess.worth place) where
     within : place ≤ length (take 31 guesses)
     within = let e = length-take 31 guesses in let h = at.within in omega (arith, e, h, low)
 
     -- where all are worth so much, so is the new one
     beaten_inserted : (words : List ℕ) → length guesses ≡ 32
-        → All (λ g. worth_of_words habits view words ≤ g.worth) guesses
-        → IsBeaten habits view (insert (take 31 guesses) place guess) words
+        → All (λ g. worths words ≤ g.worth) guesses
+        → IsBeaten worths (insert (take 31 guesses) place guess) words
     beaten_inserted words full all = record {
       full =
           let one = length-insert (take 31 guesses) place guess within in
           let others = length-take 31 guesses in
           omega (arith, one, others, full);
-      worth = all_inserted place guesses guess within (λ g. worth_of_words habits view words ≤ g.worth) all
+      worth = all_inserted place guesses guess within (λ g. worths words ≤ g.worth) all
           (let there : place < length guesses = omega (arith, low, full) in
           let less = at.behind guess there in
           let worth = all place guess there in
@@ -75,13 +74,13 @@ module _ (habits : Habits) (view : View) where
 
     -- the last one is worth no more than the others
     last_least : (words : List ℕ) (k : ℕ) (x : Guess) → 31 ≤ k → k < length guesses → get_or guesses k x ≡ x
-        → x.words.items ≡ words → All (λ g. worth_of_words habits view words ≤ g.worth) guesses
+        → x.words.items ≡ words → All (λ g. worths words ≤ g.worth) guesses
     last_least words k x late there is same j d within' = subst (λ w. w ≤ (get_or guesses j d).worth) worth (go (cases_lt j k))
       where
-        worth : (get_or guesses k d).worth ≡ worth_of_words habits view words
+        worth : (get_or guesses k d).worth ≡ worths words
         worth = (ranked.suits k d there).worth
-            ∙ ap (λ g. worth_of_words habits view g.words.items) (get_or_default guesses k d x there ∙ is)
-            ∙ ap (worth_of_words habits view) same
+            ∙ ap (λ g. worths g.words.items) (get_or_default guesses k d x there ∙ is)
+            ∙ ap worths same
 
         go : (j < k) ⊎ (k ≤ j) → (get_or guesses k d).worth ≤ (get_or guesses j d).worth
         go (inl before) = ranked.falling j k d before there
@@ -89,20 +88,20 @@ module _ (habits : Habits) (view : View) where
             let e : j ≡ k = omega (arith, behind, within', late, few) in
             subst (λ n. (get_or guesses k d).worth ≤ (get_or guesses n d).worth) (sym e) (omega arith)
 
-    kept_inserted : (words : List ℕ) → StandsOrIsBeaten habits view guesses words
-        → StandsOrIsBeaten habits view (insert (take 31 guesses) place guess) words
+    kept_inserted : (words : List ℕ) → StandsOrIsBeaten worths guesses words
+        → StandsOrIsBeaten worths (insert (take 31 guesses) place guess) words
     kept_inserted words (inl (k, x, there, is, same)) = go (cases_lt k 31)
       where
-        go : (k < 31) ⊎ (31 ≤ k) → StandsOrIsBeaten habits view (insert (take 31 guesses) place guess) words
+        go : (k < 31) ⊎ (31 ≤ k) → StandsOrIsBeaten worths (insert (take 31 guesses) place guess) words
         go (inl early) = inl (one_kept place guesses guess within words k x early there is same)
         go (inr late) =
             inr (beaten_inserted words (omega (arith, late, there, few)) (last_least words k x late there is same))
     kept_inserted words (inr beaten) = inr (beaten_inserted words beaten.full beaten.worth)
 
-    pub inserted : Suits habits view guess → HasNone guesses guess.words.items
-        → AreOffered habits view (λ words. words ≡ guess.words.items) guesses (insert (take 31 guesses) place guess)
+    pub inserted : Suits worths view guess → HasNone guesses guess.words.items
+        → AreOffered worths view (λ words. words ≡ guess.words.items) guesses (insert (take 31 guesses) place guess)
     inserted suits none = record {
-      ranked = offered habits view 31 place guesses guess low ranked suits at none;
+      ranked = offered worths view 31 place guesses guess low ranked suits at none;
       only = all_inserted place guesses guess within
           (λ g. HasOne guesses g.words.items ⊎ (g.words.items ≡ guess.words.items))
           (λ k d there. inl (each_one guesses k d there)) (inr refl);
@@ -112,8 +111,8 @@ module _ (habits : Habits) (view : View) where
     }
 
   -- nothing was offered yet
-  pub offered_none : (IsOffered : List ℕ → Type 0) (guesses : List Guess) → IsRanking habits view guesses
-      → ((words : List ℕ) → IsOffered words → ⊥) → AreOffered habits view IsOffered guesses guesses
+  pub offered_none : (IsOffered : List ℕ → Type 0) (guesses : List Guess) → IsRanking worths view guesses
+      → ((words : List ℕ) → IsOffered words → ⊥) → AreOffered worths view IsOffered guesses guesses
   offered_none IsOffered guesses ranked none = record {
     ranked = ranked;
     only = λ k d within. inl (each_one guesses k d within);
@@ -123,9 +122,9 @@ module _ (habits : Habits) (view : View) where
 
   module _ (A B C : List ℕ → Type 0) where
     -- some guesses, and then some more
-    pub offered_both : (old between new : List Guess) → AreOffered habits view A old between
-        → AreOffered habits view B between new → ((words : List ℕ) → A words → C words) → ((words : List ℕ) → B words → C words)
-        → ((words : List ℕ) → C words → A words ⊎ B words) → AreOffered habits view C old new
+    pub offered_both : (old between new : List Guess) → AreOffered worths view A old between
+        → AreOffered worths view B between new → ((words : List ℕ) → A words → C words) → ((words : List ℕ) → B words → C words)
+        → ((words : List ℕ) → C words → A words ⊎ B words) → AreOffered worths view C old new
     offered_both old between new first second from_a from_b parts = record {
       ranked = second.ranked;
       only = λ k d within. came (get_or new k d) (second.only k d within);
@@ -146,14 +145,14 @@ module _ (habits : Habits) (view : View) where
             came_first x.words.items y same (subst (λ z. HasOne old z.words.items ⊎ A z.words.items) is (first.only k y within))
         came x (inr b) = inr (from_b x.words.items b)
 
-        stand : (words : List ℕ) → A words ⊎ B words → StandsOrIsBeaten habits view new words
+        stand : (words : List ℕ) → A words ⊎ B words → StandsOrIsBeaten worths new words
         stand words (inl a) = second.kept words (first.all words a)
         stand words (inr b) = second.all words b
 
   module _ (A B : List ℕ → Type 0) where
     -- the same words, said otherwise
-    pub offered_as : (old new : List Guess) → AreOffered habits view A old new → ((words : List ℕ) → A words → B words)
-        → ((words : List ℕ) → B words → A words) → AreOffered habits view B old new
+    pub offered_as : (old new : List Guess) → AreOffered worths view A old new → ((words : List ℕ) → A words → B words)
+        → ((words : List ℕ) → B words → A words) → AreOffered worths view B old new
     offered_as old new are to from = record {
       ranked = are.ranked;
       only = λ k d within. go (get_or new k d).words.items (are.only k d within);
@@ -167,7 +166,7 @@ module _ (habits : Habits) (view : View) where
 
   module _ (A : List ℕ → Type 0) where
     -- a ranking that was empty at first
-    pub ranks_all : (guesses : List Guess) → AreOffered habits view A [] guesses → RanksAll habits view A guesses
+    pub ranks_all : (guesses : List Guess) → AreOffered worths view A [] guesses → RanksAll worths view A guesses
     ranks_all guesses are = record {
       ranked = are.ranked;
       only = λ k d within. go (get_or guesses k d).words.items (are.only k d within);

@@ -6,7 +6,6 @@ use Rattle.std.proofs.lemmas.List.{get_or-take, length-take}
 use Rattle.std.proofs.lemmas.List.Edits.{get_or-insert_at, get_or-insert_below, get_or-insert_above, length-insert}
 use Rattle.std.proofs.lemmas.List.Elements.{All-append, All-cons, All-drop, All-take}
 use Rattle.roll_guess.specs.Guesses.{AreUnlike, HasNone, IsFalling, IsPlace, IsRanking, Suits}
-use Rattle.roll_guess.specs.declared.habits.Habits.{Habits}
 use Rattle.roll_guess.specs.declared.ranking.Guess.{Guess}
 use Rattle.roll_guess.specs.declared.ranking.View.{View}
 
@@ -95,19 +94,19 @@ module _ (guesses : List Guess) (place : ℕ) (guess : Guess) (parts : Parts gue
 below_taken : {X : Type 0} (n : ℕ) (xs : List X) (j : ℕ) → j < length (take n xs) → (j < n) × (j < length xs)
 below_taken n xs j to = let h : j < min n (length xs) = subst (λ m. j < m) (length-take n xs) to in (omega (arith, h), omega (arith, h))
 
-module _ (habits : Habits) (view : View) where
-  pub ranking_inserted : (guesses : List Guess) (place : ℕ) (guess : Guess) → IsRanking habits view guesses → Suits habits view guess
-      → Parts guesses guess.worth place → HasNone guesses guess.words.items → IsRanking habits view (insert guesses place guess)
+module _ (worths : List ℕ → ℕ) (view : View) where
+  pub ranking_inserted : (guesses : List Guess) (place : ℕ) (guess : Guess) → IsRanking worths view guesses → Suits worths view guess
+      → Parts guesses guess.worth place → HasNone guesses guess.words.items → IsRanking worths view (insert guesses place guess)
   ranking_inserted guesses place guess ranked suits parts none = record {
-    suits = All-append (Suits habits view) (take place guesses) (guess ∷ drop place guesses) (All-take (Suits habits view) place guesses ranked.suits)
-        (All-cons (Suits habits view) guess (drop place guesses) suits (All-drop (Suits habits view) place guesses ranked.suits));
+    suits = All-append (Suits worths view) (take place guesses) (guess ∷ drop place guesses) (All-take (Suits worths view) place guesses ranked.suits)
+        (All-cons (Suits worths view) guess (drop place guesses) suits (All-drop (Suits worths view) place guesses ranked.suits));
     falling = falls guesses place guess parts ranked.falling;
     unlike = differ guesses place guess parts ranked.unlike none;
   }
 
-  pub ranking_taken : (n : ℕ) (guesses : List Guess) → IsRanking habits view guesses → IsRanking habits view (take n guesses)
+  pub ranking_taken : (n : ℕ) (guesses : List Guess) → IsRanking worths view guesses → IsRanking worths view (take n guesses)
   ranking_taken n guesses ranked = record {
-    suits = All-take (Suits habits view) n guesses ranked.suits;
+    suits = All-take (Suits worths view) n guesses ranked.suits;
     falling = λ i j d before to. let low = below_taken n guesses j to in
         subst (λ x. x.worth ≤ (get_or (take n guesses) i d).worth) (sym (get_or-take n guesses j d low.0))
         (subst (λ x. (get_or guesses j d).worth ≤ x.worth) (sym (get_or-take n guesses i d (omega (arith, before, low.0))))
@@ -118,8 +117,8 @@ module _ (habits : Habits) (view : View) where
   }
 
   -- a guess in its place among the first ones
-  pub offered : (n place : ℕ) (guesses : List Guess) (guess : Guess) → place ≤ n → IsRanking habits view guesses → Suits habits view guess
-      → IsPlace guesses guess.worth place → HasNone guesses guess.words.items → IsRanking habits view (insert (take n guesses) place guess)
+  pub offered : (n place : ℕ) (guesses : List Guess) (guess : Guess) → place ≤ n → IsRanking worths view guesses → Suits worths view guess
+      → IsPlace guesses guess.worth place → HasNone guesses guess.words.items → IsRanking worths view (insert (take n guesses) place guess)
   offered n place guesses guess within ranked suits at none =
       let parts = parts_at guesses guess.worth place ranked.falling at in
       ranking_inserted (take n guesses) place guess (ranking_taken n guesses ranked) suits

@@ -2,7 +2,7 @@
 use Rattle.std.proofs.Common.{◌≡◌, ◌≢◌, ℕ, ◌+◌, ◌<◌, ◌≤◌, ◌⊎◌, inl, inr, List, [], ◌∷◌, ◌++◌, length, get_or, sym, ◌∙◌, ap, subst, arith}
 use Rattle.std.proofs.lemmas.Bool.{cases_lt}
 use Rattle.std.proofs.lemmas.List.{append-nil, get_or_default}
-use Rattle.roll_guess.specs.Guesses.{along, AreOffered, IsChange, IsChangeAfter, IsCourse}
+use Rattle.roll_guess.specs.Guesses.{worth_of_words, along, AreOffered, IsChange, IsChangeAfter, IsCourse}
 use Rattle.roll_guess.specs.declared.course.Course.{Course}
 use Rattle.roll_guess.specs.declared.habits.Habits.{Habits}
 use Rattle.roll_guess.specs.declared.ranking.Guess.{Guess}
@@ -71,11 +71,11 @@ module _ (known : List ℕ) (held : ℕ) (words : List ℕ) where
 
     module _ (habits : Habits) (view : View) where
       -- one word more was offered
-      pub turn_more : (old between new : List Guess) → AreOffered habits view (IsTurnBefore known i held words) old between
-          → get_or known i d ≢ held → AreOffered habits view (λ next. next ≡ words ++ get_or known i d ∷ []) between new
-          → AreOffered habits view (IsTurnBefore known (i + 1) held words) old new
+      pub turn_more : (old between new : List Guess) → AreOffered (worth_of_words habits view) view (IsTurnBefore known i held words) old between
+          → get_or known i d ≢ held → AreOffered (worth_of_words habits view) view (λ next. next ≡ words ++ get_or known i d ∷ []) between new
+          → AreOffered (worth_of_words habits view) view (IsTurnBefore known (i + 1) held words) old new
       turn_more old between new before other one =
-          offered_both habits view (Before i) (λ next. next ≡ words ++ get_or known i d ∷ []) (Before (i + 1))
+          offered_both (worth_of_words habits view) view (Before i) (λ next. next ≡ words ++ get_or known i d ∷ []) (Before (i + 1))
           old between new before one (later i) (turn_here other) (λ next turn. either next (turn_parts next turn))
         where
           either : (next : List ℕ) → Before i next ⊎ IsTurnTo (get_or known i d) next
@@ -84,10 +84,10 @@ module _ (known : List ℕ) (held : ℕ) (words : List ℕ) where
           either next (inr (_, is)) = inr is
 
       -- the word is held
-      pub turn_held : (old new : List Guess) → AreOffered habits view (IsTurnBefore known i held words) old new
-          → get_or known i d ≡ held → AreOffered habits view (IsTurnBefore known (i + 1) held words) old new
+      pub turn_held : (old new : List Guess) → AreOffered (worth_of_words habits view) view (IsTurnBefore known i held words) old new
+          → get_or known i d ≡ held → AreOffered (worth_of_words habits view) view (IsTurnBefore known (i + 1) held words) old new
       turn_held old new before same =
-          offered_as habits view (Before i) (Before (i + 1)) old new before (later i)
+          offered_as (worth_of_words habits view) view (Before i) (Before (i + 1)) old new before (later i)
           (λ next turn. earlier next (turn_parts next turn))
         where
           earlier : (next : List ℕ) → Before i next ⊎ IsTurnTo (get_or known i d) next → Before i next
@@ -101,10 +101,10 @@ module _ (habits : Habits) (view : View) (course : Course) (count : ℕ) (is : I
 
   -- all known words were offered
   pub turns_all : (old new : List Guess)
-      → AreOffered habits view (IsTurnBefore habits.known.items count course.held.word course.words.items) old new
-      → AreOffered habits view (IsChangeAfter habits course.words.items 0) old new
+      → AreOffered (worth_of_words habits view) view (IsTurnBefore habits.known.items count course.held.word course.words.items) old new
+      → AreOffered (worth_of_words habits view) view (IsChangeAfter habits course.words.items 0) old new
   turns_all old new before =
-      offered_as habits view (IsTurnBefore habits.known.items count course.held.word course.words.items)
+      offered_as (worth_of_words habits view) view (IsTurnBefore habits.known.items count course.held.word course.words.items)
       (IsChangeAfter habits course.words.items 0) old new before to from
     where
       to : (next : List ℕ) → IsTurnBefore habits.known.items count course.held.word course.words.items next
@@ -141,10 +141,10 @@ module _ (habits : Habits) (view : View) (singles : List Guess) where
   abbrev Offered : ℕ → List ℕ → Type 0
   Offered count words = IsChangeOrSecondBefore habits view singles count words
 
-  pub second_none : (old new : List Guess) → AreOffered habits view (IsChange habits view []) old new
-      → AreOffered habits view (IsChangeOrSecondBefore habits view singles 0) old new
+  pub second_none : (old new : List Guess) → AreOffered (worth_of_words habits view) view (IsChange habits view []) old new
+      → AreOffered (worth_of_words habits view) view (IsChangeOrSecondBefore habits view singles 0) old new
   second_none old new first =
-      offered_as habits view (IsChange habits view []) (Offered 0) old new first (λ words change. inl change) go
+      offered_as (worth_of_words habits view) view (IsChange habits view []) (Offered 0) old new first (λ words change. inl change) go
     where
       go : (words : List ℕ) → Offered 0 words → IsChange habits view [] words
       go words (inl change) = change
@@ -176,9 +176,9 @@ module _ (habits : Habits) (view : View) (singles : List Guess) where
 
     -- the changes after one guess more were offered
     pub second_more : (old between new : List Guess)
-        → AreOffered habits view (IsChangeOrSecondBefore habits view singles i) old between
-        → AreOffered habits view (IsChange habits view (get_or singles i d).words.items) between new
-        → AreOffered habits view (IsChangeOrSecondBefore habits view singles (i + 1)) old new
+        → AreOffered (worth_of_words habits view) view (IsChangeOrSecondBefore habits view singles i) old between
+        → AreOffered (worth_of_words habits view) view (IsChange habits view (get_or singles i d).words.items) between new
+        → AreOffered (worth_of_words habits view) view (IsChangeOrSecondBefore habits view singles (i + 1)) old new
     second_more old between new before more =
-        offered_both habits view (Offered i) Second (Offered (i + 1)) old between new before more
+        offered_both (worth_of_words habits view) view (Offered i) Second (Offered (i + 1)) old between new before more
         later_second second_here second_parts

@@ -5,7 +5,7 @@ use Rattle.roll_frame.specs.Inputs.{of_player}
 use Rattle.roll_frame.specs.declared.limits.TheConstants.{PATH_LIMIT}
 use Rattle.roll_inputs.specs.Boards.{count_of}
 use Rattle.roll_session.specs.Seen.{Seen}
-use Rattle.roll_guess.specs.Habits.{chance_of, held_after, part}
+use Rattle.roll_guess.specs.Habits.{chance_of, held_after, portion}
 use Rattle.roll_guess.specs.declared.course.Course.{Course}
 use Rattle.roll_guess.specs.declared.habits.Habits.{Habits}
 use Rattle.roll_guess.specs.declared.habits.Held.{Held}
@@ -15,7 +15,7 @@ use Rattle.roll_guess.specs.declared.ranking.View.{View}
 
 -- what is held after some words, and the chance that they come, with one word more
 abbrev pub further : Habits → Held × ℕ → ℕ → Held × ℕ
-further habits so_far word = (held_after so_far.0 word, part so_far.1 (chance_of habits so_far.0 word))
+further habits so_far word = (held_after so_far.0 word, portion so_far.1 (chance_of habits so_far.0 word))
 
 -- what is held after these words, and the chance that they are the next
 abbrev pub along : Habits → List ℕ → Held × ℕ
@@ -36,6 +36,10 @@ view_of s p =
       reach = min (settled s.core + PATH_LIMIT) s.settings.limit;
     }
 
+-- what it needs to know if so many frames have no word, and there is no session
+abbrev pub view_ahead : ℕ → View
+view_ahead unknown = record { player = 0; from = 0; unknown = min unknown UNKNOWN_LIMIT; settled = 0; reach = PATH_LIMIT }
+
 -- whether a session takes guesses of a player: there is one, who hasn't left, and not every frame is settled
 abbrev pub takes_guesses : Seen → ℕ → Bool
 takes_guesses s p = of_player (λ player. not player.gone) s.core.players p && nat_lt (settled s.core) s.settings.limit
@@ -51,13 +55,13 @@ worth_of view count chance = min (chance * (view.unknown - count + 1)) (2 ^ 32 -
 abbrev pub worth_of_words : Habits → View → List ℕ → ℕ
 worth_of_words habits view words = worth_of view (length words) (along habits words).1
 
--- a guess of the player, of 1 to 24 words, run as far and worth as much as it is to be
-pub record Suits (habits : Habits) (view : View) (guess : Guess) : Type 0 where
+-- a guess of the player, of 1 to 24 words, run as far and worth as much as it is to be, where words are worth so much
+pub record Suits (worths : List ℕ → ℕ) (view : View) (guess : Guess) : Type 0 where
   pub player : guess.player ≡ view.player
   pub some : 1 ≤ length guess.words.items
   pub few : length guess.words.items ≤ PATH_LIMIT
   pub until : guess.until ≡ until_of view (length guess.words.items)
-  pub worth : guess.worth ≡ worth_of_words habits view guess.words.items
+  pub worth : guess.worth ≡ worths guess.words.items
 
 -- what is worth more comes first
 abbrev pub IsFalling : List Guess → Type 0
@@ -71,8 +75,8 @@ AreUnlike guesses =
     (i j : ℕ) (d : Guess) → i < j → j < length guesses
     → (slice_index_or guesses i d).words.items ≢ (slice_index_or guesses j d).words.items
 
-pub record IsRanking (habits : Habits) (view : View) (guesses : List Guess) : Type 0 where
-  pub suits : All (Suits habits view) guesses
+pub record IsRanking (worths : List ℕ → ℕ) (view : View) (guesses : List Guess) : Type 0 where
+  pub suits : All (Suits worths view) guesses
   pub falling : IsFalling guesses
   pub unlike : AreUnlike guesses
 
@@ -90,26 +94,26 @@ abbrev pub HasNone : List Guess → List ℕ → Type 0
 HasNone guesses words = All (λ guess. guess.words.items ≢ words) guesses
 
 -- there are as many guesses as there may be, and each is worth at least what these words are
-pub record IsBeaten (habits : Habits) (view : View) (guesses : List Guess) (words : List ℕ) : Type 0 where
+pub record IsBeaten (worths : List ℕ → ℕ) (guesses : List Guess) (words : List ℕ) : Type 0 where
   pub full : length guesses ≡ GUESS_LIMIT
-  pub worth : All (λ guess. worth_of_words habits view words ≤ guess.worth) guesses
+  pub worth : All (λ guess. worths words ≤ guess.worth) guesses
 
-abbrev pub StandsOrIsBeaten : Habits → View → List Guess → List ℕ → Type 0
-StandsOrIsBeaten habits view guesses words = HasOne guesses words ⊎ IsBeaten habits view guesses words
+abbrev pub StandsOrIsBeaten : (List ℕ → ℕ) → List Guess → List ℕ → Type 0
+StandsOrIsBeaten worths guesses words = HasOne guesses words ⊎ IsBeaten worths guesses words
 
 -- what a ranking becomes where guesses of certain words are offered: it gets no others, and leaves nothing out that is worth
 -- more than what it has
-pub record AreOffered (habits : Habits) (view : View) (IsOffered : List ℕ → Type 0) (old new : List Guess) : Type 0 where
-  pub ranked : IsRanking habits view new
+pub record AreOffered (worths : List ℕ → ℕ) (view : View) (IsOffered : List ℕ → Type 0) (old new : List Guess) : Type 0 where
+  pub ranked : IsRanking worths view new
   pub only : All (λ guess. HasOne old guess.words.items ⊎ IsOffered guess.words.items) new
-  pub kept : (words : List ℕ) → StandsOrIsBeaten habits view old words → StandsOrIsBeaten habits view new words
-  pub all : (words : List ℕ) → IsOffered words → StandsOrIsBeaten habits view new words
+  pub kept : (words : List ℕ) → StandsOrIsBeaten worths old words → StandsOrIsBeaten worths new words
+  pub all : (words : List ℕ) → IsOffered words → StandsOrIsBeaten worths new words
 
 -- a ranking of all guesses of certain words, or of the best of them
-pub record RanksAll (habits : Habits) (view : View) (IsOffered : List ℕ → Type 0) (guesses : List Guess) : Type 0 where
-  pub ranked : IsRanking habits view guesses
+pub record RanksAll (worths : List ℕ → ℕ) (view : View) (IsOffered : List ℕ → Type 0) (guesses : List Guess) : Type 0 where
+  pub ranked : IsRanking worths view guesses
   pub only : All (λ guess. IsOffered guess.words.items) guesses
-  pub all : (words : List ℕ) → IsOffered words → StandsOrIsBeaten habits view guesses words
+  pub all : (words : List ℕ) → IsOffered words → StandsOrIsBeaten worths guesses words
 
 -- after these words, the one that is held then comes so many times more, and then another one that is known
 pub record IsChangeAfter (habits : Habits) (words : List ℕ) (more : ℕ) (next : List ℕ) : Type 0 where
@@ -130,5 +134,5 @@ IsChangeOrSecond habits view singles words =
 -- the guesses of one change, and of a second one after the best of these
 pub record IsComplete (habits : Habits) (view : View) (guesses : List Guess) : Type 0 where
   pub singles : List Guess
-  pub best : RanksAll habits view (IsChange habits view []) singles
-  pub ranks : RanksAll habits view (IsChangeOrSecond habits view singles) guesses
+  pub best : RanksAll (worth_of_words habits view) view (IsChange habits view []) singles
+  pub ranks : RanksAll (worth_of_words habits view) view (IsChangeOrSecond habits view singles) guesses

@@ -70,8 +70,8 @@ noted habits word =
     }
 
 -- a part of a chance
-abbrev pub part : ℕ → ℕ → ℕ
-part chance of = min (chance * of) (2 ^ 32 - 1) / CERTAIN
+abbrev pub portion : ℕ → ℕ → ℕ
+portion chance of = min (chance * of) (2 ^ 32 - 1) / CERTAIN
 
 -- the chance of a change: as often as it was counted, as if one in eight had come before
 abbrev pub turning : Tally → ℕ
@@ -101,4 +101,4 @@ share_of habits from to = weight_of habits from to * CERTAIN / weights_of habits
 abbrev pub chance_of : Habits → Held → ℕ → ℕ
 chance_of habits held word =
     if word == held.word then CERTAIN - turning_of habits held.age
-    else part (turning_of habits held.age) (share_of habits held.word word)
+    else portion (turning_of habits held.age) (share_of habits held.word word)

@@ -2,7 +2,7 @@
 ghost use Rattle.std.specs.Prelude.{◌≡◌, ◌<◌, ◌≤◌, [], length, All, None};
 ghost use Rattle.std.specs.Bool.{then_some, IsFalse, IsTrue};
 ghost use Rattle.roll_frame.specs.declared.limits.TheConstants.{PATH_LIMIT};
-ghost use Rattle.roll_guess.specs.Guesses.{takes_guesses, view_of, AreOffered, AreUnlike, IsChange, IsChangeAfter, IsComplete, IsCourse, IsFalling, IsRanking, Suits};
+ghost use Rattle.roll_guess.specs.Guesses.{takes_guesses, view_of, worth_of_words, AreOffered, AreUnlike, IsChange, IsChangeAfter, IsComplete, IsCourse, IsFalling, IsRanking, Suits};
 ghost use Rattle.roll_guess.specs.declared.limits.TheConstants.{UNKNOWN_LIMIT};
 ghost use Rattle.roll_session.specs.Guessing.{guess_refusal_of};
 
@@ -17,7 +17,7 @@ use roll_inputs::Source;
 use roll_session::Session;
 
 /// What a choice needs to know of a session. None if and only if the session takes no guess of this player.
-fn view_of<G: Game>(session: &Session<G>, player: u8) -> Option<View>
+pub(crate) fn view_of<G: Game>(session: &Session<G>, player: u8) -> Option<View>
     ensures { result ≡ then_some (takes_guesses session.now player) (view_of session.now player) }
 {
     let from = session.confirmed(player)?;
@@ -50,7 +50,8 @@ impl Habits {
     /// changes. Empty if no frame waits for a word of the player, or the session takes no guess of it.
     pub fn choose<G: Game>(&self, session: &Session<G>, player: u8) -> Ranking
         ensures accepted { All (λ guess. guess_refusal_of session.now player guess.words.items guess.until ≡ None) result.items }
-        ensures suits { All (Suits self.now (view_of session.now player)) result.items }
+        ensures suits { let view = view_of session.now player in
+            All (Suits (worth_of_words self.now view) view) result.items }
         ensures falling { IsFalling result.items }
         ensures unlike { AreUnlike result.items }
         ensures complete { IsTrue (takes_guesses session.now player)
@@ -64,7 +65,7 @@ impl Habits {
     }
 
     /// The guesses of one change, and of a second one after the best of these.
-    fn ranking(&self, view: &View) -> Ranking
+    pub(crate) fn ranking(&self, view: &View) -> Ranking
         requires reach { view.now.settled < view.now.reach }
         requires few { view.now.unknown ≤ UNKNOWN_LIMIT }
         ensures { IsComplete self.now view.now result.items }
@@ -86,9 +87,9 @@ impl Habits {
         requires reach { view.now.settled < view.now.reach }
         requires few { view.now.unknown ≤ UNKNOWN_LIMIT }
         requires course { IsCourse self.now course }
-        requires ranked { IsRanking self.now view.now ranking.old.items }
-        ensures { AreOffered self.now view.now (IsChange self.now view.now course.words.items)
-            ranking.old.items ranking.new.items }
+        requires ranked { IsRanking (worth_of_words self.now view.now) view.now ranking.old.items }
+        ensures { AreOffered (worth_of_words self.now view.now) view.now
+            (IsChange self.now view.now course.words.items) ranking.old.items ranking.new.items }
     {
         let mut course = course;
         while course.words.len() < usize::from(view.unknown) {
@@ -102,18 +103,14 @@ impl Habits {
         requires reach { view.now.settled < view.now.reach }
         requires course { IsCourse self.now course.now }
         requires room { length course.now.words.items < PATH_LIMIT }
-        requires ranked { IsRanking self.now view.now ranking.old.items }
-        ensures { AreOffered self.now view.now
+        requires ranked { IsRanking (worth_of_words self.now view.now) view.now ranking.old.items }
+        ensures { AreOffered (worth_of_words self.now view.now) view.now
             (IsChangeAfter self.now course.now.words.items 0) ranking.old.items ranking.new.items }
     {
         for word in self.known.as_slice() {
             if *word != course.held.word {
-                offer(
-                    self,
-                    view,
-                    ranking,
-                    view.guess(self, course.then(self, *word)),
-                );
+                let next = course.then(self, *word);
+                offer(ranking, view.guess(next.words, next.chance));
             }
         }
     }

@@ -3,7 +3,7 @@ ghost use Rattle.std.specs.Prelude.{◌≡◌, ◌<◌, ◌≤◌, ◌++◌, ◌
 ghost use Rattle.roll_guess.specs.Guesses.{IsCourse};
 ghost use Rattle.roll_guess.specs.Habits.{held_after};
 
-use crate::habits::{Habits, Held, part};
+use crate::habits::{Habits, Held, portion};
 use crate::limits::CERTAIN;
 use arrayvec::ArrayVec;
 use roll_frame::PATH_LIMIT;
@@ -43,7 +43,7 @@ impl Course {
         Course {
             words,
             held: self.held.then(word),
-            chance: part(self.chance, habits.chance(self.held, word)),
+            chance: portion(self.chance, habits.chance(self.held, word)),
         }
     }
 

@@ -1,6 +1,7 @@
 //! What was seen of one player.
 ghost use Rattle.std.specs.Prelude.{◌≡◌, ◌+◌, ◌≤◌, ◌<◌, ◌==◌, ◌&&◌, count_by, length};
-ghost use Rattle.roll_guess.specs.Habits.{age_class, chance_of, first_habits, held_after, known_after, noted, part, share_of, slid, tallied, turning, turning_of, turns_after, weight_of, weights_of};
+ghost use Rattle.roll_guess.specs.Habits.{age_class, chance_of, first_habits, held_after, known_after, noted, portion, share_of, slid, tallied, turning, turning_of, turns_after, weight_of, weights_of};
+ghost use Rattle.roll_guess.specs.Players.{foreseen};
 ghost use Rattle.roll_guess.specs.declared.limits.TheConstants.{AGE_CLASSES, KNOWN_LIMIT, TURN_LIMIT};
 
 use crate::limits::{AGE_CLASSES, CERTAIN, KNOWN_LIMIT, PLAIN_WEIGHT, TURN_LIMIT, TURN_WEIGHT};
@@ -71,7 +72,7 @@ pub struct Turn {
 }
 
 /// What was seen of one player by now.
-#[derive(Debug, Drop)]
+#[derive(Debug, Default, Drop)]
 pub struct Habits {
     /// What the player holds: at first 0, as a session predicts.
     pub held: Held,
@@ -98,8 +99,8 @@ fn age_class(age: u32) -> usize
 }
 
 /// A part of a chance.
-pub(crate) fn part(chance: u32, of: u32) -> u32
-    ensures { result ≡ part chance of }
+pub(crate) fn portion(chance: u32, of: u32) -> u32
+    ensures { result ≡ portion chance of }
 {
     chance.saturating_mul(of) / CERTAIN
 }
@@ -170,7 +171,7 @@ impl Habits {
     }
 
     /// Remembers a word, if it isn't known.
-    fn know(&mut self, word: u32)
+    pub(crate) fn know(&mut self, word: u32)
         ensures { self.new ≡ record self.old { known = record { items = known_after self.old.known.items word } } }
     {
         if !self.known.contains(&word) {
@@ -239,7 +240,18 @@ impl Habits {
         if word == held.word {
             CERTAIN.saturating_sub(turning)
         } else {
-            part(turning, self.share(held.word, word))
+            portion(turning, self.share(held.word, word))
+        }
+    }
+
+    /// The chance that the guesses gave a word that came: none if it wasn't known.
+    pub(crate) fn foreseen(&self, word: u32) -> u32
+        ensures { result ≡ foreseen self.now word }
+    {
+        if self.known.contains(&word) {
+            self.chance(self.held, word)
+        } else {
+            0
         }
     }
 }

@@ -1,12 +1,10 @@
 //! The guesses that are worth the most, in order.
-ghost use Rattle.std.specs.Prelude.{◌≡◌, ◌<◌, ◌≤◌, ◌-◌, length, take};
+ghost use Rattle.std.specs.Prelude.{◌≡◌, ◌<◌, ◌≤◌, ◌-◌, List, ℕ, length, take};
 ghost use Rattle.std.specs.Bool.{OnFalse, OnTrue};
-ghost use Rattle.roll_guess.specs.Guesses.{until_of, worth_of, AreOffered, HasNone, HasOne, IsCourse, IsPlace, IsRanking, Suits};
+ghost use Rattle.roll_guess.specs.Guesses.{until_of, view_ahead, worth_of, AreOffered, HasNone, HasOne, IsCourse, IsPlace, IsRanking, Suits};
 ghost use Rattle.roll_guess.specs.declared.limits.TheConstants.{GUESS_LIMIT};
 
-use crate::course::Course;
-use crate::habits::Habits;
-use crate::limits::{GUESS_LIMIT, REACH};
+use crate::limits::{GUESS_LIMIT, REACH, UNKNOWN_LIMIT};
 use arrayvec::ArrayVec;
 use roll_frame::PATH_LIMIT;
 
@@ -39,7 +37,21 @@ pub struct View {
 pub type Ranking = ArrayVec<Guess, GUESS_LIMIT>;
 
 impl View {
-    /// The frame to which a guess of so many words is run: as far past its last change as a job goes.
+    /// A view of so many frames without a word, 16 at most, of no session.
+    pub(crate) fn ahead(unknown: u32) -> View
+        ensures { result ≡ view_ahead unknown }
+    {
+        View {
+            player: 0,
+            from: 0,
+            unknown: unknown.min(UNKNOWN_LIMIT) as u8,
+            settled: 0,
+            reach: PATH_LIMIT as u32,
+        }
+    }
+
+    /// The frame to which a guess of so many words is run: as far past its last change as a job
+    /// goes.
     fn until(&self, words: u32) -> u32
         requires { self.now.settled < self.now.reach }
         ensures { result ≡ until_of self.now words }
@@ -55,15 +67,15 @@ impl View {
         chance.saturating_mul(u32::from(self.unknown).saturating_sub(words) + 1)
     }
 
-    /// The guess of a course.
-    pub(crate) fn guess(&self, habits: &Habits, course: Course) -> Guess
+    /// The guess of words that come with this chance.
+    pub(crate) fn guess(&self, words: ArrayVec<u32, PATH_LIMIT>, chance: u32) -> Guess
         requires reach { self.now.settled < self.now.reach }
-        requires course { IsCourse habits.now course }
-        requires some { 1 ≤ length course.words.items }
-        ensures suits { Suits habits.now self.now result }
-        ensures words { result.words.items ≡ course.words.items }
+        requires some { 1 ≤ length words.items }
+        ensures suits { (worths : List ℕ → ℕ)
+            → worths words.items ≡ worth_of self.now (length words.items) chance
+            → Suits worths self.now result }
+        ensures words { result.words.items ≡ words.items }
     {
-        let Course { words, chance, .. } = course;
         let count = words.len() as u32;
         Guess {
             player: self.player,
@@ -110,12 +122,12 @@ fn make_room(ranking: &mut Ranking)
     }
 }
 
-/// Puts a guess in its place, unless there is one of the same words. From a full list the last one goes, or none if this
-/// one would come after it.
-pub(crate) fn offer(habits: &Habits, view: &View, ranking: &mut Ranking, guess: Guess)
-    requires ranked { IsRanking habits.now view.now ranking.old.items }
-    requires suits { Suits habits.now view.now guess }
-    ensures { AreOffered habits.now view.now (λ words. words ≡ guess.words.items)
+/// Puts a guess in its place, unless there is one of the same words. From a full list the last one
+/// goes, or none if this one would come after it.
+pub(crate) fn offer(ranking: &mut Ranking, guess: Guess)
+    ensures { (worths : List ℕ → ℕ) (view : View)
+        → IsRanking worths view ranking.old.items → Suits worths view guess
+        → AreOffered worths view (λ words. words ≡ guess.words.items)
         ranking.old.items ranking.new.items }
 {
     let place = place_of(ranking.as_slice(), guess.worth);

@@ -96,6 +96,7 @@
 //! [`Viewer`] on another machine is sent a match's settled rows, by a [`Line`].
 
 mod error;
+mod habits;
 mod handle;
 mod job;
 mod line;
@@ -107,6 +108,7 @@ mod session;
 mod settings;
 
 pub use error::Error;
+pub use habits::{Foreseen, Habits, GUESS_WORDS};
 pub use handle::{Entry, Handle, Heard, Reached, Request, Requests};
 pub use job::{Done, Job};
 pub use line::{Line, LineSettings, LineState, Viewer};

@@ -1,4 +1,5 @@
 //! What c/fazgrond.h declares.
+use crate::habits::Foreseen;
 use crate::handle::Reached;
 use crate::line::LineSettings;
 use crate::peer::Match;
@@ -6,7 +7,7 @@ use crate::row::Row;
 use crate::settings::Settings;
 use std::ffi::c_void;
 
-/// What is open: a session, a peer, a line or a viewer. To another kind's calls it is closed.
+/// What is open: a session, a peer, a line, a viewer or a player's habits. To another kind's calls it is closed.
 #[repr(C)]
 pub struct Object {
     pub full: u8,
@@ -17,6 +18,7 @@ pub type Session = Object;
 pub type Peer = Object;
 pub type Line = Object;
 pub type Viewer = Object;
+pub type Habits = Object;
 
 #[repr(C)]
 #[derive(Default)]
@@ -184,4 +186,13 @@ unsafe extern "C" {
     pub fn fazgrond_viewer_bye(viewer: *mut Viewer, out: *mut u8, room: usize, length: *mut usize) -> i32;
     pub fn fazgrond_viewer_row(viewer: *mut Viewer, row: *mut Row) -> i32;
     pub fn fazgrond_viewer_look(viewer: *mut Viewer, now: u32, state: *mut LineState) -> i32;
+    pub fn fazgrond_habits_open(
+        habits: *mut Habits,
+        parts: *const u32,
+        part_count: usize,
+        likely: *const u32,
+        likely_count: usize,
+    ) -> i32;
+    pub fn fazgrond_habits_note(habits: *mut Habits, word: u32) -> i32;
+    pub fn fazgrond_habits_guesses(habits: *mut Habits, frames: u32, out: *mut Foreseen, room: usize) -> usize;
 }

@@ -16,7 +16,7 @@ insert-requires c =
     (lit< tt, (omega (arith, e, w, low), omega (arith, e)))
 
 pub returns-then-not-has_words : goal.returns-then-not-has_words
-returns-then-not-has_words c =
+returns-then-not-has_words c worths view ranked suits =
     let gs = c.args.ranking.now.items in
     let place = c.place_of-place.result in
     let low = c.if-place-lt-GUESS_LIMIT.true in
@@ -27,7 +27,7 @@ returns-then-not-has_words c =
     subst (λ (xs : List Guess). HasNone xs c.args.guess.words.items) c.as_slice-then-place-lt-GUESS_LIMIT.ensures.value
     (subst (λ ws. HasNone c.as_slice-then-place-lt-GUESS_LIMIT.result.now ws)
     c.as_slice-then-place-lt-GUESS_LIMIT-2.ensures.value c.if-not-has_words.ensures.none) in
-    subst (λ (xs : List Guess). AreOffered c.args.habits.now c.args.view.now (λ words. words ≡ c.args.guess.words.items) gs xs)
+    subst (λ (xs : List Guess). AreOffered worths view (λ words. words ≡ c.args.guess.words.items) gs xs)
     (sym (c.insert.ensures.items ∙ ap (λ (xs : List Guess). insert xs place c.args.guess) c.make_room.ensures))
-    (inserted c.args.habits.now c.args.view.now place gs c.args.guess (omega (arith, low)) few
-    c.requires.ranked at c.requires.suits none)
+    (inserted worths view place gs c.args.guess (omega (arith, low)) few
+    ranked at suits none)

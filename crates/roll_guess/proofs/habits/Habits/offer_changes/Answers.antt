@@ -2,6 +2,7 @@ use Rattle.std.proofs.Common.{◌≡◌, ◌+◌, [], ◌∷◌, length, ◌∙�
 use Rattle.std.proofs.lemmas.List.{length-append}
 use Rattle.roll_guess.proofs.Changes.{change_none, changes_all, changes_more, holds_more, holds_start, IsChangeBefore}
 use Rattle.roll_guess.proofs.Offers.{offered_none}
+use Rattle.roll_guess.specs.Guesses.{worth_of_words}
 use Rattle.roll_guess.proofs.habits.Habits.offer_changes.Goals as goal
 
 pub loop-course-init : goal.loop-course-init
@@ -12,7 +13,7 @@ loop-course-init c =
       course = c.requires.course;
       holds = holds_start habits c.args.course c.requires.course;
       within = omega arith;
-      offered = offered_none habits c.args.view.now (IsChangeBefore habits start (length start)) c.args.ranking.now.items
+      offered = offered_none (worth_of_words habits c.args.view.now) c.args.view.now (IsChangeBefore habits start (length start)) c.args.ranking.now.items
           c.requires.ranked (change_none habits start);
     }
 

@@ -1,5 +1,5 @@
-use Rattle.std.proofs.Common.{◌≡◌, ◌≢◌, ◌≤◌, ◌<◌, ℕ, List, [], ◌∷◌, ◌++◌, length, get_or, ap, arith, subst, ◌∙◌}
-use Rattle.roll_guess.specs.Guesses.{AreOffered}
+use Rattle.std.proofs.Common.{◌≡◌, ◌≢◌, ◌≤◌, ◌<◌, ℕ, List, [], ◌∷◌, ◌++◌, length, get_or, ap, arith, subst, sym, ◌∙◌}
+use Rattle.roll_guess.specs.Guesses.{worth_of, worth_of_words, AreOffered}
 use Rattle.roll_guess.proofs.Turns.{turn_held, turn_more, turns_all}
 use Rattle.roll_guess.proofs.habits.Habits.offer_words.Goals as goal
 use Rattle.roll_guess.proofs.habits.Habits.offer_words.Goals.{then-word-course, else-word-course}
@@ -20,10 +20,12 @@ loop-word-preserved c =
           let other : get_or known i 0 ≢ held =
           subst (λ (xs : List ℕ). get_or xs i 0 ≢ held) is w.if-word-course.true in
           let new = w.offer.new.ranking.items in
-          let one : AreOffered habits view (λ next. next ≡ words ++ get_or known i 0 ∷ []) before new =
-          subst (λ (ws : List ℕ). AreOffered habits view (λ next. next ≡ ws) before new)
-          (w.guess.ensures.words ∙ w.then.ensures.words ∙ ap (λ (xs : List ℕ). words ++ get_or xs i 0 ∷ []) is)
-          w.offer.ensures in
+          let one : AreOffered (worth_of_words habits view) view (λ next. next ≡ words ++ get_or known i 0 ∷ []) before new =
+          subst (λ (ws : List ℕ). AreOffered (worth_of_words habits view) view (λ next. next ≡ ws) before new)
+          (w.guess.ensures.words ∙ w.then-next.ensures.words ∙ ap (λ (xs : List ℕ). words ++ get_or xs i 0 ∷ []) is)
+          (w.offer.ensures (worth_of_words habits view) view c.loop-word.invariant.ranked
+          (w.guess.ensures.suits (worth_of_words habits view)
+          (ap (λ chance. worth_of view (length w.then-next.result.words.items) chance) (sym w.then-next.ensures.course.chance)))) in
           rw w.ranking-is
           (turn_more known held words i 0 within habits view c.args.ranking.now.items before new c.loop-word.invariant
           other one)
