@@ -1,0 +1,17 @@
+//! States of a game over a match's own sockets: one machine gives a state's bytes, others take them, by datagrams that may be
+//! lost, late, double and in any order.
+#![tactic(auto)]
+
+mod datagram;
+mod limits;
+mod name;
+mod reading;
+mod refusal;
+mod writing;
+
+pub use datagram::{Ask, Piece, StateBody, StateDatagram};
+pub use limits::{ASK_LIMIT, PIECE_LIMIT};
+pub use name::StateName;
+pub use reading::decode;
+pub use refusal::{StateFault, StateRefusal};
+pub use writing::encode;
