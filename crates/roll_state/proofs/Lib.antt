@@ -1,2 +1,5 @@
 pub mod Fields
 pub mod Messages
+pub mod Parts
+pub mod Asking
+pub mod Taken

@@ -1,3 +1,6 @@
 pub mod States
 pub mod Spelling
 pub mod Reading
+pub mod Sealing
+pub mod Giving
+pub mod Taking

@@ -3,15 +3,23 @@
 #![tactic(auto)]
 
 mod datagram;
+mod giver;
+mod heard;
 mod limits;
 mod name;
+mod pieces;
 mod reading;
 mod refusal;
+mod sealing;
+mod taker;
 mod writing;
 
 pub use datagram::{Ask, Piece, StateBody, StateDatagram};
+pub use giver::Giver;
+pub use heard::Heard;
 pub use limits::{ASK_LIMIT, PIECE_LIMIT};
 pub use name::StateName;
 pub use reading::decode;
 pub use refusal::{StateFault, StateRefusal};
+pub use taker::Taker;
 pub use writing::encode;

@@ -58,7 +58,8 @@ impl StateName {
 
     /// How many pieces it has.
     pub fn count(&self) -> usize
-        ensures { result ≡ count_of self.now.length }
+        ensures count { result ≡ count_of self.now.length }
+        ensures small { result < 2 ^ 32 }
     {
         (self.length as usize).div_ceil(PIECE_LIMIT)
     }
