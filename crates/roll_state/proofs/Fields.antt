@@ -2,7 +2,7 @@
 use Rattle.std.proofs.Common.{◌≡◌, ℕ, suc, ◌+◌, ◌-◌, ◌≤◌, ◌<◌, List, [], ◌∷◌, ◌++◌, length, Result, Ok, Err, refl, sym, ap, ◌∙◌, arith}
 use Rattle.std.proofs.lemmas.List.{append-nil, length_push}
 use Rattle.roll_wire.specs.declared.fault.WireFault.{WireFault}
-use Rattle.roll_wire.specs.Reading.{◌>>=◌, repeated}
+use Rattle.roll_wire.specs.Reading.{repeated}
 use Rattle.roll_wire.proofs.Loop.{regroup, with_front}
 
 -- ---- a loop that reads so many of a field

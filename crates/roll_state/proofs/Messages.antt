@@ -1,5 +1,5 @@
 -- The two laws: what is read is spelled so, and what is spelled so is read.
-use Rattle.std.proofs.Common.{◌≡◌, ◌⊎◌, inl, inr, ℕ, ◌+◌, ◌*◌, ◌/◌, ◌≤◌, ◌<◌, Bool, true, false, min, cond, eqb, ltb, List, [], ◌∷◌, ◌++◌, length, take, drop, Result, Ok, Err, refl, sym, ap, subst, ◌∙◌, append_assoc, arith}
+use Rattle.std.proofs.Common.{◌≡◌, ◌⊎◌, inl, inr, ℕ, ◌*◌, ◌≤◌, Bool, true, false, cond, eqb, ltb, List, [], ◌∷◌, ◌++◌, length, take, drop, Result, Ok, Err, refl, sym, ap, subst, ◌∙◌, arith}
 use Rattle.std.specs.Prelude.{IfOk}
 use Rattle.std.specs.Int.{w32, w64}
 use Rattle.std.specs.List.{flat_map, AllByRecursion}
@@ -12,7 +12,7 @@ use Rattle.roll_wire.specs.declared.fault.WireFault.TheVariants.{Short, Magic, K
 use Rattle.roll_wire.specs.declared.limits.TheConstants.{MAGIC}
 use Rattle.roll_wire.specs.Reading.{◌>>=◌, Gives as GivesRead, byte_at, envelope_at, magic_at, number_at, repeated}
 use Rattle.roll_wire.specs.Spelling.{byte, envelope, long, number, IsLong, IsNumber}
-use Rattle.roll_wire.proofs.Fields.{IsBytes, IsBytes-drop, IsBytes-take, IsField, Takes, Takes-then, bind_ok, both_at, both_field, byte_field, guard_ok, long_field, number_field, ok_is, passed_ok, repeated_field, seen_at, seen_field}
+use Rattle.roll_wire.proofs.Fields.{IsBytes, IsBytes-drop, IsField, Takes, Takes-then, bind_ok, both_at, both_field, byte_field, guard_ok, long_field, number_field, ok_is, passed_ok, repeated_field, seen_at, seen_field}
 use Rattle.roll_wire.proofs.Groups.{envelope_field}
 use Rattle.roll_state.specs.declared.datagram.StateDatagram.{StateDatagram}
 use Rattle.roll_state.specs.declared.limits.TheConstants.{ASK_LIMIT, PIECE_LIMIT}
@@ -27,9 +27,10 @@ digest_takes : (n : ℕ) (bytes x rest : List ℕ) → IsBytes bytes → bytes_a
 digest_takes n bytes x rest b e =
     let g = guard_ok (ltb (length bytes) n) Short (take n bytes, drop n bytes) (x, rest) e in
     let long : n ≤ length bytes = ltb-false _ _ g.0 in
-    subst (λ (y : List ℕ × List ℕ). Takes bytes y.0 y.1 × (length y.0 ≡ n)) g.1
-    (record { parts = sym (take-append-drop n bytes); rest_fits = IsBytes-drop n bytes b },
-    length-take-le n bytes long)
+    subst (λ (y : List ℕ × List ℕ). Takes bytes y.0 y.1 × (length y.0 ≡ n)) g.1 (
+      record { parts = sym (take-append-drop n bytes); rest_fits = IsBytes-drop n bytes b },
+      length-take-le n bytes long,
+    )
 
 digest_again : (n : ℕ) (x rest : List ℕ) → length x ≡ n → bytes_at n (x ++ rest) ≡ Ok (x, rest)
 digest_again n x rest len =

@@ -1,10 +1,9 @@
 -- The pieces of a state.
-use Rattle.std.proofs.Common.{◌≡◌, ℕ, ◌+◌, ◌-◌, ◌*◌, ◌<◌, ◌≤◌, min, true, List, length, take, drop, Option, Some, refl, sym, ap, ◌∙◌, arith}
+use Rattle.std.proofs.Common.{◌≡◌, ℕ, ◌+◌, ◌-◌, ◌*◌, ◌<◌, min, true, List, length, take, drop, Some, refl, ap, ◌∙◌, arith}
 use Rattle.std.specs.Prelude.{nat_lt}
 use Rattle.std.proofs.lemmas.Bool.{lt-ltb}
 use Rattle.std.proofs.lemmas.List.{length-drop, take_min}
 use Rattle.roll_state.specs.Giving.{part_at, Giving}
-use Rattle.roll_state.specs.Spelling.{Part}
 use Rattle.roll_state.specs.States.{count_of, piece_of, size_of}
 use Rattle.roll_state.specs.declared.limits.TheConstants.{PIECE_LIMIT}
 

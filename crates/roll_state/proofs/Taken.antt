@@ -1,10 +1,9 @@
 -- What a taker keeps of the pieces that are there.
-use Rattle.std.proofs.Common.{◌≡◌, ◌≢◌, ◌⊎◌, inl, inr, ℕ, suc, ◌+◌, ◌-◌, ◌*◌, ◌/◌, ◌%◌, ◌<◌, ◌≤◌, Bool, true, false, not, min, cond, List, [], ◌∷◌, ◌++◌, length, take, drop, get_or, set, Option, Some, None, refl, sym, ap, subst, ◌∙◌, arith, rules}
-use Rattle.std.specs.Prelude.{count_by, is_none, is_some, nat_lt, replicate, ◌==◌, if◌then◌else◌}
-use Rattle.std.specs.Str.{bytes_eq}
+use Rattle.std.proofs.Common.{◌≡◌, ℕ, ◌+◌, ◌*◌, ◌<◌, ◌≤◌, Bool, true, false, not, cond, List, ◌++◌, length, take, drop, get_or, Option, Some, None, refl, sym, ◌∙◌, arith}
+use Rattle.std.specs.Prelude.{count_by, is_none, nat_lt, replicate, ◌==◌, if◌then◌else◌}
 use Rattle.std.proofs.lemmas.Grind.{common_steps}
 use Rattle.std.proofs.lemmas.Bool.{eq-eqb, eqb-true, ltb-true, false≢true}
-use Rattle.std.proofs.lemmas.List.{length-append, length-drop, length-replicate, length-set, length-take, length-take-le}
+use Rattle.std.proofs.lemmas.List.{length-append, length-drop, length-replicate, length-set, length-take}
 use Rattle.std.proofs.lemmas.Slice.Eq.{bytes_eq-Decides}
 use Rattle.sha2.specs.Sha256.{sha256}
 use Rattle.roll_state.specs.States.{count_of, is_same, size_of, with_piece}
@@ -80,9 +79,10 @@ module _ (name : StateName) (host place : ℕ) (bytes : List ℕ) (held : Held) 
       → Kept more
   kept t inside size =
       let room : PIECE_LIMIT * place + length bytes ≤ length held.bytes =
-      omega (arith, has_room name.length place inside, t.bytes, size) in
-      (length-with_piece place bytes held.bytes room ∙ t.bytes,
-      length-set held.from place (Some host) ∙ t.from)
+      omega (arith, has_room name.length place inside, t.bytes, size) in (
+        length-with_piece place bytes held.bytes room ∙ t.bytes,
+        length-set held.from place (Some host) ∙ t.from,
+      )
 
   judged : 1 ≤ name.length → Kept more → (b : Bool) → is_right name.digest more ≡ b
       → left_in more ≡ 0 → IsTaken name (if b then more else emptied more)

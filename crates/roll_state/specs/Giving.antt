@@ -1,5 +1,5 @@
 -- Who gives a state, and what it answers to those who ask for pieces of it.
-use Rattle.std.specs.Prelude.{ℕ, ◌<◌, List, length, replicate, Bool, ◌&&◌, ◌||◌, ◌==◌, nat_lt, Option, Some, None, option_and_then, option_map, slice_get, Result, Ok, Err, if◌then◌else◌}
+use Rattle.std.specs.Prelude.{ℕ, List, Bool, ◌||◌, nat_lt, Option, Some, None, option_and_then, option_map, slice_get, Result, Ok, Err, if◌then◌else◌}
 use Rattle.roll_contact.specs.declared.key.Key.{Key}
 use Rattle.roll_state.specs.Sealing.{opened, said_by}
 use Rattle.roll_state.specs.Spelling.{Content, Gives, Message, Part, Wants, Wish}

@@ -4,3 +4,4 @@ pub mod Reading
 pub mod Sealing
 pub mod Giving
 pub mod Taking
+pub mod Crossing

@@ -1,5 +1,5 @@
 -- Reading a state's datagram from left to right, with the first fault that is met.
-use Rattle.std.specs.Prelude.{◌≡◌, ℕ, zero, suc, ◌/◌, List, [], ◌∷◌, length, take, drop, min, Result, Ok, Err, nat_lt, ◌==◌, if◌then◌else◌}
+use Rattle.std.specs.Prelude.{◌≡◌, ℕ, ◌/◌, List, length, take, drop, min, Result, Ok, Err, nat_lt, ◌==◌, if◌then◌else◌}
 use Rattle.std.specs.Int.{w32, w64}
 use Rattle.roll_wire.specs.Reading.{◌>>=◌, byte_at, envelope_at, magic_at, number_at, repeated}
 use Rattle.roll_wire.specs.declared.fault.WireFault.{WireFault}
@@ -54,7 +54,7 @@ content_at bytes = do
       else (if kind.0 == 6 then (do
         wish ← wish_at kind.1
         Ok (Wants wish.0, wish.1))
-          else Err Kind)
+      else Err Kind)
 
 -- the whole of the bytes
 unfoldable pub all_of : List ℕ → Result Message WireFault

@@ -1,6 +1,8 @@
 -- What a state's datagrams say, and their one spelling: numbers with the highest byte first.
-use Rattle.std.specs.Prelude.{◌≡◌, ◌≤◌, ℕ, List, ◌++◌, length}
+use Rattle.std.specs.Prelude.{◌≡◌, ◌≤◌, ℕ, List, ◌++◌, length, take}
 use Rattle.std.specs.List.{flat_map, AllByRecursion}
+use Rattle.std.specs.Int.{w64, from_be_bytes}
+use Rattle.sha2.specs.Sha256.{sha256}
 use Rattle.roll_wire.specs.Spelling.{byte, envelope, long, number, IsEnvelope, IsLong, IsNumber}
 use Rattle.roll_wire.specs.declared.datagram.Envelope.{Envelope}
 use Rattle.roll_wire.specs.declared.limits.TheConstants.{MAGIC}
@@ -46,6 +48,10 @@ message d = record { envelope = d.envelope; content = content d.body }
 
 abbrev pub name : StateName → List ℕ
 name s = long s.which ++ (number s.frame ++ (number s.length ++ s.digest))
+
+-- a digest of 64 bits that has a state in it, beside what another has: the first 8 bytes of SHA-256
+unfoldable pub digest_with : StateName → (digest : ℕ) → ℕ
+digest_with s digest = from_be_bytes w64 (take 8 (sha256 (long digest ++ name s)))
 
 -- the kind, and what follows it: a piece's bytes, and the places asked for, go to the end
 abbrev pub body : Content → List ℕ

@@ -1,5 +1,5 @@
 -- Who takes a state: the pieces that are there, what each further one changes, and which are asked for.
-use Rattle.std.specs.Prelude.{◌≡◌, ◌≤◌, ℕ, ◌+◌, ◌-◌, List, [], ◌∷◌, ◌++◌, length, take, min, filter, count_by, replicate, Bool, true, false, not, ◌&&◌, ◌==◌, nat_lt, Option, Some, None, is_some, is_none, option_map, unwrap_or, slice_get, slice_index_or, slice_set, Result, Ok, Err, if◌then◌else◌}
+use Rattle.std.specs.Prelude.{◌≡◌, ◌≤◌, ℕ, ◌+◌, ◌-◌, List, ◌++◌, length, take, min, filter, count_by, replicate, Bool, true, false, not, ◌==◌, nat_lt, Option, Some, None, is_some, is_none, option_map, slice_get, slice_index_or, slice_set, Result, Ok, Err, if◌then◌else◌}
 use Rattle.std.specs.List.{list_all, range_with_len}
 use Rattle.std.specs.Option.{option_map_or}
 use Rattle.std.specs.Str.{bytes_eq}

@@ -1,9 +1,10 @@
 //! Who gives a state.
 ghost use Rattle.std.specs.Prelude.{◌≡◌, ◌≢◌, ◌<◌, ◌≤◌, ◌^◌, length, option_map, IfErr, IfOk, IfSome};
 ghost use Rattle.std.specs.Vec.{vec_len};
+ghost use Rattle.roll_wire.specs.Spelling.{IsEnvelope};
 ghost use Rattle.roll_state.specs.Giving.{answer, is_asked, part_at, reply, Giving};
 ghost use Rattle.roll_state.specs.Sealing.{Opens};
-ghost use Rattle.roll_state.specs.Spelling.{part, wish, Gives};
+ghost use Rattle.roll_state.specs.Spelling.{part, wish, Gives, IsName};
 ghost use Rattle.roll_state.specs.States.{name_of, IsNameOf};
 
 use crate::datagram::{Ask, Piece, StateBody};
@@ -132,8 +133,11 @@ impl Giver {
         bytes: &[u8],
         index: usize,
     ) -> Result<Option<ArrayVec<u8, DATAGRAM_LIMIT>>, StateRefusal>
-        ensures { Opens (option_map (λ bytes. bytes.items)) result
+        ensures replied { Opens (option_map (λ bytes. bytes.items)) result
             (reply self.now key.now sender bytes.now index) }
+        // Who has the key can read it.
+        ensures fits { IfOk result (λ sent. IfSome sent (λ bytes. IsName self.now.name
+            × IsEnvelope (record { match_number = key.now.number; sender = sender }))) }
     {
         let datagram = open(key, bytes)?;
         let StateBody::Ask(ask) = datagram.body else {
@@ -142,7 +146,9 @@ impl Giver {
         if !self.is_asked(&ask.state) {
             return Err(StateRefusal::OtherState);
         }
-        let piece = self.answer(&ask, index);
-        Ok(piece.map(|piece| say(key, sender, StateBody::Piece(piece))))
+        match self.answer(&ask, index) {
+            Some(piece) => Ok(Some(say(key, sender, StateBody::Piece(piece)))),
+            None => Ok(None),
+        }
     }
 }

@@ -5,6 +5,7 @@
 mod datagram;
 mod giver;
 mod heard;
+mod laws;
 mod limits;
 mod name;
 mod pieces;
@@ -17,6 +18,10 @@ mod writing;
 pub use datagram::{Ask, Piece, StateBody, StateDatagram};
 pub use giver::Giver;
 pub use heard::Heard;
+pub use laws::{
+    givers_send_what_is_asked, one_text, read_again, takers_ask_for_what_is_missing,
+    takers_hold_what_was_given,
+};
 pub use limits::{ASK_LIMIT, PIECE_LIMIT};
 pub use name::StateName;
 pub use reading::decode;

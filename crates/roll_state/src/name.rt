@@ -1,9 +1,13 @@
 //! What a state is called.
-ghost use Rattle.std.specs.Prelude.{◌≡◌, IfSome, IfNone, ◌<◌, ◌≤◌, ◌^◌, ◌⊎◌, length};
+ghost use Rattle.std.specs.Prelude.{◌≡◌, IfSome, IfNone, ◌<◌, ◌≤◌, ◌^◌, ◌⊎◌, length, take};
+ghost use Rattle.std.specs.Int.{w64, from_be_bytes};
 ghost use Rattle.sha2.specs.Sha256.{sha256};
+ghost use Rattle.roll_state.specs.Spelling.{digest_with};
 ghost use Rattle.roll_state.specs.States.{count_of, is_same, name_of, size_of, unknown, IsNameOf};
 
 use crate::limits::PIECE_LIMIT;
+use crate::writing::{put_name, put_u64};
+use arrayvec::ArrayVec;
 use sha2::{Digest, Sha256};
 
 /// What a state is called: which one it is, how many bytes it has, and their digest.
@@ -24,6 +28,14 @@ pub(crate) fn digest_of(bytes: &[u8]) -> [u8; 32]
     ensures { result ≡ sha256 bytes.now }
 {
     Sha256::digest(bytes)
+}
+
+/// The number of its first 8 bytes.
+fn first_number(digest: [u8; 32]) -> u64
+    ensures { result ≡ from_be_bytes w64 (take 8 digest) }
+{
+    let [a, b, c, d, e, f, g, h, ..] = digest;
+    u64::from_be_bytes([a, b, c, d, e, f, g, h])
 }
 
 impl StateName {
@@ -56,6 +68,17 @@ impl StateName {
         }
     }
 
+    /// A digest of 64 bits that has this state in it, beside what another has: so a match's own digest is to have each state that
+    /// its machines have exchanged.
+    pub fn digest_with(&self, digest: u64) -> u64
+        ensures { result ≡ digest_with self.now digest }
+    {
+        let mut text = ArrayVec::new();
+        put_u64(&mut text, digest);
+        put_name(&mut text, self);
+        first_number(digest_of(&text))
+    }
+
     /// How many pieces it has.
     pub fn count(&self) -> usize
         ensures count { result ≡ count_of self.now.length }
@@ -69,7 +92,9 @@ impl StateName {
         ensures { result ≡ size_of self.now.length place }
     {
         let start = PIECE_LIMIT * place as usize;
-        (self.length as usize).saturating_sub(start).min(PIECE_LIMIT)
+        (self.length as usize)
+            .saturating_sub(start)
+            .min(PIECE_LIMIT)
     }
 
     /// Whether two names are the same.

@@ -69,7 +69,11 @@ fn take_in(held: &mut Pieces, digest: &[u8; 32], host: u8, piece: &Piece) -> Hea
     if digest_of(held.bytes()) == *digest {
         return Heard::Whole;
     }
-    let sole = if held.are_from(host) { Some(host) } else { None };
+    let sole = if held.are_from(host) {
+        Some(host)
+    } else {
+        None
+    };
     held.clear();
     Heard::Wrong(sole)
 }
@@ -138,12 +142,12 @@ impl Taker {
         }
     }
 
-    /// Takes pieces of all machines again, but of those that gave a wrong state: call it if the one whose pieces were taken alone
-    /// gives none.
-    pub fn take_of_all(&mut self)
-        ensures { self.new ≡ record self.old { only = None } }
+    /// From now on pieces of this machine alone are taken, or of each that didn't give a wrong state. Call it if the one whose
+    /// pieces are taken alone gives none.
+    pub fn take_of(&mut self, host: Option<u8>)
+        ensures { self.new ≡ record self.old { only = host } }
     {
-        self.only = None;
+        self.only = host;
     }
 
     /// The missing pieces that are to be asked for next.
@@ -154,7 +158,8 @@ impl Taker {
         let count = self.name.count();
         let mut places = ArrayVec::new();
         self.held.add_missing(self.next, count, most, &mut places);
-        self.held.add_missing(0, self.next.min(count), most, &mut places);
+        self.held
+            .add_missing(0, self.next.min(count), most, &mut places);
         places
     }
 

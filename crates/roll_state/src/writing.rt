@@ -33,7 +33,7 @@ fn put_u32(out: &mut Bytes, n: u32)
     put(out, &n.to_be_bytes());
 }
 
-fn put_u64(out: &mut Bytes, n: u64)
+pub(crate) fn put_u64(out: &mut Bytes, n: u64)
     requires { length out.old.items + 8 ≤ DATAGRAM_LIMIT }
     ensures items { out.new.items ≡ out.old.items ++ long n }
     ensures len { length out.new.items ≡ length out.old.items + 8 }

@@ -1,4 +1,4 @@
-use Rattle.std.proofs.Common.{◌≡◌, ◌<◌, ◌*◌, ◌+◌, ◌-◌, ℕ, List, length, take, drop, refl, ap, ◌∙◌, sym, subst, arith}
+use Rattle.std.proofs.Common.{◌≡◌, ◌<◌, ◌*◌, ◌+◌, ◌-◌, ℕ, List, length, take, drop, refl, ap, ◌∙◌, arith}
 use Rattle.roll_state.specs.Giving.{part_at, Giving}
 use Rattle.roll_state.specs.States.{count_of, piece_of, size_of}
 use Rattle.roll_state.specs.declared.limits.TheConstants.{PIECE_LIMIT}

@@ -1,4 +1,4 @@
-use Rattle.std.proofs.Common.{◌≡◌, ◌<◌, ◌≤◌, ℕ, List, Option, Bool, not, length, true, false, ap, sym, ◌∙◌, arith}
+use Rattle.std.proofs.Common.{◌≡◌, ◌<◌, ◌≤◌, ℕ, List, Bool, not, length, true, false, ap, sym, ◌∙◌, arith}
 use Rattle.roll_state.specs.Taking.{is_missing, is_there, Held}
 use Rattle.roll_state.proofs.Asking.{added, adds, is_full, passes}
 use Rattle.roll_state.proofs.pieces.Pieces.add_missing.Goals as goal
@@ -24,18 +24,18 @@ loop-place-preserved c =
           (adds held.from c.args.most first places c.args.start place c.args.end here room h
           c.loop-place.invariant)
       | else-len-most w ↦ rw w.places-is (elim w.else-len-most.branch [
-            | else-len-most-via-then-len-most+else-not-is_there v ↦
-                let h : is_missing held.from place ≡ false =
-                missing_as held place v.is_there.result true v.is_there.ensures
-                v.if-not-is_there.false in
-                passes held.from c.args.most first places c.args.start place c.args.end here h
-                c.loop-place.invariant
-            | else-len-most-via-else-len-most v ↦
-                let full : c.args.most ≤ length places =
-                omega (arith, v.if-len-most.false, c.len.ensures.value) in
-                is_full held.from c.args.most first places c.args.start place c.args.end full
-                c.loop-place.invariant
-          ])
+        | else-len-most-via-then-len-most+else-not-is_there v ↦
+            let h : is_missing held.from place ≡ false =
+            missing_as held place v.is_there.result true v.is_there.ensures
+            v.if-not-is_there.false in
+            passes held.from c.args.most first places c.args.start place c.args.end here h
+            c.loop-place.invariant
+        | else-len-most-via-else-len-most v ↦
+            let full : c.args.most ≤ length places =
+            omega (arith, v.if-len-most.false, c.len.ensures.value) in
+            is_full held.from c.args.most first places c.args.start place c.args.end full
+            c.loop-place.invariant
+      ])
     ]
 
 pub returns : goal.returns
