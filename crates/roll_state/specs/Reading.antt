@@ -5,7 +5,7 @@ use Rattle.roll_wire.specs.Reading.{◌>>=◌, byte_at, envelope_at, magic_at, n
 use Rattle.roll_wire.specs.declared.fault.WireFault.{WireFault}
 use Rattle.roll_wire.specs.declared.fault.WireFault.TheVariants.{Short, Kind, Trailing}
 use Rattle.roll_state.specs.Spelling.{Content, Fits, Gives, Message, Part, Wants, Wish, spelling}
-use Rattle.roll_state.specs.declared.limits.TheConstants.{ASK_LIMIT, PIECE_LIMIT}
+use Rattle.roll_state.specs.declared.limits.TheConstants.{ASK, ASK_LIMIT, PIECE, PIECE_LIMIT}
 use Rattle.roll_state.specs.declared.name.StateName.{StateName}
 
 -- so many bytes
@@ -48,10 +48,10 @@ wish_at bytes = do
 unfoldable pub content_at : List ℕ → Result (Content × List ℕ) WireFault
 content_at bytes = do
   kind ← byte_at bytes
-  if kind.0 == 5 then (do
+  if kind.0 == PIECE then (do
     part ← part_at kind.1
     Ok (Gives part.0, part.1))
-      else (if kind.0 == 6 then (do
+      else (if kind.0 == ASK then (do
         wish ← wish_at kind.1
         Ok (Wants wish.0, wish.1))
       else Err Kind)

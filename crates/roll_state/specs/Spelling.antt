@@ -11,7 +11,7 @@ use Rattle.roll_state.specs.declared.datagram.Piece.{Piece}
 use Rattle.roll_state.specs.declared.datagram.StateBody.{StateBody}
 use Rattle.roll_state.specs.declared.datagram.StateBody.TheVariants.{Piece as PieceBody, Ask as AskBody}
 use Rattle.roll_state.specs.declared.datagram.StateDatagram.{StateDatagram}
-use Rattle.roll_state.specs.declared.limits.TheConstants.{ASK_LIMIT, PIECE_LIMIT}
+use Rattle.roll_state.specs.declared.limits.TheConstants.{ASK, ASK_LIMIT, PIECE, PIECE_LIMIT}
 use Rattle.roll_state.specs.declared.name.StateName.{StateName}
 
 -- a piece, and an ask, with their lists as lists
@@ -55,8 +55,8 @@ digest_with s digest = from_be_bytes w64 (take 8 (sha256 (long digest ++ name s)
 
 -- the kind, and what follows it: a piece's bytes, and the places asked for, go to the end
 abbrev pub body : Content → List ℕ
-body (Gives p) = byte 5 ++ (name p.state ++ (number p.place ++ p.bytes))
-body (Wants w) = byte 6 ++ (name w.state ++ flat_map number w.places)
+body (Gives p) = byte PIECE ++ (name p.state ++ (number p.place ++ p.bytes))
+body (Wants w) = byte ASK ++ (name w.state ++ flat_map number w.places)
 
 -- the bytes of a datagram
 abbrev pub spelling : Message → List ℕ

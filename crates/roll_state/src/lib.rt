@@ -26,5 +26,7 @@ pub use limits::{ASK_LIMIT, PIECE_LIMIT};
 pub use name::StateName;
 pub use reading::decode;
 pub use refusal::{StateFault, StateRefusal};
+pub use roll_contact::Key;
+pub use sealing::{open, say, sender_of};
 pub use taker::Taker;
 pub use writing::encode;

@@ -4,3 +4,7 @@
 pub const PIECE_LIMIT: usize = 1_024;
 /// The most pieces that one datagram asks for.
 pub const ASK_LIMIT: usize = 16;
+/// The kind of pieces.
+pub(crate) const PIECE: u8 = 5;
+/// The kind of asks.
+pub(crate) const ASK: u8 = 6;

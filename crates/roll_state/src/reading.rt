@@ -7,7 +7,7 @@ ghost use Rattle.roll_state.specs.Reading.{all_of, bytes_at, content_at, name_at
 ghost use Rattle.roll_state.specs.declared.limits.TheConstants.{ASK_LIMIT, PIECE_LIMIT};
 
 use crate::datagram::{Ask, Piece, StateBody, StateDatagram};
-use crate::limits::{ASK_LIMIT, PIECE_LIMIT};
+use crate::limits::{ASK, ASK_LIMIT, PIECE, PIECE_LIMIT};
 use crate::name::StateName;
 use arrayvec::ArrayVec;
 use roll_wire::{Envelope, MAGIC, WireFault};
@@ -129,10 +129,10 @@ fn body_of(bytes: &[u8]) -> Result<(StateBody, &[u8]), WireFault>
     ensures { Gives (λ x. (content x.0, x.1.now)) result (content_at bytes.now) }
 {
     let (kind, rest) = byte_of(bytes)?;
-    if kind == 5 {
+    if kind == PIECE {
         let (piece, rest) = piece_of(rest)?;
         Ok((StateBody::Piece(piece), rest))
-    } else if kind == 6 {
+    } else if kind == ASK {
         let (ask, rest) = ask_of(rest)?;
         Ok((StateBody::Ask(ask), rest))
     } else {

@@ -7,7 +7,7 @@ ghost use Rattle.roll_wire.specs.declared.limits.TheConstants.{DATAGRAM_LIMIT};
 ghost use Rattle.roll_state.specs.declared.limits.TheConstants.{ASK_LIMIT, PIECE_LIMIT};
 
 use crate::datagram::{Ask, Piece, StateBody, StateDatagram};
-use crate::limits::{ASK_LIMIT, PIECE_LIMIT};
+use crate::limits::{ASK, ASK_LIMIT, PIECE, PIECE_LIMIT};
 use crate::name::StateName;
 use arrayvec::ArrayVec;
 use roll_wire::{DATAGRAM_LIMIT, Envelope, MAGIC};
@@ -102,11 +102,11 @@ fn put_body(out: &mut Bytes, b: &StateBody)
 {
     match b {
         StateBody::Piece(piece) => {
-            out.push(5);
+            out.push(PIECE);
             put_piece(out, piece);
         }
         StateBody::Ask(ask) => {
-            out.push(6);
+            out.push(ASK);
             put_ask(out, ask);
         }
     }
