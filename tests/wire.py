@@ -13,9 +13,10 @@ import sys
 from pathlib import Path
 
 MAGIC = b"FZG2"
-HELLO, PLAY, BYE = 0, 1, 2
+HELLO, PLAY, BYE, PIECE, ASK = 0, 1, 2, 5, 6
 VIEWER = 255
 BLOCK = 64  # of SHA-256, in bytes
+PIECE_LIMIT, ASK_LIMIT = 1024, 16
 
 # ---- the fields
 
@@ -90,6 +91,23 @@ def bye(number, sender):
     return packet(number, sender, BYE)
 
 
+def name(which, frame, state):
+    """What a state is called; if it is None, that of one of which nothing is known."""
+    known = (len(state), hashlib.sha256(state).digest()) if state else (0, bytes(32))
+    return fixed(which, 8) + fixed(frame, 4) + fixed(known[0], 4) + known[1]
+
+
+def piece(number, sender, which, frame, state, place):
+    """A piece of a state."""
+    part = state[PIECE_LIMIT * place : PIECE_LIMIT * (place + 1)]
+    return packet(number, sender, PIECE, name(which, frame, state) + fixed(place, 4) + part)
+
+
+def ask(number, sender, which, frame, state, places):
+    """An ask for pieces of a state, or of one that isn't known (None)."""
+    return packet(number, sender, ASK, name(which, frame, state) + b"".join(fixed(place, 4) for place in places))
+
+
 # ---- the seal
 
 
@@ -123,6 +141,7 @@ NUMBER = 0x1122334455667788
 DRAWS = [0x0102030405060708, 0x1112131415161718]  # of machine 0, and of machine 1
 MATCH = {"machines": 2, "owners": [0, 1], "digest": 0x0123456789ABCDEF}
 LINE = 0x99AABBCCDDEEFF00
+OPTIONS, SAVED = b"speed=2", bytes(range(256)) * 12  # two states
 HOST, GUEST = 0xC1C2C3C4C5C6C7C8, 0xD1D2D3D4D5D6D7D8  # the draws of a line's ends
 
 
@@ -132,8 +151,8 @@ def clock(draw, passed):
 
 
 def of_match(text):
-    """A packet of machine 1 for machine 0, with the number and sealed: a hello has no draws in its key."""
-    return text, sealed(text) if text[13] == HELLO else sealed(text, DRAWS[1], DRAWS[0])
+    """A packet of machine 1 for machine 0, with the number and sealed: a hello, a piece and an ask have no draws in their key."""
+    return text, sealed(text) if text[13] in (HELLO, PIECE, ASK) else sealed(text, DRAWS[1], DRAWS[0])
 
 
 def of_line(text):
@@ -156,6 +175,9 @@ def examples():
         "viewer's hello": of_line(hello(LINE, VIEWER, MATCH, GUEST, HOST, 3000)),
         "rows": of_line(play(LINE, 0, {0: 603, 1: 601}, {0: (600, 3), 1: (0, 1)}, [5, 5, 9, 9], line_clocks)),
         "viewer's answer": of_line(play(LINE, VIEWER, {0: 603, 1: 603})),
+        "first ask": of_match(ask(NUMBER, 1, 2, 0, None, [0])),
+        "piece": of_match(piece(NUMBER, 0, 2, 0, OPTIONS, 0)),
+        "ask": of_match(ask(NUMBER, 1, 1, 0, SAVED, [2, 0])),
     }
 
 
@@ -245,7 +267,7 @@ def compare_fields(tally, rows, end):
 def compare_tables(tally, lines, made, seal):
     """Compares each table of bytes. The seal's has its steps in their order."""
     named = {sealed: name for name, (_, sealed) in made.items()}
-    ends = iter([14, len(made["hello"][1])])
+    ends = iter([14, len(made["hello"][1]), 14 + len(name(0, 0, None))])
     found = tables(lines)
     heads = [", ".join(head) for _, head, _ in found]
     for head in ["Place, Bytes, Field", "Short number, Bytes", "Words, Bytes, Say", "Step, Bytes", "Place, Bytes, Say"]:
@@ -298,6 +320,10 @@ def sayings(made):
         f"has {held} bytes at frame 20,000",
         f"{60 * held:,} bytes a second",
         f"A bye has {len(made['bye'][1])} bytes",
+        f"A piece has {len(piece(NUMBER, 0, 1, 0, SAVED, 0)):,} bytes at most",
+        f"an ask {len(ask(NUMBER, 1, 1, 0, SAVED, range(ASK_LIMIT)))}",
+        f"The state of {len(OPTIONS)} bytes `{hexed(OPTIONS)}`",
+        f"one of {len(SAVED):,} bytes, 0 to 255 and so on",
     ]
 
 

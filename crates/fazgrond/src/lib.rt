@@ -14,6 +14,7 @@
 //!   its words too, if the game says which bits belong together ([`WordParts`]).
 //! - **Spectators** get the settled rows from a [`Feed`], and run them on any thread: [`Spectator`]. On other machines they get
 //!   them by datagrams: [`ViewerLine`] is the host's end, [`Viewer`] the viewer's.
+//! - **States** that the others don't have go to them in pieces, before a match: [`states`].
 //! - **Claims** of rollbacks are checked, written and read by [`claims`].
 //!
 //! The main loop of a match over a network, in each turn:
@@ -52,6 +53,7 @@ pub use roll_session::{
 pub use roll_spectate::{
     Feed, RING_ROWS, RowReceiver, RowSender, SPECTATOR_LIMIT, Spectator, SpectatorFault, open_ring,
 };
+pub use roll_state as states;
 pub use roll_synctest::{SyncTest, Verdict};
 pub use roll_text as text;
 pub use roll_viewer::{LineFault, LineRefusal, LineSettings, Viewer, ViewerLine, WAITING_LIMIT};

@@ -1,0 +1,7 @@
+pub mod Fields
+pub mod Messages
+pub mod Parts
+pub mod Asking
+pub mod Taken
+pub mod Sent
+pub mod Crossing

@@ -1,0 +1,7 @@
+use Rattle.std.specs.Int.{w32}
+use Rattle.roll_wire.specs.Reading.{number_at}
+use Rattle.roll_state.proofs.Fields.{Pushing}
+use Rattle.roll_state.proofs.reading.places_of.Given as goal
+
+abbrev pub invariant-loop : goal.invariant-loop
+invariant-loop l = Pushing (number_at w32) l.count l.counter l.places.items l.bytes l.rest

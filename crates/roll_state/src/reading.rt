@@ -1,0 +1,194 @@
+//! Bytes to datagrams.
+ghost use Rattle.std.specs.Prelude.{◌≡◌, ◌≤◌, length, Ok, IfOk};
+ghost use Rattle.std.specs.Int.{w32, w64};
+ghost use Rattle.roll_wire.specs.Reading.{Gives, byte_at, envelope_at, magic_at, number_at, repeated};
+ghost use Rattle.roll_state.specs.Spelling.{Fits, Message, content, message, part, spelling, wish};
+ghost use Rattle.roll_state.specs.Reading.{all_of, bytes_at, content_at, name_at, part_at, place_count, wish_at};
+ghost use Rattle.roll_state.specs.declared.limits.TheConstants.{ASK_LIMIT, PIECE_LIMIT};
+
+use crate::datagram::{Ask, Piece, StateBody, StateDatagram};
+use crate::limits::{ASK, ASK_LIMIT, PIECE, PIECE_LIMIT};
+use crate::name::StateName;
+use arrayvec::ArrayVec;
+use roll_wire::{Envelope, MAGIC, WireFault};
+
+fn u32_at(bytes: &[u8]) -> Result<(u32, &[u8]), WireFault>
+    ensures { Gives (λ x. (x.0, x.1.now)) result (number_at w32 bytes.now) }
+{
+    if bytes.len() < 4 {
+        return Err(WireFault::Short);
+    }
+    let (front, rest) = bytes.split_at(4);
+    let number = u32::from_be_bytes([front[0], front[1], front[2], front[3]]);
+    Ok((number, rest))
+}
+
+fn u64_at(bytes: &[u8]) -> Result<(u64, &[u8]), WireFault>
+    ensures { Gives (λ x. (x.0, x.1.now)) result (number_at w64 bytes.now) }
+{
+    if bytes.len() < 8 {
+        return Err(WireFault::Short);
+    }
+    let (front, rest) = bytes.split_at(8);
+    let number = u64::from_be_bytes([
+        front[0], front[1], front[2], front[3], front[4], front[5], front[6], front[7],
+    ]);
+    Ok((number, rest))
+}
+
+#[tactic(auto, unfolding(roll_wire::specs::Reading::byte_at))]
+fn byte_of(bytes: &[u8]) -> Result<(u8, &[u8]), WireFault>
+    ensures { Gives (λ x. (x.0, x.1.now)) result (byte_at bytes.now) }
+{
+    match bytes {
+        [] => Err(WireFault::Short),
+        [byte, rest @ ..] => Ok((*byte, rest)),
+    }
+}
+
+fn digest_of(bytes: &[u8]) -> Result<([u8; 32], &[u8]), WireFault>
+    ensures { Gives (λ x. (x.0, x.1.now)) result (bytes_at 32 bytes.now) }
+{
+    if bytes.len() < 32 {
+        return Err(WireFault::Short);
+    }
+    let (front, rest) = bytes.split_at(32);
+    let mut digest = [0; 32];
+    digest.copy_from_slice(front);
+    Ok((digest, rest))
+}
+
+#[tactic(auto, unfolding(crate::specs::Reading::name_at))]
+fn name_of(bytes: &[u8]) -> Result<(StateName, &[u8]), WireFault>
+    ensures { Gives (λ x. (x.0, x.1.now)) result (name_at bytes.now) }
+{
+    let (which, rest) = u64_at(bytes)?;
+    let (frame, rest) = u32_at(rest)?;
+    let (length, rest) = u32_at(rest)?;
+    let (digest, rest) = digest_of(rest)?;
+    let name = StateName {
+        which,
+        frame,
+        length,
+        digest,
+    };
+    Ok((name, rest))
+}
+
+/// Bytes that fit into a piece, as a piece has them.
+pub(crate) fn kept(bytes: &[u8]) -> ArrayVec<u8, PIECE_LIMIT>
+    requires { length bytes.now ≤ PIECE_LIMIT }
+    ensures { result.items ≡ bytes.now }
+{
+    match ArrayVec::try_from(bytes) {
+        Ok(kept) => kept,
+        Err(_) => unreachable!(),
+    }
+}
+
+#[tactic(auto, unfolding(crate::specs::Reading::part_at))]
+fn piece_of(bytes: &[u8]) -> Result<(Piece, &[u8]), WireFault>
+    ensures { Gives (λ x. (part x.0, x.1.now)) result (part_at bytes.now) }
+{
+    let (state, rest) = name_of(bytes)?;
+    let (place, rest) = u32_at(rest)?;
+    let (front, rest) = rest.split_at(PIECE_LIMIT.min(rest.len()));
+    let piece = Piece {
+        state,
+        place,
+        bytes: kept(front),
+    };
+    Ok((piece, rest))
+}
+
+fn places_of(count: usize, bytes: &[u8]) -> Result<(ArrayVec<u32, ASK_LIMIT>, &[u8]), WireFault>
+    requires { count ≤ ASK_LIMIT }
+    ensures { Gives (λ x. (x.0.items, x.1.now)) result (repeated (number_at w32) count bytes.now) }
+{
+    let mut places = ArrayVec::new();
+    let mut rest = bytes;
+    for _ in 0..count {
+        let (place, after) = u32_at(rest)?;
+        places.push(place);
+        rest = after;
+    }
+    Ok((places, rest))
+}
+
+#[tactic(auto, unfolding(crate::specs::Reading::wish_at))]
+fn ask_of(bytes: &[u8]) -> Result<(Ask, &[u8]), WireFault>
+    ensures { Gives (λ x. (wish x.0, x.1.now)) result (wish_at bytes.now) }
+{
+    let (state, rest) = name_of(bytes)?;
+    let (places, rest) = places_of((rest.len() / 4).min(ASK_LIMIT), rest)?;
+    Ok((Ask { state, places }, rest))
+}
+
+#[tactic(auto, unfolding(crate::specs::Reading::content_at))]
+fn body_of(bytes: &[u8]) -> Result<(StateBody, &[u8]), WireFault>
+    ensures { Gives (λ x. (content x.0, x.1.now)) result (content_at bytes.now) }
+{
+    let (kind, rest) = byte_of(bytes)?;
+    if kind == PIECE {
+        let (piece, rest) = piece_of(rest)?;
+        Ok((StateBody::Piece(piece), rest))
+    } else if kind == ASK {
+        let (ask, rest) = ask_of(rest)?;
+        Ok((StateBody::Ask(ask), rest))
+    } else {
+        Err(WireFault::Kind)
+    }
+}
+
+#[tactic(auto, unfolding(roll_wire::specs::Reading::magic_at))]
+fn magic_of(bytes: &[u8]) -> Result<(u32, &[u8]), WireFault>
+    ensures { Gives (λ x. (x.0, x.1.now)) result (magic_at bytes.now) }
+{
+    let (magic, rest) = u32_at(bytes)?;
+    if magic != MAGIC {
+        return Err(WireFault::Magic);
+    }
+    Ok((magic, rest))
+}
+
+#[tactic(auto, unfolding(roll_wire::specs::Reading::envelope_at))]
+fn envelope_of(bytes: &[u8]) -> Result<(Envelope, &[u8]), WireFault>
+    ensures { Gives (λ x. (x.0, x.1.now)) result (envelope_at bytes.now) }
+{
+    let (match_number, rest) = u64_at(bytes)?;
+    let (sender, rest) = byte_of(rest)?;
+    let envelope = Envelope {
+        match_number,
+        sender,
+    };
+    Ok((envelope, rest))
+}
+
+#[tactic(auto, unfolding(crate::specs::Reading::all_of))]
+fn all(bytes: &[u8]) -> Result<StateDatagram, WireFault>
+    ensures { Gives message result (all_of bytes.now) }
+{
+    let (_magic, rest) = magic_of(bytes)?;
+    let (envelope, rest) = envelope_of(rest)?;
+    let (body, rest) = body_of(rest)?;
+    if !rest.is_empty() {
+        return Err(WireFault::Trailing);
+    }
+    Ok(StateDatagram { envelope, body })
+}
+
+/// The datagram that the bytes spell, all of them.
+///
+/// # Errors
+///
+/// The first fault from left to right, if they spell none: `Short`, `Magic`, `Kind` or `Trailing`.
+pub fn decode(bytes: &[u8]) -> Result<StateDatagram, WireFault>
+    // What is read is spelled so.
+    ensures found { IfOk result (λ d. Fits (message d) × (bytes.now ≡ spelling (message d))) }
+    // What is spelled so is read.
+    ensures only { (m : Message) → Fits m → bytes.now ≡ spelling m → Gives message result (Ok m) }
+    // Which fault it is.
+    ensures exact { Gives message result (all_of bytes.now) }
+{
+    all(bytes)
+}
