@@ -119,7 +119,9 @@ static bool is_safe(const course *like, bool reloads, char *why, size_t room) {
         if (is_beside)
             pthread_join(other, NULL);
         for (int one = at; one <= at + is_beside; one++) {
-            uint32_t count = all[one].is_done ? differing(&all[0], &all[one]) + all[one].differ : frames;
+            uint32_t count = all[one].is_done ? differing(&all[0], &all[one]) : frames;
+            if (count < all[one].differ)
+                count = all[one].differ;
             printf("  %s: %u of %u frames differ\n", names[one], count, frames);
             if (!all[one].is_done || count > 0)
                 snprintf(why, room, "%s", all[one].is_done ? "after a load it plays another course" : all[one].why);
