@@ -11,7 +11,8 @@
 #include <stdlib.h>
 #include <string.h>
 
-enum { MOST_LATE = 20 /* turns that are made up for */, PAST_LAST = 32, FLOOD = 256, MARK_EVERY = 600, SURELY = 180, BYES = 3 };
+enum { MOST_LATE = 20 /* turns that are made up for */, PAST_LAST = 32, FLOOD = 256, MARK_EVERY = 600, SURELY = 180, BYES = 3,
+       ENDING = 200 /* turns in which a desync is still told to the others */ };
 
 static void say(match *self, const char *what, uint32_t machine) {
     snprintf(self->told, sizeof self->told, what, machine);
@@ -189,6 +190,8 @@ static void note_settled(match *self) {
 /* A turn: what happened, and what is sent. */
 
 static void leave(match *self, const fazgrond_event *event) {
+    if (self->has_desync)
+        return;
     say(self, "machine %" PRIu32 " has left", event->machine);
     self->gone |= 1u << event->machine;
     if ((self->gone | 1u << self->meeting->all.me) == (1u << self->meeting->all.machines) - 1) {
@@ -197,7 +200,16 @@ static void leave(match *self, const fazgrond_event *event) {
     }
 }
 
-static void mismatch(match *self) { end(self, "another machine means another match"); }
+/* It plays no more, but goes on for a while, so that the others find out too. */
+static void part(match *self, const fazgrond_event *event) {
+    if (self->has_desync)
+        return;
+    fprintf(stderr, "desync: machine %" PRIu32 " has another state at frame %" PRIu32 "\n", event->machine, event->frame);
+    snprintf(self->told, sizeof self->told, "desync with machine %" PRIu32, event->machine);
+    self->desync = event->frame;
+    self->has_desync = true;
+    self->ending = ENDING;
+}
 
 static void react(match *self, const fazgrond_event *event) {
     switch (event->code) {
@@ -212,12 +224,8 @@ static void react(match *self, const fazgrond_event *event) {
     case FAZGROND_DISCONNECTED: say(self, "player %" PRIu32 " has left", event->player); break;
     case FAZGROND_LEFT: leave(self, event); break;
     case FAZGROND_DROPPED: end(self, "the others regard this machine as gone"); break;
-    case FAZGROND_MISMATCH: mismatch(self); break;
-    case FAZGROND_DESYNC:
-        fprintf(stderr, "desync: machine %" PRIu32 " has another state at frame %" PRIu32 "\n", event->machine, event->frame);
-        self->desync = event->frame;
-        self->is_over = self->has_desync = true;
-        break;
+    case FAZGROND_MISMATCH: end(self, "another machine means another match"); break;
+    case FAZGROND_DESYNC: part(self, event); break;
     default: break;
     }
 }
@@ -279,7 +287,9 @@ static void turn(match *self) {
     must(self, fazgrond_peer_poll(&self->peer, &self->session, now));
     must(self, fazgrond_peer_is_running(&self->peer, &is_running));
     self->is_running = is_running != 0;
-    if (self->is_running && !self->has_failed)
+    if (self->has_desync)
+        self->is_over |= self->ending-- == 0;
+    else if (self->is_running && !self->has_failed)
         play(self);
     note_settled(self);
     while (fazgrond_peer_event(&self->peer, &event) == FAZGROND_OK)

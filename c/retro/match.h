@@ -39,7 +39,7 @@ typedef struct match {
     uint32_t locals[SEATS], seats, far; /* this machine's players, and bits of the others' */
     uint32_t frame, settled, wait, waits, again, all_again, deepest;
     bool is_running, is_over, has_failed;
-    uint32_t desync; /* the frame at which another machine had another state, if has_desync */
+    uint32_t desync, ending; /* the frame at which another machine had another state, if has_desync; turns until it ends */
     bool has_desync;
     uint32_t gone; /* bits of machines */
     struct { uint32_t frame; core_state state; } marks[MARKS]; /* settled states, far apart, the newest first */

@@ -171,6 +171,14 @@ static const char *no_seat(const meeting *self, const guest *one) {
     return one->players == 0 && self->viewers == VIEWERS ? "enough watch it" : NULL;
 }
 
+/* Whether a machine of the match is there. */
+static bool is_known(const meeting *self, const address *from) {
+    bool is_one = false;
+    for (uint32_t at = 1; at < self->machines && self->is_agreed; at++)
+        is_one |= address_is(&self->machine[at].at, from);
+    return is_one;
+}
+
 static void take_hello(meeting *self, const address *from, cursor *heard) {
     guest one = { .at = *from, .nonce = take(heard, 8) };
     one.players = (uint32_t)take(heard, 1);
@@ -182,6 +190,8 @@ static void take_hello(meeting *self, const address *from, cursor *heard) {
         return;
     while (place < *count && list[place].nonce != one.nonce)
         place++;
+    if (place == *count && is_known(self, from))
+        return; /* it waits for a new match already */
     const char *why = difference(self, &theirs, text, sizeof text);
     if (why == NULL && place == *count)
         why = no_seat(self, &one);
