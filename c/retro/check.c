@@ -146,13 +146,15 @@ static void tell_saves(const course *like) {
     free(saved.digests);
 }
 
-/* Whether another instance opens as the first one did. */
+/* Whether another instance opens as the first one did. Bytes that nobody has set may differ. */
 static void tell_opening(const course *like) {
     core_state state = { 0 };
     core *other = calloc(1, sizeof *other);
-    bool is_alike = other != NULL && core_open(other, like->from) && core_save(other, &state) && state.size == like->opening->size
-        && memcmp(state.at, like->opening->at, state.size) == 0;
-    printf("  %s\n", is_alike ? "two instances open alike" : "two instances open otherwise: the opening has to be sent");
+    size_t count = 0;
+    if (other != NULL && core_open(other, like->from) && core_save(other, &state))
+        for (size_t at = 0; at < state.size && at < like->opening->size; at++)
+            count += state.at[at] != like->opening->at[at];
+    printf("  %zu bytes differ between the openings of two instances\n", count);
     if (other != NULL)
         core_close(other);
     free(other);
@@ -247,6 +249,7 @@ static bool look_at(core *one, const recipe *from, core_state *opening, verdict 
     snprintf(out->core, sizeof out->core, "%.40s %.40s", one->info.library_name, one->info.library_version);
     printf("%s: %.3f frames a second, %s\n", out->core, one->av.timing.fps,
            one->get_memory_size(RETRO_MEMORY_SYSTEM_RAM) > 0 ? "tells its RAM" : "tells no RAM: pictures are compared");
+    core_tell_ports(one);
     if (!core_save(one, opening) || !measure(one, out))
         return false;
     printf("  a frame takes %.3f ms, a save %.3f, a load %.3f\n", out->step, out->save, out->load);

@@ -8,9 +8,19 @@
 #include <stdlib.h>
 #include <string.h>
 #include <sys/mman.h>
+#include <time.h>
 #include <unistd.h>
 
 static core *cores[CORES];
+
+/* The clock that cores see stands still, at all machines at the same moment: some make their random numbers of it as they open. The
+ * linker has to be told to let them see this one (--export-dynamic-symbol=time). */
+time_t time(time_t *out) {
+    enum { NEW_YEAR_2000 = 946684800 };
+    if (out != NULL)
+        *out = NEW_YEAR_2000;
+    return NEW_YEAR_2000;
+}
 
 /* What a core asks of its frontend. */
 
@@ -88,11 +98,11 @@ static bool answer(core *self, unsigned command, void *data) {
     case RETRO_ENVIRONMENT_GET_FASTFORWARDING: *(bool *)data = false; return true;
     case RETRO_ENVIRONMENT_GET_CORE_OPTIONS_VERSION: *(unsigned *)data = 0; return true;
     case RETRO_ENVIRONMENT_GET_LANGUAGE: *(unsigned *)data = RETRO_LANGUAGE_ENGLISH; return true;
+    case RETRO_ENVIRONMENT_SET_CONTROLLER_INFO: self->ports = data; return true;
     case RETRO_ENVIRONMENT_GET_INPUT_BITMASKS:
     case RETRO_ENVIRONMENT_SET_GEOMETRY:
     case RETRO_ENVIRONMENT_SET_SYSTEM_AV_INFO:
     case RETRO_ENVIRONMENT_SET_INPUT_DESCRIPTORS:
-    case RETRO_ENVIRONMENT_SET_CONTROLLER_INFO:
     case RETRO_ENVIRONMENT_SET_SUBSYSTEM_INFO:
     case RETRO_ENVIRONMENT_SET_MEMORY_MAPS:
     case RETRO_ENVIRONMENT_SET_PERFORMANCE_LEVEL:
@@ -290,8 +300,9 @@ static bool start(core *self) {
     if (!load_game(self) || !has_all_overrides(self) || !fill_save_ram(self))
         return false;
     self->get_system_av_info(&self->av);
-    for (unsigned port = 0; port < self->from->players; port++)
-        self->set_controller_port_device(port, RETRO_DEVICE_JOYPAD);
+    for (unsigned port = 0; port < PORTS; port++)
+        if (self->from->devices[port] != RETRO_DEVICE_NONE)
+            self->set_controller_port_device(port, self->from->devices[port]);
     self->digests_picture = self->get_memory_size(RETRO_MEMORY_SYSTEM_RAM) == 0;
     self->run();
     return true;
@@ -300,7 +311,7 @@ static bool start(core *self) {
 bool core_open(core *self, const recipe *from) {
     if (!core_about(self, from))
         return false;
-    /* What a core takes from the heap and never sets is then 0 in each instance, at each machine. */
+    /* What a core takes from the heap and never sets is then mostly 0 in each instance, at each machine. */
     mallopt(M_PERTURB, 0xff);
     bool is_open = start(self);
     mallopt(M_PERTURB, 0);
@@ -366,9 +377,19 @@ bool core_load(core *self, const core_state *from) {
     return self->unserialize(from->at, from->size);
 }
 
+void core_tell_ports(const core *self) {
+    for (int port = 0; port < PORTS && self->ports != NULL && self->ports[port].types != NULL; port++) {
+        printf("  port %d:", port + 1);
+        for (unsigned at = 0; at < self->ports[port].num_types; at++)
+            printf(" %u %s%s", self->ports[port].types[at].id, self->ports[port].types[at].desc,
+                   at + 1 < self->ports[port].num_types ? "," : "\n");
+    }
+}
+
 void core_options_text(const core *self, char *out, size_t room) {
     size_t length = 0;
-    out[0] = 0;
+    for (int port = 0; port < PORTS && length < room; port++)
+        length += (size_t)snprintf(out + length, room - length, "%u\n", self->from->devices[port]);
     for (int at = 0; at < self->option_count && length < room; at++)
         length += (size_t)snprintf(out + length, room - length, "%s=%s\n", self->options[at].key, self->options[at].value);
 }

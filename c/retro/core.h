@@ -18,7 +18,7 @@ typedef struct recipe {
     char rom_name[256];
     const char *overrides[OVERRIDES]; /* options of the core, as key=value */
     int override_count;
-    uint32_t players;
+    uint32_t devices[PORTS]; /* what is plugged into each port: libretro's numbers, or those of the core */
     bool is_verbose;
 } recipe;
 
@@ -41,6 +41,7 @@ typedef struct core {
     struct retro_system_info info;
     struct retro_system_av_info av;
     enum retro_pixel_format format;
+    const struct retro_controller_info *ports; /* what can be plugged in; null if the core doesn't say */
     struct { char *key, *value; } options[OPTIONS];
     int option_count;
     uint16_t pads[PORTS];
@@ -82,6 +83,9 @@ uint64_t core_digest(core *self);
 bool core_save(core *self, core_state *out);
 bool core_load(core *self, const core_state *from);
 
-/* All options with their values, as text. */
+/* What can be plugged into the ports, on standard output. */
+void core_tell_ports(const core *self);
+
+/* All options with their values, and what is plugged in, as text. */
 void core_options_text(const core *self, char *out, size_t room);
 #endif

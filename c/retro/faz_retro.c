@@ -22,7 +22,7 @@ static const char usage[] =
     "  --key WORDS      the same at all: keeps others out\n"
     "  --delay N, --delay2 N    the words of the first and the second player here count N frames later (1)\n"
     "  --save-ram FILE  what the game has saved before; the host writes it as the match ends\n"
-    "  --options KEY=VALUE,..   the core's own options\n"
+    "  --options KEY=VALUE,..   the core's own options; --ports N,..  what is plugged in, by the numbers that the check tells\n"
     "  --record FILE    the match, to be played again; --picture FILE its course, for `rollduel play --picture`\n"
     "  --threshold N    the host says how many frames ahead one may be, --helpers N how many threads play ahead here: else as\n"
     "                   the check found it right\n"
@@ -43,7 +43,7 @@ static struct {
     runner main;
     states states;
     verdict verdict;
-    const char *options, *save, *key, *join, *watch, *play;
+    const char *options, *ports, *save, *key, *join, *watch, *play;
     long host, machines, seats, delays[SEATS], threshold, helpers, port, timeout, frames, bot, lag, jitter, loss, speed;
     bool is_verbose, is_unchecked, goes_again;
 } self = { .machines = 2, .seats = 1, .delays = { 1, 1 }, .helpers = -1, .timeout = 5000, .speed = 1 };
@@ -61,6 +61,7 @@ static const option options[] = {
     { "--frames", &self.frames, NULL, NULL },       { "--bot", &self.bot, NULL, NULL },
     { "--lag", &self.lag, NULL, NULL },             { "--jitter", &self.jitter, NULL, NULL },
     { "--loss", &self.loss, NULL, NULL },           { "--speed", &self.speed, NULL, NULL },
+    { "--ports", NULL, &self.ports, NULL },
     { "--headless", NULL, NULL, &self.wish.is_headless }, { "--again", NULL, NULL, &self.goes_again },
     { "--unchecked", NULL, NULL, &self.is_unchecked }, { "--verbose", NULL, NULL, &self.is_verbose },
     { NULL, NULL, NULL, NULL },
@@ -93,6 +94,16 @@ static void take_overrides(char *list) {
     char *rest;
     for (char *at = strtok_r(list, ",", &rest); at != NULL && self.from.override_count < OVERRIDES; at = strtok_r(NULL, ",", &rest))
         self.from.overrides[self.from.override_count++] = at;
+}
+
+/* What is plugged in: pads into the first two ports, and what is said. */
+static void take_devices(const char *list) {
+    self.from.devices[0] = self.from.devices[1] = RETRO_DEVICE_JOYPAD;
+    for (int port = 0; list != NULL && port < PORTS; port++) {
+        self.from.devices[port] = (uint32_t)strtoul(list, NULL, 10);
+        list = strchr(list, ',');
+        list += list != NULL;
+    }
 }
 
 /* The core and the ROM. Which files a core takes, it says itself. */
@@ -291,7 +302,7 @@ int main(int count, char **words) {
     if (self.options != NULL)
         take_overrides(strdup(self.options));
     self.from.is_verbose = self.is_verbose;
-    self.from.players = FAZGROND_PLAYERS / 2;
+    take_devices(self.ports);
     if (at == 0 || count != at + is_check + 2 || self.seats < 1 || self.seats > SEATS || self.speed < 1
         || is_check + (self.host > 0) + (self.join != NULL) + (self.watch != NULL) + (self.play != NULL) != 1) {
         fputs(usage, stderr);

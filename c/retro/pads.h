@@ -11,14 +11,15 @@ typedef struct hand {
 } hand;
 
 static inline hand hand_of(uint64_t seed, uint32_t player) {
-    return (hand){ .seed = 0x9e3779b97f4a7c15u * (seed * 16 + player + 1) };
+    return (hand){ .seed = seed * 256 + player };
 }
 
+/* A number below another one: SplitMix64. */
 static inline uint32_t hand_draw(hand *self, uint32_t below) {
-    self->seed ^= self->seed << 13;
-    self->seed ^= self->seed >> 7;
-    self->seed ^= self->seed << 17;
-    return (uint32_t)(self->seed >> 20) % below;
+    uint64_t mixed = (self->seed += 0x9e3779b97f4a7c15u);
+    mixed = (mixed ^ mixed >> 30) * 0xbf58476d1ce4e5b9u;
+    mixed = (mixed ^ mixed >> 27) * 0x94d049bb133111ebu;
+    return (uint32_t)((mixed ^ mixed >> 31) % below);
 }
 
 /* The next frame's word: always the same ones, whatever the line is. */

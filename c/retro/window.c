@@ -7,7 +7,7 @@
 #include <stdio.h>
 #include <stdlib.h>
 
-enum { SCALE = 2, DOT = 2, LINE = 14, RATE = 48000, SOFT = 128 /* samples over which a jump is made smooth */, MOST = 8192,
+enum { SCALE = 2, DOT = 2, LINE = 14, BELOW = 4 * LINE /* room for lines */, RATE = 48000, SOFT = 128 /* samples over which a jump is made smooth */, MOST = 8192,
        FULL = 128, STEP = 16 /* of the volume */ };
 
 static struct {
@@ -35,7 +35,7 @@ static bool open_sound(const core *one) {
 }
 
 bool window_open(const core *one, int place) {
-    int width = SCALE * (int)one->av.geometry.base_width, height = SCALE * (int)one->av.geometry.base_height;
+    int width = SCALE * (int)one->av.geometry.base_width, height = SCALE * (int)one->av.geometry.base_height + BELOW;
     if (SDL_Init(SDL_INIT_VIDEO | SDL_INIT_AUDIO | SDL_INIT_GAMECONTROLLER) != 0
         && SDL_Init(SDL_INIT_VIDEO | SDL_INIT_GAMECONTROLLER) != 0)
         return false;
@@ -179,6 +179,7 @@ static void draw_picture(const core *one) {
     }
     SDL_UpdateTexture(self.texture, NULL, one->picture, (int)one->width * 4);
     SDL_GetRendererOutputSize(self.renderer, &width, &height);
+    height -= self.hides_lines ? 0 : BELOW;
     int scale = SDL_max(1, SDL_min(width / (int)one->width, height / (int)one->height));
     SDL_Rect to = { 0, 0, (int)one->width * scale, (int)one->height * scale };
     to.x = (width - to.w) / 2;
@@ -186,13 +187,15 @@ static void draw_picture(const core *one) {
     SDL_RenderCopy(self.renderer, self.texture, NULL, &to);
 }
 
-static void draw_line(const char *text, int up) {
+/* Lines from 0 on stand below the picture, and those before over it. */
+static void draw_line(const char *text, int number) {
     int height;
     SDL_GetRendererOutputSize(self.renderer, NULL, &height);
+    int y = height - BELOW + LINE * number;
     SDL_SetRenderDrawColor(self.renderer, 0, 0, 0, 255);
-    SDL_RenderFillRect(self.renderer, &(SDL_Rect){ 4, height - LINE * up, (int)SDL_strlen(text) * 4 * DOT + 4, LINE });
+    SDL_RenderFillRect(self.renderer, &(SDL_Rect){ 4, y, (int)SDL_strlen(text) * 4 * DOT + 4, LINE });
     SDL_SetRenderDrawColor(self.renderer, 200, 210, 230, 255);
-    draw_text(self.renderer, 6, height - LINE * up + 2, DOT, text);
+    draw_text(self.renderer, 6, y + 2, DOT, text);
 }
 
 void window_show(const core *one, bool is_new, bool jumps, const char *const *lines, int count) {
@@ -201,13 +204,13 @@ void window_show(const core *one, bool is_new, bool jumps, const char *const *li
     SDL_RenderClear(self.renderer);
     draw_picture(one);
     for (int at = 0; at < count && !self.hides_lines; at++)
-        draw_line(lines[at], count - at);
+        draw_line(lines[at], at);
     if (self.setting >= 0) {
         snprintf(text, sizeof text, "seat %d, %s: strike a key, or escape", self.setting / BUTTONS + 1,
                  button_name(self.setting % BUTTONS));
-        draw_line(text, count + 2);
+        draw_line(text, -2);
     } else if (self.is_paused)
-        draw_line("paused: F3 goes on", count + 2);
+        draw_line("paused: F3 goes on", -2);
     SDL_RenderPresent(self.renderer);
     hear(one, is_new, jumps);
 }

@@ -108,10 +108,10 @@ static void digits(uint8_t x, uint16_t number, uint8_t colour) {
 static void show(void) {
     uint8_t at;
     next = 0;
+    for (at = 0; at < count; at++) digits(40 + at * 64, ships[at].score, at); /* of nine in a line the last one isn't shown */
     for (at = 0; at < count; at++) sprite(ships[at].x, ships[at].y, 17, at);
     for (at = 0; at < SHOTS; at++) sprite(shots[at].x, shots[at].on ? shots[at].y : 255, 18, at >> 1);
     for (at = 0; at < ROCKS; at++) sprite(rocks[at].x, rocks[at].on ? rocks[at].y : 255, 19, 3);
-    for (at = 0; at < count; at++) digits(40 + at * 64, ships[at].score, at);
     while (next) sprite(0, 255, 0, 0);
 }
 
