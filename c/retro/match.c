@@ -11,7 +11,7 @@
 #include <stdlib.h>
 #include <string.h>
 
-enum { MOST_LATE = 20 /* turns that are made up for */, PAST_LAST = 32, FLOOD = 256, MARK_EVERY = 600, SURELY = 180, BYES = 3,
+enum { MOST_LATE = 20 /* turns that are made up for */, FLOOD = 256, MARK_EVERY = 600, SURELY = 180, BYES = 3,
        ENDING = 200 /* turns in which a desync is still told to the others */ };
 
 static void say(match *self, const char *what, uint32_t machine) {
@@ -127,6 +127,9 @@ static uint32_t word_of(match *self, uint32_t seat) {
     return self->wish->bot != 0 ? self->next_words[seat] : window_word((int)seat);
 }
 
+/* Whether all frames that are to be played are there. */
+static bool has_all(const match *self) { return self->wish->frames > 0 && self->frame >= self->wish->frames; }
+
 /* The words of all players here, or of none: why not. */
 static int32_t give(match *self) {
     int32_t code = FAZGROND_LOCAL_INPUT_MISSING;
@@ -134,6 +137,8 @@ static int32_t give(match *self) {
         self->wait--;
         return code;
     }
+    if (has_all(self))
+        return code;
     for (uint32_t seat = 0; seat < self->seats; seat++) {
         code = fazgrond_add_local_input(&self->session, (uint8_t)self->locals[seat], word_of(self, seat));
         if (code == FAZGROND_OK && self->wish->bot != 0)
@@ -155,7 +160,7 @@ static void play(match *self) {
         end(self, "a helper's core refuses to save or load a state");
     int32_t given = give(self);
     must(self, fazgrond_has_news(&self->session, &has_news));
-    self->waits += given != FAZGROND_OK;
+    self->waits += given != FAZGROND_OK && !has_all(self);
     if (given == FAZGROND_OK)
         must(self, fazgrond_advance_frame(&self->session, &reached));
     else if (has_news != 0) /* too far ahead, or told to wait: it shows at least what has come */
@@ -256,7 +261,7 @@ static void say_bye(match *self) {
         for (int times = 0; times < BYES; times++)
             if (fazgrond_line_bye(&self->lines[at], bytes, sizeof bytes, &length) == FAZGROND_OK)
                 net_send(self->meeting->net, &self->meeting->viewer[at].at, bytes, length);
-    net_flush(self->meeting->net);
+    net_drain(self->meeting->net);
 }
 
 static void show(match *self) {
@@ -299,11 +304,15 @@ static void turn(match *self) {
         show(self);
 }
 
-/* Whether the last frame is settled, here and elsewhere: who has sent words of a much later one has all of it, and viewers say how
- * many rows they have. */
-static bool is_done(const match *self) {
-    if (self->wish->frames == 0 || self->settled < self->wish->frames + PAST_LAST)
+/* Whether the last frame is settled, the others have all words of this machine, and viewers have all rows. */
+static bool is_done(match *self) {
+    if (self->wish->frames == 0 || self->settled < self->wish->frames)
         return false;
+    for (uint32_t at = 0; at < self->meeting->all.machines; at++) {
+        fazgrond_stats it;
+        if (fazgrond_peer_stats(&self->peer, (uint8_t)at, &it) == FAZGROND_OK && it.words_queued > 0)
+            return false;
+    }
     for (uint32_t at = 0; at < self->open_lines; at++)
         if (self->rows_seen[at] < self->wish->frames)
             return false;

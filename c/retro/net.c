@@ -100,6 +100,11 @@ void net_rest(net *self, int64_t micros) {
     }
 }
 
+void net_drain(net *self) {
+    while (self->late != NULL)
+        net_rest(self, 1000);
+}
+
 bool address_read(const char *text, address *out) {
     const char *colon = strrchr(text, ':');
     struct addrinfo wanted = { .ai_family = AF_INET, .ai_socktype = SOCK_DGRAM }, *found;

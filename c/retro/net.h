@@ -24,6 +24,8 @@ uint32_t net_now(const net *self);
 void net_send(net *self, const address *to, const uint8_t *bytes, size_t length);
 /* Sends what is due by now. */
 void net_flush(net *self);
+/* Waits until all is sent. */
+void net_drain(net *self);
 /* The next datagram that has come, and how long it is; below 0 if there is none. */
 long net_next(net *self, address *from, uint8_t *bytes, size_t room);
 /* Rests for so many microseconds, but sends meanwhile what is due. */

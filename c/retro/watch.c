@@ -118,7 +118,7 @@ outcome watch_match(meeting *meeting, runner *on, const core_state *opening, con
         net_rest(meeting->net, due - clock_micros());
     }
     tell_host(&self, 0, true);
-    net_flush(meeting->net);
+    net_drain(meeting->net);
     fazgrond_viewer_close(&self.viewer);
     return end(&self.shown, self.goes_on && self.seen.is_silent == 0);
 }
