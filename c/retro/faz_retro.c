@@ -1,5 +1,6 @@
 /* A frontend of libretro cores for matches over a network. `usage` says how it is begun. */
 #define _POSIX_C_SOURCE 200809L
+#include "casting.h"
 #include "check.h"
 #include "watch.h"
 #include "window.h"
@@ -15,6 +16,7 @@ static const char usage[] =
     "faz-retro --host PORT [OPTIONS] CORE ROM     waits for the others there, and plays\n"
     "faz-retro --join ADDRESS:PORT [OPTIONS] CORE ROM     plays with those who are there\n"
     "faz-retro --watch ADDRESS:PORT [OPTIONS] CORE ROM    watches their match\n"
+    "faz-retro --view MATCH --broker URL [OPTIONS] CORE ROM    watches one that is published on a broker; --from FRAME\n"
     "faz-retro --play FILE [OPTIONS] CORE ROM     plays a match again that was recorded\n"
     "CORE is a libretro core, as nestopia_libretro.so, and ROM a game for it, or a .zip with one. All have to have the same.\n"
     "  --machines N     the host waits for so many in all (2)\n"
@@ -24,6 +26,7 @@ static const char usage[] =
     "  --save-ram FILE  what the game has saved before; the host writes it as the match ends\n"
     "  --options KEY=VALUE,..   the core's own options; --ports N,..  what is plugged in, by the numbers that the check tells\n"
     "  --record FILE    the match, to be played again; --picture FILE its course, for `rollduel play --picture`\n"
+    "  --cast MATCH --broker URL    publishes the match with this name, on a broker (nats://127.0.0.1:4222)\n"
     "  --threshold N    the host says how many frames ahead one may be, --helpers N how many threads play ahead here: else as\n"
     "                   the check found it right\n"
     "  --port N         the port of who joins or watches (any)\n"
@@ -43,10 +46,11 @@ static struct {
     runner main;
     states states;
     verdict verdict;
-    const char *options, *ports, *save, *key, *join, *watch, *play;
-    long host, machines, seats, delays[SEATS], threshold, helpers, port, timeout, frames, bot, lag, jitter, loss, speed;
+    const char *options, *ports, *save, *key, *join, *watch, *play, *view;
+    long from_frame, host, machines, seats, delays[SEATS], threshold, helpers, port, timeout, frames, bot, lag, jitter, loss, speed;
     bool is_verbose, is_unchecked, goes_again;
-} self = { .machines = 2, .seats = 1, .delays = { 1, 1 }, .helpers = -1, .timeout = 5000, .speed = 1 };
+} self = { .machines = 2, .seats = 1, .delays = { 1, 1 }, .helpers = -1, .timeout = 5000, .speed = 1, .from_frame = -1,
+           .wish = { .broker = "nats://127.0.0.1:4222" } };
 
 static const option options[] = {
     { "--host", &self.host, NULL, NULL },           { "--join", NULL, &self.join, NULL },
@@ -61,7 +65,9 @@ static const option options[] = {
     { "--frames", &self.frames, NULL, NULL },       { "--bot", &self.bot, NULL, NULL },
     { "--lag", &self.lag, NULL, NULL },             { "--jitter", &self.jitter, NULL, NULL },
     { "--loss", &self.loss, NULL, NULL },           { "--speed", &self.speed, NULL, NULL },
-    { "--ports", NULL, &self.ports, NULL },
+    { "--ports", NULL, &self.ports, NULL },         { "--cast", NULL, &self.wish.cast, NULL },
+    { "--view", NULL, &self.view, NULL },           { "--broker", NULL, &self.wish.broker, NULL },
+    { "--from", &self.from_frame, NULL, NULL },
     { "--headless", NULL, NULL, &self.wish.is_headless }, { "--again", NULL, NULL, &self.goes_again },
     { "--unchecked", NULL, NULL, &self.is_unchecked }, { "--verbose", NULL, NULL, &self.is_verbose },
     { NULL, NULL, NULL, NULL },
@@ -145,6 +151,10 @@ static void take_wish(void) {
     self.wish.frames = (uint32_t)self.frames;
     self.wish.helpers = (uint32_t)self.helpers;
     self.wish.silent_after = (uint32_t)self.timeout;
+    self.wish.speed = (uint32_t)self.speed;
+    self.wish.from = self.from_frame >= 0 ? (uint32_t)self.from_frame : UINT32_MAX; /* the newest snapshot's */
+    if (self.view != NULL)
+        self.wish.cast = self.view;
     self.wish.bot = (uint64_t)self.bot;
     for (int seat = 0; seat < SEATS; seat++)
         self.wish.delays[seat] = (uint32_t)self.delays[seat];
@@ -283,6 +293,8 @@ static int run(void) {
         fail("no window can be opened: --headless plays without");
     else if (self.play != NULL)
         status = play_again();
+    else if (self.view != NULL)
+        status = casting_watch(&self.main, &self.wish, &self.facts, &opening) == ENDED ? 0 : 1;
     else if (open_line()) {
         status = play(&opening);
         net_close(&self.net);
@@ -304,7 +316,8 @@ int main(int count, char **words) {
     self.from.is_verbose = self.is_verbose;
     take_devices(self.ports);
     if (at == 0 || count != at + is_check + 2 || self.seats < 1 || self.seats > SEATS || self.speed < 1
-        || is_check + (self.host > 0) + (self.join != NULL) + (self.watch != NULL) + (self.play != NULL) != 1) {
+        || is_check + (self.host > 0) + (self.join != NULL) + (self.watch != NULL) + (self.play != NULL)
+               + (self.view != NULL) != 1) {
         fputs(usage, stderr);
         return 2;
     }

@@ -1,6 +1,7 @@
 #define _POSIX_C_SOURCE 200809L
 #include "match.h"
 
+#include "casting.h"
 #include "replay.h"
 #include "window.h"
 
@@ -74,7 +75,11 @@ static bool begin(match *self) {
         end(self, why);
         return false;
     }
-    return open_session(self);
+    if (!open_session(self) || !casting_open(self)) {
+        self->has_failed = true;
+        return false;
+    }
+    return true;
 }
 
 /* A turn: what has come. */
@@ -297,6 +302,7 @@ static void turn(match *self) {
     else if (self->is_running && !self->has_failed)
         play(self);
     note_settled(self);
+    casting_turn(self);
     while (fazgrond_peer_event(&self->peer, &event) == FAZGROND_OK)
         react(self, &event);
     send_all(self, now);
@@ -341,6 +347,7 @@ outcome match_play(match *self) {
     helpers_end(&self->helpers);
     tell(self);
     bool is_written = replay_write_all(self);
+    is_written = casting_close(self->has_failed || self->has_desync ? "the match can't go on" : "the match was closed") && is_written;
     return self->has_desync ? DESYNCED : self->has_failed || !is_written ? FAILED : ENDED;
 }
 

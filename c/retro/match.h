@@ -16,6 +16,8 @@ typedef struct wish {
     uint32_t helpers, silent_after;
     uint64_t bot;           /* the players here play by themselves, by this seed; 0: they don't */
     const char *digests, *replay, *picture; /* files that are written; null: not */
+    const char *cast, *broker; /* the name under which the match is published or watched on a broker; null: it isn't */
+    uint32_t from, speed;      /* who watches there begins at this frame; the clock runs so many times as fast */
 } wish;
 
 typedef enum outcome { ENDED, FAILED, DESYNCED } outcome;

@@ -14,11 +14,11 @@ has_headers() {
     return 1
 }
 
-# The program without a window, with the sanitizers.
+# The program without a window, with the sanitizers, and what is named beside that.
 compile() {
-    sources=$(ls retro/*.c | grep -v 'window.c\|keys.c')
-    check "faz-retro compiles without SDL" cc $with $clean -DRETRO_HEADLESS $sources out/libfazgrond.a -o "$work/faz-retro" \
-        $libraries
+    sources=$(ls retro/*.c | grep -v 'window.c\|keys.c\|casting.c')
+    check "faz-retro compiles without SDL" cc $with $clean -DRETRO_HEADLESS $sources "$@" out/libfazgrond.a \
+        -o "$work/faz-retro" $libraries
 }
 
 # Whether machines came to the same digests in all frames, and so did a straight run, which has none of the library.
