@@ -24,12 +24,16 @@ time_t time(time_t *out) {
 
 /* What a core asks of its frontend. */
 
+/* Where files go that are of use for a moment. */
+static const char *temporary(void) {
+    const char *folder = getenv("TMPDIR");
+    return folder != NULL ? folder : P_tmpdir;
+}
+
+/* A folder that isn't there, so that nothing that lies in it makes two machines differ. */
 static const char *no_folder(void) {
-    static char folder[] = "/tmp/faz-retro-XXXXXX";
-    static bool is_made;
-    if (!is_made)
-        is_made = mkdtemp(folder) != NULL;
-    rmdir(folder); /* so that nothing that lies there makes two machines differ */
+    static char folder[512];
+    snprintf(folder, sizeof folder, "%.400s/faz-retro-%d", temporary(), (int)getpid());
     return folder;
 }
 
@@ -250,11 +254,13 @@ bool core_about(core *self, const recipe *from) {
 static bool load_game(core *self) {
     const recipe *from = self->from;
     struct retro_game_info game = { .path = from->rom_name, .data = from->rom.at, .size = from->rom.size };
-    char name[512];
-    snprintf(name, sizeof name, "/tmp/faz-retro-%d-%d-%.200s", (int)getpid(), self->set, from->rom_name);
+    const char *base = strrchr(from->rom_name, '/');
+    char name[1024];
+    snprintf(name, sizeof name, "%.400s/faz-retro-%d-%d-%.200s", temporary(), (int)getpid(), self->set,
+             base != NULL ? base + 1 : from->rom_name);
     if (self->info.need_fullpath) {
         if (!file_write(name, from->rom.at, from->rom.size))
-            return refuse(self, "the ROM can't be written to /tmp, from where this core reads it");
+            return refuse(self, "the ROM can't be written to a file, from which this core reads it");
         game = (struct retro_game_info){ .path = name };
     }
     self->has_game = self->load_game(&game);

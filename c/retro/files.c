@@ -69,7 +69,8 @@ static bool has_extension(const char *name, const char *extensions) {
 
 /* The bytes of a file in a .zip, whose entry in the directory stands at `entry`. */
 static bool unpack(const bytes *zip, const uint8_t *entry, bytes *out) {
-    uint32_t how = little(entry + 10, 2), packed = little(entry + 20, 4), size = little(entry + 24, 4), local = little(entry + 42, 4);
+    uint32_t how = little(entry + 10, 2), packed = little(entry + 20, 4), size = little(entry + 24, 4);
+    uint32_t local = little(entry + 42, 4);
     if (size > MOST || zip->size < 30 || local > zip->size - 30)
         return false;
     size_t from = (size_t)local + 30 + little(zip->at + local + 26, 2) + little(zip->at + local + 28, 2);
@@ -99,7 +100,8 @@ static bool unzip(const bytes *zip, const char *extensions, bytes *out, char *na
     for (uint32_t left = little(zip->at + end + 10, 2); left > 0; left--) {
         if (at > end || end - at < 46 || little(zip->at + at, 4) != 0x02014b50)
             return false;
-        size_t length = little(zip->at + at + 28, 2), next = 46 + length + little(zip->at + at + 30, 2) + little(zip->at + at + 32, 2);
+        size_t length = little(zip->at + at + 28, 2);
+        size_t next = 46 + length + little(zip->at + at + 30, 2) + little(zip->at + at + 32, 2);
         if (next > end - at)
             return false;
         snprintf(name, room, "%.*s", (int)length, (const char *)zip->at + at + 46);

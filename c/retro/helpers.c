@@ -177,7 +177,8 @@ void helpers_guess(helpers *self, fazgrond_session *session, uint32_t far) {
         pthread_mutex_lock(&self->lock);
         job *one = place_for(self, of);
         pthread_mutex_unlock(&self->lock);
-        if (one == NULL || fazgrond_confirmed(session, (uint8_t)of->player, &known) != FAZGROND_OK || of->frame - known >= JOB_WORDS)
+        if (one == NULL || fazgrond_confirmed(session, (uint8_t)of->player, &known) != FAZGROND_OK
+            || of->frame - known >= JOB_WORDS)
             continue;
         for (uint32_t frame = known; frame < of->frame; frame++)
             words[frame - known] = self->habits[of->player - 1].held;

@@ -277,9 +277,10 @@ static void show(match *self) {
     for (uint32_t at = 0; at < self->meeting->all.machines; at++) {
         fazgrond_stats it;
         if (at != self->meeting->all.me && fazgrond_peer_stats(&self->peer, (uint8_t)at, &it) == FAZGROND_OK && it.is_measured != 0)
-            snprintf(text[count++], ROOM, "machine %u: ping %u ms, ahead %d, lost %u", at, it.round_trip, -it.frames_behind, it.lost);
+            snprintf(text[count++], ROOM, "machine %u: ping %u ms, ahead %d, lost %u", at, it.round_trip, -it.frames_behind,
+                     it.lost);
     }
-    snprintf(text[count++], ROOM, "frame %u, again %u, waits %u, held 0", self->frame, self->all_again, self->waits);
+    snprintf(text[count++], ROOM, "frame %u, again %u, waits %u", self->frame, self->all_again, self->waits);
     if (self->told[0] != 0)
         snprintf(text[count++], ROOM, "%s", self->told);
     for (int at = 0; at < count; at++)
@@ -326,8 +327,8 @@ static bool is_done(match *self) {
 }
 
 static void tell(const match *self) {
-    fprintf(stderr, "played %" PRIu32 " frames, and %" PRIu32 " again, %" PRIu32 " at most in a turn; waited %" PRIu32 " turns; %" PRIu64
-            " bytes sent\n", self->frame, self->all_again, self->deepest, self->waits, self->meeting->net->sent_bytes);
+    fprintf(stderr, "played %u frames, and %u again, %u at most in a turn; waited %u turns; %" PRIu64 " bytes sent\n", self->frame,
+            self->all_again, self->deepest, self->waits, self->meeting->net->sent_bytes);
     if (self->wish->helpers > 0)
         fprintf(stderr, "guessed %" PRIu32 " jobs: %" PRIu32 " were taken, with %" PRIu32 " states\n", self->helpers.made,
                 self->helpers.grafted, self->helpers.added);
@@ -346,8 +347,8 @@ outcome match_play(match *self) {
     say_bye(self);
     helpers_end(&self->helpers);
     tell(self);
-    bool is_written = replay_write_all(self);
-    is_written = casting_close(self->has_failed || self->has_desync ? "the match can't go on" : "the match was closed") && is_written;
+    bool is_written = replay_write_all(self), goes_on = !self->has_failed && !self->has_desync;
+    is_written = casting_close(goes_on ? "the match was closed" : "the match can't go on") && is_written;
     return self->has_desync ? DESYNCED : self->has_failed || !is_written ? FAILED : ENDED;
 }
 

@@ -72,8 +72,8 @@ static uint64_t number_of(const meeting *self, uint64_t draw) { return strong_di
 
 static uint64_t digest_of_all(const meeting *self) {
     const facts *it = &self->facts;
-    return strong_digest_of((uint64_t[7]){ it->core, it->rom, it->save_ram, it->options, it->opening, it->reloads, self->all.threshold },
-                            56);
+    uint64_t all[] = { it->core, it->rom, it->save_ram, it->options, it->opening, it->reloads, self->all.threshold };
+    return strong_digest_of(all, sizeof all);
 }
 
 /* What each says of itself. */
@@ -223,7 +223,8 @@ static void take_table(meeting *self, const address *from, cursor *heard) {
         all->machine[at] = take_address(heard);
     }
     all->machine[0] = *from;
-    self->is_agreed = !heard->is_short && all->machines >= 2 && all->machines <= FAZGROND_MACHINES && all->players <= FAZGROND_PLAYERS;
+    self->is_agreed = !heard->is_short && all->machines >= 2 && all->machines <= FAZGROND_MACHINES
+        && all->players <= FAZGROND_PLAYERS;
     all->digest = digest_of_all(self);
 }
 

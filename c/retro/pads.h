@@ -1,4 +1,4 @@
-/* A pad as a hand plays it: a direction is held for some 20 frames and mostly let go between two, A is tapped, B pressed at times. */
+/* A pad as a hand plays it: a direction is held for some 20 frames and mostly let go between two, A is tapped, B held at times. */
 #ifndef RETRO_PADS_H
 #define RETRO_PADS_H
 

@@ -4,7 +4,8 @@
 #include <string.h>
 
 uint64_t path_after(uint64_t path, const fazgrond_row *row) {
-    struct { uint64_t path; uint32_t words[FAZGROND_PLAYERS], gone, count; } all = { .path = path, .gone = row->gone, .count = row->count };
+    struct { uint64_t path; uint32_t words[FAZGROND_PLAYERS], gone, count; } all = { .path = path, .gone = row->gone,
+                                                                                     .count = row->count };
     memcpy(all.words, row->words, row->count * sizeof *row->words);
     return digest_of(&all, sizeof all) | 1;
 }

@@ -7,8 +7,17 @@
 #include <stdio.h>
 #include <stdlib.h>
 
-enum { SCALE = 2, DOT = 2, LINE = 14, BELOW = 4 * LINE /* room for lines */, RATE = 48000, SOFT = 128 /* samples over which a jump is made smooth */, MOST = 8192,
-       FULL = 128, STEP = 16 /* of the volume */ };
+enum {
+    SCALE = 2,
+    DOT = 2,
+    LINE = 14,
+    BELOW = 4 * LINE, /* room for lines */
+    RATE = 48000,
+    SOFT = 128,       /* samples over which a jump is made smooth */
+    MOST = 8192,      /* samples of a frame */
+    FULL = 128,
+    STEP = 16         /* of the volume */
+};
 
 static struct {
     SDL_Window *window;
