@@ -316,6 +316,7 @@ int main(int count, char **words) {
     self.from.is_verbose = self.is_verbose;
     take_devices(self.ports);
     if (at == 0 || count != at + is_check + 2 || self.seats < 1 || self.seats > SEATS || self.speed < 1
+        || self.machines < 2 || self.machines > FAZGROND_MACHINES
         || is_check + (self.host > 0) + (self.join != NULL) + (self.watch != NULL) + (self.play != NULL)
                + (self.view != NULL) != 1) {
         fputs(usage, stderr);

@@ -93,7 +93,7 @@ static bool take_back(helpers *self, job *one) {
     return true;
 }
 
-void helpers_collect(helpers *self, fazgrond_session *session) {
+bool helpers_collect(helpers *self, fazgrond_session *session) {
     uint32_t added;
     pthread_mutex_lock(&self->lock);
     self->turn++;
@@ -110,7 +110,9 @@ void helpers_collect(helpers *self, fazgrond_session *session) {
             one->stage = JOB_NONE;
         }
     }
+    bool goes_on = !self->has_failed;
     pthread_mutex_unlock(&self->lock);
+    return goes_on;
 }
 
 /* A place for a job; null if there is none, or the same one is out. */

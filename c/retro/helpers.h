@@ -36,8 +36,8 @@ bool helpers_begin(helpers *self, uint32_t count, const recipe *from, states *st
 /* Waits until no job runs. Before the session is closed. */
 void helpers_end(helpers *self);
 
-/* Before a turn's advance: hands the session what is done, and gives up what nobody has begun. */
-void helpers_collect(helpers *self, fazgrond_session *session);
+/* Before a turn's advance: hands the session what is done, and gives up what nobody has begun. False if a core refused a state. */
+bool helpers_collect(helpers *self, fazgrond_session *session);
 
 /* After it: guesses what the players of other machines (bit p - 1 of `far` for player p) do. */
 void helpers_guess(helpers *self, fazgrond_session *session, uint32_t far);

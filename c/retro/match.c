@@ -160,8 +160,7 @@ static void play(match *self) {
     fazgrond_reached reached;
     fazgrond_row row;
     uint32_t has_news = 0;
-    helpers_collect(&self->helpers, &self->session);
-    if (self->helpers.has_failed)
+    if (!helpers_collect(&self->helpers, &self->session))
         end(self, "a helper's core refuses to save or load a state");
     int32_t given = give(self);
     must(self, fazgrond_has_news(&self->session, &has_news));
@@ -357,8 +356,10 @@ bool match_go_back(match *self) {
     int from = 0;
     while (from < MARKS && (self->marks[from].state.at == NULL || self->marks[from].frame > to))
         from++;
-    if (from == MARKS || !core_load(&self->main->core, &self->marks[from].state))
+    if (from == MARKS || !core_load(&self->main->core, &self->marks[from].state)) {
+        fputs("there is no state to go back to\n", stderr);
         return false;
+    }
     for (uint32_t frame = self->marks[from].frame; frame < to; frame++) {
         fazgrond_row row;
         if (fazgrond_settled_row(&self->session, frame, &row) != FAZGROND_OK)

@@ -6,7 +6,7 @@
 
 #include "net.h"
 
-enum { VIEWERS = 8, GUESTS = FAZGROND_MACHINES + VIEWERS };
+enum { VIEWERS = 32 };
 
 /* What has to be alike at all machines. */
 typedef struct facts {

@@ -25,11 +25,12 @@ static outcome end(playback *self, bool is_good) {
     return is_good && is_written ? ENDED : FAILED;
 }
 
-static void show(playback *self, bool is_new, const char *what, uint32_t of) {
+/* After so many frames of this turn. */
+static void show(playback *self, uint32_t played, const char *what, uint32_t of) {
     char text[LINE];
     const char *line = text;
     snprintf(text, sizeof text, "%s: frame %" PRIu32 " of %" PRIu32, what, self->frame, of);
-    window_show(self->core, is_new, false, &line, 1);
+    window_show(self->core, played > 0, played > 1, &line, 1);
 }
 
 outcome watch_replay(const replay *from, runner *on, const wish *wish) {
@@ -41,7 +42,7 @@ outcome watch_replay(const replay *from, runner *on, const wish *wish) {
         goes_on = playback_step(&made, &from->rows[made.frame]);
         if (wish->is_headless)
             continue;
-        show(&made, true, "replay", count);
+        show(&made, 1, "replay", count);
         due += length;
         int64_t rest = due - clock_micros();
         if (rest > 0)
@@ -97,7 +98,7 @@ static void turn(watching *self, const wish *wish) {
     tell_host(self, now, false);
     (void)fazgrond_viewer_look(&self->viewer, now, &self->seen);
     if (!wish->is_headless)
-        show(&self->shown, played > 0, "watching", self->seen.settled);
+        show(&self->shown, played, "watching", self->seen.settled);
     if (self->seen.is_silent != 0)
         fputs("the host is silent\n", stderr);
 }
