@@ -1,6 +1,6 @@
 #include "window.h"
 
-#include <SDL.h>
+#include "text.h"
 
 enum { WIDTH = 640, HEIGHT = 480, UNIT = DUEL_WIDTH / WIDTH, DOT = 2 };
 
@@ -9,25 +9,6 @@ static SDL_Renderer *renderer;
 static SDL_GameController *pad;
 
 static const uint8_t colours[DUEL_SHIPS][3] = { { 120, 200, 255 }, { 255, 150, 90 }, { 150, 230, 120 }, { 240, 220, 90 } };
-
-/* Digits and letters, three by five dots each: the highest of 15 bits is the upper left one. */
-static const uint16_t glyphs[] = {
-    ['0'] = 075557, ['1'] = 026227, ['2'] = 071747, ['3'] = 071317, ['4'] = 055711, ['5'] = 074717, ['6'] = 074757,
-    ['7'] = 071122, ['8'] = 075757, ['9'] = 075717, ['A'] = 025755, ['B'] = 065656, ['C'] = 034443, ['D'] = 065556,
-    ['E'] = 074647, ['F'] = 074644, ['G'] = 034553, ['H'] = 055755, ['I'] = 072227, ['J'] = 011152, ['K'] = 055655,
-    ['L'] = 044447, ['M'] = 057755, ['N'] = 065555, ['O'] = 025552, ['P'] = 065644, ['Q'] = 025563, ['R'] = 065655,
-    ['S'] = 034216, ['T'] = 072222, ['U'] = 055557, ['V'] = 055552, ['W'] = 055775, ['X'] = 055255, ['Y'] = 055222,
-    ['Z'] = 071247, [','] = 000024, ['.'] = 000002, [':'] = 002020, ['-'] = 000700, ['/'] = 011244,
-};
-
-static void draw_text(int x, int y, const char *text) {
-    for (; *text != 0; text++, x += 4 * DOT) {
-        int letter = SDL_toupper((unsigned char)*text);
-        for (int at = 0; at < 15 && letter < (int)SDL_arraysize(glyphs); at++)
-            if ((glyphs[letter] >> (14 - at) & 1) != 0)
-                SDL_RenderFillRect(renderer, &(SDL_Rect){ x + at % 3 * DOT, y + at / 3 * DOT, DOT, DOT });
-    }
-}
 
 static void use_colour(uint32_t number) {
     const uint8_t *colour = colours[(number - 1) % DUEL_SHIPS];
@@ -99,7 +80,7 @@ void window_draw(const duel *field, int player, const char *const *lines, int co
         SDL_snprintf(text, sizeof text, "ship %d hit %d", (int)at + 1, (int)field->ship[at].hits);
         use_colour(at + 1);
         draw_ship(&field->ship[at], (int)at + 1 == player);
-        draw_text(8 + (int)at * 160, 8, text);
+        draw_text(renderer, 8 + (int)at * 160, 8, DOT, text);
     }
     for (uint32_t at = 0; at < field->bullets; at++) {
         use_colour(field->bullet[at].owner);
@@ -107,7 +88,7 @@ void window_draw(const duel *field, int player, const char *const *lines, int co
     }
     SDL_SetRenderDrawColor(renderer, 170, 180, 200, 255);
     for (int at = 0; at < count; at++)
-        draw_text(8, HEIGHT - 16 * (count - at), lines[at]);
+        draw_text(renderer, 8, HEIGHT - 16 * (count - at), DOT, lines[at]);
     SDL_RenderPresent(renderer);
 }
 

@@ -1,0 +1,334 @@
+/* A frontend of libretro cores for matches over a network. `usage` says how it is begun. */
+#define _POSIX_C_SOURCE 200809L
+#include "casting.h"
+#include "check.h"
+#include "watch.h"
+#include "window.h"
+
+#include "../duel/options.h"
+
+#include <signal.h>
+#include <stdio.h>
+#include <unistd.h>
+
+static const char usage[] =
+    "faz-retro check [OPTIONS] CORE ROM           whether a match can be played on a core: a minute\n"
+    "faz-retro --host PORT [OPTIONS] CORE ROM     waits for the others there, and plays\n"
+    "faz-retro --join ADDRESS:PORT [OPTIONS] CORE ROM     plays with those who are there\n"
+    "faz-retro --watch ADDRESS:PORT [OPTIONS] CORE ROM    watches their match\n"
+    "faz-retro --view MATCH --broker URL [OPTIONS] CORE ROM    watches one that is published on a broker; --from FRAME\n"
+    "faz-retro --play FILE [OPTIONS] CORE ROM     plays a match again that was recorded\n"
+    "CORE is a libretro core, as nestopia_libretro.so, and ROM a game for it, or a .zip with one. All have to have the same.\n"
+    "  --machines N     the host waits for so many in all (2)\n"
+    "  --seats N        one or two play at this machine (1)\n"
+    "  --key WORDS      the same at all: keeps others out\n"
+    "  --delay N, --delay2 N    the words of the first and the second player here count N frames later (1)\n"
+    "  --save-ram FILE  what the game has saved before; the host writes it as the match ends\n"
+    "  --options KEY=VALUE,..   the core's own options; --ports N,..  what is plugged in, by the numbers that the check tells\n"
+    "  --record FILE    the match, to be played again; --picture FILE its course, for `rollduel play --picture`\n"
+    "  --cast MATCH --broker URL    publishes the match with this name, on a broker (nats://127.0.0.1:4222)\n"
+    "  --threshold N    the host says how many frames ahead one may be, --helpers N how many threads play ahead here: else as\n"
+    "                   the check found it right\n"
+    "  --port N         the port of who joins or watches (any)\n"
+    "  --timeout MS     a machine that is silent so long is gone (5000)\n"
+    "  --headless       no window; --bot SEED plays by itself; --frames N ends then; --digests FILE has those of all frames\n"
+    "  --lag MS, --jitter MS, --loss PERCENT    makes the line worse for what this machine sends; --speed N, a faster clock\n"
+    "  --again          after a desync it begins a new match without waiting for the key\n"
+    "  --unchecked      plays on a core that was found unfit\n"
+    "  --verbose        what the core says about errors is shown\n";
+
+static struct {
+    recipe from;
+    wish wish;
+    net net;
+    meeting meeting;
+    facts facts;
+    runner main;
+    states states;
+    verdict verdict;
+    const char *options, *ports, *save, *key, *join, *watch, *play, *view;
+    long from_frame, host, machines, seats, delays[SEATS], threshold, helpers, port, timeout, frames, bot, lag, jitter, loss, speed;
+    bool is_verbose, is_unchecked, goes_again;
+} self = { .machines = 2, .seats = 1, .delays = { 1, 1 }, .helpers = -1, .timeout = 5000, .speed = 1, .from_frame = -1,
+           .wish = { .broker = "nats://127.0.0.1:4222" } };
+
+static const option options[] = {
+    { "--host", &self.host, NULL, NULL },           { "--join", NULL, &self.join, NULL },
+    { "--watch", NULL, &self.watch, NULL },         { "--play", NULL, &self.play, NULL },
+    { "--machines", &self.machines, NULL, NULL },   { "--seats", &self.seats, NULL, NULL },
+    { "--key", NULL, &self.key, NULL },             { "--delay", &self.delays[0], NULL, NULL },
+    { "--delay2", &self.delays[1], NULL, NULL },    { "--save-ram", NULL, &self.save, NULL },
+    { "--options", NULL, &self.options, NULL },     { "--record", NULL, &self.wish.replay, NULL },
+    { "--picture", NULL, &self.wish.picture, NULL }, { "--digests", NULL, &self.wish.digests, NULL },
+    { "--threshold", &self.threshold, NULL, NULL }, { "--helpers", &self.helpers, NULL, NULL },
+    { "--port", &self.port, NULL, NULL },           { "--timeout", &self.timeout, NULL, NULL },
+    { "--frames", &self.frames, NULL, NULL },       { "--bot", &self.bot, NULL, NULL },
+    { "--lag", &self.lag, NULL, NULL },             { "--jitter", &self.jitter, NULL, NULL },
+    { "--loss", &self.loss, NULL, NULL },           { "--speed", &self.speed, NULL, NULL },
+    { "--ports", NULL, &self.ports, NULL },         { "--cast", NULL, &self.wish.cast, NULL },
+    { "--view", NULL, &self.view, NULL },           { "--broker", NULL, &self.wish.broker, NULL },
+    { "--from", &self.from_frame, NULL, NULL },
+    { "--headless", NULL, NULL, &self.wish.is_headless }, { "--again", NULL, NULL, &self.goes_again },
+    { "--unchecked", NULL, NULL, &self.is_unchecked }, { "--verbose", NULL, NULL, &self.is_verbose },
+    { NULL, NULL, NULL, NULL },
+};
+
+static int fail(const char *why) {
+    fprintf(stderr, "faz-retro: %s\n", why);
+    return 1;
+}
+
+/* A core that crashes takes this process along: it is said at least. */
+static void on_crash(int number) {
+    static const char text[] = "faz-retro: the core has crashed, or ended the program\n";
+    (void)!write(STDERR_FILENO, text, sizeof text - 1);
+    _exit(128 + number);
+}
+
+static void catch_crashes(void) {
+    static const int signals[] = { SIGSEGV, SIGABRT, SIGBUS, SIGFPE, SIGILL };
+    for (size_t at = 0; at < sizeof signals / sizeof *signals; at++) {
+        struct sigaction old, new = { .sa_handler = on_crash };
+        if (sigaction(signals[at], NULL, &old) == 0 && old.sa_handler == SIG_DFL) /* a sanitizer has its own */
+            sigaction(signals[at], &new, NULL);
+    }
+}
+
+/* What the command line names. */
+
+static void take_overrides(char *list) {
+    char *rest;
+    for (char *at = strtok_r(list, ",", &rest); at != NULL && self.from.override_count < OVERRIDES; at = strtok_r(NULL, ",", &rest))
+        self.from.overrides[self.from.override_count++] = at;
+}
+
+/* What is plugged in: pads into the first two ports, and what is said. */
+static void take_devices(const char *list) {
+    self.from.devices[0] = self.from.devices[1] = RETRO_DEVICE_JOYPAD;
+    for (int port = 0; list != NULL && port < PORTS; port++) {
+        self.from.devices[port] = (uint32_t)strtoul(list, NULL, 10);
+        list = strchr(list, ',');
+        list += list != NULL;
+    }
+}
+
+/* The core and the ROM. Which files a core takes, it says itself. */
+static bool take_files(const char *library, const char *rom) {
+    static core one;
+    const char *why = "the core can't be read";
+    bool is_there = file_read(library, &self.from.library);
+    if (is_there) {
+        is_there = core_about(&one, &self.from);
+        why = one.why;
+        if (is_there)
+            is_there = rom_read(rom, one.info.block_extract ? NULL : one.info.valid_extensions, &self.from.rom,
+                                self.from.rom_name, sizeof self.from.rom_name, &why);
+        if (!is_there)
+            fail(why);
+        core_close(&one);
+    } else
+        fail(why);
+    if (is_there && self.save != NULL && access(self.save, F_OK) == 0 && !file_read(self.save, &self.from.save_ram))
+        return fail("the save RAM can't be read"), false;
+    return is_there;
+}
+
+static bool take_verdict(void) {
+    if (!verdict_read(&self.from, &self.verdict)) {
+        self.verdict = (verdict){ .safety = SAFE, .threshold = 8 };
+        fputs("this core wasn't checked on this machine: faz-retro check CORE ROM\n", stderr);
+    }
+    if (self.verdict.safety == NOT_TO_BE_HAD && !self.is_unchecked)
+        return fail("no match can be played on this core: faz-retro check CORE ROM says why"), false;
+    if (self.threshold == 0)
+        self.threshold = self.verdict.threshold > 0 ? self.verdict.threshold : 8;
+    if (self.helpers < 0)
+        self.helpers = self.verdict.helpers;
+    return true;
+}
+
+static void take_wish(void) {
+    self.wish.frames = (uint32_t)self.frames;
+    self.wish.helpers = (uint32_t)self.helpers;
+    self.wish.silent_after = (uint32_t)self.timeout;
+    self.wish.speed = (uint32_t)self.speed;
+    self.wish.from = self.from_frame >= 0 ? (uint32_t)self.from_frame : UINT32_MAX; /* the newest snapshot's */
+    if (self.view != NULL)
+        self.wish.cast = self.view;
+    self.wish.bot = (uint64_t)self.bot;
+    for (int seat = 0; seat < SEATS; seat++)
+        self.wish.delays[seat] = (uint32_t)self.delays[seat];
+    self.net.lag = (uint32_t)self.lag;
+    self.net.jitter = (uint32_t)self.jitter;
+    self.net.loss = (uint32_t)self.loss;
+    self.net.speed = (uint32_t)self.speed;
+}
+
+/* Opens the core, and what has to be alike at all machines. */
+static bool open_core(core_state *opening) {
+    core *one = &self.main.core;
+    static char text[8192];
+    if (!core_open(one, &self.from) || !core_save(one, opening))
+        return fail(one->why[0] != 0 ? one->why : "the core has no states"), false;
+    one->is_shown = true;
+    self.main.states = &self.states;
+    core_options_text(one, text, sizeof text);
+    self.facts = (facts){ .core = strong_digest_of(self.from.library.at, self.from.library.size),
+                          .rom = strong_digest_of(self.from.rom.at, self.from.rom.size),
+                          .save_ram = strong_digest_of(self.from.save_ram.at, self.from.save_ram.size),
+                          .options = strong_digest_of(text, strlen(text)), .opening = core_digest(one),
+                          .reloads = self.verdict.safety == SAFE_IF_RELOADED };
+    snprintf(self.facts.name, sizeof self.facts.name, "%.30s %.30s", one->info.library_name, one->info.library_version);
+    return true;
+}
+
+/* The meeting. */
+
+static void show_waiting(const char *what) {
+    if (!self.wish.is_headless)
+        window_show(&self.main.core, false, false, &what, 1);
+}
+
+static bool meet(void) {
+    char text[96];
+    address from;
+    uint8_t bytes[2048];
+    long length;
+    self.meeting.facts = self.facts;
+    if (self.host > 0)
+        meeting_host(&self.meeting, (uint32_t)self.machines, (uint32_t)self.seats, (uint32_t)self.threshold);
+    else
+        meeting_join(&self.meeting, &self.meeting.host, self.watch != NULL ? 0 : (uint32_t)self.seats);
+    while (!self.meeting.is_agreed && !self.meeting.is_refused && (self.wish.is_headless || window_goes_on())) {
+        while ((length = net_next(&self.net, &from, bytes, sizeof bytes)) >= 0)
+            meeting_hear(&self.meeting, &from, bytes, (size_t)length);
+        meeting_turn(&self.meeting);
+        snprintf(text, sizeof text, self.host > 0 ? "%u of %ld machines are there" : "waiting for the host",
+                 self.meeting.machines, self.machines);
+        show_waiting(text);
+        net_rest(&self.net, 50000 / self.speed);
+    }
+    if (self.meeting.is_refused)
+        fail(self.meeting.why);
+    return self.meeting.is_agreed;
+}
+
+static bool open_line(void) {
+    const char *host = self.watch != NULL ? self.watch : self.join;
+    if (host != NULL && !address_read(host, &self.meeting.host))
+        return fail("the host's address can't be read: it is as 10.0.0.7:7000"), false;
+    if (!net_open(&self.net, (unsigned short)(self.host > 0 ? self.host : self.port)))
+        return fail("the port can't be had"), false;
+    self.meeting.net = &self.net;
+    self.meeting.key = strong_digest_of(self.key != NULL ? self.key : "", self.key != NULL ? strlen(self.key) : 0);
+    return true;
+}
+
+/* The match. */
+
+static void write_save_ram(match *it) {
+    uint32_t frame, slot;
+    core *one = &self.main.core;
+    if (self.host == 0 || self.save == NULL || one->get_memory_size(RETRO_MEMORY_SAVE_RAM) == 0
+        || fazgrond_settled_slot(&it->session, &frame, &slot) != FAZGROND_OK || !core_load(one, &self.states.slots[slot].state))
+        return;
+    if (!file_write(self.save, one->get_memory_data(RETRO_MEMORY_SAVE_RAM), one->get_memory_size(RETRO_MEMORY_SAVE_RAM)))
+        fail("the save RAM can't be written");
+}
+
+/* After a desync: whether there is to be a new match. */
+static bool wants_again(void) {
+    while (!self.goes_again && !self.wish.is_headless && window_goes_on()) {
+        show_waiting("desync: F5 begins a new match from before it, escape ends");
+        if (window_wants_again())
+            return true;
+        net_rest(&self.net, 16000);
+    }
+    return self.goes_again;
+}
+
+static int play(core_state *opening) {
+    match it = { .wish = &self.wish, .from = &self.from, .meeting = &self.meeting, .main = &self.main, .states = &self.states,
+                 .facts = &self.facts, .opening = *opening };
+    outcome came = FAILED;
+    bool goes_on = meet();
+    while (goes_on) {
+        if (self.watch != NULL)
+            came = watch_match(&self.meeting, &self.main, &it.opening, &self.wish);
+        else {
+            came = match_play(&it);
+            write_save_ram(&it);
+        }
+        goes_on = came == DESYNCED && wants_again() && match_go_back(&it);
+        match_close(&it);
+        states_begin(&self.states, self.facts.reloads, self.wish.digests != NULL);
+        goes_on = goes_on && meet();
+    }
+    *opening = it.opening;
+    return came == ENDED ? 0 : 1;
+}
+
+static int play_again(void) {
+    replay made;
+    if (!replay_read(self.play, &made))
+        return fail("that is no replay");
+    if (made.facts.core != self.facts.core || made.facts.rom != self.facts.rom || made.facts.options != self.facts.options) {
+        replay_free(&made);
+        return fail("the replay is of another core, ROM or options");
+    }
+    outcome came = watch_replay(&made, &self.main, &self.wish);
+    replay_free(&made);
+    return came == ENDED ? 0 : 1;
+}
+
+static int run(void) {
+    core_state opening = { 0 };
+    int status = 1;
+    catch_crashes();
+    take_wish();
+    if (!open_core(&opening))
+        return 1;
+    states_begin(&self.states, self.facts.reloads, self.wish.digests != NULL);
+    if (!self.wish.is_headless && !window_open(&self.main.core, self.host > 0 ? 0 : 1))
+        fail("no window can be opened: --headless plays without");
+    else if (self.play != NULL)
+        status = play_again();
+    else if (self.view != NULL)
+        status = casting_watch(&self.main, &self.wish, &self.facts, &opening) == ENDED ? 0 : 1;
+    else if (open_line()) {
+        status = play(&opening);
+        net_close(&self.net);
+    }
+    states_begin(&self.states, false, false);
+    core_close(&self.main.core);
+    free(opening.at);
+    if (!self.wish.is_headless)
+        window_close();
+    return status;
+}
+
+int main(int count, char **words) {
+    bool is_check = count > 1 && strcmp(words[1], "check") == 0;
+    int at = read_options(words + is_check, options);
+    verdict found;
+    if (self.options != NULL)
+        take_overrides(strdup(self.options));
+    self.from.is_verbose = self.is_verbose;
+    take_devices(self.ports);
+    if (at == 0 || count != at + is_check + 2 || self.seats < 1 || self.seats > SEATS || self.speed < 1
+        || self.machines < 2 || self.machines > FAZGROND_MACHINES
+        || is_check + (self.host > 0) + (self.join != NULL) + (self.watch != NULL) + (self.play != NULL)
+               + (self.view != NULL) != 1) {
+        fputs(usage, stderr);
+        return 2;
+    }
+    int status = take_files(words[at + is_check], words[at + is_check + 1]) ? 0 : 1;
+    if (status == 0 && is_check)
+        status = check_core(&self.from, self.frames > 0 ? (uint32_t)self.frames : 600, &found) ? 0 : 1;
+    else if (status == 0)
+        status = take_verdict() ? run() : 1;
+    free(self.from.library.at);
+    free(self.from.rom.at);
+    free(self.from.save_ram.at);
+    return status;
+}

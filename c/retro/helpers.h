@@ -1,0 +1,44 @@
+/* Helpers: threads that play ahead what may come, each on a core of its own. */
+#ifndef RETRO_HELPERS_H
+#define RETRO_HELPERS_H
+
+#include "habits.h"
+#include "states.h"
+
+enum { HELPERS = 6, JOBS = 64, JOB_REQUESTS = 17, JOB_WORDS = 24 };
+
+/* Its requests are carried out by a helper, in their order. */
+typedef struct job {
+    enum { JOB_NONE, JOB_WAITS, JOB_RUNS, JOB_DONE } stage;
+    uint32_t number, turn; /* the session's number; when it was made */
+    guess of;
+    fazgrond_request requests[JOB_REQUESTS];
+    size_t count;
+} job;
+
+typedef struct helpers {
+    pthread_t threads[HELPERS];
+    runner *runners[HELPERS];
+    uint32_t count, turn;
+    pthread_mutex_t lock;
+    pthread_cond_t wake;
+    job jobs[JOBS];
+    job *queue[JOBS]; /* those that wait, the first one first */
+    uint32_t queued;
+    bool is_over, has_failed; /* has_failed: a core refused a state */
+    habits habits[FAZGROND_PLAYERS];
+    uint32_t noted[FAZGROND_PLAYERS]; /* how many words of each player it has seen */
+    uint32_t made, grafted, added;
+} helpers;
+
+/* False if a core can't be opened, and why. */
+bool helpers_begin(helpers *self, uint32_t count, const recipe *from, states *states, char *why, size_t room);
+/* Waits until no job runs. Before the session is closed. */
+void helpers_end(helpers *self);
+
+/* Before a turn's advance: hands the session what is done, and gives up what nobody has begun. False if a core refused a state. */
+bool helpers_collect(helpers *self, fazgrond_session *session);
+
+/* After it: guesses what the players of other machines (bit p - 1 of `far` for player p) do. */
+void helpers_guess(helpers *self, fazgrond_session *session, uint32_t far);
+#endif

@@ -1,0 +1,387 @@
+#define _POSIX_C_SOURCE 200809L
+#include "match.h"
+
+#include "casting.h"
+#include "replay.h"
+#include "window.h"
+
+#include "../duel/clock.h"
+
+#include <inttypes.h>
+#include <stdio.h>
+#include <stdlib.h>
+#include <string.h>
+
+enum { MOST_LATE = 20 /* turns that are made up for */, FLOOD = 256, MARK_EVERY = 600, SURELY = 180, BYES = 3,
+       ENDING = 200 /* turns in which a desync is still told to the others */ };
+
+static void say(match *self, const char *what, uint32_t machine) {
+    snprintf(self->told, sizeof self->told, what, machine);
+    fprintf(stderr, "%s\n", self->told);
+}
+
+static void end(match *self, const char *why) {
+    fprintf(stderr, "the match is over: %s\n", why);
+    self->is_over = self->has_failed = true;
+}
+
+/* What a call answers that isn't refused in a match that goes as it should. */
+static void must(match *self, int32_t code) {
+    uint8_t text[160];
+    if (code == FAZGROND_OK || self->has_failed)
+        return;
+    size_t length = fazgrond_text(code, text, sizeof text - 1);
+    text[length < sizeof text ? length : sizeof text - 1] = 0;
+    end(self, (const char *)text);
+}
+
+/* The beginning. */
+
+static bool open_session(match *self) {
+    const agreement *all = &self->meeting->all;
+    fazgrond_settings settings = fazgrond_settings_for(all->players);
+    fazgrond_match match = fazgrond_match_for(all->machines, all->me);
+    settings.profile = all->threshold > 8 || all->players > 4 ? FAZGROND_WIDE : FAZGROND_GGPO;
+    settings.threshold = all->threshold;
+    for (uint32_t player = 0; player < FAZGROND_PLAYERS; player++) {
+        settings.masks[player] = ~(uint32_t)WORD_RESET;
+        match.owners[player] = all->owners[player];
+        if (all->owners[player] == all->me && self->seats < SEATS) {
+            settings.local |= 1u << player;
+            settings.delays[player] = self->wish->delays[self->seats];
+            self->hands[self->seats] = hand_of(self->wish->bot, player);
+            self->next_words[self->seats] = hand_word(&self->hands[self->seats]);
+            self->locals[self->seats++] = player + 1;
+        } else if (player < all->players)
+            self->far |= 1u << player;
+    }
+    memcpy(match.numbers, all->numbers, sizeof match.numbers);
+    match.draw = net_draw();
+    match.digest = all->digest;
+    match.silent_after = self->wish->silent_after;
+    match.notify_after = 750;
+    must(self, fazgrond_open(&self->session, &settings));
+    must(self, fazgrond_limit_slots(&self->session, SLOTS));
+    must(self, fazgrond_peer_open(&self->peer, &self->session, &match));
+    return !self->has_failed;
+}
+
+static bool begin(match *self) {
+    char why[200] = "the core refuses its opening";
+    self->session = (fazgrond_session)FAZGROND_CLOSED;
+    self->peer = (fazgrond_peer)FAZGROND_CLOSED;
+    if (!runner_open(self->main, &self->opening)
+        || !helpers_begin(&self->helpers, self->wish->helpers, self->from, self->states, why, sizeof why)) {
+        end(self, why);
+        return false;
+    }
+    if (!open_session(self) || !casting_open(self)) {
+        self->has_failed = true;
+        return false;
+    }
+    return true;
+}
+
+/* A turn: what has come. */
+
+/* A viewer who has come since gets a line. */
+static void open_lines(match *self) {
+    const meeting *it = self->meeting;
+    for (; it->is_host && self->open_lines < it->viewers; self->open_lines++) {
+        fazgrond_line_settings settings = { .draw = net_draw(), .digest = it->all.digest, .host = it->all.me,
+                                            .machines = it->all.machines, .silent_after = self->wish->silent_after };
+        settings.number = strong_digest_of((uint64_t[2]){ it->key, it->viewer[self->open_lines].line_draw }, 16) | 1;
+        memcpy(settings.owners, it->all.owners, sizeof settings.owners);
+        self->lines[self->open_lines] = (fazgrond_line)FAZGROND_CLOSED;
+        must(self, fazgrond_line_open(&self->lines[self->open_lines], &settings));
+        say(self, "viewer %" PRIu32 " is there", self->open_lines);
+    }
+}
+
+static void hear(match *self, uint32_t now) {
+    uint8_t bytes[2048];
+    address from;
+    long length;
+    for (int count = 0; count < FLOOD && (length = net_next(self->meeting->net, &from, bytes, sizeof bytes)) >= 0; count++) {
+        uint32_t viewer = 0;
+        if (meeting_hear(self->meeting, &from, bytes, (size_t)length))
+            continue;
+        while (viewer < self->open_lines && !address_is(&from, &self->meeting->viewer[viewer].at))
+            viewer++;
+        if (viewer < self->open_lines)
+            (void)fazgrond_line_receive(&self->lines[viewer], bytes, (size_t)length, now);
+        else
+            (void)fazgrond_peer_receive(&self->peer, &self->session, bytes, (size_t)length, now);
+    }
+}
+
+/* A turn: a frame. */
+
+static void obey_all(match *self) {
+    fazgrond_request requests[16];
+    size_t count;
+    uint32_t steps = self->main->steps;
+    while ((count = fazgrond_take_requests(&self->session, requests, 16)) > 0)
+        for (size_t at = 0; at < count && !self->has_failed; at++)
+            if (!runner_obey(self->main, &requests[at]))
+                end(self, "the core refuses to save or load a state");
+    self->again = self->main->steps - steps;
+}
+
+static uint32_t word_of(match *self, uint32_t seat) {
+    return self->wish->bot != 0 ? self->next_words[seat] : window_word((int)seat);
+}
+
+/* Whether all frames that are to be played are there. */
+static bool has_all(const match *self) { return self->wish->frames > 0 && self->frame >= self->wish->frames; }
+
+/* The words of all players here, or of none: why not. */
+static int32_t give(match *self) {
+    int32_t code = FAZGROND_LOCAL_INPUT_MISSING;
+    if (self->wait > 0) {
+        self->wait--;
+        return code;
+    }
+    if (has_all(self))
+        return code;
+    for (uint32_t seat = 0; seat < self->seats; seat++) {
+        code = fazgrond_add_local_input(&self->session, (uint8_t)self->locals[seat], word_of(self, seat));
+        if (code == FAZGROND_OK && self->wish->bot != 0)
+            self->next_words[seat] = hand_word(&self->hands[seat]);
+        else if (code == FAZGROND_INPUT_TWICE) /* taken in an earlier turn, in which another seat's wasn't */
+            code = FAZGROND_OK;
+        if (code != FAZGROND_OK)
+            break;
+    }
+    return code;
+}
+
+static void play(match *self) {
+    fazgrond_reached reached;
+    fazgrond_row row;
+    uint32_t has_news = 0;
+    if (!helpers_collect(&self->helpers, &self->session))
+        end(self, "a helper's core refuses to save or load a state");
+    int32_t given = give(self);
+    must(self, fazgrond_has_news(&self->session, &has_news));
+    self->waits += given != FAZGROND_OK && !has_all(self);
+    if (given == FAZGROND_OK)
+        must(self, fazgrond_advance_frame(&self->session, &reached));
+    else if (has_news != 0) /* too far ahead, or told to wait: it shows at least what has come */
+        must(self, fazgrond_synchronize_input(&self->session, &row));
+    obey_all(self);
+    if (given == FAZGROND_OK && self->again > 0)
+        self->again--; /* the new one */
+    self->all_again += self->again;
+    if (self->again > self->deepest)
+        self->deepest = self->again;
+    must(self, fazgrond_frame(&self->session, &self->frame));
+    helpers_guess(&self->helpers, &self->session, self->far);
+}
+
+/* Notes what is settled, for the other machines, and keeps a state of it at times. */
+static void note_settled(match *self) {
+    uint32_t slot;
+    must(self, fazgrond_settled_slot(&self->session, &self->settled, &slot));
+    if (self->has_failed)
+        return;
+    must(self, fazgrond_peer_note_settled(&self->peer, &self->session, self->states->slots[slot].digest));
+    if (self->marks[0].state.at != NULL && self->settled < self->marks[0].frame + MARK_EVERY)
+        return;
+    core_state oldest = self->marks[MARKS - 1].state;
+    memmove(&self->marks[1], &self->marks[0], (MARKS - 1) * sizeof self->marks[0]);
+    self->marks[0].state = oldest;
+    self->marks[0].frame = self->settled;
+    if (!state_copy(&self->marks[0].state, &self->states->slots[slot].state))
+        end(self, "there is no memory");
+}
+
+/* A turn: what happened, and what is sent. */
+
+static void leave(match *self, const fazgrond_event *event) {
+    if (self->has_desync)
+        return;
+    say(self, "machine %" PRIu32 " has left", event->machine);
+    self->gone |= 1u << event->machine;
+    if ((self->gone | 1u << self->meeting->all.me) == (1u << self->meeting->all.machines) - 1) {
+        fputs("the match is over: nobody else is there\n", stderr);
+        self->is_over = true;
+    }
+}
+
+/* It plays no more, but goes on for a while, so that the others find out too. */
+static void part(match *self, const fazgrond_event *event) {
+    if (self->has_desync)
+        return;
+    fprintf(stderr, "desync: machine %" PRIu32 " has another state at frame %" PRIu32 "\n", event->machine, event->frame);
+    snprintf(self->told, sizeof self->told, "desync with machine %" PRIu32, event->machine);
+    self->desync = event->frame;
+    self->has_desync = true;
+    self->ending = ENDING;
+}
+
+static void react(match *self, const fazgrond_event *event) {
+    switch (event->code) {
+    case FAZGROND_SYNCHRONIZED: say(self, "machine %" PRIu32 " is there", event->machine); break;
+    case FAZGROND_RUNNING: say(self, "the match begins", 0); self->told[0] = 0; break;
+    case FAZGROND_TIME_SYNC: self->wait = event->frames_ahead; break;
+    case FAZGROND_INTERRUPTED: say(self, "machine %" PRIu32 " is silent", event->machine); break;
+    case FAZGROND_STALLED: say(self, "machine %" PRIu32 " gives no words", event->machine); break;
+    case FAZGROND_RESUMED: say(self, "machine %" PRIu32 " is heard again", event->machine); break;
+    case FAZGROND_MISSING: say(self, "machine %" PRIu32 " isn't there", event->machine); break;
+    case FAZGROND_RESTARTED: say(self, "machine %" PRIu32 " was begun anew, and can't come back", event->machine); break;
+    case FAZGROND_DISCONNECTED: say(self, "player %" PRIu32 " has left", event->player); break;
+    case FAZGROND_LEFT: leave(self, event); break;
+    case FAZGROND_DROPPED: end(self, "the others regard this machine as gone"); break;
+    case FAZGROND_MISMATCH: end(self, "another machine means another match"); break;
+    case FAZGROND_DESYNC: part(self, event); break;
+    default: break;
+    }
+}
+
+static void send_all(match *self, uint32_t now) {
+    uint8_t bytes[FAZGROND_DATAGRAM];
+    size_t length;
+    for (uint32_t at = 0; at < self->meeting->all.machines; at++)
+        if (fazgrond_peer_send(&self->peer, &self->session, (uint8_t)at, now, bytes, sizeof bytes, &length) == FAZGROND_OK)
+            net_send(self->meeting->net, &self->meeting->all.machine[at], bytes, length);
+    for (uint32_t at = 0; at < self->open_lines; at++) {
+        fazgrond_line_state seen;
+        if (fazgrond_line_send(&self->lines[at], &self->session, now, bytes, sizeof bytes, &length) == FAZGROND_OK)
+            net_send(self->meeting->net, &self->meeting->viewer[at].at, bytes, length);
+        if (fazgrond_line_look(&self->lines[at], now, &seen) == FAZGROND_OK)
+            self->rows_seen[at] = seen.has_ended != 0 || seen.is_silent != 0 ? UINT32_MAX : seen.rows;
+    }
+}
+
+static void say_bye(match *self) {
+    uint8_t bytes[FAZGROND_DATAGRAM];
+    size_t length;
+    for (uint32_t at = 0; at < self->meeting->all.machines; at++)
+        for (int times = 0; times < BYES; times++)
+            if (fazgrond_peer_bye(&self->peer, (uint8_t)at, bytes, sizeof bytes, &length) == FAZGROND_OK)
+                net_send(self->meeting->net, &self->meeting->all.machine[at], bytes, length);
+    for (uint32_t at = 0; at < self->open_lines; at++)
+        for (int times = 0; times < BYES; times++)
+            if (fazgrond_line_bye(&self->lines[at], bytes, sizeof bytes, &length) == FAZGROND_OK)
+                net_send(self->meeting->net, &self->meeting->viewer[at].at, bytes, length);
+    net_drain(self->meeting->net);
+}
+
+static void show(match *self) {
+    enum { LINES = FAZGROND_MACHINES + 2, ROOM = 96 };
+    char text[LINES][ROOM];
+    const char *lines[LINES];
+    int count = 0;
+    for (uint32_t at = 0; at < self->meeting->all.machines; at++) {
+        fazgrond_stats it;
+        if (at != self->meeting->all.me && fazgrond_peer_stats(&self->peer, (uint8_t)at, &it) == FAZGROND_OK && it.is_measured != 0)
+            snprintf(text[count++], ROOM, "machine %u: ping %u ms, ahead %d, lost %u", at, it.round_trip, -it.frames_behind,
+                     it.lost);
+    }
+    snprintf(text[count++], ROOM, "frame %u, again %u, waits %u", self->frame, self->all_again, self->waits);
+    if (self->told[0] != 0)
+        snprintf(text[count++], ROOM, "%s", self->told);
+    for (int at = 0; at < count; at++)
+        lines[at] = text[at];
+    window_show(&self->main->core, self->main->is_fresh, self->again > 0, lines, count);
+    self->main->is_fresh = false;
+}
+
+static void turn(match *self) {
+    uint32_t now = net_now(self->meeting->net), is_running = 0;
+    fazgrond_event event;
+    self->again = 0;
+    hear(self, now);
+    open_lines(self);
+    must(self, fazgrond_peer_poll(&self->peer, &self->session, now));
+    must(self, fazgrond_peer_is_running(&self->peer, &is_running));
+    self->is_running = is_running != 0;
+    if (self->has_desync)
+        self->is_over |= self->ending-- == 0;
+    else if (self->is_running && !self->has_failed)
+        play(self);
+    note_settled(self);
+    casting_turn(self);
+    while (fazgrond_peer_event(&self->peer, &event) == FAZGROND_OK)
+        react(self, &event);
+    send_all(self, now);
+    if (!self->wish->is_headless)
+        show(self);
+}
+
+/* Whether the last frame is settled, the others have all words of this machine, and viewers have all rows. */
+static bool is_done(match *self) {
+    if (self->wish->frames == 0 || self->settled < self->wish->frames)
+        return false;
+    for (uint32_t at = 0; at < self->meeting->all.machines; at++) {
+        fazgrond_stats it;
+        if (fazgrond_peer_stats(&self->peer, (uint8_t)at, &it) == FAZGROND_OK && it.words_queued > 0)
+            return false;
+    }
+    for (uint32_t at = 0; at < self->open_lines; at++)
+        if (self->rows_seen[at] < self->wish->frames)
+            return false;
+    return true;
+}
+
+static void tell(const match *self) {
+    fprintf(stderr, "played %u frames, and %u again, %u at most in a turn; waited %u turns; %" PRIu64 " bytes sent\n", self->frame,
+            self->all_again, self->deepest, self->waits, self->meeting->net->sent_bytes);
+    if (self->wish->helpers > 0)
+        fprintf(stderr, "guessed %" PRIu32 " jobs: %" PRIu32 " were taken, with %" PRIu32 " states\n", self->helpers.made,
+                self->helpers.grafted, self->helpers.added);
+}
+
+outcome match_play(match *self) {
+    int64_t due = clock_micros(), length = (int64_t)(1e6 / self->main->core.av.timing.fps / self->meeting->net->speed);
+    if (!begin(self))
+        return FAILED;
+    while (!self->is_over && (self->wish->is_headless || window_goes_on()) && !is_done(self)) {
+        turn(self);
+        int64_t now = clock_micros();
+        due = now > due + MOST_LATE * length ? now : due + length;
+        net_rest(self->meeting->net, due - now);
+    }
+    say_bye(self);
+    helpers_end(&self->helpers);
+    tell(self);
+    bool is_written = replay_write_all(self), goes_on = !self->has_failed && !self->has_desync;
+    is_written = casting_close(goes_on ? "the match was closed" : "the match can't go on") && is_written;
+    return self->has_desync ? DESYNCED : self->has_failed || !is_written ? FAILED : ENDED;
+}
+
+bool match_go_back(match *self) {
+    uint32_t to = self->desync > SURELY ? (self->desync - SURELY) / 60 * 60 : 0;
+    int from = 0;
+    while (from < MARKS && (self->marks[from].state.at == NULL || self->marks[from].frame > to))
+        from++;
+    if (from == MARKS || !core_load(&self->main->core, &self->marks[from].state)) {
+        fputs("there is no state to go back to\n", stderr);
+        return false;
+    }
+    for (uint32_t frame = self->marks[from].frame; frame < to; frame++) {
+        fazgrond_row row;
+        if (fazgrond_settled_row(&self->session, frame, &row) != FAZGROND_OK)
+            return false;
+        core_step(&self->main->core, row.words, row.count);
+        if (!core_save(&self->main->core, &self->opening)
+            || (self->states->reloads && !core_load(&self->main->core, &self->opening)))
+            return false;
+    }
+    self->facts->opening = core_digest(&self->main->core);
+    fprintf(stderr, "a new match begins from frame %" PRIu32 "\n", to);
+    return to > self->marks[from].frame || state_copy(&self->opening, &self->marks[from].state);
+}
+
+void match_close(match *self) {
+    fazgrond_peer_close(&self->peer);
+    fazgrond_close(&self->session);
+    for (uint32_t at = 0; at < self->open_lines; at++)
+        fazgrond_line_close(&self->lines[at]);
+    for (int at = 0; at < MARKS; at++)
+        free(self->marks[at].state.at);
+    match kept = { .wish = self->wish, .from = self->from, .meeting = self->meeting, .main = self->main, .states = self->states,
+                   .facts = self->facts, .opening = self->opening };
+    *self = kept;
+}

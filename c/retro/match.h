@@ -1,0 +1,59 @@
+/* A match of this machine with others, from what was agreed on to its end. */
+#ifndef RETRO_MATCH_H
+#define RETRO_MATCH_H
+
+#include "helpers.h"
+#include "meet.h"
+#include "pads.h"
+
+enum { SEATS = 2, MARKS = 4, TOLD = 96 };
+
+/* What the command line says. */
+typedef struct wish {
+    bool is_headless;
+    uint32_t frames;        /* it ends once so many are settled; 0: as it is closed */
+    uint32_t delays[SEATS]; /* of the players here */
+    uint32_t helpers, silent_after;
+    uint64_t bot;           /* the players here play by themselves, by this seed; 0: they don't */
+    const char *digests, *replay, *picture; /* files that are written; null: not */
+    const char *cast, *broker; /* the name under which the match is published or watched on a broker; null: it isn't */
+    uint32_t from, speed;      /* who watches there begins at this frame; the clock runs so many times as fast */
+} wish;
+
+typedef enum outcome { ENDED, FAILED, DESYNCED } outcome;
+
+typedef struct match {
+    const wish *wish;
+    const recipe *from;
+    meeting *meeting;
+    runner *main;
+    states *states;
+    facts *facts;
+    core_state opening;
+    /* of a match */
+    fazgrond_session session;
+    fazgrond_peer peer;
+    helpers helpers;
+    fazgrond_line lines[VIEWERS];
+    uint32_t open_lines, rows_seen[VIEWERS]; /* how many rows a viewer has */
+    hand hands[SEATS];
+    uint32_t next_words[SEATS];
+    uint32_t locals[SEATS], seats, far; /* this machine's players, and bits of the others' */
+    uint32_t frame, settled, wait, waits, again, all_again, deepest;
+    bool is_running, is_over, has_failed;
+    uint32_t desync, ending; /* the frame at which another machine had another state, if has_desync; turns until it ends */
+    bool has_desync;
+    uint32_t gone; /* bits of machines */
+    struct { uint32_t frame; core_state state; } marks[MARKS]; /* settled states, far apart, the newest first */
+    char told[TOLD];
+} match;
+
+/* Plays until it is over. What has to be said is said. */
+outcome match_play(match *self);
+
+/* After a desync: makes the last state that the machines have surely had alike the opening. */
+bool match_go_back(match *self);
+
+/* Gives back what a match has, but not the opening. */
+void match_close(match *self);
+#endif

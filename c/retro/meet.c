@@ -1,0 +1,285 @@
+#include "meet.h"
+
+#include "files.h"
+
+#include "../sha256.h"
+
+#include <stdio.h>
+#include <string.h>
+
+enum { HEAD = 12, HELLO = 1, TABLE = 2, REFUSAL = 3, VERSION = 1 };
+
+static const uint8_t magic[4] = { 'F', 'Z', 'R', 'M' };
+
+/* A datagram that is written, or read. */
+typedef struct cursor {
+    uint8_t bytes[FAZGROND_DATAGRAM];
+    size_t at, length;
+    bool is_short;
+} cursor;
+
+static void put(cursor *self, uint64_t number, size_t size) {
+    for (size_t at = 0; at < size; at++)
+        self->bytes[self->at++] = (uint8_t)(number >> 8 * at);
+}
+
+static uint64_t take(cursor *self, size_t size) {
+    uint64_t number = 0;
+    self->is_short |= self->length - self->at < size;
+    for (size_t at = 0; at < size && !self->is_short; at++)
+        number |= (uint64_t)self->bytes[self->at++] << 8 * at;
+    return number;
+}
+
+static void put_text(cursor *self, const char *text, size_t size) {
+    for (size_t at = 0; at < size; at++)
+        put(self, at < strlen(text) ? (uint8_t)text[at] : 0, 1);
+}
+
+static void take_text(cursor *self, char *text, size_t size) {
+    for (size_t at = 0; at < size; at++)
+        text[at] = (char)take(self, 1);
+    text[size - 1] = 0;
+}
+
+static cursor begin(uint8_t kind) {
+    cursor made = { .at = HEAD };
+    memcpy(made.bytes, magic, sizeof magic);
+    put(&made, kind, 1);
+    put(&made, VERSION, 1);
+    return made;
+}
+
+static void send_sealed(const meeting *self, const address *to, cursor *made) {
+    seal(made->bytes, made->at, (seal_key){ .number = self->key });
+    net_send(self->net, to, made->bytes, made->at);
+}
+
+static void put_address(cursor *self, const address *it) {
+    put(self, ntohl(it->sin_addr.s_addr), 4);
+    put(self, ntohs(it->sin_port), 2);
+}
+
+static address take_address(cursor *self) {
+    address made = { .sin_family = AF_INET };
+    made.sin_addr.s_addr = htonl((uint32_t)take(self, 4));
+    made.sin_port = htons((uint16_t)take(self, 2));
+    return made;
+}
+
+/* The number that two machines seal with: of the key too, so that who only reads this line doesn't know it. */
+static uint64_t number_of(const meeting *self, uint64_t draw) { return strong_digest_of((uint64_t[2]){ self->key, draw }, 16) | 1; }
+
+static uint64_t digest_of_all(const meeting *self) {
+    const facts *it = &self->facts;
+    uint64_t all[] = { it->core, it->rom, it->save_ram, it->options, it->opening, it->reloads, self->all.threshold };
+    return strong_digest_of(all, sizeof all);
+}
+
+/* What each says of itself. */
+
+static void send_hello(meeting *self) {
+    cursor made = begin(HELLO);
+    put(&made, self->nonce, 8);
+    put(&made, self->players, 1);
+    put(&made, self->facts.core, 8);
+    put(&made, self->facts.rom, 8);
+    put(&made, self->facts.save_ram, 8);
+    put(&made, self->facts.options, 8);
+    put(&made, self->facts.opening, 8);
+    put(&made, self->facts.reloads, 1);
+    put_text(&made, self->facts.name, sizeof self->facts.name);
+    send_sealed(self, &self->host, &made);
+}
+
+/* Why a guest can't be in the match; null if it can. */
+static const char *difference(const meeting *self, const facts *theirs, char *text, size_t room) {
+    const facts *mine = &self->facts;
+    if (theirs->core != mine->core) {
+        snprintf(text, room, "another core: the host has %.50s, and this one %.50s", mine->name, theirs->name);
+        return text;
+    }
+    return theirs->rom != mine->rom ? "another ROM than the host's"
+        : theirs->options != mine->options ? "other options of the core than the host's"
+        : theirs->save_ram != mine->save_ram ? "another save RAM than the host's"
+        : theirs->reloads != mine->reloads ? "one of the two machines hasn't checked the core: faz-retro check"
+        : theirs->opening != mine->opening ? "the game doesn't begin as it does at the host" : NULL;
+}
+
+static void send_refusal(const meeting *self, const guest *to, const char *why) {
+    cursor made = begin(REFUSAL);
+    put(&made, to->nonce, 8);
+    put_text(&made, why, sizeof self->why);
+    send_sealed(self, &to->at, &made);
+}
+
+/* What the host tells a guest: the same of all but its numbers and its own place. */
+static void send_table(const meeting *self, const guest *to, uint32_t place) {
+    cursor made = begin(TABLE);
+    put(&made, to->nonce, 8);
+    put(&made, place, 1);
+    put(&made, self->machines, 1);
+    put(&made, self->all.players, 1);
+    put(&made, self->all.threshold, 1);
+    put(&made, to->line_draw, 8);
+    for (int at = 0; at < FAZGROND_PLAYERS; at++)
+        put(&made, self->all.owners[at], 1);
+    for (uint32_t at = 0; at < FAZGROND_MACHINES; at++) {
+        put(&made, to->players > 0 ? self->draws[place][at] : 0, 8);
+        put_address(&made, &self->machine[at].at);
+    }
+    send_sealed(self, &to->at, &made);
+}
+
+static void agree(meeting *self) {
+    agreement *all = &self->all;
+    all->machines = self->machines;
+    for (uint32_t one = 0; one < self->machines; one++)
+        for (uint32_t seat = 0; seat < self->machine[one].players; seat++)
+            all->owners[all->players++] = one;
+    for (uint32_t one = 0; one < self->machines; one++)
+        for (uint32_t other = 0; other < one; other++)
+            self->draws[one][other] = self->draws[other][one] = net_draw();
+    for (uint32_t one = 0; one < self->machines; one++) {
+        all->numbers[one] = number_of(self, self->draws[0][one]);
+        all->machine[one] = self->machine[one].at;
+        if (one > 0)
+            send_table(self, &self->machine[one], one);
+    }
+    self->is_agreed = true;
+}
+
+static facts take_facts(cursor *heard) {
+    facts theirs;
+    theirs.core = take(heard, 8);
+    theirs.rom = take(heard, 8);
+    theirs.save_ram = take(heard, 8);
+    theirs.options = take(heard, 8);
+    theirs.opening = take(heard, 8);
+    theirs.reloads = take(heard, 1) != 0;
+    take_text(heard, theirs.name, sizeof theirs.name);
+    return theirs;
+}
+
+/* Why there is no seat for a guest whom the host doesn't know yet; null if there is one. */
+static const char *no_seat(const meeting *self, const guest *one) {
+    uint32_t seated = one->players;
+    for (uint32_t at = 0; at < self->machines; at++)
+        seated += self->machine[at].players;
+    if (one->players > 0 && (self->is_agreed || seated > FAZGROND_PLAYERS))
+        return "the match has begun, or there are enough players";
+    return one->players == 0 && self->viewers == VIEWERS ? "enough watch it" : NULL;
+}
+
+/* Whether a machine of the match is there. */
+static bool is_known(const meeting *self, const address *from) {
+    bool is_one = false;
+    for (uint32_t at = 1; at < self->machines && self->is_agreed; at++)
+        is_one |= address_is(&self->machine[at].at, from);
+    return is_one;
+}
+
+static void take_hello(meeting *self, const address *from, cursor *heard) {
+    guest one = { .at = *from, .nonce = take(heard, 8) };
+    one.players = (uint32_t)take(heard, 1);
+    facts theirs = take_facts(heard);
+    guest *list = one.players > 0 ? self->machine : self->viewer;
+    uint32_t *count = one.players > 0 ? &self->machines : &self->viewers, place = 0;
+    char text[160];
+    if (heard->is_short)
+        return;
+    while (place < *count && list[place].nonce != one.nonce)
+        place++;
+    if (place == *count && is_known(self, from))
+        return; /* it waits for a new match already */
+    const char *why = difference(self, &theirs, text, sizeof text);
+    if (why == NULL && place == *count)
+        why = no_seat(self, &one);
+    if (why != NULL) {
+        send_refusal(self, &one, why);
+        return;
+    }
+    if (place == *count) {
+        one.line_draw = net_draw();
+        list[(*count)++] = one;
+    }
+    if (self->is_agreed)
+        send_table(self, &list[place], place);
+    else if (self->machines == self->wanted)
+        agree(self);
+}
+
+static void take_table(meeting *self, const address *from, cursor *heard) {
+    agreement *all = &self->all;
+    all->me = (uint32_t)take(heard, 1);
+    all->machines = (uint32_t)take(heard, 1);
+    all->players = (uint32_t)take(heard, 1);
+    all->threshold = (uint32_t)take(heard, 1);
+    all->line = number_of(self, take(heard, 8));
+    for (int at = 0; at < FAZGROND_PLAYERS; at++)
+        all->owners[at] = (uint32_t)take(heard, 1);
+    for (int at = 0; at < FAZGROND_MACHINES; at++) {
+        all->numbers[at] = number_of(self, take(heard, 8));
+        all->machine[at] = take_address(heard);
+    }
+    all->machine[0] = *from;
+    self->is_agreed = !heard->is_short && all->machines >= 2 && all->machines <= FAZGROND_MACHINES
+        && all->players <= FAZGROND_PLAYERS;
+    all->digest = digest_of_all(self);
+}
+
+bool meeting_hear(meeting *self, const address *from, const uint8_t *bytes, size_t length) {
+    cursor heard = { .at = HEAD, .length = length };
+    if (length < HEAD || length > sizeof heard.bytes || memcmp(bytes, magic, sizeof magic) != 0)
+        return false;
+    memcpy(heard.bytes, bytes, length);
+    if (!is_sealed(bytes, length, (seal_key){ .number = self->key }))
+        return true;
+    uint64_t kind = take(&heard, 1), version = take(&heard, 1);
+    if (version != VERSION || heard.is_short)
+        return true;
+    if (self->is_host) {
+        if (kind == HELLO)
+            take_hello(self, from, &heard);
+        return true;
+    }
+    if (self->is_agreed || !address_is(from, &self->host) || take(&heard, 8) != self->nonce)
+        return true;
+    if (kind == TABLE)
+        take_table(self, from, &heard);
+    else if (kind == REFUSAL) {
+        take_text(&heard, self->why, sizeof self->why);
+        self->is_refused = true;
+    }
+    return true;
+}
+
+static void start(meeting *self, uint32_t players) {
+    self->nonce = net_draw();
+    self->players = players;
+    self->is_agreed = self->is_refused = false;
+    self->machines = self->viewers = 0;
+    memset(&self->all, 0, sizeof self->all);
+    memset(self->machine, 0, sizeof self->machine);
+    for (int at = 0; at < FAZGROND_PLAYERS; at++)
+        self->all.owners[at] = FAZGROND_NO_PLAYER;
+}
+
+void meeting_host(meeting *self, uint32_t wanted, uint32_t players, uint32_t threshold) {
+    start(self, players);
+    self->is_host = true;
+    self->wanted = wanted;
+    self->all.threshold = threshold;
+    self->all.digest = digest_of_all(self);
+    self->machine[self->machines++] = (guest){ .nonce = self->nonce, .players = players };
+}
+
+void meeting_join(meeting *self, const address *host, uint32_t players) {
+    start(self, players);
+    self->host = *host;
+}
+
+void meeting_turn(meeting *self) {
+    if (!self->is_host && !self->is_agreed)
+        send_hello(self);
+}

@@ -1,0 +1,40 @@
+/* A UDP socket, and a line that can be made worse for what this machine sends. */
+#ifndef RETRO_NET_H
+#define RETRO_NET_H
+
+#include <fazgrond.h>
+#include <netinet/in.h>
+#include <stdbool.h>
+
+typedef struct sockaddr_in address;
+
+typedef struct net {
+    int socket;
+    uint32_t lag, jitter, loss; /* milliseconds, by how many more or less, and how many of a hundred are lost */
+    uint32_t speed;             /* the clock runs so many times as fast */
+    uint64_t random;
+    uint64_t sent_bytes;
+    struct late *late; /* what is on its way */
+} net;
+
+bool net_open(net *self, unsigned short port);
+void net_close(net *self);
+/* Milliseconds of the clock. */
+uint32_t net_now(const net *self);
+void net_send(net *self, const address *to, const uint8_t *bytes, size_t length);
+/* Sends what is due by now. */
+void net_flush(net *self);
+/* Waits until all is sent. */
+void net_drain(net *self);
+/* The next datagram that has come, and how long it is; below 0 if there is none. */
+long net_next(net *self, address *from, uint8_t *bytes, size_t room);
+/* Rests for so many microseconds, but sends meanwhile what is due. */
+void net_rest(net *self, int64_t micros);
+
+/* "10.0.0.7:7000", or a name and a port. */
+bool address_read(const char *text, address *out);
+bool address_is(const address *one, const address *other);
+
+/* 64 random bits of the system, never 0. */
+uint64_t net_draw(void);
+#endif

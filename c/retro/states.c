@@ -1,0 +1,101 @@
+#include "states.h"
+
+#include <stdlib.h>
+#include <string.h>
+
+uint64_t path_after(uint64_t path, const fazgrond_row *row) {
+    struct { uint64_t path; uint32_t words[FAZGROND_PLAYERS], gone, count; } all = { .path = path, .gone = row->gone,
+                                                                                     .count = row->count };
+    memcpy(all.words, row->words, row->count * sizeof *row->words);
+    return digest_of(&all, sizeof all) | 1;
+}
+
+static size_t place_of(const notes *self, uint64_t path) {
+    size_t at = (path * 0x9e3779b97f4a7c15u >> 20) % self->room;
+    while (self->at[at].path != 0 && self->at[at].path != path)
+        at = (at + 1) % self->room;
+    return at;
+}
+
+static bool grow(notes *self) {
+    notes more = { .room = 2 * self->room + 4096 };
+    more.at = calloc(more.room, sizeof *more.at);
+    if (more.at == NULL)
+        return false;
+    for (size_t at = 0; at < self->room; at++)
+        if (self->at[at].path != 0)
+            more.at[place_of(&more, self->at[at].path)] = self->at[at];
+    free(self->at);
+    self->at = more.at;
+    self->room = more.room;
+    return true;
+}
+
+static void note(notes *self, uint64_t path, uint64_t digest) {
+    pthread_mutex_lock(&self->lock);
+    if (2 * self->count < self->room || grow(self)) {
+        size_t at = place_of(self, path);
+        self->count += self->at[at].path == 0;
+        self->differing += self->at[at].path == path && self->at[at].digest != digest;
+        self->at[at].path = path;
+        self->at[at].digest = digest;
+    }
+    pthread_mutex_unlock(&self->lock);
+}
+
+uint64_t notes_find(const notes *self, uint64_t path) { return self->room == 0 ? 0 : self->at[place_of(self, path)].digest; }
+
+static bool save(runner *self, slot *to) {
+    to->path = self->path;
+    to->digest = core_digest(&self->core);
+    self->saves++;
+    if (self->states->notes.is_on)
+        note(&self->states->notes, to->path, to->digest);
+    return core_save(&self->core, &to->state) && (!self->states->reloads || core_load(&self->core, &to->state));
+}
+
+bool runner_obey(runner *self, const fazgrond_request *request) {
+    slot *at = &self->states->slots[request->slot];
+    switch (request->kind) {
+    case FAZGROND_LOAD:
+    case FAZGROND_JOB_LOAD:
+        self->path = at->path;
+        self->is_fresh = false;
+        self->loads++;
+        return core_load(&self->core, &at->state);
+    case FAZGROND_STEP:
+    case FAZGROND_JOB_STEP:
+        core_step(&self->core, request->row.words, request->row.count);
+        self->path = path_after(self->path, &request->row);
+        self->is_fresh = true;
+        self->steps++;
+        return true;
+    case FAZGROND_SAVE:
+    case FAZGROND_JOB_SAVE: return save(self, at);
+    default: return true; /* a slot keeps its room */
+    }
+}
+
+bool runner_open(runner *self, const core_state *opening) {
+    self->path = OPENING_PATH;
+    return core_load(&self->core, opening) && save(self, &self->states->slots[0]);
+}
+
+bool state_copy(core_state *to, const core_state *from) {
+    uint8_t *more = realloc(to->at, from->size + 1);
+    if (more == NULL)
+        return false;
+    memcpy(more, from->at, from->size);
+    *to = (core_state){ .at = more, .room = from->size + 1, .size = from->size, .picture = from->picture };
+    return true;
+}
+
+void states_begin(states *self, bool reloads, bool is_noted) {
+    for (int at = 0; at < SLOTS; at++)
+        free(self->slots[at].state.at);
+    free(self->notes.at);
+    memset(self, 0, sizeof *self);
+    pthread_mutex_init(&self->notes.lock, NULL);
+    self->reloads = reloads;
+    self->notes.is_on = is_noted;
+}

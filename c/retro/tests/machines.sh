@@ -1,0 +1,37 @@
+# For tests in which machines play games of consoles: sourced in the folder c, after duel/checks.sh.
+FAZ_RETRO_HOME=$work
+export FAZ_RETRO_HOME
+headers=/usr/include/libretro-common
+cores=$(echo /usr/lib/*/libretro)
+libraries="-lz -ldl -Wl,--export-dynamic-symbol=time"
+with="-std=c11 -Wall -Wextra -Werror -I. -I$headers -pthread"
+game=
+frames=
+
+has_headers() {
+    [ -f $headers/libretro.h ] && [ -f /usr/include/zlib.h ] && return
+    echo "skipped: consoles' games (no libretro.h or zlib.h)"
+    return 1
+}
+
+# The program without a window, with the sanitizers, and what is named beside that.
+compile() {
+    sources=$(ls retro/*.c | grep -v 'window.c\|keys.c\|casting.c')
+    check "faz-retro compiles without SDL" cc $with $clean -DRETRO_HEADLESS $sources "$@" out/libfazgrond.a \
+        -o "$work/faz-retro" $libraries
+}
+
+# Whether machines came to the same digests in all frames, and so did a straight run, which has none of the library.
+same() {
+    [ "$(wc -l < "$work/$1.sums")" = $frames ] || return 1
+    for name; do
+        cmp "$work/a.sums" "$work/$name.sums" || return 1
+    done
+    "$work/faz-retro" --headless --play "$work/replay" --digests "$work/straight.sums" $game 2> "$work/straight.err" \
+        && cmp "$work/a.sums" "$work/straight.sums"
+}
+
+# Whether a machine played frames again.
+again() {
+    [ "$(sed -n 's/^played .* and \([0-9]*\) again.*/\1/p' "$work/$1.err")" -ge 50 ]
+}

@@ -1,0 +1,125 @@
+#define _POSIX_C_SOURCE 200809L
+#include "watch.h"
+
+#include "window.h"
+
+#include "../duel/clock.h"
+
+#include <inttypes.h>
+#include <stdlib.h>
+#include <string.h>
+
+enum { FLOOD = 256, CATCH_UP = 8, BEHIND = 6, BYES = 3, LINE = 96 };
+
+static bool begin(playback *self, runner *on, const core_state *opening, bool reloads, const char *digests) {
+    *self = (playback){ .core = &on->core, .reloads = reloads, .digests = digests != NULL ? fopen(digests, "w") : NULL };
+    if (digests != NULL && self->digests == NULL)
+        fprintf(stderr, "%s can't be written\n", digests);
+    return (digests == NULL || self->digests != NULL) && playback_begin(self, opening);
+}
+
+static outcome end(playback *self, bool is_good) {
+    bool is_written = self->digests == NULL || fclose(self->digests) == 0;
+    fprintf(stderr, "watched %" PRIu32 " frames\n", self->frame);
+    free(self->state.at);
+    return is_good && is_written ? ENDED : FAILED;
+}
+
+/* After so many frames of this turn. */
+static void show(playback *self, uint32_t played, const char *what, uint32_t of) {
+    char text[LINE];
+    const char *line = text;
+    snprintf(text, sizeof text, "%s: frame %" PRIu32 " of %" PRIu32, what, self->frame, of);
+    window_show(self->core, played > 0, played > 1, &line, 1);
+}
+
+outcome watch_replay(const replay *from, runner *on, const wish *wish) {
+    playback made;
+    uint32_t count = wish->frames > 0 && wish->frames < from->count ? wish->frames : from->count;
+    bool goes_on = begin(&made, on, &from->opening, from->reloads, wish->digests);
+    int64_t due = clock_micros(), length = (int64_t)(1e6 / on->core.av.timing.fps);
+    while (goes_on && made.frame < count && (wish->is_headless || window_goes_on())) {
+        goes_on = playback_step(&made, &from->rows[made.frame]);
+        if (wish->is_headless)
+            continue;
+        show(&made, 1, "replay", count);
+        due += length;
+        int64_t rest = due - clock_micros();
+        if (rest > 0)
+            nanosleep(&(struct timespec){ 0, rest * 1000 }, NULL);
+    }
+    return end(&made, goes_on);
+}
+
+typedef struct watching {
+    meeting *meeting;
+    fazgrond_viewer viewer;
+    fazgrond_line_state seen;
+    playback shown;
+    bool goes_on;
+} watching;
+
+static void hear(watching *self, uint32_t now) {
+    uint8_t bytes[2048];
+    address from;
+    long length;
+    uint32_t rows;
+    for (int count = 0; count < FLOOD && (length = net_next(self->meeting->net, &from, bytes, sizeof bytes)) >= 0; count++)
+        if (!meeting_hear(self->meeting, &from, bytes, (size_t)length))
+            (void)fazgrond_viewer_receive(&self->viewer, bytes, (size_t)length, now, &rows);
+}
+
+/* Plays what has come: a frame, or more to catch up. How many. */
+static uint32_t play(watching *self, const wish *wish) {
+    uint32_t played = 0;
+    fazgrond_row row;
+    bool is_behind = self->seen.settled > self->shown.frame + BEHIND;
+    while (played < (is_behind ? CATCH_UP : 1) && self->goes_on && (wish->frames == 0 || self->shown.frame < wish->frames)
+           && fazgrond_viewer_row(&self->viewer, &row) == FAZGROND_OK) {
+        self->goes_on = playback_step(&self->shown, &row);
+        played++;
+    }
+    return played;
+}
+
+static void tell_host(watching *self, uint32_t now, bool is_bye) {
+    uint8_t bytes[FAZGROND_DATAGRAM];
+    size_t length;
+    int32_t code = is_bye ? fazgrond_viewer_bye(&self->viewer, bytes, sizeof bytes, &length)
+                          : fazgrond_viewer_send(&self->viewer, now, bytes, sizeof bytes, &length);
+    for (int times = 0; times < (is_bye ? BYES : 1) && code == FAZGROND_OK; times++)
+        net_send(self->meeting->net, &self->meeting->host, bytes, length);
+}
+
+static void turn(watching *self, const wish *wish) {
+    uint32_t now = net_now(self->meeting->net);
+    hear(self, now);
+    uint32_t played = play(self, wish);
+    tell_host(self, now, false);
+    (void)fazgrond_viewer_look(&self->viewer, now, &self->seen);
+    if (!wish->is_headless)
+        show(&self->shown, played, "watching", self->seen.settled);
+    if (self->seen.is_silent != 0)
+        fputs("the host is silent\n", stderr);
+}
+
+outcome watch_match(meeting *meeting, runner *on, const core_state *opening, const wish *wish) {
+    watching self = { .meeting = meeting };
+    fazgrond_line_settings settings = { .number = meeting->all.line, .draw = net_draw(), .digest = meeting->all.digest,
+                                        .machines = meeting->all.machines, .silent_after = wish->silent_after };
+    int64_t due = clock_micros(), length = (int64_t)(1e6 / on->core.av.timing.fps / meeting->net->speed);
+    memcpy(settings.owners, meeting->all.owners, sizeof settings.owners);
+    self.goes_on = begin(&self.shown, on, opening, on->states->reloads, wish->digests)
+        && fazgrond_viewer_open(&self.viewer, &settings) == FAZGROND_OK;
+    while (self.goes_on && self.seen.is_silent == 0 && (wish->is_headless || window_goes_on())
+           && !(self.seen.has_ended != 0 && self.shown.frame >= self.seen.rows)
+           && (wish->frames == 0 || self.shown.frame < wish->frames)) {
+        turn(&self, wish);
+        due += length;
+        net_rest(meeting->net, due - clock_micros());
+    }
+    tell_host(&self, 0, true);
+    net_drain(meeting->net);
+    fazgrond_viewer_close(&self.viewer);
+    return end(&self.shown, self.goes_on && self.seen.is_silent == 0);
+}
