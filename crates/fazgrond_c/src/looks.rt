@@ -17,7 +17,7 @@ use crate::live::Live;
 use crate::open::Open;
 use crate::reads::{entry_at, input_frame, written};
 use roll_peer::ends_in_roll;
-use roll_session::Networked;
+use roll_session::{Networked, Settling};
 use std::alloc::Global;
 
 /// The current frame.
