@@ -2,3 +2,4 @@ pub mod Told
 pub mod Seeing
 pub mod Same
 pub mod Ahead
+pub mod OneMatch

@@ -88,7 +88,7 @@ told_stays s (w ∷ words) =
 
 -- ---- the players
 
-with_none : (o : Option Player) → option_map (with_words []) o ≡ o
+pub with_none : (o : Option Player) → option_map (with_words []) o ≡ o
 with_none None = refl
 with_none (Some x) = λ i. Some (record x { words = append-nil x.words i })
 

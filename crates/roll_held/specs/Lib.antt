@@ -2,3 +2,4 @@ pub mod Told
 pub mod Turns
 pub mod Laws
 pub mod Heard
+pub mod OneMatch

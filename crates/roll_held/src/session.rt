@@ -197,7 +197,7 @@ impl<'a, S: Settling> Networked for HeldSession<'a, S> {
     }
 
     fn disconnect_player(&mut self, player: u8) -> Result<Event, Refusal> {
-        self.tell_all();
+        self.tell_all(); // It leaves with all its words.
         let reserved = self.reserved;
         self.reserved = reserved.saturating_sub(1);
         match self.session.disconnect_player(player) {
