@@ -19,7 +19,7 @@ pub use gameless::Core;
 pub use log::{Log, Logged};
 pub use networked::{Networked, Settling};
 pub use roll_game::StartFault;
-pub use roll_inputs::{Heard, RemoteWord, Source};
+pub use roll_inputs::{FORETOLD_LIMIT, Heard, RemoteWord, Source};
 pub use roll_plan::Plan;
 pub use session::{Parts, Session};
 pub use way::Way;
