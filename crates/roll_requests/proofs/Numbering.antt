@@ -11,11 +11,11 @@ use Rattle.roll_frame.specs.Cells.{Rows}
 use Rattle.roll_frame.specs.declared.row.Cell.{Cell}
 use Rattle.roll_frame.specs.Core.{Core, kept, settled}
 use Rattle.roll_frame.specs.Games.{Game, Value}
-use Rattle.roll_frame.specs.Guess.{guessed_time, job_of}
+use Rattle.roll_frame.specs.Guess.{job_of}
 use Rattle.roll_frame.specs.Paths.{contains, run}
 use Rattle.roll_frame.specs.Timeline.{timeline}
 use Rattle.roll_session.specs.Gameless.{bare_branch}
-use Rattle.roll_session.specs.Guessing.{guess_job, job_from}
+use Rattle.roll_session.specs.Guessing.{job_from, rows_job}
 use Rattle.roll_session.specs.Saves.{Standing}
 use Rattle.roll_session.specs.Seen.{Step}
 use Rattle.roll_session.proofs.Rolling.{all_held, snapshot_is, some_is}
@@ -65,13 +65,13 @@ no_room refusal job e needed (Refused why) none rows is = inr (is ∙ ap (λ (o 
 no_room refusal job e needed NoSlots none rows few = (none, omega (arith, few, rows))
 
 -- a job starts from the settled frame on
-pub base_of : (game : Game) (core : Core) (p until : ℕ) (words : List ℕ) (route : Route) → Some (bare_branch 0 route) ≡ guess_job game core p words until → route.path.base ≡ settled core
-base_of game core p until words route = go (contains (kept core) (guessed_time core.players p words until))
+pub base_of : (game : Game) (core : Core) (rows : Rows) (route : Route) → Some (bare_branch 0 route) ≡ option_map (job_from game core) (rows_job core rows) → route.path.base ≡ settled core
+base_of game core rows route = go (contains (kept core) rows)
   where
-    go : (b : Bool) → Some (bare_branch 0 route) ≡ option_map (job_from game core) (if b then None else Some (job_of core (guessed_time core.players p words until))) → route.path.base ≡ settled core
+    go : (b : Bool) → Some (bare_branch 0 route) ≡ option_map (job_from game core) (if b then None else Some (job_of core rows)) → route.path.base ≡ settled core
     go true e = absurd cc
     go false e =
-        let same : bare_branch 0 route ≡ job_from game core (job_of core (guessed_time core.players p words until)) = cc e in
+        let same : bare_branch 0 route ≡ job_from game core (job_of core rows) = cc e in
         ap (λ (b : Routed). b.route.path.base) same
 
 -- the state that a job starts from is in its slot

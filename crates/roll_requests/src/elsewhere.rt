@@ -1,5 +1,5 @@
 //! A session whose game is played elsewhere.
-ghost use Rattle.std.specs.Prelude.{◌≡◌, ◌==◌, ◌≤◌, ◌<◌, ◌++◌, ◌∷◌, [], drop, false, true, is_none, is_some, length, max, min, take, IfErr, IfOk, IfSome, List, None, OnErr, OnOk, Some, if◌then◌else◌};
+ghost use Rattle.std.specs.Prelude.{◌≡◌, ◌==◌, ◌≤◌, ◌<◌, ◌++◌, ◌∷◌, [], drop, false, true, is_none, is_some, length, max, min, take, IfErr, IfOk, IfSome, IsSomeAnd, List, None, OnErr, OnOk, Some, if◌then◌else◌};
 ghost use Rattle.roll_frame.specs.Claims.{claim_of, IsRight};
 ghost use Rattle.roll_frame.specs.Settings.{start_refusal};
 ghost use Rattle.roll_frame.specs.Timeline.{row_at};
@@ -7,13 +7,17 @@ ghost use Rattle.roll_game.specs.Counts.{no_calls};
 ghost use Rattle.roll_session.specs.Answered.{replied, with_entries, IsAnswered};
 ghost use Rattle.roll_session.specs.Calls.{entry_of, event_of, input_reply, IsAllowed, IsInput, IsRoll};
 ghost use Rattle.roll_session.specs.Changes.{reserve_refusal, FitsLog, IsWhy};
-ghost use Rattle.roll_session.specs.Gameless.{still};
+ghost use Rattle.roll_session.specs.Foretold.{guess_words_refusal_of, rerun_of, words_job_of, words_refusal_of};
+ghost use Rattle.roll_session.specs.Gameless.{bare_branch, still};
 ghost use Rattle.roll_session.specs.Guessing.{guess_job_of, guess_refusal_of};
 ghost use Rattle.roll_session.specs.Headline.{last_claim};
 ghost use Rattle.roll_session.specs.Started.{first_seen};
+ghost use Rattle.roll_tree.specs.SavedStates.{state_named};
 ghost use Rattle.slab.specs.Slab.{get, SameValues, Updates};
-ghost use Rattle.roll_requests.specs.Asked.{rows_to_run, IsDeclinedRoll, IsHandedIn, IsIdle, IsNotGuessed, IsNumbered, IsSettledSlot, Leads, Rolls, SameTaken};
+ghost use Rattle.roll_requests.specs.Asked.{rows_to_run, IsDeclinedRoll, IsGiven, IsHandedIn, IsIdle, IsNotGuessed, IsNumbered, IsSettledSlot, Leads, Rolls, SameTaken};
+ghost use Rattle.roll_requests.specs.Planned.{IsShort};
 ghost use Rattle.roll_requests.specs.Requests.{Adds};
+ghost use Rattle.roll_requests.specs.Slotted.{free_slots, is_taken};
 ghost use Rattle.roll_requests.specs.declared.request.Request.{Request as Asks};
 
 use crate::asking::{ask_job, ask_roll};
@@ -23,8 +27,8 @@ use crate::plans::{RollPlan, Room, plan_job, plan_roll};
 use crate::queue::Queue;
 use crate::request::Request;
 use crate::taken::Taken;
-use roll_frame::{Claim, Refusal, Row, Settings};
-use roll_session::{Call, Core, Grafted, Heard, Reached};
+use roll_frame::{Claim, Refusal, Route, Row, Settings};
+use roll_session::{Call, Core, Grafted, Heard, Reached, RemoteWord};
 use slab::Slab;
 use std::alloc::Global;
 use std::marker::Model;
@@ -201,6 +205,88 @@ impl Elsewhere {
             return Ok(None);
         };
         self.core.laws();
+        self.make_job(number, node, &route)?;
+        Ok(Some(number))
+    }
+
+    /// A guess with words that have come, but that it isn't told yet, in their order: each has to be the next of its player,
+    /// 1 to 64 of them. All else is as of [`guess`](Self::guess).
+    ///
+    /// # Errors
+    ///
+    /// `Full` if 64 jobs are out, else what the tests of the words and of the frame say, in their order, else `NoMemory` if the
+    /// allocator has no room, or `NoSlots` if too few slots are free.
+    pub fn guess_words(&mut self, words: &[RemoteWord], until: u32) -> Result<Option<u32>, Declined>
+        ensures job { IfOk result (IsNumbered
+            (words_job_of still self.old.seen words.now until) self.old self.new) }
+        ensures accepted { OnOk result
+            (guess_words_refusal_of self.old.seen words.now until ≡ None) }
+        ensures adds { OnOk result (Adds self.old.limit 0
+            (rows_to_run (words_job_of still self.old.seen words.now until))
+            self.old.jobs self.old.requests self.new.requests) }
+        ensures rest { self.new ≡ record self.old {
+          requests = self.new.requests;
+          jobs = self.new.jobs;
+          taken = self.new.taken;
+        } }
+        ensures leads { (past : List Asks) → Leads past self.old → Leads past self.new }
+        ensures declined { IfErr result (IsNotGuessed
+            (guess_words_refusal_of self.old.seen words.now until)
+            (words_job_of still self.old.seen words.now until) self.old) }
+        ensures unasked { OnErr result (self.new.requests ≡ self.old.requests) }
+        ensures unchanged { OnErr result (SameValues self.old.jobs self.new.jobs) }
+        ensures taken { OnErr result (SameTaken self.old.taken self.new.taken) }
+    {
+        let Some(number) = free_number(&self.jobs) else {
+            return Err(Declined::Refused(Refusal::Full));
+        };
+        let Some((node, route)) = self.core.guess_words(words, until)? else {
+            return Ok(None);
+        };
+        self.core.laws();
+        self.make_job(number, node, &route)?;
+        Ok(Some(number))
+    }
+
+    /// How many frames a roll to the current frame would ask for, if it were told these words, which are as those of
+    /// [`guess_words`](Self::guess_words).
+    ///
+    /// # Errors
+    ///
+    /// What the tests of the words say, in their order.
+    pub fn rerun(&self, words: &[RemoteWord]) -> Result<u32, Refusal>
+        ensures frames { IfOk result (λ frames. frames ≡ rerun_of self.now.seen words.now) }
+        ensures accepted { OnOk result (words_refusal_of self.now.seen words.now ≡ None) }
+        ensures refused { IfErr result
+            (λ why. words_refusal_of self.now.seen words.now ≡ Some why) }
+    {
+        self.core.rerun(words)
+    }
+
+    /// Lends slots to a job that runs a route from a saved state, and asks for what it runs.
+    fn make_job(&mut self, number: u32, node: usize, route: &Route) -> Result<(), Declined>
+        requires next { number ≡ self.old.jobs.vacant_key }
+        requires vacant { get self.old.jobs number ≡ None }
+        requires node { IsSomeAnd (state_named self.old.saves.tree node)
+            (λ u. u.path ≡ route.now.path.rows.items) }
+        requires base { route.now.path.base ≡ self.old.saves.inputs.settled }
+        ensures job { OnOk result
+            (IsGiven (bare_branch 0 route.now) self.old self.new number) }
+        ensures adds { OnOk result (Adds self.old.limit 0 (length route.now.rows.items)
+            self.old.jobs self.old.requests self.new.requests) }
+        ensures rest { self.new ≡ record self.old {
+          requests = self.new.requests;
+          jobs = self.new.jobs;
+          taken = self.new.taken;
+        } }
+        ensures leads { (past : List Asks) → Leads past self.old → Leads past self.new }
+        ensures short { IfErr result
+            (IsShort (length (free_slots (is_taken self.old.taken) self.old.limit))
+            (length route.now.rows.items)) }
+        ensures unasked { OnErr result (self.new.requests ≡ self.old.requests) }
+        ensures unchanged { OnErr result (SameValues self.old.jobs self.new.jobs) }
+        ensures taken { OnErr result (SameTaken self.old.taken self.new.taken) }
+    {
         let start = *self.core.saved().get(node);
         let job = plan_job(
             self.alloc,
@@ -208,13 +294,13 @@ impl Elsewhere {
             &mut self.taken,
             &mut self.jobs,
             start,
-            &route,
+            route,
             self.limit,
         )?;
         ask_job(&mut self.queue, start, route.rows.as_slice(), job.slots());
         self.taken.fill_all(job.slots());
         self.jobs.insert_reserved(job);
-        Ok(Some(number))
+        Ok(())
     }
 
     /// Takes in the branch of a job, which must have been carried out. The job is gone in any case.

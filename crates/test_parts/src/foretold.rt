@@ -53,7 +53,10 @@ fn nothing_is_rerun_where_the_words_are_as_predicted(rt: HostRuntime) -> Result<
     assert_eq!(rt; session.frame(), 4);
     assert_eq!(rt; session.settled(), 1);
     assert_eq!(rt; session.rerun(&[word(2, 1, 5), word(3, 1, 4)]), Ok(0));
-    assert_eq!(rt; session.rerun(&[word(3, 1, 4), word(3, 2, 4), word(3, 3, 4)]), Ok(0));
+    assert_eq!(rt;
+        session.rerun(&[word(3, 1, 4), word(3, 2, 4), word(3, 3, 4)]),
+        Ok(0)
+    );
     Ok(())
 }
 
@@ -104,7 +107,13 @@ fn a_job_has_the_words_of_both_players(rt: HostRuntime) -> Result<(), Fail> {
     let Some(job) = session.guess_words(alloc, &words, 5)? else {
         return Err(Fail::new("no job"));
     };
-    assert!(rt; is_route(&job.route(), &[[9, 5, 4]], &[[9, 5, 1], [9, 5, 0], [9, 5, 0]]));
+    assert!(rt;
+        is_route(
+            &job.route(),
+            &[[9, 5, 4]],
+            &[[9, 5, 1], [9, 5, 0], [9, 5, 0]]
+        )
+    );
     Ok(())
 }
 
@@ -122,12 +131,30 @@ fn there_is_no_job_of_rows_that_are_kept(rt: HostRuntime) -> Result<(), Fail> {
 fn words_are_refused_that_are_not_the_next(rt: HostRuntime) -> Result<(), Fail> {
     let mut session = open(rt.alloc())?;
     assert_eq!(rt; session.rerun(&[]), Err(Refusal::InvalidRequest));
-    assert_eq!(rt; session.rerun(&[word(2, 1, 5); 65]), Err(Refusal::InvalidRequest));
-    assert_eq!(rt; session.rerun(&[word(0, 1, 5)]), Err(Refusal::InvalidPlayer));
-    assert_eq!(rt; session.rerun(&[word(4, 1, 5)]), Err(Refusal::InvalidPlayer));
-    assert_eq!(rt; session.rerun(&[word(1, 4, 5)]), Err(Refusal::InvalidPlayer));
-    assert_eq!(rt; session.rerun(&[word(2, 0, 5)]), Err(Refusal::InvalidRequest));
-    assert_eq!(rt; session.rerun(&[word(2, 2, 5)]), Err(Refusal::InvalidRequest));
+    assert_eq!(rt;
+        session.rerun(&[word(2, 1, 5); 65]),
+        Err(Refusal::InvalidRequest)
+    );
+    assert_eq!(rt;
+        session.rerun(&[word(0, 1, 5)]),
+        Err(Refusal::InvalidPlayer)
+    );
+    assert_eq!(rt;
+        session.rerun(&[word(4, 1, 5)]),
+        Err(Refusal::InvalidPlayer)
+    );
+    assert_eq!(rt;
+        session.rerun(&[word(1, 4, 5)]),
+        Err(Refusal::InvalidPlayer)
+    );
+    assert_eq!(rt;
+        session.rerun(&[word(2, 0, 5)]),
+        Err(Refusal::InvalidRequest)
+    );
+    assert_eq!(rt;
+        session.rerun(&[word(2, 2, 5)]),
+        Err(Refusal::InvalidRequest)
+    );
     let twice = [word(2, 1, 5), word(3, 1, 4), word(2, 1, 5)];
     assert_eq!(rt; session.rerun(&twice), Err(Refusal::InvalidRequest));
     session.disconnect_player(3)?;
@@ -137,7 +164,9 @@ fn words_are_refused_that_are_not_the_next(rt: HostRuntime) -> Result<(), Fail> 
 }
 
 #[test]
-fn a_guess_is_refused_up_to_a_frame_that_is_too_near_or_too_far(rt: HostRuntime) -> Result<(), Fail> {
+fn a_guess_is_refused_up_to_a_frame_that_is_too_near_or_too_far(
+    rt: HostRuntime,
+) -> Result<(), Fail> {
     let alloc = rt.alloc();
     let mut session = open(alloc)?;
     let words = [word(2, 1, 6)];

@@ -1,25 +1,17 @@
-use Rattle.std.proofs.Common.{◌≡◌, ◌∙◌, ◌++◌, [], ℕ, List, Option, Some, None, ap, get_or, length, lit<, refl, subst, sym}
-use Rattle.std.specs.Prelude.{◌||◌, option_map, All, IfErr, IsSomeAnd}
-use Rattle.slab.specs.Slab.{Slab, Updates}
+use Rattle.std.proofs.Common.{◌≡◌, ◌∙◌, ℕ, None, Option, Some, ap, length, subst, sym}
+use Rattle.std.specs.Prelude.{option_map, IsSomeAnd}
 use Rattle.roll_branch.specs.Routed.{Routed}
 use Rattle.roll_frame.specs.declared.route.Route.{Route}
-use Rattle.roll_frame.specs.declared.row.Cell.{Cell}
+use Rattle.roll_frame.specs.Guess.{guessed_time}
 use Rattle.roll_inputs.specs.Boards.{Inputs}
 use Rattle.roll_session.specs.Gameless.{bare_branch, still}
 use Rattle.roll_session.specs.Guessing.{guess_job_of, guess_refusal_of}
 use Rattle.roll_session.specs.Seen.{game_of}
 use Rattle.roll_tree.specs.SavedStates.{Saved, state_named}
 use Rattle.roll_requests.specs.Asked.{rows_to_run, Asked, IsNotGuessed, IsNumbered}
-use Rattle.roll_requests.specs.Requests.{job_requests, Adds}
-use Rattle.roll_requests.specs.Slotted.{is_among, is_taken, Guessed, IsOutside, IsTaken}
-use Rattle.roll_requests.specs.declared.request.Request.{Request}
-use Rattle.roll_requests.proofs.Apart.{job_apart}
-use Rattle.roll_requests.proofs.Counting.{job_adds}
+use Rattle.roll_requests.specs.Requests.{Adds}
 use Rattle.roll_requests.proofs.Declining.{passed_on}
-use Rattle.roll_requests.proofs.Filling.{are_kept, now_taken, still_taken}
-use Rattle.roll_requests.proofs.Leads.{leads_same}
-use Rattle.roll_requests.proofs.Numbering.{base_of, leads_guessed, no_room, none_adds, none_numbered, numbered, start_has, starts_here, taken_guessed}
-use Rattle.roll_session.proofs.Rolling.{some_is, some_there}
+use Rattle.roll_requests.proofs.Numbering.{base_of, no_room, none_adds, none_numbered}
 use Rattle.roll_requests.proofs.elsewhere.Elsewhere.guess.Goals as goal
 
 -- there is nothing to run
@@ -40,144 +32,51 @@ returns-in_default-2-clause-adds c =
     subst (λ (a : Asked). Adds a.limit 0 (rows_to_run (guess_job_of still a.seen c.args.player c.args.words.now c.args.until)) a.jobs a.requests a.requests) c.self.view_is
     (none_adds (guess_job_of still i.core.seen c.args.player c.args.words.now c.args.until) (none_of c) i.limit i.jobs i.queue.requests)
 
-pub invariant_of-self : goal.invariant_of-self
-invariant_of-self c =
-    let i = c.self.inside in
-    let e = c.plan_job.ensures in
-    let kept = are_kept i.core.saves.tree.states i.jobs i.taken c.plan_job.new.taken (λ k t. e.taken k ∙ t) c.self.invariant.are in
-    let own = c.self.invariant.own in
-    rw e.jobs (record { are = record { saved = kept.saved; out = kept.out }; own = record { saved = own.saved; others = own.others }; current = e.taken i.at ∙ c.self.invariant.current })
+pub returns-in_default-2-clause-accepted : goal.returns-in_default-2-clause-accepted
+returns-in_default-2-clause-accepted c =
+    subst (λ (a : Asked). guess_refusal_of a.seen c.args.player c.args.words.now c.args.until ≡ None) c.self.view_is c.in_ok-node.ensures.accepted
 
-pub returns-in_err-job-clause-leads : goal.returns-in_err-job-clause-leads
-returns-in_err-job-clause-leads c =
-    let i = c.self.inside in
-    let e = c.plan_job.ensures in
-    let old : Asked = record { seen = i.core.seen; saves = i.core.saves; at = i.at; requests = i.queue.requests; limit = i.limit; jobs = i.jobs; taken = i.taken } in
-    rw (← c.self.view_is)
-    (leads_same old (record old { requests = c.plan_job.new.queue.requests; jobs = c.plan_job.new.jobs; taken = c.plan_job.new.taken }) e.requests refl e.taken refl (λ step opening slots h. rw e.jobs (record { saved = h.saved; out = h.out })))
+pub make_job-requires-clause-next : goal.make_job-requires-clause-next
+make_job-requires-clause-next c = c.in-Some.ensures.next ∙ ap (λ (a : Asked). a.jobs.vacant_key) c.self.view_is
 
-pub get-start-requires : goal.get-start-requires
-get-start-requires c =
-    let tree = c.self.inside.core.saves.tree in
-    let x = some_is (state_named tree c.in-Some-2.node) (λ (u : Saved ℕ). u.path ≡ c.in-Some-2.route.path.rows.items) (rw c.in-Some-2.is at c.in_ok-node.ensures.node) in
-    rw c.saved.ensures (some_there (state_named tree c.in-Some-2.node) x.0 x.1)
+pub make_job-requires-clause-node : goal.make_job-requires-clause-node
+make_job-requires-clause-node c =
+    subst (λ (a : Asked). IsSomeAnd (state_named a.saves.tree c.in-Some-2.node) (λ (u : Saved ℕ). u.path ≡ c.in-Some-2.route.path.rows.items)) c.self.view_is
+    (rw c.in-Some-2.is at c.in_ok-node.ensures.node)
 
-pub as_slice-requires : goal.as_slice-requires
-as_slice-requires c = lit< tt
-
-pub ask_job-requires-clause-many : goal.ask_job-requires-clause-many
-ask_job-requires-clause-many c = rw (c.slots.ensures, c.as_slice.ensures.value) c.in_ok-job.ensures.many
-
-pub ask_job-requires-clause-room : goal.ask_job-requires-clause-room
-ask_job-requires-clause-room c = rw c.slots.ensures c.in_ok-job.ensures.space
-
-pub fill_all-requires : goal.fill_all-requires
-fill_all-requires c = rw c.slots-2.ensures c.in_ok-job.ensures.within
-
-pub insert_reserved-requires : goal.insert_reserved-requires
-insert_reserved-requires c = c.in_ok-job.ensures.fits
+pub make_job-requires-clause-base : goal.make_job-requires-clause-base
+make_job-requires-clause-base c =
+    let seen = c.self.inside.core.seen in
+    let job : Some (bare_branch 0 c.in-Some-2.route) ≡ guess_job_of still seen c.args.player c.args.words.now c.args.until = ap (option_map (λ (s : ℕ × Route). bare_branch 0 s.1)) (sym c.in-Some-2.is) ∙ c.in_ok-node.ensures.job in
+    base_of (game_of still seen) seen.core (guessed_time seen.core.players c.args.player c.args.words.now c.args.until) c.in-Some-2.route job
+    ∙ sym (ap (λ (n : Inputs). n.settled) c.laws.ensures.inputs) ∙ ap (λ (a : Asked). a.saves.inputs.settled) c.self.view_is
 
 -- the job is the guess's
-job_of : (c : goal.After-insert_reserved) → Some (bare_branch 0 c.in-Some-2.route) ≡ guess_job_of still c.self.inside.core.seen c.args.player c.args.words.now c.args.until
+job_of : (c : goal.In_ok-make_job) → Some (bare_branch 0 c.in-Some-2.route) ≡ guess_job_of still c.args.self.now.seen c.args.player c.args.words.now c.args.until
 job_of c =
     ap (option_map (λ (s : ℕ × Route). bare_branch 0 s.1)) (sym c.in-Some-2.is) ∙ c.in_ok-node.ensures.job
-
--- it has a number that none had
-updates_of : (c : goal.After-insert_reserved) → Updates c.self.inside.jobs c.insert_reserved.new.self c.in-Some.number (Some c.in_ok-job.job)
-updates_of c =
-    let jobs = c.plan_job.ensures.jobs in
-    let e = c.insert_reserved.ensures in
-    let key : c.insert_reserved.result ≡ c.in-Some.number = e.key ∙ ap (λ (s : Slab Guessed). s.vacant_key) jobs ∙ sym c.in-Some.ensures.next in
-    let u = subst (λ n. Updates c.plan_job.new.jobs c.insert_reserved.new.self n (Some c.in_ok-job.job)) key e.updates in
-    record { changed = u.changed; others = λ n apart. u.others n apart ∙ ap (λ (s : Slab Guessed). get_or s.slots n None) jobs }
-
--- what holds of all saved slots holds of the one that the job starts from
-has_of : (c : goal.After-insert_reserved) (P : ℕ → Type 0) → All (λ u. P u.snapshot) c.self.inside.core.saves.tree.states → P c.in_ok-job.job.start
-has_of c P all =
-    subst P (sym c.in_ok-job.ensures.start)
-    (start_has P c.self.inside.core.saves c.in-Some-2.node c.get-start.result.now c.in-Some-2.route.path.rows.items (rw c.in-Some-2.is at c.in_ok-node.ensures.node) (rw c.saved.ensures at c.get-start.ensures) all)
-
--- what is taken then
-filled_of : (c : goal.After-insert_reserved) → (k : ℕ) → is_taken c.fill_all.new.self k ≡ (is_taken c.self.inside.taken k || is_among c.in_ok-job.job.slots k)
-filled_of c =
-    let slots = c.in_ok-job.job.slots in
-    let filled = rw c.slots-2.ensures at c.fill_all.ensures.filled in
-    λ k. filled k ∙ ap (λ b. b || is_among slots k) (c.plan_job.ensures.taken k)
-
-pub invariant_of-self-2 : goal.invariant_of-self-2
-invariant_of-self-2 c =
-    let i = c.self.inside in
-    let slots = c.in_ok-job.job.slots in
-    let filled = filled_of c in
-    let kept = still_taken i.taken c.fill_all.new.self slots filled in
-    taken_guessed i.core.saves.tree.states i.jobs c.insert_reserved.new.self i.at c.in-Some.number i.limit c.in_ok-job.job i.taken c.fill_all.new.self c.self.invariant c.in_ok-job.ensures.free (updates_of c) kept
-    (record { start = kept c.in_ok-job.job.start (has_of c (IsTaken i.taken) c.self.invariant.are.saved); slots = now_taken i.taken c.fill_all.new.self slots filled })
-
--- what is asked
-list_of : (c : goal.After-insert_reserved) → c.ask_job.new.queue.requests ≡ c.self.inside.queue.requests ++ job_requests c.in_ok-job.job.start (λ k. get_or c.in_ok-job.job.route.rows.items k []) c.in_ok-job.job.slots
-list_of c =
-    let e = c.in_ok-job.ensures in
-    let slots = c.in_ok-job.job.slots in
-    let asked = rw (c.slots.ensures, c.as_slice.ensures.value) at c.ask_job.ensures in
-    asked
-    ∙ ap (λ (l : List Request). l ++ job_requests c.get-start.result.now (λ k. get_or c.in-Some-2.route.rows.items k []) slots) c.plan_job.ensures.requests
-    ∙ ap (λ (r : Route). c.self.inside.queue.requests ++ job_requests c.get-start.result.now (λ k. get_or r.rows.items k []) slots) (sym e.route)
-    ∙ ap (λ s. c.self.inside.queue.requests ++ job_requests s (λ k. get_or c.in_ok-job.job.route.rows.items k []) slots) (sym e.start)
+    ∙ ap (λ (a : Asked). guess_job_of still a.seen c.args.player c.args.words.now c.args.until) c.self.view_is
 
 pub returns-clause-job : goal.returns-clause-job
 returns-clause-job c =
-    let i = c.self.inside in
-    let e = c.in_ok-job.ensures in
-    let old : Asked = record { seen = i.core.seen; saves = i.core.saves; at = i.at; requests = i.queue.requests; limit = i.limit; jobs = i.jobs; taken = i.taken } in
-    let new : Asked = record old { requests = c.ask_job.new.queue.requests; jobs = c.insert_reserved.new.self; taken = c.fill_all.new.self } in
-    subst (λ (a : Asked). IsNumbered (guess_job_of still a.seen c.args.player c.args.words.now c.args.until) a new (Some c.in-Some.number)) c.self.view_is
-    (numbered (guess_job_of still i.core.seen c.args.player c.args.words.now c.args.until) c.in-Some-2.route (job_of c) old new c.in-Some.number c.in_ok-job.job e.route e.many c.in-Some.ensures.vacant (updates_of c) (list_of c) e.least (filled_of c))
+    subst (λ (job : Option Routed). IsNumbered job c.args.self.now c.make_job.new.self (Some c.in-Some.number)) (job_of c) c.in_ok-make_job.ensures.job
 
 pub returns-clause-adds : goal.returns-clause-adds
 returns-clause-adds c =
-    let i = c.self.inside in
-    let e = c.in_ok-job.ensures in
-    let job : Guessed = c.in_ok-job.job in
-    let row : ℕ → List Cell = λ k. get_or job.route.rows.items k [] in
-    let many : length job.slots ≡ rows_to_run (guess_job_of still i.core.seen c.args.player c.args.words.now c.args.until) = e.many ∙ ap (λ (o : Option Routed). rows_to_run o) (job_of c) in
-    subst (λ (a : Asked). Adds a.limit 0 (rows_to_run (guess_job_of still a.seen c.args.player c.args.words.now c.args.until)) a.jobs a.requests c.ask_job.new.queue.requests) c.self.view_is
-    (job_adds i.limit job.start row job.slots (rows_to_run (guess_job_of still i.core.seen c.args.player c.args.words.now c.args.until)) i.jobs i.queue.requests c.ask_job.new.queue.requests e.free.below many
-    (λ n other there. job_apart other i.taken (c.self.invariant.are.out n other there) i.limit job.start row job.slots (has_of c (IsOutside other.slots) (c.self.invariant.own.saved n other there)) e.free)
-    (list_of c))
-
-pub returns-clause-leads : goal.returns-clause-leads
-returns-clause-leads c =
-    let i = c.self.inside in
-    let e = c.in_ok-job.ensures in
-    let job : Guessed = c.in_ok-job.job in
-    let route : Route = c.in-Some-2.route in
-    let saves = i.core.saves in
-    let found = rw c.in-Some-2.is at c.in_ok-node.ensures.node in
-    let told = subst (λ s. option_map (λ (u : Saved ℕ). u.snapshot) (state_named saves.tree c.in-Some-2.node) ≡ Some s) (sym e.start) (rw c.saved.ensures at c.get-start.ensures) in
-    let far : route.path.base ≡ saves.inputs.settled = base_of (game_of still i.core.seen) i.core.seen.core c.args.player c.args.until c.args.words.now route (job_of c) ∙ sym (ap (λ (n : Inputs). n.settled) c.laws.ensures.inputs) in
-    let base : job.route.path.base ≡ saves.inputs.settled = ap (λ (r : Route). r.path.base) e.route ∙ far in
-    let many : length job.slots ≡ length job.route.rows.items = e.many ∙ ap (λ (r : Route). length r.rows.items) (sym e.route) in
-    let there : IsSomeAnd (state_named saves.tree c.in-Some-2.node) (λ u. u.path ≡ job.route.path.rows.items) = subst (λ (r : Route). IsSomeAnd (state_named saves.tree c.in-Some-2.node) (λ u. u.path ≡ r.path.rows.items)) (sym e.route) found in
-    let old : Asked = record { seen = i.core.seen; saves = saves; at = i.at; requests = i.queue.requests; limit = i.limit; jobs = i.jobs; taken = i.taken } in
-    rw (← c.self.view_is)
-    (leads_guessed old c.ask_job.new.queue.requests c.insert_reserved.new.self c.fill_all.new.self c.in-Some.number job c.self.invariant e.free many base (has_of c (IsTaken i.taken) c.self.invariant.are.saved) (filled_of c)
-    (starts_here saves c.in-Some-2.node job.start job.route base there told) (list_of c) (updates_of c))
+    let old = c.args.self.now in
+    subst (λ (job : Option Routed). Adds old.limit 0 (rows_to_run job) old.jobs old.requests c.make_job.new.self.requests) (job_of c) c.in_ok-make_job.ensures.adds
 
 pub returns-clause-accepted : goal.returns-clause-accepted
 returns-clause-accepted c =
     subst (λ (a : Asked). guess_refusal_of a.seen c.args.player c.args.words.now c.args.until ≡ None) c.self.view_is c.in_ok-node.ensures.accepted
 
-pub returns-in_default-2-clause-accepted : goal.returns-in_default-2-clause-accepted
-returns-in_default-2-clause-accepted c =
-    subst (λ (a : Asked). guess_refusal_of a.seen c.args.player c.args.words.now c.args.until ≡ None) c.self.view_is c.in_ok-node.ensures.accepted
-
-pub returns-in_err-job-clause-declined : goal.returns-in_err-job-clause-declined
-returns-in_err-job-clause-declined c =
-    let i = c.self.inside in
-    let here : Asked = record { seen = i.core.seen; saves = i.core.saves; at = i.at; requests = i.queue.requests; limit = i.limit; jobs = i.jobs; taken = i.taken } in
-    let refusal = guess_refusal_of i.core.seen c.args.player c.args.words.now c.args.until in
-    let job : Option Routed = guess_job_of still i.core.seen c.args.player c.args.words.now c.args.until in
-    let is_job : Some (bare_branch 0 c.in-Some-2.route) ≡ job = ap (option_map (λ (s : ℕ × Route). bare_branch 0 s.1)) (sym c.in-Some-2.is) ∙ c.in_ok-node.ensures.job in
-    subst (λ (a : Asked). IfErr c.from_residual-in_err-job.result (IsNotGuessed (guess_refusal_of a.seen c.args.player c.args.words.now c.args.until) (guess_job_of still a.seen c.args.player c.args.words.now c.args.until) a)) c.self.view_is
-    (passed_on c.from_residual-in_err-job.result c.in_err-job.field-0.0 (IsNotGuessed refusal job here) c.from_residual-in_err-job.ensures.1
-    (no_room refusal job here (length c.in-Some-2.route.rows.items) c.in_err-job.field-0.0 c.in_ok-node.ensures.accepted (ap (λ (o : Option Routed). rows_to_run o) is_job) c.in_err-job.ensures.short))
+pub returns-in_err-make_job-clause-declined : goal.returns-in_err-make_job-clause-declined
+returns-in_err-make_job-clause-declined c =
+    let now = c.args.self.now in
+    let route : Route = c.in-Some-2.route in
+    let refusal = guess_refusal_of now.seen c.args.player c.args.words.now c.args.until in
+    let job : Option Routed = guess_job_of still now.seen c.args.player c.args.words.now c.args.until in
+    let fine : refusal ≡ None = subst (λ (a : Asked). guess_refusal_of a.seen c.args.player c.args.words.now c.args.until ≡ None) c.self.view_is c.in_ok-node.ensures.accepted in
+    let is_job : Some (bare_branch 0 route) ≡ job = ap (option_map (λ (s : ℕ × Route). bare_branch 0 s.1)) (sym c.in-Some-2.is) ∙ c.in_ok-node.ensures.job ∙ ap (λ (a : Asked). guess_job_of still a.seen c.args.player c.args.words.now c.args.until) c.self.view_is in
+    passed_on c.from_residual-in_err-make_job.result c.in_err-make_job.field-0.0 (IsNotGuessed refusal job now) c.from_residual-in_err-make_job.ensures.1
+    (no_room refusal job now (length route.rows.items) c.in_err-make_job.field-0.0 fine (ap (λ (o : Option Routed). rows_to_run o) is_job) c.in_err-make_job.ensures.short)
