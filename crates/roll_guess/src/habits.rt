@@ -72,7 +72,7 @@ pub struct Turn {
 }
 
 /// What was seen of one player by now.
-#[derive(Debug, Default, Drop)]
+#[derive(Debug, Drop)]
 pub struct Habits {
     /// What the player holds: at first 0, as a session predicts.
     pub held: Held,

@@ -10,10 +10,17 @@ use crate::parts::WordParts;
 use arrayvec::ArrayVec;
 
 /// Bits that belong together, and what was seen of them, as if they were the word.
-#[derive(Debug, Default, Drop)]
+#[derive(Debug, Drop)]
 pub struct Part {
     pub mask: u32,
     pub habits: Habits,
+}
+
+impl Default for Part {
+    /// No bits.
+    fn default() -> Part {
+        Part::new(0, &[])
+    }
 }
 
 impl Part {
