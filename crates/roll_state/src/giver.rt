@@ -46,7 +46,8 @@ impl Giver {
     /// `Empty` or `TooLong`, if there are none, or 2^32 or more.
     pub fn new(which: u64, frame: u32, bytes: Vec<u8>) -> Result<Giver, StateFault>
         ensures opened { IfOk result
-            (λ giver. giver ≡ record { name = name_of which frame bytes.items; bytes = bytes.items }) }
+            (λ giver. giver
+            ≡ record { name = name_of which frame bytes.items; bytes = bytes.items }) }
         ensures empty { result ≡ Err StateFault.Empty → vec_len bytes ≡ 0 }
         ensures long { result ≡ Err StateFault.TooLong → 2 ^ 32 ≤ vec_len bytes }
         ensures memory { result ≢ Err StateFault.NoMemory }

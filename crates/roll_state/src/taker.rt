@@ -163,8 +163,8 @@ impl Taker {
         places
     }
 
-    /// The missing pieces to ask for next, so many at most, and no more than 16: from the one behind those that were asked for last,
-    /// and from the first one on again once the last was. None if none is missing, or none is to be asked for.
+    /// The missing pieces to ask for next, so many at most, and no more than 16: from the one behind those that were asked for
+    /// last, and from the first one on again once the last was. None if none is missing, or none is to be asked for.
     pub fn ask(&mut self, most: usize) -> Option<Ask>
         ensures asked { option_map wish result ≡ ask self.old most }
         ensures next { self.new ≡ after_ask self.old most }
