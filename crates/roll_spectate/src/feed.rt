@@ -8,7 +8,7 @@ ghost use Rattle.roll_spectate.specs.declared.limits.TheConstants.{SPECTATOR_LIM
 use crate::limits::SPECTATOR_LIMIT;
 use crate::ring::{RowReceiver, RowSender, open_ring};
 use roll_frame::Refusal;
-use roll_session::Networked;
+use roll_session::Settling;
 use std::alloc::Global;
 use std::marker::Model;
 
@@ -73,7 +73,7 @@ impl Feed {
 
     /// Sends each spectator its next settled rows, until its ring is full, and says how many it sent in all. It takes no
     /// memory and waits for nobody. The session is to be the one whose rows were sent before.
-    pub fn push<S: Networked>(&mut self, session: &S) -> u32
+    pub fn push<S: Settling>(&mut self, session: &S) -> u32
         ensures pushed { AllZip (IsFed (settled_rows (S.seen session.now).core)) self.old self.new }
         ensures count { sum_by (λ spectator. length spectator.rows) self.new
             ≡ sum_by (λ spectator. length spectator.rows) self.old + result }

@@ -8,7 +8,7 @@ ghost use Rattle.roll_spectate.specs.Sent.{IsFed, IsFilled, IsSentMore};
 
 use crate::limits::RING_ROWS;
 use roll_frame::Row;
-use roll_session::Networked;
+use roll_session::Settling;
 use rtrb::{Consumer, Producer, Protocol, RingBuffer};
 use std::alloc::{AllocError, Global};
 use std::marker::Model;
@@ -83,7 +83,7 @@ pub fn open_ring(alloc: Global) -> Result<(RowSender, RowReceiver), AllocError>
 
 impl RowSender {
     /// Sends the settled rows that were not sent before, until the ring is full, and says how many.
-    pub fn push<S: Networked>(&mut self, session: &S) -> u32
+    pub fn push<S: Settling>(&mut self, session: &S) -> u32
         ensures pushed { IsFed (settled_rows (S.seen session.now).core) self.old self.new }
         ensures count { length self.new.rows ≡ length self.old.rows + result }
         ensures few { length self.new.rows ≤ FRAME_LIMIT }
@@ -99,7 +99,7 @@ impl RowSender {
     }
 
     /// The first settled row that was not sent. None if all were.
-    fn next<S: Networked>(&self, session: &S) -> Option<Row>
+    fn next<S: Settling>(&self, session: &S) -> Option<Row>
         ensures { result ≡ (if nat_lt (length self.now.rows) (settled (S.seen session.now).core) then Some
             (row_at (S.seen session.now).core.players (length self.now.rows)) else None) }
     {

@@ -1,5 +1,5 @@
 -- The two laws: what is read is spelled so, and what is spelled so is read.
-use Rattle.std.proofs.Common.{◌≡◌, ◌⊎◌, inl, inr, ℕ, ◌*◌, ◌≤◌, Bool, true, false, cond, eqb, ltb, List, [], ◌∷◌, ◌++◌, length, take, drop, Result, Ok, Err, refl, sym, ap, subst, ◌∙◌, arith}
+use Rattle.std.proofs.Common.{◌≡◌, ◌⊎◌, inl, inr, ℕ, zero, suc, ◌*◌, ◌≤◌, Bool, true, false, cond, eqb, ltb, List, [], ◌∷◌, ◌++◌, length, take, drop, Result, Ok, Err, refl, sym, ap, subst, ◌∙◌, arith}
 use Rattle.std.specs.Prelude.{IfOk}
 use Rattle.std.specs.Int.{w32, w64}
 use Rattle.std.specs.List.{flat_map, AllByRecursion}
@@ -327,3 +327,79 @@ is_found bytes (Err e) b given = tt
 -- no two datagrams have one spelling
 pub one_spelling : (m n : Message) → Fits m → Fits n → spelling m ≡ spelling n → m ≡ n
 one_spelling m n f g e = ok_is m n (sym (all_again m f) ∙ (ap all_of e ∙ all_again n g))
+
+-- ---- an ask names no more than its limit
+
+repeated_length : {A : Type 0} (read : List ℕ → Result (A × List ℕ) WireFault) (n : ℕ)
+    (bytes : List ℕ) (x : List A × List ℕ) → repeated read n bytes ≡ Ok x → length x.0 ≡ n
+unfolding repeated
+repeated_length {A = A} read zero bytes x e =
+    ap (λ (y : List A × List ℕ). length y.0) (sym (ok_is ([], bytes) x e))
+repeated_length {A = A} read (suc n) bytes x e =
+    let p = bind_ok (read bytes) (λ first. repeated read n first.1 >>=
+    λ others. Ok (first.0 ∷ others.0, others.1)) x e in
+    let q = bind_ok (repeated read n p.0.1) (λ others. Ok (p.0.0 ∷ others.0, others.1)) x p.2 in
+    let made : List A × List ℕ = (p.0.0 ∷ q.0.0, q.0.1) in
+    ap (λ (y : List A × List ℕ). length y.0) (sym (ok_is made x q.2))
+    ∙ ap suc (repeated_length read n p.0.1 q.0 q.1)
+
+few_places : (bytes : List ℕ) (x : Wish × List ℕ) → wish_at bytes ≡ Ok x
+    → length x.0.places ≤ ASK_LIMIT
+unfolding wish_at
+few_places bytes x e =
+    let q = bind_ok (name_at bytes) (λ s. repeated (number_at w32) (place_count s.1) s.1 >>=
+    λ places. Ok (record { state = s.0; places = places.0 }, places.1)) x e in
+    let r = bind_ok (repeated (number_at w32) (place_count q.0.1) q.0.1)
+    (λ places. Ok (record { state = q.0.0; places = places.0 }, places.1)) x q.2 in
+    let made : Wish × List ℕ = (record { state = q.0.0; places = r.0.0 }, r.0.1) in
+    omega (
+      arith,
+      ap (λ (y : Wish × List ℕ). length y.0.places) (ok_is made x r.2),
+      repeated_length (number_at w32) (place_count q.0.1) q.0.1 r.0 r.1,
+    )
+
+wants_one : (p q : Wish) → Wants p ≡ Wants q → p ≡ q
+wants_one p q e = cc e
+
+of_part : (behind : List ℕ) (x : Content × List ℕ) (w : Wish) → (part_at behind >>= given) ≡ Ok x
+    → x.0 ≡ Wants w → length w.places ≤ ASK_LIMIT
+of_part behind x w e is =
+    let p = bind_ok (part_at behind) given x e in
+    let no : Gives p.0.0 ≡ Wants w =
+    ap (λ (y : Content × List ℕ). y.0) (ok_is (Gives p.0.0, p.0.1) x p.2) ∙ is in
+    absurd (cc no)
+
+of_wish : (behind : List ℕ) (x : Content × List ℕ) (w : Wish) → (wish_at behind >>= wanted) ≡ Ok x
+    → x.0 ≡ Wants w → length w.places ≤ ASK_LIMIT
+of_wish behind x w e is =
+    let p = bind_ok (wish_at behind) wanted x e in
+    let one : p.0.0 ≡ w =
+    wants_one p.0.0 w
+    (ap (λ (y : Content × List ℕ). y.0) (ok_is (Wants p.0.0, p.0.1) x p.2) ∙ is) in
+    omega (arith, few_places behind p.0 p.1, ap (λ (y : Wish). length y.places) one)
+
+few_in : (bytes : List ℕ) (x : Content × List ℕ) (w : Wish) → content_at bytes ≡ Ok x
+    → x.0 ≡ Wants w → length w.places ≤ ASK_LIMIT
+unfolding content_at
+few_in bytes x w e is =
+    let p = bind_ok (byte_at bytes) of_kind x e in
+    elim (chosen (eqb p.0.0 5) (part_at p.0.1 >>= given)
+    (cond (eqb p.0.0 6) (wish_at p.0.1 >>= wanted) (Err Kind)) (Ok x) p.2) [
+      | inl five ↦ of_part p.0.1 x w five.1 is
+      | inr more ↦ elim (chosen (eqb p.0.0 6) (wish_at p.0.1 >>= wanted) (Err Kind) (Ok x) more.1) [
+        | inl six ↦ of_wish p.0.1 x w six.1 is
+        | inr none ↦ absurd (cc none.1)
+      ]
+    ]
+
+pub few_wanted : (bytes : List ℕ) (m : Message) (w : Wish) → all_of bytes ≡ Ok m
+    → m.content ≡ Wants w → length w.places ≤ ASK_LIMIT
+unfolding all_of
+few_wanted bytes m w e is =
+    let p = bind_ok (magic_at bytes) (λ magic. envelope_at magic.1 >>= λ h. content_at h.1 >>=
+    ended h.0) m e in
+    let q = bind_ok (envelope_at p.0.1) (λ h. content_at h.1 >>= ended h.0) m p.2 in
+    let r = bind_ok (content_at q.0.1) (ended q.0.0) m q.2 in
+    let g = passed_ok (eqb (length r.0.1) 0) Trailing
+    (record { envelope = q.0.0; content = r.0.0 }) m r.2 in
+    few_in q.0.1 r.0 w r.1 (ap (λ (x : Message). x.content) g.1 ∙ is)

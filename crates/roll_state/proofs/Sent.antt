@@ -3,20 +3,23 @@ use Rattle.std.proofs.Common.{◌≡◌, ℕ, ◌+◌, ◌*◌, ◌<◌, ◌≤�
 use Rattle.std.specs.Prelude.{nat_lt, option_and_then, option_map, slice_get}
 use Rattle.std.proofs.lemmas.Bool.{ltb-true}
 use Rattle.std.proofs.lemmas.List.{length-take}
-use Rattle.roll_contact.specs.Seals.{HasNumber}
+use Rattle.std.proofs.lemmas.Option.{slice_get_within}
+use Rattle.roll_contact.specs.Seals.{HasNumber, unsealed}
 use Rattle.roll_contact.specs.declared.key.Key.{Key}
 use Rattle.roll_contact.proofs.Seals.{again, length-sealed}
 use Rattle.roll_wire.specs.Spelling.{number}
+use Rattle.roll_wire.specs.declared.fault.WireFault.{WireFault}
+use Rattle.roll_state.specs.Reading.{all_of}
+use Rattle.roll_state.specs.declared.limits.TheConstants.{ASK_LIMIT, PIECE_LIMIT}
 use Rattle.roll_state.specs.Crossing.{GiversSendWhatIsAsked, IsOfGiver}
 use Rattle.roll_state.specs.Giving.{is_asked, part_at, reply, reply_read, reply_to, Giving}
 use Rattle.roll_state.specs.Sealing.{message_by, opened, read, read_sealed, said_by}
 use Rattle.roll_state.specs.Spelling.{spelling, Content, Fits, Gives, IsContent, Message, Part, Wants, Wish}
 use Rattle.roll_state.specs.States.{count_of, piece_of}
-use Rattle.roll_state.specs.declared.limits.TheConstants.{PIECE_LIMIT}
 use Rattle.roll_state.specs.declared.name.StateName.{StateName}
 use Rattle.roll_state.specs.declared.refusal.StateRefusal.{StateRefusal}
 use Rattle.roll_state.specs.declared.refusal.StateRefusal.TheVariants.{OtherState}
-use Rattle.roll_state.proofs.Messages.{all_again}
+use Rattle.roll_state.proofs.Messages.{all_again, few_wanted}
 
 -- ---- a seal
 
@@ -152,6 +155,30 @@ given_back state name key bytes g s =
     ∙ read_back key g.sender (Gives p) fits
     (omega (arith, length-part key g.sender p g.fits.1.1.1, small))
 
+-- a place that is named is one of them
+index_few : (places : List ℕ) (index place : ℕ) → slice_get places index ≡ Some place
+    → length places ≤ ASK_LIMIT → index < ASK_LIMIT
+index_few places index place e few =
+    let inside : index < length places = slice_get_within places index place e in
+    omega arith
+
+few_text : (text : Option (List ℕ)) (m : Message) (w : Wish) → read_sealed text ≡ Ok m
+    → m.content ≡ Wants w → length w.places ≤ ASK_LIMIT
+few_text None m w e is = absurd (cc e)
+few_text (Some text) m w e is = go (all_of text) refl e
+  where
+    go : (r : Result Message WireFault) → all_of text ≡ r → read r ≡ Ok m
+        → length w.places ≤ ASK_LIMIT
+    go (Ok n) a b =
+        let one : n ≡ m = (cc b) in
+        few_wanted text m w (a ∙ ap (λ (x : Message). Ok x) one) is
+    go (Err fault) a b = absurd (cc b)
+
+few_read : (key : Key) (asked : List ℕ) (m : Message) (w : Wish) → opened key asked ≡ Ok m
+    → m.content ≡ Wants w → length w.places ≤ ASK_LIMIT
+unfolding opened
+few_read key asked m w e is = few_text (unsealed key asked) m w e is
+
 pub is_answer : GiversSendWhatIsAsked
 unfolding said_by
 is_answer giver key sender asked index bytes size e =
@@ -168,7 +195,9 @@ is_answer giver key sender asked index bytes size e =
       read = s.read ∙ ap (λ (what : Content). Ok (record { envelope = s.message.envelope; content = what })) s.wants;
       named = s.named;
       bytes_are = s.bytes_are;
-      few = omega (
+      few = index_few s.wish.places index s.place s.named
+          (few_read key asked s.message s.wish s.read s.wants);
+      short = omega (
         arith,
         ap length s.bytes_are,
         length-sealed key (spelling (message_by key sender (Gives p))) (long key sender (Gives p)),

@@ -85,8 +85,8 @@ pub record TakersHoldWhatWasGiven : Type 0 where
       → slice_index_or t.barred g.sender false ≡ false → is_allowed t.only g.sender ≡ true
       → IsOk (received t key bytes)
 
--- what a giver sends is a piece of its state that an ask with the same key names, once for each time that it names it, and has no
--- more than 66 bytes beside the piece's own
+-- what a giver sends is a piece of its state that an ask with the same key names, once for each time that it names it, 16 times at
+-- most in all, and has no more than 66 bytes beside the piece's own
 pub record IsAnswer (giver : Giving) (key : Key) (sender : ℕ) (asked : List ℕ) (index : ℕ)
     (bytes : List ℕ) : Type 0 where
   pub envelope : Envelope
@@ -96,7 +96,8 @@ pub record IsAnswer (giver : Giving) (key : Key) (sender : ℕ) (asked : List �
   pub named : slice_get wish.places index ≡ Some place
   pub bytes_are : bytes
       ≡ said_by key sender (Gives (record { state = giver.name; place = place; bytes = piece_of giver.bytes place }))
-  pub few : length bytes ≤ 66 + length (piece_of giver.bytes place)
+  pub few : index < ASK_LIMIT
+  pub short : length bytes ≤ 66 + length (piece_of giver.bytes place)
 
 abbrev pub GiversSendWhatIsAsked : Type 0
 GiversSendWhatIsAsked = (giver : Giving) (key : Key) (sender : ℕ) (asked : List ℕ) (index : ℕ)

@@ -1,9 +1,11 @@
 -- A state of a game: its bytes, its name, and its pieces.
-use Rattle.std.specs.Prelude.{◌≡◌, ◌≤◌, ℕ, ◌+◌, ◌-◌, ◌*◌, ◌/◌, List, ◌++◌, length, take, drop, min, replicate, Bool, ◌&&◌, ◌==◌}
+use Rattle.std.specs.Prelude.{◌≡◌, ◌≤◌, ℕ, ◌+◌, ◌-◌, ◌*◌, ◌/◌, List, ◌++◌, length, take, drop, min, replicate, Bool, ◌&&◌, ◌==◌, ◌^◌, nat_lt, Option, Some, None, if◌then◌else◌}
 use Rattle.std.specs.Str.{bytes_eq}
 use Rattle.sha2.specs.Sha256.{sha256}
 use Rattle.roll_state.specs.declared.limits.TheConstants.{PIECE_LIMIT}
 use Rattle.roll_state.specs.declared.name.StateName.{StateName}
+use Rattle.roll_state.specs.declared.refusal.StateFault.{StateFault}
+use Rattle.roll_state.specs.declared.refusal.StateFault.TheVariants.{Empty, TooLong}
 
 -- ---- names
 
@@ -34,6 +36,14 @@ abbrev pub is_same : StateName → StateName → Bool
 is_same one other =
     (one.which == other.which) && ((one.frame == other.frame)
     && ((one.length == other.length) && bytes_eq one.digest other.digest))
+
+-- why nobody gives so many bytes, and why nobody takes a state of so many if a program allows no more than a limit
+abbrev pub giver_fault : (len : ℕ) → Option StateFault
+giver_fault len = if len == 0 then Some Empty else (if nat_lt len (2 ^ 32) then None else Some TooLong)
+
+abbrev pub taker_fault : (len limit : ℕ) → Option StateFault
+taker_fault len limit =
+    if len == 0 then Some Empty else (if nat_lt limit len then Some TooLong else None)
 
 -- ---- pieces
 

@@ -1,11 +1,11 @@
 //! Who gives a state.
-ghost use Rattle.std.specs.Prelude.{◌≡◌, ◌≢◌, ◌<◌, ◌≤◌, ◌^◌, length, option_map, IfErr, IfOk, IfSome};
+ghost use Rattle.std.specs.Prelude.{◌≡◌, option_map, IfErr, IfOk, IfSome, OnOk, Some, None};
 ghost use Rattle.std.specs.Vec.{vec_len};
 ghost use Rattle.roll_wire.specs.Spelling.{IsEnvelope};
 ghost use Rattle.roll_state.specs.Giving.{answer, is_asked, part_at, reply, Giving};
 ghost use Rattle.roll_state.specs.Sealing.{Opens};
-ghost use Rattle.roll_state.specs.Spelling.{part, wish, Gives, IsName};
-ghost use Rattle.roll_state.specs.States.{name_of, IsNameOf};
+ghost use Rattle.roll_state.specs.Spelling.{part, wish, IsName};
+ghost use Rattle.roll_state.specs.States.{giver_fault, name_of, IsNameOf};
 
 use crate::datagram::{Ask, Piece, StateBody};
 use crate::limits::PIECE_LIMIT;
@@ -46,10 +46,10 @@ impl Giver {
     /// `Empty` or `TooLong`, if there are none, or 2^32 or more.
     pub fn new(which: u64, frame: u32, bytes: Vec<u8>) -> Result<Giver, StateFault>
         ensures opened { IfOk result
-            (λ giver. giver ≡ record { name = name_of which frame bytes.items; bytes = bytes.items }) }
-        ensures empty { result ≡ Err StateFault.Empty → vec_len bytes ≡ 0 }
-        ensures long { result ≡ Err StateFault.TooLong → 2 ^ 32 ≤ vec_len bytes }
-        ensures memory { result ≢ Err StateFault.NoMemory }
+            (λ giver. giver
+            ≡ record { name = name_of which frame bytes.items; bytes = bytes.items }) }
+        ensures accepted { OnOk result (giver_fault (vec_len bytes) ≡ None) }
+        ensures refused { IfErr result (λ why. giver_fault (vec_len bytes) ≡ Some why) }
     {
         if bytes.is_empty() {
             return Err(StateFault::Empty);

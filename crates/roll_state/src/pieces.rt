@@ -1,5 +1,5 @@
 //! The pieces of a state that are there.
-ghost use Rattle.std.specs.Prelude.{◌≡◌, ◌<◌, ◌≤◌, ◌+◌, ◌-◌, ◌*◌, ◌^◌, ◌++◌, length, take, filter, replicate, not, false, None, IfOk};
+ghost use Rattle.std.specs.Prelude.{◌≡◌, ◌<◌, ◌≤◌, ◌+◌, ◌-◌, ◌*◌, ◌^◌, ◌++◌, length, take, filter, replicate, false, None, IfOk};
 ghost use Rattle.std.specs.List.{range_with_len};
 ghost use Rattle.roll_state.specs.Taking.{are_from, emptied, is_from, is_missing, is_there, left_in, with_part};
 ghost use Rattle.roll_state.specs.declared.limits.TheConstants.{ASK_LIMIT, PIECE_LIMIT};

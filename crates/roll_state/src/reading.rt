@@ -3,7 +3,7 @@ ghost use Rattle.std.specs.Prelude.{◌≡◌, ◌≤◌, length, Ok, IfOk};
 ghost use Rattle.std.specs.Int.{w32, w64};
 ghost use Rattle.roll_wire.specs.Reading.{Gives, byte_at, envelope_at, magic_at, number_at, repeated};
 ghost use Rattle.roll_state.specs.Spelling.{Fits, Message, content, message, part, spelling, wish};
-ghost use Rattle.roll_state.specs.Reading.{all_of, bytes_at, content_at, name_at, part_at, place_count, wish_at};
+ghost use Rattle.roll_state.specs.Reading.{all_of, bytes_at, content_at, name_at, part_at, wish_at};
 ghost use Rattle.roll_state.specs.declared.limits.TheConstants.{ASK_LIMIT, PIECE_LIMIT};
 
 use crate::datagram::{Ask, Piece, StateBody, StateDatagram};

@@ -1,9 +1,10 @@
 //! Who takes a state.
-ghost use Rattle.std.specs.Prelude.{◌≡◌, ◌≤◌, ◌<◌, ◌+◌, ◌*◌, length, option_map, IfOk, IfSome, IfNone, OnSome, None, false, not, ◌&&◌, slice_index_or};
+ghost use Rattle.std.specs.Prelude.{◌≡◌, ◌≤◌, ◌<◌, ◌+◌, ◌*◌, length, option_map, IfErr, IfOk, IfSome, IfNone, OnOk, OnSome, Some, None, false, not, ◌&&◌, slice_index_or};
+ghost use Rattle.std.specs.Option.{option_or};
 ghost use Rattle.sha2.specs.Sha256.{sha256};
 ghost use Rattle.roll_mesh.specs.declared.limits.TheConstants.{MACHINE_LIMIT as MOST_MACHINES};
-ghost use Rattle.roll_state.specs.Giving.{Giving};
 ghost use Rattle.roll_state.specs.Spelling.{part, wish};
+ghost use Rattle.roll_state.specs.States.{taker_fault};
 ghost use Rattle.roll_state.specs.declared.limits.TheConstants.{PIECE_LIMIT};
 ghost use Rattle.roll_state.specs.Taking.{after_ask, after_heard, after_received, ask, asked, heard, heard_of, held_after, is_allowed, left_in, opened_taker, received, refusal_of, said_ask};
 
@@ -87,9 +88,9 @@ impl Taker {
     /// `Empty` or `TooLong`: the name is of no byte, or of more than the limit. Else `NoMemory`, if the allocator has no room.
     pub fn open(alloc: Global, name: StateName, limit: u32) -> Result<Taker, StateFault>
         ensures opened { IfOk result (λ taker. taker ≡ opened_taker name) }
-        ensures small { IfOk result (λ taker. (1 ≤ name.length) × (name.length ≤ limit)) }
-        ensures empty { result ≡ Err StateFault.Empty → name.length ≡ 0 }
-        ensures long { result ≡ Err StateFault.TooLong → limit < name.length }
+        ensures accepted { OnOk result (taker_fault name.length limit ≡ None) }
+        ensures refused { IfErr result (λ why.
+            option_or (taker_fault name.length limit) (Some StateFault.NoMemory) ≡ Some why) }
     {
         if name.length == 0 {
             return Err(StateFault::Empty);
@@ -163,8 +164,8 @@ impl Taker {
         places
     }
 
-    /// The missing pieces to ask for next, so many at most, and no more than 16: from the one behind those that were asked for last,
-    /// and from the first one on again once the last was. None if none is missing, or none is to be asked for.
+    /// The missing pieces to ask for next, so many at most, and no more than 16: from the one behind those that were asked for
+    /// last, and from the first one on again once the last was. None if none is missing, or none is to be asked for.
     pub fn ask(&mut self, most: usize) -> Option<Ask>
         ensures asked { option_map wish result ≡ ask self.old most }
         ensures next { self.new ≡ after_ask self.old most }

@@ -1,5 +1,5 @@
 //! Datagrams to bytes.
-ghost use Rattle.std.specs.Prelude.{◌≡◌, ℕ, ◌+◌, ◌*◌, ◌≤◌, ◌++◌, length};
+ghost use Rattle.std.specs.Prelude.{◌≡◌, ◌+◌, ◌*◌, ◌≤◌, ◌++◌, length};
 ghost use Rattle.std.specs.List.{flat_map, AllByRecursion};
 ghost use Rattle.roll_wire.specs.Spelling.{byte, envelope, long, number, IsEnvelope, IsLong, IsNumber};
 ghost use Rattle.roll_state.specs.Spelling.{body, content, message, name, spelling, Fits, IsContent, IsName};

@@ -1,5 +1,5 @@
-//! Tests of parts of the library by their public names: what a mesh does, the texts of datagrams, a state in pieces, choices of guesses,
-//! and another engine in the place of a session's game.
+//! Tests of parts of the library by their public names: what a mesh does, the texts of datagrams, choices of guesses, and another
+//! engine in the place of a session's game.
 #![tactic(auto)]
 
 #[cfg(test)]
@@ -8,8 +8,6 @@ mod foretold;
 mod guess;
 #[cfg(test)]
 mod mesh;
-#[cfg(test)]
-mod states;
 #[cfg(test)]
 mod swap;
 #[cfg(test)]

@@ -1,5 +1,4 @@
-//! A state in pieces: the examples of docs/WIRE.md, whose bytes another program wrote, and transfers whose datagrams are lost, double,
-//! late, or lies.
+//! A state in pieces: the examples of docs/WIRE.md, whose bytes another program wrote, and single calls of both ends.
 use arrayvec::ArrayVec;
 use roll_state::{
     Ask, Giver, Heard, Key, PIECE_LIMIT, Piece, StateBody, StateDatagram, StateFault, StateName,
