@@ -13,7 +13,7 @@
 #include <string.h>
 
 enum { MOST_LATE = 20 /* turns that are made up for */, FLOOD = 256, MARK_EVERY = 600, SURELY = 180, BYES = 3,
-       ENDING = 200 /* turns in which a desync is still told to the others */ };
+       ENDING = 90 /* turns in which a desync is still told to the others */ };
 
 static void say(match *self, const char *what, uint32_t machine) {
     snprintf(self->told, sizeof self->told, what, machine);
@@ -209,15 +209,15 @@ static void leave(match *self, const fazgrond_event *event) {
     }
 }
 
-/* It plays no more, but goes on for a while, so that the others find out too. */
-static void part(match *self, const fazgrond_event *event) {
-    if (self->has_desync)
-        return;
-    fprintf(stderr, "desync: machine %" PRIu32 " has another state at frame %" PRIu32 "\n", event->machine, event->frame);
-    snprintf(self->told, sizeof self->told, "desync with machine %" PRIu32, event->machine);
-    self->desync = event->frame;
+/* It plays no more, but goes on for a while to tell the others. Of several frames the first one counts. */
+static void part(match *self, uint32_t machine, uint32_t frame) {
+    if (!self->has_desync) {
+        fprintf(stderr, "desync: machine %" PRIu32 " has another state at frame %" PRIu32 "\n", machine, frame);
+        snprintf(self->told, sizeof self->told, "desync with machine %" PRIu32, machine);
+        self->ending = ENDING;
+    }
+    self->desync = self->has_desync && self->desync < frame ? self->desync : frame;
     self->has_desync = true;
-    self->ending = ENDING;
 }
 
 static void react(match *self, const fazgrond_event *event) {
@@ -234,7 +234,7 @@ static void react(match *self, const fazgrond_event *event) {
     case FAZGROND_LEFT: leave(self, event); break;
     case FAZGROND_DROPPED: end(self, "the others regard this machine as gone"); break;
     case FAZGROND_MISMATCH: end(self, "another machine means another match"); break;
-    case FAZGROND_DESYNC: part(self, event); break;
+    case FAZGROND_DESYNC: part(self, event->machine, event->frame); break;
     default: break;
     }
 }
@@ -297,9 +297,12 @@ static void turn(match *self) {
     must(self, fazgrond_peer_poll(&self->peer, &self->session, now));
     must(self, fazgrond_peer_is_running(&self->peer, &is_running));
     self->is_running = is_running != 0;
-    if (self->has_desync)
+    if (self->meeting->has_parted)
+        part(self, self->meeting->parted_with, self->meeting->parted_at);
+    if (self->has_desync) {
+        meeting_part(self->meeting, self->desync);
         self->is_over |= self->ending-- == 0;
-    else if (self->is_running && !self->has_failed)
+    } else if (self->is_running && !self->has_failed)
         play(self);
     note_settled(self);
     casting_turn(self);
