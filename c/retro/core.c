@@ -88,6 +88,7 @@ static bool option_value(const core *self, struct retro_variable *asked) {
 
 static bool answer(core *self, unsigned command, void *data) {
     switch (command) {
+    case RETRO_ENVIRONMENT_GET_CAN_DUPE: return *(bool *)data = true; /* some cores refuse a ROM without it */
     case RETRO_ENVIRONMENT_GET_SYSTEM_DIRECTORY:
     case RETRO_ENVIRONMENT_GET_SAVE_DIRECTORY:
     case RETRO_ENVIRONMENT_GET_CORE_ASSETS_DIRECTORY: *(const char **)data = no_folder(); return true;
@@ -97,7 +98,6 @@ static bool answer(core *self, unsigned command, void *data) {
         return true;
     case RETRO_ENVIRONMENT_SET_VARIABLES: declare_options(self, data); return true;
     case RETRO_ENVIRONMENT_GET_VARIABLE: return option_value(self, data);
-    case RETRO_ENVIRONMENT_GET_CAN_DUPE: /* after a rollback the picture before isn't that of the frame before */
     case RETRO_ENVIRONMENT_GET_VARIABLE_UPDATE:
     case RETRO_ENVIRONMENT_GET_FASTFORWARDING: *(bool *)data = false; return true;
     case RETRO_ENVIRONMENT_GET_CORE_OPTIONS_VERSION: *(unsigned *)data = 0; return true;
