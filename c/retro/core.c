@@ -88,7 +88,7 @@ static bool option_value(const core *self, struct retro_variable *asked) {
 
 static bool answer(core *self, unsigned command, void *data) {
     switch (command) {
-    case RETRO_ENVIRONMENT_GET_CAN_DUPE: return *(bool *)data = true;
+    case RETRO_ENVIRONMENT_GET_CAN_DUPE: return *(bool *)data = true; /* some cores refuse a ROM without it */
     case RETRO_ENVIRONMENT_GET_SYSTEM_DIRECTORY:
     case RETRO_ENVIRONMENT_GET_SAVE_DIRECTORY:
     case RETRO_ENVIRONMENT_GET_CORE_ASSETS_DIRECTORY: *(const char **)data = no_folder(); return true;

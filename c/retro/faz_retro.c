@@ -236,6 +236,14 @@ static void write_save_ram(match *it) {
         fail("the save RAM can't be written");
 }
 
+/* Shows how the match has ended, until the window is closed. */
+static void linger(const match *it) {
+    while (it->is_over && !self.wish.is_headless && window_goes_on()) {
+        show_waiting(it->told);
+        net_rest(&self.net, 16000);
+    }
+}
+
 /* After a desync: whether there is to be a new match. */
 static bool wants_again(void) {
     while (!self.goes_again && !self.wish.is_headless && window_goes_on()) {
@@ -258,6 +266,8 @@ static int play(core_state *opening) {
         else {
             came = match_play(&it);
             write_save_ram(&it);
+            if (came != DESYNCED)
+                linger(&it);
         }
         goes_on = came == DESYNCED && wants_again() && match_go_back(&it);
         match_close(&it);

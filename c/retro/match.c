@@ -13,16 +13,25 @@
 #include <string.h>
 
 enum { MOST_LATE = 20 /* turns that are made up for */, FLOOD = 256, MARK_EVERY = 600, SURELY = 180, BYES = 3,
-       ENDING = 200 /* turns in which a desync is still told to the others */ };
+       ENDING = 90 /* turns in which a desync is still told to the others */ };
 
 static void say(match *self, const char *what, uint32_t machine) {
-    snprintf(self->told, sizeof self->told, what, machine);
-    fprintf(stderr, "%s\n", self->told);
+    char text[TOLD];
+    snprintf(text, sizeof text, what, machine);
+    fprintf(stderr, "%s\n", text);
+    if (!self->is_over)
+        memcpy(self->told, text, sizeof text);
 }
 
 static void end(match *self, const char *why) {
-    fprintf(stderr, "the match is over: %s\n", why);
-    self->is_over = self->has_failed = true;
+    snprintf(self->told, sizeof self->told, "the match is over: %s", why);
+    fprintf(stderr, "%s\n", self->told);
+    self->is_over = true;
+}
+
+static void fail(match *self, const char *why) {
+    end(self, why);
+    self->has_failed = true;
 }
 
 /* What a call answers that isn't refused in a match that goes as it should. */
@@ -32,7 +41,7 @@ static void must(match *self, int32_t code) {
         return;
     size_t length = fazgrond_text(code, text, sizeof text - 1);
     text[length < sizeof text ? length : sizeof text - 1] = 0;
-    end(self, (const char *)text);
+    fail(self, (const char *)text);
 }
 
 /* The beginning. */
@@ -72,7 +81,7 @@ static bool begin(match *self) {
     self->peer = (fazgrond_peer)FAZGROND_CLOSED;
     if (!runner_open(self->main, &self->opening)
         || !helpers_begin(&self->helpers, self->wish->helpers, self->from, self->states, why, sizeof why)) {
-        end(self, why);
+        fail(self, why);
         return false;
     }
     if (!open_session(self) || !casting_open(self)) {
@@ -117,14 +126,24 @@ static void hear(match *self, uint32_t now) {
 
 /* A turn: a frame. */
 
+/* The last step of a turn alone is seen and heard. */
+static bool is_last_step(const fazgrond_request *requests, size_t at, size_t count) {
+    bool is_last = requests[at].kind == FAZGROND_STEP;
+    while (++at < count)
+        is_last &= requests[at].kind != FAZGROND_STEP;
+    return is_last;
+}
+
 static void obey_all(match *self) {
     fazgrond_request requests[16];
     size_t count;
     uint32_t steps = self->main->steps;
     while ((count = fazgrond_take_requests(&self->session, requests, 16)) > 0)
-        for (size_t at = 0; at < count && !self->has_failed; at++)
+        for (size_t at = 0; at < count && !self->has_failed; at++) {
+            self->main->core.is_shown = is_last_step(requests, at, count);
             if (!runner_obey(self->main, &requests[at]))
-                end(self, "the core refuses to save or load a state");
+                fail(self, "the core refuses to save or load a state");
+        }
     self->again = self->main->steps - steps;
 }
 
@@ -161,7 +180,7 @@ static void play(match *self) {
     fazgrond_row row;
     uint32_t has_news = 0;
     if (!helpers_collect(&self->helpers, &self->session))
-        end(self, "a helper's core refuses to save or load a state");
+        fail(self, "a helper's core refuses to save or load a state");
     int32_t given = give(self);
     must(self, fazgrond_has_news(&self->session, &has_news));
     self->waits += given != FAZGROND_OK && !has_all(self);
@@ -193,7 +212,7 @@ static void note_settled(match *self) {
     self->marks[0].state = oldest;
     self->marks[0].frame = self->settled;
     if (!state_copy(&self->marks[0].state, &self->states->slots[slot].state))
-        end(self, "there is no memory");
+        fail(self, "there is no memory");
 }
 
 /* A turn: what happened, and what is sent. */
@@ -203,21 +222,19 @@ static void leave(match *self, const fazgrond_event *event) {
         return;
     say(self, "machine %" PRIu32 " has left", event->machine);
     self->gone |= 1u << event->machine;
-    if ((self->gone | 1u << self->meeting->all.me) == (1u << self->meeting->all.machines) - 1) {
-        fputs("the match is over: nobody else is there\n", stderr);
-        self->is_over = true;
-    }
+    if ((self->gone | 1u << self->meeting->all.me) == (1u << self->meeting->all.machines) - 1)
+        end(self, "nobody else is there");
 }
 
-/* It plays no more, but goes on for a while, so that the others find out too. */
-static void part(match *self, const fazgrond_event *event) {
-    if (self->has_desync)
-        return;
-    fprintf(stderr, "desync: machine %" PRIu32 " has another state at frame %" PRIu32 "\n", event->machine, event->frame);
-    snprintf(self->told, sizeof self->told, "desync with machine %" PRIu32, event->machine);
-    self->desync = event->frame;
+/* It plays no more, but goes on for a while to tell the others. Of several frames the first one counts. */
+static void part(match *self, uint32_t machine, uint32_t frame) {
+    if (!self->has_desync) {
+        fprintf(stderr, "desync: machine %" PRIu32 " has another state at frame %" PRIu32 "\n", machine, frame);
+        snprintf(self->told, sizeof self->told, "desync with machine %" PRIu32, machine);
+        self->ending = ENDING;
+    }
+    self->desync = self->has_desync && self->desync < frame ? self->desync : frame;
     self->has_desync = true;
-    self->ending = ENDING;
 }
 
 static void react(match *self, const fazgrond_event *event) {
@@ -232,9 +249,9 @@ static void react(match *self, const fazgrond_event *event) {
     case FAZGROND_RESTARTED: say(self, "machine %" PRIu32 " was begun anew, and can't come back", event->machine); break;
     case FAZGROND_DISCONNECTED: say(self, "player %" PRIu32 " has left", event->player); break;
     case FAZGROND_LEFT: leave(self, event); break;
-    case FAZGROND_DROPPED: end(self, "the others regard this machine as gone"); break;
-    case FAZGROND_MISMATCH: end(self, "another machine means another match"); break;
-    case FAZGROND_DESYNC: part(self, event); break;
+    case FAZGROND_DROPPED: fail(self, "the others regard this machine as gone"); break;
+    case FAZGROND_MISMATCH: fail(self, "another machine means another match"); break;
+    case FAZGROND_DESYNC: part(self, event->machine, event->frame); break;
     default: break;
     }
 }
@@ -269,7 +286,7 @@ static void say_bye(match *self) {
 }
 
 static void show(match *self) {
-    enum { LINES = FAZGROND_MACHINES + 2, ROOM = 96 };
+    enum { LINES = FAZGROND_MACHINES + 2, ROOM = TOLD };
     char text[LINES][ROOM];
     const char *lines[LINES];
     int count = 0;
@@ -297,9 +314,12 @@ static void turn(match *self) {
     must(self, fazgrond_peer_poll(&self->peer, &self->session, now));
     must(self, fazgrond_peer_is_running(&self->peer, &is_running));
     self->is_running = is_running != 0;
-    if (self->has_desync)
+    if (self->meeting->has_parted)
+        part(self, self->meeting->parted_with, self->meeting->parted_at);
+    if (self->has_desync) {
+        meeting_part(self->meeting, self->desync);
         self->is_over |= self->ending-- == 0;
-    else if (self->is_running && !self->has_failed)
+    } else if (self->is_running && !self->has_failed)
         play(self);
     note_settled(self);
     casting_turn(self);

@@ -6,7 +6,7 @@
 #include "meet.h"
 #include "pads.h"
 
-enum { SEATS = 2, MARKS = 4, TOLD = 96 };
+enum { SEATS = 2, MARKS = 4, TOLD = 192 };
 
 /* What the command line says. */
 typedef struct wish {

@@ -7,7 +7,7 @@
 #include <stdio.h>
 #include <string.h>
 
-enum { HEAD = 12, HELLO = 1, TABLE = 2, REFUSAL = 3, VERSION = 1 };
+enum { HEAD = 12, HELLO = 1, TABLE = 2, REFUSAL = 3, PARTED = 4, VERSION = 1 };
 
 static const uint8_t magic[4] = { 'F', 'Z', 'R', 'M' };
 
@@ -50,10 +50,12 @@ static cursor begin(uint8_t kind) {
     return made;
 }
 
-static void send_sealed(const meeting *self, const address *to, cursor *made) {
-    seal(made->bytes, made->at, (seal_key){ .number = self->key });
+static void send_by(const meeting *self, const address *to, cursor *made, uint64_t number) {
+    seal(made->bytes, made->at, (seal_key){ .number = number });
     net_send(self->net, to, made->bytes, made->at);
 }
+
+static void send_sealed(const meeting *self, const address *to, cursor *made) { send_by(self, to, made, self->key); }
 
 static void put_address(cursor *self, const address *it) {
     put(self, ntohl(it->sin_addr.s_addr), 4);
@@ -228,15 +230,37 @@ static void take_table(meeting *self, const address *from, cursor *heard) {
     all->digest = digest_of_all(self);
 }
 
+void meeting_part(const meeting *self, uint32_t frame) {
+    for (uint32_t at = 0; at < self->all.machines; at++) {
+        cursor made = begin(PARTED);
+        put(&made, self->all.me, 1);
+        put(&made, frame, 4);
+        if (at != self->all.me)
+            send_by(self, &self->all.machine[at], &made, self->all.numbers[at]);
+    }
+}
+
+/* It is sealed by the number of the two machines, as all in a match. */
+static void take_parting(meeting *self, cursor *heard) {
+    uint32_t from = (uint32_t)take(heard, 1);
+    uint32_t frame = (uint32_t)take(heard, 4);
+    if (heard->is_short || !self->is_agreed || from >= self->all.machines || from == self->all.me
+        || !is_sealed(heard->bytes, heard->length, (seal_key){ .number = self->all.numbers[from] }))
+        return;
+    self->parted_with = from;
+    self->parted_at = frame;
+    self->has_parted = true;
+}
+
 bool meeting_hear(meeting *self, const address *from, const uint8_t *bytes, size_t length) {
     cursor heard = { .at = HEAD, .length = length };
     if (length < HEAD || length > sizeof heard.bytes || memcmp(bytes, magic, sizeof magic) != 0)
         return false;
     memcpy(heard.bytes, bytes, length);
-    if (!is_sealed(bytes, length, (seal_key){ .number = self->key }))
-        return true;
     uint64_t kind = take(&heard, 1), version = take(&heard, 1);
-    if (version != VERSION || heard.is_short)
+    if (kind == PARTED && version == VERSION)
+        take_parting(self, &heard);
+    if (kind == PARTED || version != VERSION || !is_sealed(bytes, length, (seal_key){ .number = self->key }))
         return true;
     if (self->is_host) {
         if (kind == HELLO)
@@ -257,7 +281,7 @@ bool meeting_hear(meeting *self, const address *from, const uint8_t *bytes, size
 static void start(meeting *self, uint32_t players) {
     self->nonce = net_draw();
     self->players = players;
-    self->is_agreed = self->is_refused = false;
+    self->is_agreed = self->is_refused = self->has_parted = false;
     self->machines = self->viewers = 0;
     memset(&self->all, 0, sizeof self->all);
     memset(self->machine, 0, sizeof self->machine);

@@ -34,6 +34,8 @@ typedef struct meeting {
     uint64_t key, nonce;
     uint32_t players, wanted; /* how many sit here; of the host: how many machines there are to be */
     bool is_host, is_agreed, is_refused;
+    bool has_parted;                 /* in the match: another machine has said that it found a desync .. */
+    uint32_t parted_with, parted_at; /* .. which one, and at which frame */
     char why[160];
     address host;
     uint32_t machines, viewers; /* of the host: who is there so far, itself the first machine */
@@ -49,6 +51,9 @@ void meeting_join(meeting *self, const address *host, uint32_t players);
 
 /* Every 100 milliseconds or so, until it is agreed or refused. */
 void meeting_turn(meeting *self);
+
+/* In a match: tells all others that this machine has found a desync at this frame. */
+void meeting_part(const meeting *self, uint32_t frame);
 
 /* Takes a datagram, if it is of a meeting. The host gives it all that come in the match, too: for viewers who come late, and those
  * that didn't hear what was agreed. */

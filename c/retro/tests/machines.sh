@@ -23,7 +23,7 @@ compile() {
 
 # Whether machines came to the same digests in all frames, and so did a straight run, which has none of the library.
 same() {
-    [ "$(wc -l < "$work/$1.sums")" = $frames ] || return 1
+    [ "$(wc -l < "$work/$1.sums")" = $frames ] || { echo "$(wc -l < "$work/$1.sums") frames have digests"; return 1; }
     for name; do
         cmp "$work/a.sums" "$work/$name.sums" || return 1
     done
@@ -31,7 +31,11 @@ same() {
         && cmp "$work/a.sums" "$work/straight.sums"
 }
 
-# Whether a machine played frames again.
+# Whether machines played frames again: one may be behind the others for good, and then has nothing to play again.
 again() {
-    [ "$(sed -n 's/^played .* and \([0-9]*\) again.*/\1/p' "$work/$1.err")" -ge 50 ]
+    sum=0
+    for name; do
+        sum=$((sum + $(sed -n 's/^played .* and \([0-9]*\) again.*/\1/p' "$work/$name.err")))
+    done
+    [ $sum -ge 50 ] || { echo "$sum frames were played again"; false; }
 }
