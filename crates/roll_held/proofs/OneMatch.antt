@@ -178,9 +178,8 @@ holders_go_on step old new words room place follows called fits still p =
     go (Some frame) e more =
         let before = first_is old words q frame fits e in
         let after = first_is new words q frame still e in
-        let same : words_of new q ≡ words_of old q = no_more (words_of old q) (words_of new q) more.0 more.1 (sym after.2 ∙ before.2) in
-        (
+        let same : words_of new q ≡ words_of old q = no_more (words_of old q) (words_of new q) more.0 more.1 (sym after.2 ∙ before.2) in (
           [],
           words_told new words q after.0 after.1 ∙ ap (λ ws. ws ++ words_among words q) same
-          ∙ sym (words_told old words q before.0 before.1) ∙ sym (append-nil (words_of (told old words) q)),
+              ∙ sym (words_told old words q before.0 before.1) ∙ sym (append-nil (words_of (told old words) q)),
         )

@@ -326,13 +326,12 @@ module _ (step : Step) where
         many,
         on,
         ltb-true w.frame (settled s.core + QUEUE_LIMIT) c.1,
-      )) in
-      (
+      )) in (
         test (λ player. not player.local && (not player.gone && (nat_lt w.frame (length player.words)
-        && (slice_index player.words w.frame == w.word)))) ∙ rw (local, stays, past) refl,
+            && (slice_index player.words w.frame == w.word)))) ∙ rw (local, stays, past) refl,
         first_refusal-behind (remote_tests later.core.players base w.player w.frame)
-        ((nat_le later.settings.log later.core.logged, LogFull) ∷ [])
-        (invalid, (gone, (conflict, (gap, (full, tt))))),
+            ((nat_le later.settings.log later.core.logged, LogFull) ∷ [])
+            (invalid, (gone, (conflict, (gap, (full, tt))))),
       )
 
   -- so it is taken once they are, where there is room
@@ -426,11 +425,15 @@ full_same s words = go (cases_lt s.settings.log (s.core.logged + (length words +
     go : (s.settings.log < s.core.logged + (length words + 1)) ⊎ (s.core.logged + (length words + 1) ≤ s.settings.log)
         → full_log (told s words) ≡ reserve_refusal s (length words + 1)
     go (inl l) =
-        rw (le-leb (told s words).settings.log (told s words).core.logged (omega (arith, l, kept.logged, most)),
-        lt-ltb s.settings.log (s.core.logged + (length words + 1)) l) refl
+        rw (
+          le-leb (told s words).settings.log (told s words).core.logged (omega (arith, l, kept.logged, most)),
+          lt-ltb s.settings.log (s.core.logged + (length words + 1)) l,
+        ) refl
     go (inr l) =
-        rw (lt-leb (told s words).settings.log (told s words).core.logged (omega (arith, l, kept.logged, most)),
-        le-ltb s.settings.log (s.core.logged + (length words + 1)) l) refl
+        rw (
+          lt-leb (told s words).settings.log (told s words).core.logged (omega (arith, l, kept.logged, most)),
+          le-ltb s.settings.log (s.core.logged + (length words + 1)) l,
+        ) refl
 
 pub fits_room : (s : Seen) (words : List RemoteWord) (room : ℕ) → Fits s words → Fits (record s { reserved = room }) words
 fits_room s [] room f = refl
@@ -493,8 +496,12 @@ reserve_same s words events all e few = go (cases_lt s.settings.log (s.core.logg
     go : (s.settings.log < s.core.logged + all) ⊎ (s.core.logged + all ≤ s.settings.log)
         → reserve_refusal (told s words) events ≡ reserve_refusal s all
     go (inl l) =
-        rw (lt-ltb (told s words).settings.log ((told s words).core.logged + events) (omega (arith, l, e, kept.logged, most)),
-        lt-ltb s.settings.log (s.core.logged + all) l) refl
+        rw (
+          lt-ltb (told s words).settings.log ((told s words).core.logged + events) (omega (arith, l, e, kept.logged, most)),
+          lt-ltb s.settings.log (s.core.logged + all) l,
+        ) refl
     go (inr l) =
-        rw (le-ltb (told s words).settings.log ((told s words).core.logged + events) (omega (arith, l, e, few, kept.logged, most)),
-        le-ltb s.settings.log (s.core.logged + all) l) refl
+        rw (
+          le-ltb (told s words).settings.log ((told s words).core.logged + events) (omega (arith, l, e, few, kept.logged, most)),
+          le-ltb s.settings.log (s.core.logged + all) l,
+        ) refl

@@ -58,11 +58,7 @@ impl Held {
     ///
     /// `OtherSession` if they aren't the session's next words; `LogFull` or `NoMemory` if there is no room for all that wait. Nothing
     /// is changed then.
-    pub fn hand_over<S: Settling>(
-        &mut self,
-        session: &mut S,
-        count: usize,
-    ) -> Result<(), HeldFault>
+    pub fn hand_over<S: Settling>(&mut self, session: &mut S, count: usize) -> Result<(), HeldFault>
         ensures handed { OnOk result (roomless (S.seen session.new)
             ≡ roomless (told (S.seen session.old) (take count self.old.words.items))) }
         ensures rest { OnOk result (self.new.words.items ≡ drop count self.old.words.items) }

@@ -109,8 +109,13 @@ impl<'a, S: Settling> Networked for HeldSession<'a, S> {
 
     ghost keeps_itself = { λ it. (refl, (refl, S.keeps_itself it.session.now)) };
 
-    ghost keeps_on = { λ a b c one two. (two.0 ∙ one.0, (two.1.0 ∙ one.1.0,
-        S.keeps_on a.session.now b.session.now c.session.now one.1.1 two.1.1)) };
+    ghost keeps_on = { λ a b c one two. (
+      two.0 ∙ one.0,
+      (
+        two.1.0 ∙ one.1.0,
+        S.keeps_on a.session.now b.session.now c.session.now one.1.1 two.1.1,
+      ),
+    ) };
 
     fn settings(&self) -> &Settings {
         self.session.settings()

@@ -23,11 +23,7 @@ pub(crate) fn count_among(words: &[RemoteWord], player: u8) -> usize
 }
 
 /// Whether a word is the next one of a remote player who is there, after others that wait, and there is room for it.
-pub(crate) fn is_next<S: Settling>(
-    session: &S,
-    before: &[RemoteWord],
-    word: &RemoteWord,
-) -> bool
+pub(crate) fn is_next<S: Settling>(session: &S, before: &[RemoteWord], word: &RemoteWord) -> bool
     ensures { result ≡ is_next (S.seen session.now) before.now word.now }
 {
     let Some(count) = session.confirmed(word.player) else {

@@ -11,10 +11,11 @@ loop-word-preserved c =
     let q = c.args.player in
     let more = count_more c.args.words.now k q d c.loop-word-test.true in
     let i = c.loop-word.invariant in
-    elim c.if-word-player.branch
-    [ then-word-player w ↦
-      (let e = eq-eqb (get_or c.args.words.now k d).player q w.if-word-player.true in
-      let m = rw e at more in (omega (arith, m, i.0, w.count-is), omega (arith, i.1, w.count-is)))
-    | else-word-player w ↦
-      (let e = ne_eqb (get_or c.args.words.now k d).player q w.if-word-player.false in
-      let m = rw e at more in (omega (arith, m, i.0, w.count-is), omega (arith, i.1, w.count-is))) ]
+    elim c.if-word-player.branch [
+      | then-word-player w ↦
+          (let e = eq-eqb (get_or c.args.words.now k d).player q w.if-word-player.true in
+          let m = rw e at more in (omega (arith, m, i.0, w.count-is), omega (arith, i.1, w.count-is)))
+      | else-word-player w ↦
+          (let e = ne_eqb (get_or c.args.words.now k d).player q w.if-word-player.false in
+          let m = rw e at more in (omega (arith, m, i.0, w.count-is), omega (arith, i.1, w.count-is)))
+    ]

@@ -24,14 +24,15 @@ loop-word-preserved c =
     let q = c.args.player in
     let more = count_more c.args.words.now k q nobody c.loop-word-test.true in
     let i = c.loop-word.invariant in
-    elim c.if-word-player.branch
-    [ then-word-player+else-before-place w ↦
-      (let e = eq-eqb (get_or c.args.words.now k nobody).player q w.if-word-player.true in
-      let m = rw e at more in
-      (omega (arith, m, i.0, w.before-is), omega (arith, i.1, w.before-is, w.if-before-place.false)))
-    | else-word-player w ↦
-      (let e = ne_eqb (get_or c.args.words.now k nobody).player q w.if-word-player.false in
-      let m = rw e at more in (omega (arith, m, i.0, w.before-is), omega (arith, i.1, w.before-is))) ]
+    elim c.if-word-player.branch [
+      | then-word-player+else-before-place w ↦
+          (let e = eq-eqb (get_or c.args.words.now k nobody).player q w.if-word-player.true in
+          let m = rw e at more in
+          (omega (arith, m, i.0, w.before-is), omega (arith, i.1, w.before-is, w.if-before-place.false)))
+      | else-word-player w ↦
+          (let e = ne_eqb (get_or c.args.words.now k nobody).player q w.if-word-player.false in
+          let m = rw e at more in (omega (arith, m, i.0, w.before-is), omega (arith, i.1, w.before-is)))
+    ]
 
 pub returns : goal.returns
 returns c =

@@ -49,14 +49,13 @@ returns-in-Ok-clause-heard g c =
       ap (λ (ws : List RemoteWord). length ws) i.words,
     ) in
     let takes = next_taken g.S.Networked.step s words w c.laws.ensures old.fits room next in
-    let reserved = c.hold.ensures.reserved ∙ ap (λ n. n - 1) (c.make_place.ensures.reserved ∙ i.reserved) in
-    (
+    let reserved = c.hold.ensures.reserved ∙ ap (λ n. n - 1) (c.make_place.ensures.reserved ∙ i.reserved) in (
       takes.fresh,
       takes.taken,
       as_told_same (g.S.Networked.seen c.hold.new.self.session.now) place c.hold.new.self.held.now.words.items (held ++ w ∷ [])
-      c.hold.new.self.reserved (old.reserved - 1) (ap (λ x. roomless (g.S.Networked.seen x)) c.hold.ensures.session)
-      c.hold.ensures.words reserved
-      ∙ held_more s mid place words held w old.reserved i.same (c.make_place.ensures.same ∙ ap (told mid) i.words),
+          c.hold.new.self.reserved (old.reserved - 1) (ap (λ x. roomless (g.S.Networked.seen x)) c.hold.ensures.session)
+          c.hold.ensures.words reserved
+          ∙ held_more s mid place words held w old.reserved i.same (c.make_place.ensures.same ∙ ap (told mid) i.words),
     )
 
 pub returns-in-Err-clause-fresh : goal.returns-in-Err-clause-fresh
