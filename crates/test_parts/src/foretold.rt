@@ -2,7 +2,7 @@
 //! by hand: player 1 is local and gives 9 in each frame, player 2 gave 5, player 3 gave 7, of which 4 is predicted as held.
 use roll_frame::{Refusal, Route, Row, Settings};
 use roll_game::Tally;
-use roll_session::{Core, RemoteWord, Session};
+use roll_session::{RemoteWord, Session};
 use std::alloc::Global;
 use std::test::Fail;
 
@@ -47,38 +47,6 @@ fn is_route(route: &Route, path: &[[u32; 3]], rows: &[[u32; 3]]) -> bool {
     are_rows(route.path.rows.as_slice(), path) && are_rows(route.rows.as_slice(), rows)
 }
 
-#[test]
-fn nothing_is_rerun_where_the_words_are_as_predicted(rt: HostRuntime) -> Result<(), Fail> {
-    let session = open(rt.alloc())?;
-    assert_eq!(rt; session.frame(), 4);
-    assert_eq!(rt; session.settled(), 1);
-    assert_eq!(rt; session.rerun(&[word(2, 1, 5), word(3, 1, 4)]), Ok(0));
-    assert_eq!(rt;
-        session.rerun(&[word(3, 1, 4), word(3, 2, 4), word(3, 3, 4)]),
-        Ok(0)
-    );
-    Ok(())
-}
-
-/// The first row that comes otherwise, in either player's cell, is run again, and those behind it.
-#[test]
-fn the_rows_from_the_first_other_word_on_are_rerun(rt: HostRuntime) -> Result<(), Fail> {
-    let session = open(rt.alloc())?;
-    assert_eq!(rt; session.rerun(&[word(2, 1, 5), word(3, 1, 7)]), Ok(3));
-    assert_eq!(rt; session.rerun(&[word(2, 1, 6), word(3, 1, 4)]), Ok(3));
-    assert_eq!(rt; session.rerun(&[word(2, 1, 5), word(2, 2, 6)]), Ok(2));
-    let late = [
-        word(2, 1, 5),
-        word(3, 1, 4),
-        word(3, 2, 4),
-        word(2, 2, 5),
-        word(2, 3, 5),
-        word(3, 3, 12),
-    ];
-    assert_eq!(rt; session.rerun(&late), Ok(1));
-    Ok(())
-}
-
 /// Told the words, it runs as many frames, and the one of the next frame.
 #[test]
 fn as_many_are_rerun_once_they_are_told(rt: HostRuntime) -> Result<(), Fail> {
@@ -114,83 +82,5 @@ fn a_job_has_the_words_of_both_players(rt: HostRuntime) -> Result<(), Fail> {
             &[[9, 5, 1], [9, 5, 0], [9, 5, 0]]
         )
     );
-    Ok(())
-}
-
-#[test]
-fn there_is_no_job_of_rows_that_are_kept(rt: HostRuntime) -> Result<(), Fail> {
-    let alloc = rt.alloc();
-    let mut session = open(alloc)?;
-    let words = [word(2, 1, 5), word(3, 1, 4)];
-    assert!(rt; session.guess_words(alloc, &words, 4)?.is_none());
-    assert!(rt; session.guess_words(alloc, &words, 5)?.is_some());
-    Ok(())
-}
-
-#[test]
-fn words_are_refused_that_are_not_the_next(rt: HostRuntime) -> Result<(), Fail> {
-    let mut session = open(rt.alloc())?;
-    assert_eq!(rt; session.rerun(&[]), Err(Refusal::InvalidRequest));
-    assert_eq!(rt;
-        session.rerun(&[word(2, 1, 5); 65]),
-        Err(Refusal::InvalidRequest)
-    );
-    assert_eq!(rt;
-        session.rerun(&[word(0, 1, 5)]),
-        Err(Refusal::InvalidPlayer)
-    );
-    assert_eq!(rt;
-        session.rerun(&[word(4, 1, 5)]),
-        Err(Refusal::InvalidPlayer)
-    );
-    assert_eq!(rt;
-        session.rerun(&[word(1, 4, 5)]),
-        Err(Refusal::InvalidPlayer)
-    );
-    assert_eq!(rt;
-        session.rerun(&[word(2, 0, 5)]),
-        Err(Refusal::InvalidRequest)
-    );
-    assert_eq!(rt;
-        session.rerun(&[word(2, 2, 5)]),
-        Err(Refusal::InvalidRequest)
-    );
-    let twice = [word(2, 1, 5), word(3, 1, 4), word(2, 1, 5)];
-    assert_eq!(rt; session.rerun(&twice), Err(Refusal::InvalidRequest));
-    session.disconnect_player(3)?;
-    let gone = [word(2, 1, 5), word(3, 1, 4)];
-    assert_eq!(rt; session.rerun(&gone), Err(Refusal::PlayerDisconnected));
-    Ok(())
-}
-
-#[test]
-fn a_guess_is_refused_up_to_a_frame_that_is_too_near_or_too_far(
-    rt: HostRuntime,
-) -> Result<(), Fail> {
-    let alloc = rt.alloc();
-    let mut session = open(alloc)?;
-    let words = [word(2, 1, 6)];
-    let near = session.guess_words(alloc, &words, 1);
-    assert_eq!(rt; near.err(), Some(Refusal::InvalidRequest));
-    let far = session.guess_words(alloc, &words, 11);
-    assert_eq!(rt; far.err(), Some(Refusal::InvalidRequest));
-    let other = session.guess_words(alloc, &[word(4, 1, 6)], 1);
-    assert_eq!(rt; other.err(), Some(Refusal::InvalidPlayer));
-    assert!(rt; session.guess_words(alloc, &words, 10)?.is_some());
-    Ok(())
-}
-
-/// At its start a session without a game has the opening alone.
-#[test]
-fn a_session_without_a_game_answers_the_same(rt: HostRuntime) -> Result<(), Fail> {
-    let core = Core::new(rt.alloc(), 0u32, settings()?)?;
-    let words = [word(2, 0, 5), word(3, 0, 7)];
-    assert_eq!(rt; core.rerun(&words), Ok(0));
-    assert_eq!(rt; core.rerun(&[]), Err(Refusal::InvalidRequest));
-    let Some((name, route)) = core.guess_words(&words, 2)? else {
-        return Err(Fail::new("no job"));
-    };
-    assert_eq!(rt; name, core.saved().root());
-    assert!(rt; is_route(&route, &[], &[[0, 5, 7], [0, 5, 4]]));
     Ok(())
 }
