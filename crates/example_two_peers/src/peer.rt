@@ -1,10 +1,11 @@
 //! One side of a match.
 ghost use Rattle.std.specs.Prelude.{◌≤◌};
 
+use crate::ahead::Ahead;
 use crate::line::{Bytes, Line};
 use fazgrond::{
-    MatchSettings, OpenRefusal, OtherSession, Peer, PeerEvent, PeerRefusal, Refusal, Session,
-    Settings,
+    HeldFault, MatchSettings, OpenRefusal, OtherSession, Peer, PeerEvent, PeerRefusal, Refusal,
+    Session, Settings,
 };
 use game_fighter::{Fight, State};
 use roll_simnet::Route;
@@ -38,6 +39,9 @@ pub enum Fault {
     /// The session isn't the match's.
     #[error("{0}")]
     Other(#[from] OtherSession),
+    /// The words that wait can't be told.
+    #[error("{0}")]
+    Held(#[from] HeldFault),
     /// The other side has another state of a settled frame.
     #[error("the sides don't play the same game")]
     Desync,
@@ -48,6 +52,8 @@ pub enum Fault {
 pub struct Side {
     pub session: Session<Fight>,
     pub peer: Peer,
+    /// If this side holds words back: those that wait, and what is run ahead for them.
+    pub ahead: Option<Ahead>,
     player: u8,
     // The way to the other machine.
     way: Route,
@@ -70,6 +76,7 @@ impl Side {
             Ok(peer) => Ok(Side {
                 session,
                 peer,
+                ahead: None,
                 player,
                 way: Route {
                     from: me,
@@ -92,11 +99,26 @@ impl Side {
         self.hear(turn, now, line);
         self.note_events()?;
         self.press()?;
-        self.peer.turn(&mut self.session, now)?;
-        let digest = digest(self.session.settled_state());
-        self.peer.note_settled(&self.session, digest)?;
+        self.play(now)?;
         if let Some(bytes) = self.tell(now)? {
             line.send(self.way, turn, &bytes).map_err(Refusal::from)?;
+        }
+        Ok(())
+    }
+
+    /// Plays a frame if it may, and notes what is settled.
+    fn play(&mut self, now: u32) -> Result<(), Fault> {
+        match &mut self.ahead {
+            Some(ahead) => {
+                ahead.play(&mut self.peer, &mut self.session, now)?;
+                let digest = digest(self.session.settled_state());
+                self.peer.note_state_at(self.session.settled(), digest);
+            }
+            None => {
+                self.peer.turn(&mut self.session, now)?;
+                let digest = digest(self.session.settled_state());
+                self.peer.note_settled(&self.session, digest)?;
+            }
         }
         Ok(())
     }
@@ -108,7 +130,10 @@ impl Side {
                 return;
             };
             // What is ignored changed nothing of the match.
-            let _ = self.peer.receive(&mut self.session, &letter.bytes, now);
+            let _ = match &mut self.ahead {
+                Some(ahead) => ahead.hear(&mut self.peer, &mut self.session, &letter.bytes, now),
+                None => self.peer.receive(&mut self.session, &letter.bytes, now).is_ok(),
+            };
         }
     }
 
@@ -150,9 +175,13 @@ impl Side {
     }
 
     /// What to tell the other; at the end, that this side leaves.
-    fn tell(&mut self, now: u32) -> Result<Option<Bytes>, OtherSession> {
+    fn tell(&mut self, now: u32) -> Result<Option<Bytes>, Fault> {
         if !self.is_over() {
-            return self.peer.send(&self.session, self.way.to, now);
+            let bytes = match &mut self.ahead {
+                Some(ahead) => ahead.tell(&mut self.peer, &mut self.session, self.way.to, now)?,
+                None => self.peer.send(&self.session, self.way.to, now)?,
+            };
+            return Ok(bytes);
         }
         if self.byes == 0 {
             return Ok(None);
