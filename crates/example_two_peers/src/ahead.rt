@@ -1,8 +1,8 @@
 //! Words that are held back until their frames were run elsewhere.
 use crate::line::Bytes;
 use crate::peer::Fault;
-use fazgrond::game::NoMemory;
-use fazgrond::{Done, Held, HeldFault, Job, Peer, Refusal, Session, ends_in_roll, extend};
+use fazgrond::holding::Held;
+use fazgrond::{Done, Job, Peer, Refusal, Session, ends_in_roll, extend};
 use game_fighter::Fight;
 use std::alloc::Global;
 
@@ -38,7 +38,7 @@ impl Ahead {
         &mut self,
         peer: &mut Peer,
         session: &mut Session<Fight>,
-        bytes: &Bytes,
+        bytes: &[u8],
         now: u32,
     ) -> bool {
         matches!(self.held.receive(peer, session, bytes, now), Ok(Ok(_)))

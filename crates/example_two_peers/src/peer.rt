@@ -3,9 +3,10 @@ ghost use Rattle.std.specs.Prelude.{◌≤◌};
 
 use crate::ahead::Ahead;
 use crate::line::{Bytes, Line};
+use fazgrond::holding::HeldFault;
 use fazgrond::{
-    HeldFault, MatchSettings, OpenRefusal, OtherSession, Peer, PeerEvent, PeerRefusal, Refusal,
-    Session, Settings,
+    MatchSettings, OpenRefusal, OtherSession, Peer, PeerEvent, PeerRefusal, Refusal, Session,
+    Settings,
 };
 use game_fighter::{Fight, State};
 use roll_simnet::Route;

@@ -8,7 +8,7 @@
 //! - **A session** plays it on one thread: [`Settings`] and [`Session`]. A call that is not taken answers a [`Refusal`].
 //! - **Over a network**: a [`Peer`] stands beside a session in a match of several machines ([`MatchSettings`]). It makes and hears
 //!   datagrams, and says what happened ([`PeerEvent`]). The session stays the program's, and is lent to its calls.
-//!   If frames are dear, words that came are held back ([`Held`]) until another thread has run their frames: then no frame is run
+//!   If frames are dear, words that came are held back ([`holding`]) until another thread has run their frames: then no frame is run
 //!   again on the thread that draws.
 //! - **Beside other threads**: [`Host`] has a session, [`Link`]s that bring remote words from the network's thread, and the
 //!   workers of a [`Crew`], which run guesses ahead.
@@ -38,7 +38,7 @@ pub use roll_frame::{
 };
 pub use roll_game as game;
 pub use roll_guess::{Guess, Habits, PartHabits, PartsRefusal, PlayerHabits, Ranking, WordParts};
-pub use roll_held::{HELD_LIMIT, Held, HeldFault};
+pub use roll_held as holding;
 pub use roll_host::{Absorbed, Host, HostReply, HostRequest, LINK_LIMIT, Pumped, TURN_LIMIT};
 pub use roll_link::{Finished, LINK_ROOM, Link, LinkSender, Remote, SendFault};
 pub use roll_member::{JoinRefusal, Taken};
@@ -50,8 +50,8 @@ pub use roll_pool::{
     Crew, Gate, IssueFault, JOBS_OUT, OpenGate, Outcome, Owner, WORKER_LIMIT, WorkerEnd, start_all,
 };
 pub use roll_session::{
-    Call, Grafted, Heard, Log, Logged, Networked, Parts, Plan, Reached, RemoteWord, ReplayFault,
-    Request, Session, Settling, Source, StartFault,
+    Call, Grafted, Heard, Log, Logged, Networked, Parts, Plan, Reached, ReplayFault, Request,
+    Session, Source, StartFault,
 };
 pub use roll_spectate::{
     Feed, RING_ROWS, RowReceiver, RowSender, SPECTATOR_LIMIT, Spectator, SpectatorFault, open_ring,

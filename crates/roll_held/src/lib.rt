@@ -11,3 +11,4 @@ mod words;
 pub use fault::HeldFault;
 pub use held::{HELD_LIMIT, Held, TURN_LIMIT};
 pub use laws::{held_words_are_heard, holders_are_one_match, holders_go_on};
+pub use roll_session::{RemoteWord, Settling};

@@ -1,7 +1,5 @@
-//! Tests of states in pieces: the examples of docs/WIRE.md, single calls, and whole transfers over networks that are simulated.
+//! Tests of states in pieces: the examples of docs/WIRE.md, and single calls.
 #![tactic(auto)]
 
 #[cfg(test)]
 mod pieces;
-#[cfg(test)]
-mod worlds;
