@@ -133,7 +133,10 @@ impl Side {
             // What is ignored changed nothing of the match.
             let _ = match &mut self.ahead {
                 Some(ahead) => ahead.hear(&mut self.peer, &mut self.session, &letter.bytes, now),
-                None => self.peer.receive(&mut self.session, &letter.bytes, now).is_ok(),
+                None => self
+                    .peer
+                    .receive(&mut self.session, &letter.bytes, now)
+                    .is_ok(),
             };
         }
     }
