@@ -1,5 +1,7 @@
 //! Transfers whose datagrams are lost, late and double: two machines give a state to a third, one of them stops at some time, and a
 //! fourth sends pieces of other bytes.
+ghost use Rattle.std.specs.Prelude.{◌≤◌};
+
 use arrayvec::ArrayVec;
 use roll_state::{Giver, Heard, Key, PIECE_LIMIT, Piece, StateBody, StateName, Taker, say};
 use roll_wire::DATAGRAM_LIMIT;
@@ -18,7 +20,9 @@ const TAKER: u8 = 3;
 struct Draws(u64);
 
 impl Draws {
-    fn below(&mut self, limit: u64) -> u64 {
+    fn below(&mut self, limit: u64) -> u64
+        ensures { result ≤ limit }
+    {
         self.0 = self
             .0
             .wrapping_mul(6_364_136_223_846_793_005)
@@ -159,7 +163,7 @@ fn asks(
 
 /// The bytes of a state.
 fn state_of(alloc: Global, draws: &mut Draws) -> Result<Vec<u8>, AllocError> {
-    let length = match draws.below(5) {
+    let length: u32 = match draws.below(5) {
         0 => 1,
         1 => 700,
         2 => 1_024,
