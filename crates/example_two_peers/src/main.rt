@@ -1,12 +1,10 @@
 //! A match of two machines in one process: each hears of the other late or not at all.
 #![tactic(auto)]
 
-mod ahead;
 mod duel;
 mod line;
 mod peer;
 
-use ahead::Ahead;
 use duel::Duel;
 use fazgrond::{Refusal, Session};
 use game_fighter::{Fight, Fighter};
@@ -20,9 +18,8 @@ use std::rt::Runtime;
 const LATE: u32 = 8;
 
 fn main(rt: HostRuntime) -> ExitCode {
-    let plain = (run(&rt, 0), run(&rt, LATE));
-    match (plain, run_ahead(&rt)) {
-        ((Ok(true), Ok(true)), Ok(true)) => ExitCode::from(0),
+    match (run(&rt, 0), run(&rt, LATE)) {
+        (Ok(true), Ok(true)) => ExitCode::from(0),
         _ => ExitCode::from(1),
     }
 }
@@ -31,21 +28,6 @@ fn main(rt: HostRuntime) -> ExitCode {
 fn run<R: Runtime + AllocGlobal>(rt: &R, late: u32) -> io::Result<bool> {
     match Duel::new(rt.alloc()) {
         Ok(mut duel) => play(rt, late, &mut duel),
-        Err(why) => break_off(rt, why),
-    }
-}
-
-/// The same of a match whose first side holds words back. It prints too how many frames that side ran again all the same.
-fn run_ahead<R: Runtime + AllocGlobal>(rt: &R) -> io::Result<bool> {
-    match Duel::new(rt.alloc()) {
-        Ok(mut duel) => {
-            duel.first.ahead = Ahead::new(rt.alloc());
-            let agreed = play(rt, 0, &mut duel)?;
-            if let Some(ahead) = &duel.first.ahead {
-                println!(rt; "held back: ran {} frames again", ahead.again)?;
-            }
-            Ok(agreed)
-        }
         Err(why) => break_off(rt, why),
     }
 }

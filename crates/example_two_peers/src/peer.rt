@@ -1,9 +1,7 @@
 //! One side of a match.
 ghost use Rattle.std.specs.Prelude.{◌≤◌};
 
-use crate::ahead::Ahead;
 use crate::line::{Bytes, Line};
-use fazgrond::holding::HeldFault;
 use fazgrond::{
     MatchSettings, OpenRefusal, OtherSession, Peer, PeerEvent, PeerRefusal, Refusal, Session,
     Settings,
@@ -40,9 +38,6 @@ pub enum Fault {
     /// The session isn't the match's.
     #[error("{0}")]
     Other(#[from] OtherSession),
-    /// The words that wait can't be told.
-    #[error("{0}")]
-    Held(#[from] HeldFault),
     /// The other side has another state of a settled frame.
     #[error("the sides don't play the same game")]
     Desync,
@@ -53,8 +48,6 @@ pub enum Fault {
 pub struct Side {
     pub session: Session<Fight>,
     pub peer: Peer,
-    /// If this side holds words back: those that wait, and what is run ahead for them.
-    pub ahead: Option<Ahead>,
     player: u8,
     // The way to the other machine.
     way: Route,
@@ -77,7 +70,6 @@ impl Side {
             Ok(peer) => Ok(Side {
                 session,
                 peer,
-                ahead: None,
                 player,
                 way: Route {
                     from: me,
@@ -100,26 +92,11 @@ impl Side {
         self.hear(turn, now, line);
         self.note_events()?;
         self.press()?;
-        self.play(now)?;
+        self.peer.turn(&mut self.session, now)?;
+        let digest = digest(self.session.settled_state());
+        self.peer.note_settled(&self.session, digest)?;
         if let Some(bytes) = self.tell(now)? {
             line.send(self.way, turn, &bytes).map_err(Refusal::from)?;
-        }
-        Ok(())
-    }
-
-    /// Plays a frame if it may, and notes what is settled.
-    fn play(&mut self, now: u32) -> Result<(), Fault> {
-        match &mut self.ahead {
-            Some(ahead) => {
-                ahead.play(&mut self.peer, &mut self.session, now)?;
-                let digest = digest(self.session.settled_state());
-                self.peer.note_state_at(self.session.settled(), digest);
-            }
-            None => {
-                self.peer.turn(&mut self.session, now)?;
-                let digest = digest(self.session.settled_state());
-                self.peer.note_settled(&self.session, digest)?;
-            }
         }
         Ok(())
     }
@@ -131,13 +108,7 @@ impl Side {
                 return;
             };
             // What is ignored changed nothing of the match.
-            let _ = match &mut self.ahead {
-                Some(ahead) => ahead.hear(&mut self.peer, &mut self.session, &letter.bytes, now),
-                None => self
-                    .peer
-                    .receive(&mut self.session, &letter.bytes, now)
-                    .is_ok(),
-            };
+            let _ = self.peer.receive(&mut self.session, &letter.bytes, now);
         }
     }
 
@@ -179,13 +150,9 @@ impl Side {
     }
 
     /// What to tell the other; at the end, that this side leaves.
-    fn tell(&mut self, now: u32) -> Result<Option<Bytes>, Fault> {
+    fn tell(&mut self, now: u32) -> Result<Option<Bytes>, OtherSession> {
         if !self.is_over() {
-            let bytes = match &mut self.ahead {
-                Some(ahead) => ahead.tell(&mut self.peer, &mut self.session, self.way.to, now)?,
-                None => self.peer.send(&self.session, self.way.to, now)?,
-            };
-            return Ok(bytes);
+            return self.peer.send(&self.session, self.way.to, now);
         }
         if self.byes == 0 {
             return Ok(None);
