@@ -7,6 +7,8 @@ use Rattle.roll_game.specs.Counts.{counted}
 use Rattle.roll_game.specs.declared.counts.Call.TheVariants.{Copy}
 use Rattle.roll_pool.specs.Owners.{Pool, out_of, IsWithdrawn}
 use Rattle.roll_pool.specs.declared.owner.TheConstants.{JOBS_OUT}
+use Rattle.roll_inputs.specs.declared.remote_word.RemoteWord.{RemoteWord}
+use Rattle.roll_session.specs.Foretold.{guess_words_refusal_of, words_job_of}
 use Rattle.roll_session.specs.Guessing.{guess_job_of, guess_refusal_of}
 use Rattle.roll_session.specs.Seen.{Seen, Step}
 use Rattle.roll_host.specs.Hosted.{Hosted}
@@ -78,16 +80,17 @@ module _ {D : Type 0} where
   WithdrawsNone None new = new ≡ None
   WithdrawsNone (Some before) new = (after : Pool D) × (new ≡ Some after) × IsAsBefore before after
 
-  module _ (step : Step) (old new : Hosted D) (player : ℕ) (words : List ℕ) (until : ℕ) where
+  -- a guess, of which a session says why it is refused, if it is, and which job it has, if it has one
+  module _ (refused : Option Refusal) (wanted : Option Routed) (old new : Hosted D) where
     -- there are workers, and the rules accept the guess
     pub record IsTried : Type 0 where
       pub staffed : is_some old.pool ≡ true
-      pub accepted : guess_refusal_of old.session player words until ≡ None
+      pub accepted : refused ≡ None
       pub links : new.links ≡ old.links
 
     -- the guess has a job, for which the game made its copy
     pub record IsMade (job : Routed) : Type 0 where
-      pub guessed : guess_job_of step old.session player words until ≡ Some job
+      pub guessed : wanted ≡ Some job
       pub session : new.session ≡ with_copy true old.session
 
     pub record IsSpeculated (ticket : ℕ) : Type 0 where
@@ -120,11 +123,29 @@ module _ {D : Type 0} where
     abbrev pub IsNotSpeculated : Refusal → Type 0
     IsNotSpeculated why =
         ((why ≡ Full) × (old.pool ≡ None) × (new ≡ old))
-        ⊎ (((is_some old.pool ≡ true) × (guess_refusal_of old.session player words until ≡ Some why) × (new ≡ old))
+        ⊎ (((is_some old.pool ≡ true) × (refused ≡ Some why) × (new ≡ old))
         ⊎ (((why ≡ NoMemory) × IsShortOfMemory) ⊎ (((why ≡ Full) × IsPlaceless) ⊎ ((why ≡ QueueRefused) × IsQueueRefused))))
 
-    -- each answer to a guess
-    abbrev pub Speculates : Result (Option ℕ) Refusal → Type 0
-    Speculates (Ok (Some ticket)) = IsSpeculated ticket
-    Speculates (Ok None) = IsTried × (guess_job_of step old.session player words until ≡ None) × (new ≡ old)
-    Speculates (Err why) = IsNotSpeculated why
+    -- each answer to the guess
+    abbrev pub AnswersGuess : Result (Option ℕ) Refusal → Type 0
+    AnswersGuess (Ok (Some ticket)) = IsSpeculated ticket
+    AnswersGuess (Ok None) = IsTried × (wanted ≡ None) × (new ≡ old)
+    AnswersGuess (Err why) = IsNotSpeculated why
+
+  -- what becomes of the job of a guess, if it has one, in a pool
+  abbrev pub HandsOut : Option Routed → Pool D → Pool D → Result (Option ℕ) Refusal → Type 0
+  HandsOut None old new said = (new ≡ old) × (said ≡ Ok None)
+  HandsOut (Some job) old new (Ok (Some ticket)) = IsIssued (Some old) (Some new) job ticket
+  HandsOut (Some job) old new (Ok None) = ⊥
+  HandsOut (Some job) old new (Err why) = ((why ≡ Full) × IsCrowded (Some old) (Some new)) ⊎ ((why ≡ QueueRefused) × IsUnissued (Some old) (Some new))
+
+module _ {D : Type 0} (step : Step) (old new : Hosted D) where
+  -- each answer to a guess that a player gives these words next
+  abbrev pub Speculates : ℕ → List ℕ → ℕ → Result (Option ℕ) Refusal → Type 0
+  Speculates player words until said =
+      AnswersGuess (guess_refusal_of old.session player words until) (guess_job_of step old.session player words until) old new said
+
+  -- each answer to a guess with words that have come
+  abbrev pub SpeculatesWords : List RemoteWord → ℕ → Result (Option ℕ) Refusal → Type 0
+  SpeculatesWords words until said =
+      AnswersGuess (guess_words_refusal_of old.session words until) (words_job_of step old.session words until) old new said

@@ -4,7 +4,7 @@ ghost use Rattle.roll_frame.specs.Timeline.{row_at};
 ghost use Rattle.roll_session.specs.Changes.{advance_refusal, after_advance, after_disconnect, after_local, after_sync, disconnect_refusal, local_refusal, reached_by, reserve_refusal, sync_refusal, FitsLog, IsRefused, IsRollRefused, IsWhy};
 ghost use Rattle.roll_session.specs.Seen.{IsLeast};
 ghost use Rattle.roll_host.specs.Absorbs.{IsAbsorbed};
-ghost use Rattle.roll_host.specs.Guesses.{IsAsBefore, IsLetGo, MakesPlace, Speculates, Withdraws, WithdrawsNone};
+ghost use Rattle.roll_host.specs.Guesses.{HandsOut, IsAsBefore, IsLetGo, MakesPlace, Speculates, SpeculatesWords, Withdraws, WithdrawsNone};
 ghost use Rattle.roll_host.specs.Hosted.{came_by, issued_of, jobs_out, new_link, places_of, rings_of, with_came, withdrawn_of, EndsLink};
 ghost use Rattle.roll_host.specs.Lending.{LendsSession};
 ghost use Rattle.roll_host.specs.Pumps.{IsPumped};
@@ -19,11 +19,12 @@ ghost use Rattle.std.specs.List.{range_with_len};
 use crate::absorb::{Absorbed, absorb_results};
 use crate::limits::LINK_LIMIT;
 use crate::pump::{Pumped, pump_links};
+use roll_branch::Job;
 use roll_frame::{Event, Refusal, Row};
 use roll_game::Game;
 use roll_link::{Finished, Link, LinkSender};
 use roll_pool::{JOBS_OUT, Outcome, Owner, WorkerEnd};
-use roll_session::{Reached, Session};
+use roll_session::{Reached, RemoteWord, Session};
 use std::alloc::{AllocFailed, Global};
 use std::marker::Model;
 
@@ -174,16 +175,30 @@ impl<G: Game> Host<G> {
         let Some(owner) = &mut self.pool else {
             return Err(Refusal::Full);
         };
-        let Some(job) = self.session.guess(self.alloc, player, words, until)? else {
-            return Ok(None);
-        };
-        if !make_place(owner) {
+        let job = self.session.guess(self.alloc, player, words, until)?;
+        hand_out(owner, job)
+    }
+
+    /// Hands the job of a guess to the workers: if the session is told these words next, which have come, but which it isn't told
+    /// yet, up to a frame. Else as [`speculate`](Self::speculate).
+    ///
+    /// # Errors
+    ///
+    /// `Full` if there are no workers; else those of `Session::guess_words`; else as `speculate` once a job is made.
+    pub fn speculate_words(
+        &mut self,
+        words: &[RemoteWord],
+        until: u32,
+    ) -> Result<Option<u64>, Refusal>
+        ensures speculated { SpeculatesWords G.step self.old self.new words.now until result }
+        ensures links { self.new.links ≡ self.old.links }
+        ensures places { places_of self.new.pool ≡ places_of self.old.pool }
+    {
+        let Some(owner) = &mut self.pool else {
             return Err(Refusal::Full);
-        }
-        match owner.issue(job) {
-            Ok(ticket) => Ok(Some(ticket)),
-            Err(fault) => Err(fault.why),
-        }
+        };
+        let job = self.session.guess_words(self.alloc, words, until)?;
+        hand_out(owner, job)
     }
 
     /// Withdraws the oldest job that no worker has taken, and lets go of it: its number. `None` if none is seen. Before the
@@ -394,4 +409,21 @@ fn make_place<G: Game>(owner: &mut Owner<G>) -> bool
     ensures places { owner.new.places ≡ owner.old.places }
 {
     owner.out() < JOBS_OUT || let_go(owner).is_some()
+}
+
+/// Hands the job of a guess out, if it has one, once there is a place for it: the job's number.
+fn hand_out<G: Game>(owner: &mut Owner<G>, job: Option<Job<G>>) -> Result<Option<u64>, Refusal>
+    ensures handed { HandsOut job owner.old owner.new result }
+    ensures places { owner.new.places ≡ owner.old.places }
+{
+    let Some(job) = job else {
+        return Ok(None);
+    };
+    if !make_place(owner) {
+        return Err(Refusal::Full);
+    }
+    match owner.issue(job) {
+        Ok(ticket) => Ok(Some(ticket)),
+        Err(fault) => Err(fault.why),
+    }
 }
