@@ -20,15 +20,15 @@ pub struct StateName {
 }
 
 impl StateName {
-    /// A digest that has this state in it, beside what another has: by one call for each state, in the same order at all machines,
-    /// that of the match has all of them.
+    /// A digest that has this state in it, beside what another has: by one call for each state, in the same order at all
+    /// machines, that of the match has all of them.
     pub fn digest_with(&self, digest: u64) -> u64 {
         // SAFETY: the pointer is to this name.
         unsafe { raw::fazgrond_state_digest(self, digest) }
     }
 
-    /// The datagram that asks for the first piece of the state of this number and frame, if nobody has said what it is called. The
-    /// number is the one that this machine, `me`, shares with who is asked.
+    /// The datagram that asks for the first piece of the state of this number and frame, if nobody has said what it is called.
+    /// The number is the one that this machine, `me`, shares with who is asked.
     pub fn ask(number: u64, me: u8, which: u64, frame: u32) -> Datagram {
         // SAFETY: the pointers are to what lives past the call.
         let made = Datagram::written(|out, room, length| unsafe {
@@ -49,8 +49,8 @@ impl StateName {
         Ok(name)
     }
 
-    /// Which machine bytes say that they are of, if they are a piece of a state or ask for some: by it one knows whose number to open
-    /// them with. None if they are for a peer.
+    /// Which machine bytes say that they are of, if they are a piece of a state or ask for some: by it one knows whose number to
+    /// open them with. None if they are for a peer.
     pub fn sender(bytes: &[u8]) -> Option<u8> {
         // SAFETY: as above.
         answered(|out| unsafe { raw::fazgrond_state_sender(bytes.as_ptr(), bytes.len(), out) })
@@ -66,8 +66,8 @@ pub enum Piece {
     Taken,
     /// It was the last one, and the state has its digest.
     Whole,
-    /// It was the last one, and the state has another digest, so that all pieces are missing again. If one machine gave them all, it is
-    /// named, and no piece of it is taken any more. Else the pieces of who gave the last one are taken alone from now on.
+    /// It was the last one, and the state has another digest, so that all pieces are missing again. If one machine gave them all,
+    /// it is named, and no piece of it is taken any more. Else the pieces of who gave the last one are taken alone from now on.
     Wrong(Option<u8>),
 }
 
@@ -119,8 +119,8 @@ impl Giver {
         bytes
     }
 
-    /// The datagram that this machine, `me`, sends for the piece that bytes ask for at a place of their list, from 0. The number is the
-    /// one that it shares with who asks. None if they ask for fewer pieces, or for one that the state hasn't.
+    /// The datagram that this machine, `me`, sends for the piece that bytes ask for at a place of their list, from 0. The number
+    /// is the one that it shares with who asks. None if they ask for fewer pieces, or for one that the state hasn't.
     ///
     /// # Errors
     ///
@@ -174,8 +174,8 @@ impl Taker {
         self.look().left
     }
 
-    /// The datagram by which this machine, `me`, asks for the next missing pieces, so many at most and no more than 16. The number is
-    /// the one that it shares with who is asked. None if none is missing.
+    /// The datagram by which this machine, `me`, asks for the next missing pieces, so many at most and no more than 16. The
+    /// number is the one that it shares with who is asked. None if none is missing.
     pub fn send(&mut self, number: u64, me: u8, most: usize) -> Option<Datagram> {
         let made = Datagram::written(|out, room, length| unsafe {
             raw::fazgrond_taker_send(self.raw(), number, me, most, out, room, length)
@@ -199,8 +199,8 @@ impl Taker {
         answered(|out| unsafe { raw::fazgrond_taker_takes_of(self.raw(), machine, out) }).unwrap_or(0u32) != 0
     }
 
-    /// From now on pieces of this machine alone are taken, or of each that didn't give a wrong state. Call it if the one whose pieces
-    /// are taken alone gives none.
+    /// From now on pieces of this machine alone are taken, or of each that didn't give a wrong state. Call it if the one whose
+    /// pieces are taken alone gives none.
     ///
     /// # Panics
     ///
@@ -214,7 +214,9 @@ impl Taker {
     /// The state's bytes, once it is whole: their digest is that of the name.
     pub fn bytes(&self) -> Option<Vec<u8>> {
         let mut bytes = vec![0; self.name().length as usize];
-        let answer = said(unsafe { raw::fazgrond_taker_bytes(self.raw(), bytes.as_mut_ptr(), bytes.len()) });
-        answer.ok().map(|()| bytes)
+        match unsafe { raw::fazgrond_taker_bytes(self.raw(), bytes.as_mut_ptr(), bytes.len()) } {
+            raw::NOTHING => None,
+            code => said(code).ok().map(|()| bytes),
+        }
     }
 }

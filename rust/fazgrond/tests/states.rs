@@ -29,7 +29,12 @@ fn a_state_goes_over() {
     while let Some(ask) = taker.send(NUMBER, TAKER, 5) {
         assert_eq!(StateName::sender(&ask), Some(TAKER));
         let replies = (0..).map_while(|place| giver.reply(NUMBER, GIVER, &ask, place).unwrap());
-        let mut pieces: Vec<_> = replies.filter(|_| { sent += 1; sent % 3 != 0 }).collect();
+        let mut pieces: Vec<_> = replies
+            .filter(|_| {
+                sent += 1;
+                sent % 3 != 0
+            })
+            .collect();
         pieces.reverse();
         for piece in pieces.iter().chain(pieces.first()) {
             came.push(taker.receive(NUMBER, piece).unwrap());
