@@ -348,4 +348,6 @@ public static unsafe class Fazgrond
     public static void fazgrond_line_close(Line* line) { fazgrond_close((Session*)line); }
     public static void fazgrond_viewer_close(Viewer* viewer) { fazgrond_close((Session*)viewer); }
     public static void fazgrond_habits_close(Habits* habits) { fazgrond_close((Session*)habits); }
+    public static void fazgrond_giver_close(Giver* giver) { fazgrond_close((Session*)giver); }
+    public static void fazgrond_taker_close(Taker* taker) { fazgrond_close((Session*)taker); }
 }
