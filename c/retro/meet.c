@@ -216,7 +216,8 @@ static void teach(meeting *self, const guest *one) {
     while (place < LEARNERS && self->learner[place].nonce != one->nonce)
         place++;
     if (place == LEARNERS)
-        self->learner[self->learners++ % LEARNERS] = *one;
+        place = (int)(self->learners++ % LEARNERS);
+    self->learner[place] = *one;
     send_offer(self, one);
 }
 
