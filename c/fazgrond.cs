@@ -13,6 +13,10 @@ public static unsafe class Fazgrond
     public const int Machines = 8;
     public const int Datagram = 1200;
     public const int GuessWords = 24;
+    public const int Piece = 1024;
+    public const int Asked = 16;
+    public const int DigestBytes = 32;
+    public const int NoMachine = 255;
     public const uint Ggpo = 0, Wide = 1;
     public const uint Load = 1, Save = 2, Step = 3, Free = 4, JobLoad = 5, JobSave = 6, JobStep = 7;
     public const uint Local = 1, Remote = 2, Disconnect = 3, Sync = 4, Advance = 5, Graft = 6;
@@ -22,10 +26,12 @@ public static unsafe class Fazgrond
                      TreeFull = 113, LogFull = 114, NoPlan = 117, Full = 119, NoJob = 120, IsClosed = 201, Pending = 202,
                      Nothing = 203, TooShort = 204, OtherVersion = 205, NotSealed = 301, NoDatagram = 302, InvalidMachine = 303,
                      OwnMachine = 304, MachineGone = 305, Mismatched = 306, Overstated = 307, Ended = 308, OtherSender = 309,
-                     NoRows = 310, RowsMissing = 311, Outside = 312, OtherSession = 313;
+                     NoRows = 310, RowsMissing = 311, Outside = 312, OtherSession = 313, OtherKind = 314, OtherState = 315,
+                     Barred = 316, NotNow = 317, PastTheEnd = 318, WrongLength = 319, TooLong = 320;
     public const uint Synchronizing = 1001, Synchronized = 1002, Running = 1003, Disconnected = 1004, TimeSync = 1005,
                       Interrupted = 1006, Resumed = 1007, Left = 1101, Desync = 1102, Mismatch = 1103, Dropped = 1104,
                       Restarted = 1105, Stalled = 1106, Refused = 1107, Missing = 1108;
+    public const uint PieceAgain = 1, PieceTaken = 2, StateWhole = 3, StateWrong = 4;
 
     [StructLayout(LayoutKind.Sequential)]
     public struct Session
@@ -184,6 +190,43 @@ public static unsafe class Fazgrond
         public fixed uint Words[Fazgrond.GuessWords];
     }
 
+    [StructLayout(LayoutKind.Sequential)]
+    public struct Giver
+    {
+        public byte Full;
+        public IntPtr At;
+    }
+
+    [StructLayout(LayoutKind.Sequential)]
+    public struct Taker
+    {
+        public byte Full;
+        public IntPtr At;
+    }
+
+    [StructLayout(LayoutKind.Sequential)]
+    public struct StateName
+    {
+        public ulong Which;
+        public uint Frame;
+        public uint Length;
+        public fixed byte Digest[Fazgrond.DigestBytes];
+    }
+
+    [StructLayout(LayoutKind.Sequential)]
+    public struct Heard
+    {
+        public uint What;
+        public uint Machine;
+    }
+
+    [StructLayout(LayoutKind.Sequential)]
+    public struct TakerState
+    {
+        public UIntPtr Pieces;
+        public UIntPtr Left;
+    }
+
     [DllImport(Library)] public static extern uint fazgrond_version();
     [DllImport(Library)] public static extern UIntPtr fazgrond_text(int code, byte* @out, UIntPtr room);
     [DllImport(Library)] public static extern int fazgrond_open(Session* session, Settings* settings);
@@ -246,6 +289,28 @@ public static unsafe class Fazgrond
     [DllImport(Library)] public static extern int fazgrond_habits_note(Habits* habits, uint word);
     [DllImport(Library)] public static extern UIntPtr fazgrond_habits_guesses(Habits* habits, uint frames, Foreseen* @out,
                                                                               UIntPtr room);
+    [DllImport(Library)] public static extern int fazgrond_giver_open(Giver* giver, ulong which, uint frame, byte* bytes,
+                                                                      UIntPtr length);
+    [DllImport(Library)] public static extern int fazgrond_giver_name(Giver* giver, StateName* name);
+    [DllImport(Library)] public static extern int fazgrond_giver_bytes(Giver* giver, byte* @out, UIntPtr room);
+    [DllImport(Library)] public static extern int fazgrond_giver_reply(Giver* giver, ulong number, byte me, byte* bytes,
+                                                                       UIntPtr length, UIntPtr place, byte* @out, UIntPtr room,
+                                                                       UIntPtr* size);
+    [DllImport(Library)] public static extern int fazgrond_taker_open(Taker* taker, StateName* name, uint limit);
+    [DllImport(Library)] public static extern int fazgrond_taker_name(Taker* taker, StateName* name);
+    [DllImport(Library)] public static extern int fazgrond_taker_look(Taker* taker, TakerState* state);
+    [DllImport(Library)] public static extern int fazgrond_taker_send(Taker* taker, ulong number, byte me, UIntPtr most,
+                                                                      byte* @out, UIntPtr room, UIntPtr* size);
+    [DllImport(Library)] public static extern int fazgrond_taker_receive(Taker* taker, ulong number, byte* bytes,
+                                                                         UIntPtr length, Heard* heard);
+    [DllImport(Library)] public static extern int fazgrond_taker_takes_of(Taker* taker, byte machine, uint* flag);
+    [DllImport(Library)] public static extern int fazgrond_taker_take_of(Taker* taker, byte machine);
+    [DllImport(Library)] public static extern int fazgrond_taker_bytes(Taker* taker, byte* @out, UIntPtr room);
+    [DllImport(Library)] public static extern int fazgrond_state_sender(byte* bytes, UIntPtr length, byte* machine);
+    [DllImport(Library)] public static extern ulong fazgrond_state_digest(StateName* name, ulong digest);
+    [DllImport(Library)] public static extern int fazgrond_state_ask(ulong number, byte me, ulong which, uint frame, byte* @out,
+                                                                     UIntPtr room, UIntPtr* size);
+    [DllImport(Library)] public static extern int fazgrond_state_told(ulong number, byte* bytes, UIntPtr length, StateName* name);
 
     public static Settings fazgrond_settings_for(uint players)
     {
@@ -283,4 +348,6 @@ public static unsafe class Fazgrond
     public static void fazgrond_line_close(Line* line) { fazgrond_close((Session*)line); }
     public static void fazgrond_viewer_close(Viewer* viewer) { fazgrond_close((Session*)viewer); }
     public static void fazgrond_habits_close(Habits* habits) { fazgrond_close((Session*)habits); }
+    public static void fazgrond_giver_close(Giver* giver) { fazgrond_close((Session*)giver); }
+    public static void fazgrond_taker_close(Taker* taker) { fazgrond_close((Session*)taker); }
 }

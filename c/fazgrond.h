@@ -161,7 +161,7 @@ enum {
     FAZGROND_NOTHING = 203,                 /* there is no such thing: no such player, row or word */
     FAZGROND_TOO_SHORT = 204,               /* the buffer has less room than what is to be written */
     FAZGROND_OTHER_VERSION = 205,           /* `size` isn't the one that this library knows: another version's header */
-    /* From here on, of peers, lines and viewers alone. */
+    /* From here on, of peers, lines, viewers, givers and takers alone. */
     FAZGROND_NOT_SEALED = 301,              /* bytes that are not of this opening of the match or line, were changed on their way,
                                              * or are too few or too many */
     FAZGROND_NO_DATAGRAM = 302,             /* they are sealed as they have to be, and no datagram of this version */
@@ -177,8 +177,16 @@ enum {
     FAZGROND_ROWS_MISSING = 311,            /* rows before those that the host sends have not come yet */
     FAZGROND_OUTSIDE = 312,                 /* the sender tells of machines or players that the match hasn't, or not alike of all
                                              * words of an input */
-    FAZGROND_OTHER_SESSION = 313            /* the session isn't the one that this peer plays: give it that one. Or it was told of
+    FAZGROND_OTHER_SESSION = 313,           /* the session isn't the one that this peer plays: give it that one. Or it was told of
                                              * others past the peer: then the match is over for this machine */
+    FAZGROND_OTHER_KIND = 314,              /* an ask came to a taker, or a piece to a giver */
+    FAZGROND_OTHER_STATE = 315,             /* the ask or the piece is of another state */
+    FAZGROND_BARRED = 316,                  /* the sender alone gave a whole state that was wrong: no piece of it is taken */
+    FAZGROND_NOT_NOW = 317,                 /* the pieces of another machine alone are taken for now */
+    FAZGROND_PAST_THE_END = 318,            /* the state has no such piece */
+    FAZGROND_WRONG_LENGTH = 319,            /* the piece has fewer or more bytes than the state's piece there has */
+    FAZGROND_TOO_LONG = 320                 /* the state has more bytes than the limit that the taker was given, or 2^32 or more
+                                             * */
 };
 
 /* Opens a session. Before the first request the game has its opening state as the current one and in slot 0. If the handle is
@@ -604,6 +612,130 @@ int32_t fazgrond_habits_note(fazgrond_habits *habits, uint32_t word);
  * player's last changes. Fills `out`, which has room for so many, and says how many it wrote: 32 at most, and 0 if the habits are
  * closed. */
 size_t fazgrond_habits_guesses(fazgrond_habits *habits, uint32_t frames, fazgrond_foreseen *out, size_t room);
+
+/* ---- A state in pieces: before a match, bytes that the others don't have (an opening state, save RAM, options) go to them over
+ * the match's own sockets, by datagrams that may be lost, late, double and in any order. Who has the state opens a giver, who
+ * needs it a taker. All that they send is sealed by the number that the two machines share (one of fazgrond_match's `numbers`),
+ * and names its sender, a machine of the match. */
+
+/* Who gives a state, and who takes one, in the game's memory, as a fazgrond_session. Begin with FAZGROND_CLOSED. */
+typedef struct fazgrond_giver {
+    uint8_t full;
+    void *at;
+} fazgrond_giver;
+
+typedef struct fazgrond_taker {
+    uint8_t full;
+    void *at;
+} fazgrond_taker;
+
+/* The most bytes of a piece: each piece of a state has so many, but for the last one. And the most pieces that one datagram asks
+ * for. */
+#define FAZGROND_PIECE 1024
+#define FAZGROND_ASKED 16
+
+#define FAZGROND_DIGEST_BYTES 32
+
+/* What a state is called. Who takes it has to know that from somebody it believes: what it has in the end are bytes with this
+ * digest, whoever sent them. */
+typedef struct fazgrond_state_name {
+    uint64_t which;  /* which state it is: a number of your choice for each that the machines exchange */
+    uint32_t frame;  /* the frame that it is of, 0 before the match */
+    uint32_t length; /* how many bytes it has */
+    uint8_t digest[FAZGROND_DIGEST_BYTES]; /* their SHA-256 */
+} fazgrond_state_name;
+
+/* AGAIN: the piece was there already. TAKEN: it is there now, and others are missing. WHOLE: it was the last one, and the state
+ * has its digest. WRONG: it was the last one, and the state has another digest, so that all pieces are missing again. If one
+ * machine gave them all, `machine` is that one, and no piece of it is taken any more (FAZGROND_BARRED). Else it is
+ * FAZGROND_NO_MACHINE, and pieces of the sender of the last one are taken alone from now on, as by fazgrond_taker_take_of. */
+enum { FAZGROND_PIECE_AGAIN = 1, FAZGROND_PIECE_TAKEN = 2, FAZGROND_STATE_WHOLE = 3, FAZGROND_STATE_WRONG = 4 };
+
+#define FAZGROND_NO_MACHINE 255
+
+typedef struct fazgrond_heard {
+    uint32_t what;
+    uint32_t machine; /* FAZGROND_NO_MACHINE where none is named */
+} fazgrond_heard;
+
+typedef struct fazgrond_taker_state {
+    size_t pieces; /* how many the state has */
+    size_t left;   /* how many are missing. 0: it is whole */
+} fazgrond_taker_state;
+
+/* Opens a giver of a copy of these bytes, as fazgrond_open a session. FAZGROND_INVALID_REQUEST: there are none.
+ * FAZGROND_TOO_LONG: 2^32 or more. */
+int32_t fazgrond_giver_open(fazgrond_giver *giver, uint64_t which, uint32_t frame, const uint8_t *bytes, size_t length);
+
+/* Closes it. Nothing happens if it is closed. */
+static inline void fazgrond_giver_close(fazgrond_giver *giver) {
+    fazgrond_close((fazgrond_session *)(void *)giver);
+}
+
+/* What its state is called: tell it those who are to take it. */
+int32_t fazgrond_giver_name(fazgrond_giver *giver, fazgrond_state_name *name);
+
+/* Its bytes, in `out`, which has room for all of them; else FAZGROND_TOO_SHORT. */
+int32_t fazgrond_giver_bytes(fazgrond_giver *giver, uint8_t *out, size_t room);
+
+/* The datagram to send for the piece that `bytes` ask for at this place of their list, from 0, in `out`, which has room for
+ * FAZGROND_DATAGRAM bytes, and how long it is. `number` is the one that this machine shares with who asks, and `me` is this
+ * machine. Call it with 0, 1 and so on, as often as an ask is to be answered at most, and send each to where the machine that
+ * fazgrond_state_sender names has its address: never to where the ask came from. FAZGROND_NOTHING: they ask for fewer pieces, or
+ * for one that the state hasn't. FAZGROND_OTHER_STATE: for another state. Nothing is kept of who asked. */
+int32_t fazgrond_giver_reply(fazgrond_giver *giver, uint64_t number, uint8_t me, const uint8_t *bytes, size_t length, size_t place,
+                             uint8_t *out, size_t room, size_t *size);
+
+/* Opens a taker of the state of this name, as fazgrond_open a session. All memory is taken now: room for its bytes, and two bytes
+ * a piece. FAZGROND_TOO_LONG: it has more bytes than `limit`, and no memory was taken. FAZGROND_INVALID_REQUEST: it has none. */
+int32_t fazgrond_taker_open(fazgrond_taker *taker, const fazgrond_state_name *name, uint32_t limit);
+
+/* Closes it. Nothing happens if it is closed. */
+static inline void fazgrond_taker_close(fazgrond_taker *taker) {
+    fazgrond_close((fazgrond_session *)(void *)taker);
+}
+
+/* What its state is called. */
+int32_t fazgrond_taker_name(fazgrond_taker *taker, fazgrond_state_name *name);
+
+/* How many of the pieces are there. */
+int32_t fazgrond_taker_look(fazgrond_taker *taker, fazgrond_taker_state *state);
+
+/* The datagram that asks for the next missing pieces, `most` at most and no more than FAZGROND_ASKED, as fazgrond_giver_reply its
+ * own. Once or a few times a turn, to one machine of which fazgrond_taker_takes_of says 1. It goes on behind those that were
+ * asked for last, and begins with the first one again once the last was. FAZGROND_NOTHING: none is missing. */
+int32_t fazgrond_taker_send(fazgrond_taker *taker, uint64_t number, uint8_t me, size_t most, uint8_t *out, size_t room,
+                            size_t *size);
+
+/* Takes a datagram that came, sealed by the number that this machine shares with the sender, and says what came of it. What is
+ * refused has changed nothing. FAZGROND_INVALID_MACHINE: no machine of a match sent it. FAZGROND_BARRED, FAZGROND_NOT_NOW: no
+ * pieces of the sender are taken. */
+int32_t fazgrond_taker_receive(fazgrond_taker *taker, uint64_t number, const uint8_t *bytes, size_t length, fazgrond_heard *heard);
+
+/* Whether pieces of a machine are taken for now: `flag` is 1 if so, else 0. FAZGROND_INVALID_MACHINE: it is FAZGROND_MACHINES or
+ * more. */
+int32_t fazgrond_taker_takes_of(fazgrond_taker *taker, uint8_t machine, uint32_t *flag);
+
+/* From now on pieces of this machine alone are taken, or with FAZGROND_NO_MACHINE of each that didn't give a wrong state. Call it
+ * if the one whose pieces are taken alone gives none. */
+int32_t fazgrond_taker_take_of(fazgrond_taker *taker, uint8_t machine);
+
+/* The state's bytes, in `out`, which has room for all of them; else FAZGROND_TOO_SHORT. FAZGROND_NOTHING: pieces are missing. Who
+ * has them can open a giver of its own. */
+int32_t fazgrond_taker_bytes(fazgrond_taker *taker, uint8_t *out, size_t room);
+
+/* Which machine a datagram says that it is of, if it is a piece of a state or asks for some; FAZGROND_NOTHING if it is for a
+ * peer. By it you know whose number to open it with. */
+int32_t fazgrond_state_sender(const uint8_t *bytes, size_t length, uint8_t *machine);
+
+/* A digest that has a state in it, beside what another has: by one call for each state, in the same order at all machines, that
+ * of the match has all of them. */
+uint64_t fazgrond_state_digest(const fazgrond_state_name *name, uint64_t digest);
+
+/* If nobody has said what a state is called: the datagram that asks for the first piece of the one of this number and frame, as
+ * fazgrond_taker_send, and what the state is called that a piece is of. Whether that is the right one is for you to believe. */
+int32_t fazgrond_state_ask(uint64_t number, uint8_t me, uint64_t which, uint32_t frame, uint8_t *out, size_t room, size_t *size);
+int32_t fazgrond_state_told(uint64_t number, const uint8_t *bytes, size_t length, fazgrond_state_name *name);
 
 #ifdef __cplusplus
 }

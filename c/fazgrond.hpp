@@ -24,6 +24,9 @@ using Event = fazgrond_event;
 using Stats = fazgrond_stats;
 using LineSettings = fazgrond_line_settings;
 using LineState = fazgrond_line_state;
+using StateName = fazgrond_state_name;
+using TakerState = fazgrond_taker_state;
+using Heard = fazgrond_heard;
 
 // Where the state after all settled rows lies.
 struct Settled {
@@ -80,6 +83,13 @@ enum class [[nodiscard]] Code : std::int32_t {
     rows_missing = FAZGROND_ROWS_MISSING,
     outside = FAZGROND_OUTSIDE,
     other_session = FAZGROND_OTHER_SESSION,
+    other_kind = FAZGROND_OTHER_KIND,
+    other_state = FAZGROND_OTHER_STATE,
+    barred = FAZGROND_BARRED,
+    not_now = FAZGROND_NOT_NOW,
+    past_the_end = FAZGROND_PAST_THE_END,
+    wrong_length = FAZGROND_WRONG_LENGTH,
+    too_long = FAZGROND_TOO_LONG,
 };
 
 // The sentence for an answer.
@@ -125,6 +135,16 @@ struct Closer {
 
     void operator()(fazgrond_habits *handle) const {
         fazgrond_habits_close(handle);
+        delete handle;
+    }
+
+    void operator()(fazgrond_giver *handle) const {
+        fazgrond_giver_close(handle);
+        delete handle;
+    }
+
+    void operator()(fazgrond_taker *handle) const {
+        fazgrond_taker_close(handle);
         delete handle;
     }
 };
@@ -426,6 +446,95 @@ public:
 private:
     Owned<fazgrond_habits> handle;
 };
+
+// Who gives a state in pieces, closed at first.
+class Giver {
+public:
+    Giver() : handle(new fazgrond_giver FAZGROND_CLOSED) {}
+
+    // It keeps a copy of the bytes: the state of a number of yours, and of a frame.
+    Code open(std::uint64_t which, std::uint32_t frame, const std::vector<std::uint8_t> &bytes) {
+        static const std::uint8_t none = 0;
+        return Code(fazgrond_giver_open(handle.get(), which, frame, bytes.empty() ? &none : bytes.data(), bytes.size()));
+    }
+
+    void close() { fazgrond_giver_close(handle.get()); }
+
+    std::optional<StateName> name() { return asked<StateName>(handle.get(), fazgrond_giver_name); }
+
+    // The state's bytes; none if it is closed.
+    std::vector<std::uint8_t> bytes() {
+        auto called = name();
+        std::vector<std::uint8_t> all(called ? called->length : 0);
+        if (!all.empty() && fazgrond_giver_bytes(handle.get(), all.data(), all.size()) != FAZGROND_OK)
+            all.clear();
+        return all;
+    }
+
+    // The datagram to send for the piece that bytes ask for at a place of their list, from 0. The answer is nothing if there is none.
+    Code reply(std::uint64_t number, std::uint8_t me, const std::uint8_t *bytes, std::size_t length, std::size_t place, Datagram &out) {
+        return Code(fazgrond_giver_reply(handle.get(), number, me, bytes, length, place, out.bytes.data(), out.bytes.size(),
+                                         &out.length));
+    }
+
+private:
+    Owned<fazgrond_giver> handle;
+};
+
+// Who takes a state in pieces, closed at first.
+class Taker {
+public:
+    Taker() : handle(new fazgrond_taker FAZGROND_CLOSED) {}
+
+    // The state of this name, if it has no more bytes than `limit`. All memory is taken now.
+    Code open(const StateName &name, std::uint32_t limit) { return Code(fazgrond_taker_open(handle.get(), &name, limit)); }
+
+    void close() { fazgrond_taker_close(handle.get()); }
+
+    std::optional<StateName> name() { return asked<StateName>(handle.get(), fazgrond_taker_name); }
+
+    // How many of the pieces are there.
+    std::optional<TakerState> look() { return asked<TakerState>(handle.get(), fazgrond_taker_look); }
+
+    // The datagram that asks for the next missing pieces, so many at most. The answer is nothing if none is missing.
+    Code send(std::uint64_t number, std::uint8_t me, std::size_t most, Datagram &out) {
+        return Code(fazgrond_taker_send(handle.get(), number, me, most, out.bytes.data(), out.bytes.size(), &out.length));
+    }
+
+    // `heard` says what came of a piece.
+    Code receive(std::uint64_t number, const std::uint8_t *bytes, std::size_t length, Heard &heard) {
+        return Code(fazgrond_taker_receive(handle.get(), number, bytes, length, &heard));
+    }
+
+    // Whether pieces of a machine are taken for now: ask those alone.
+    bool takes_of(std::uint8_t machine) {
+        auto flag = asked<std::uint32_t>(handle.get(), fazgrond_taker_takes_of, machine);
+        return flag && *flag != 0;
+    }
+
+    // From now on pieces of this machine alone are taken, or with FAZGROND_NO_MACHINE of each that didn't give a wrong state.
+    Code take_of(std::uint8_t machine) { return Code(fazgrond_taker_take_of(handle.get(), machine)); }
+
+    // The state's bytes, once it is whole.
+    std::optional<std::vector<std::uint8_t>> bytes() {
+        auto called = name();
+        std::vector<std::uint8_t> all(called ? called->length : 0);
+        if (all.empty() || fazgrond_taker_bytes(handle.get(), all.data(), all.size()) != FAZGROND_OK)
+            return std::nullopt;
+        return all;
+    }
+
+private:
+    Owned<fazgrond_taker> handle;
+};
+
+// The machine that sent a piece of a state or asks for some; nothing if the datagram is for a peer.
+inline std::optional<std::uint8_t> state_sender(const std::uint8_t *bytes, std::size_t length) {
+    std::uint8_t machine;
+    if (fazgrond_state_sender(bytes, length, &machine) != FAZGROND_OK)
+        return std::nullopt;
+    return machine;
+}
 
 } // namespace fazgrond
 

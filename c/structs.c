@@ -112,3 +112,25 @@ HAS(fazgrond_foreseen, 104);
 AT(fazgrond_foreseen, count, 0);
 AT(fazgrond_foreseen, worth, 4);
 AT(fazgrond_foreseen, words, 8);
+
+HAS(fazgrond_giver, 16);
+AT(fazgrond_giver, full, 0);
+AT(fazgrond_giver, at, 8);
+
+HAS(fazgrond_taker, 16);
+AT(fazgrond_taker, full, 0);
+AT(fazgrond_taker, at, 8);
+
+HAS(fazgrond_state_name, 48);
+AT(fazgrond_state_name, which, 0);
+AT(fazgrond_state_name, frame, 8);
+AT(fazgrond_state_name, length, 12);
+AT(fazgrond_state_name, digest, 16);
+
+HAS(fazgrond_heard, 8);
+AT(fazgrond_heard, what, 0);
+AT(fazgrond_heard, machine, 4);
+
+HAS(fazgrond_taker_state, 16);
+AT(fazgrond_taker_state, pieces, 0);
+AT(fazgrond_taker_state, left, 8);

@@ -1,9 +1,11 @@
 /* A fuzzer of the C interface: the input is a list of calls of a session, and perhaps of a peer beside it, of the two ends of a
- * viewer's line and of a player's habits, with whatever arguments keep what the header asks. Handles of one kind are given for
- * those of another too. Memory runs out now and then, as the input says. Requests must be such that a game can carry them out;
- * where all that is shown is settled, the game's state must be that of the settled rows; and what another handle's call answers
- * changes no session. */
+ * viewer's line, of a player's habits and of who gives and takes a state, with whatever arguments keep what the header asks.
+ * Handles of one kind are given for those of another too. Memory runs out now and then, as the input says. Requests must be such
+ * that a game can carry them out; where all that is shown is settled, the game's state must be that of the settled rows; what
+ * another handle's call answers changes no session; and a state that was taken has its digest. */
 #include "game.h"
+
+#include "../sha256.h"
 
 /* The library's memory, in place of heap.c: after so many grants it runs out. */
 
@@ -45,6 +47,8 @@ typedef struct subject {
     fazgrond_line line;
     fazgrond_viewer viewer;
     fazgrond_habits habits;
+    fazgrond_giver giver;
+    fazgrond_taker taker;
     fazgrond_settings settings;
     game game;
     uint32_t now;
@@ -370,6 +374,71 @@ static void call_of_habits(subject *self, input *in) {
     }
 }
 
+static void has_its_digest(const fazgrond_state_name *name, const uint8_t *bytes) {
+    sha256 made = sha256_begin();
+    sha256_add(&made, bytes, name->length);
+    sha256_pad(&made);
+    for (int at = 0; at < 32; at++)
+        MUST(name->digest[at] == (uint8_t)(made.state[at / 4] >> (24 - 8 * (at % 4))));
+}
+
+/* An ask, its answer, and what comes of that; one byte may be changed on the way, and sealed again or not. */
+static void ask_for_pieces(subject *self, input *in) {
+    uint8_t ask[FAZGROND_DATAGRAM], piece[FAZGROND_DATAGRAM];
+    size_t length = 0, size = 0, place = take_some(in, 3), changed = take_number(in) % sizeof piece;
+    uint32_t how = take_byte(in);
+    fazgrond_heard heard;
+    int32_t code = fazgrond_taker_send(&self->taker, 5, 1, take_some(in, 20), ask, how == 1 ? 99 : sizeof ask, &length);
+    MUST(code != FAZGROND_OK || (62 < length && length <= 62 + 4 * FAZGROND_ASKED));
+    code = fazgrond_giver_reply(&self->giver, 5, 0, ask, code == FAZGROND_OK ? length : 0, place, piece, sizeof piece, &size);
+    if (code != FAZGROND_OK)
+        return;
+    MUST(66 < size && size <= 66 + FAZGROND_PIECE);
+    if (how & 64)
+        piece[changed] ^= (uint8_t)(1 << how % 8);
+    if (how & 128)
+        seal(piece, size, (seal_key){ .number = 5 });
+    code = fazgrond_taker_receive(&self->taker, 5, piece, size, &heard);
+    MUST(code != FAZGROND_OK || (heard.what >= FAZGROND_PIECE_AGAIN && heard.what <= FAZGROND_STATE_WRONG));
+}
+
+static void take_state(subject *self) {
+    static uint8_t taken[4096];
+    fazgrond_state_name name;
+    fazgrond_taker_state state;
+    int32_t code = fazgrond_taker_bytes(&self->taker, taken, sizeof taken);
+    if (fazgrond_taker_look(&self->taker, &state) != FAZGROND_OK)
+        MUST(code == FAZGROND_IS_CLOSED);
+    else
+        MUST((code == FAZGROND_NOTHING) == (state.left > 0));
+    if (code == FAZGROND_OK && fazgrond_taker_name(&self->taker, &name) == FAZGROND_OK)
+        has_its_digest(&name, taken);
+}
+
+static void call_of_states(subject *self, input *in) {
+    static const uint8_t given[4096] = { 1, 2, 3 };
+    uint32_t what = take_byte(in), flag;
+    size_t size = take_some(in, 250) * 16;
+    fazgrond_state_name name;
+    switch (what % 8) {
+    case 0: fazgrond_giver_open(&self->giver, 1, 0, given, size <= sizeof given ? size : sizeof given); break;
+    case 1:
+        if (fazgrond_giver_name(&self->giver, &name) == FAZGROND_OK) {
+            name.digest[0] ^= what == 1;
+            fazgrond_taker_open(&self->taker, &name, sizeof given);
+        }
+        break;
+    case 2: take_state(self); break;
+    case 3:
+        if (fazgrond_taker_takes_of(&self->taker, (uint8_t)(what / 8), &flag) == FAZGROND_OK)
+            MUST(flag <= 1 && what / 8 < FAZGROND_MACHINES);
+        fazgrond_taker_take_of(&self->taker, (uint8_t)(what / 8 % 3 == 0 ? FAZGROND_NO_MACHINE : what / 8 % 16));
+        break;
+    case 4: fazgrond_taker_look((fazgrond_taker *)(void *)&self->giver, &(fazgrond_taker_state){ 0, 0 }); break;
+    default: ask_for_pieces(self, in);
+    }
+}
+
 static void call_of_peer(subject *self, input *in) {
     uint32_t what = take_byte(in), flag, frame, slot;
     uint8_t bytes[1300];
@@ -402,6 +471,8 @@ static void call_of_peer(subject *self, input *in) {
     default:
         if (what == 15)
             fazgrond_peer_close(&self->peer);
+        else if ((what & 192) == 192)
+            call_of_states(self, in);
         else if (what & 128)
             call_of_habits(self, in);
         else if (what & 64)
@@ -432,5 +503,7 @@ int LLVMFuzzerTestOneInput(const uint8_t *data, size_t size) {
     fazgrond_line_close(&self.line);
     fazgrond_viewer_close(&self.viewer);
     fazgrond_habits_close(&self.habits);
+    fazgrond_giver_close(&self.giver);
+    fazgrond_taker_close(&self.taker);
     return 0;
 }

@@ -399,3 +399,35 @@ void core_options_text(const core *self, char *out, size_t room) {
     for (int at = 0; at < self->option_count && length < room; at++)
         length += (size_t)snprintf(out + length, room - length, "%s=%s\n", self->options[at].key, self->options[at].value);
 }
+
+/* Whether the core says that something can be plugged in there. A pad, or nothing, always can. */
+static bool can_plug(const core *self, int port, uint32_t device) {
+    bool can = device == RETRO_DEVICE_NONE || device == RETRO_DEVICE_JOYPAD;
+    const struct retro_controller_info *at = self->ports;
+    for (int place = 0; at != NULL && at[place].types != NULL && place <= port; place++)
+        for (unsigned type = 0; place == port && type < at[place].num_types; type++)
+            can |= at[place].types[type].id == device;
+    return can;
+}
+
+static bool is_line(const char *line) {
+    size_t at = 0;
+    while (line[at] >= ' ' && line[at] <= '~')
+        at++;
+    return at > 0 && line[at] == 0;
+}
+
+bool core_options_take(const core *self, char *text, recipe *to) {
+    char *rest, *line = strtok_r(text, "\n", &rest), *end;
+    for (int port = 0; port < PORTS; port++, line = strtok_r(NULL, "\n", &rest)) {
+        if (line == NULL || !is_line(line))
+            return false;
+        to->devices[port] = (uint32_t)strtoul(line, &end, 10);
+        if (*end != 0 || !can_plug(self, port, to->devices[port]))
+            return false;
+    }
+    to->override_count = 0;
+    for (; line != NULL && is_line(line) && to->override_count < OVERRIDES; line = strtok_r(NULL, "\n", &rest))
+        to->overrides[to->override_count++] = line;
+    return line == NULL;
+}

@@ -6,7 +6,7 @@
 
 #include <libretro.h>
 
-enum { CORES = 12, PORTS = 8, OPTIONS = 128, OVERRIDES = 32 };
+enum { CORES = 12, PORTS = 8, OPTIONS = 128, OVERRIDES = OPTIONS, OPTIONS_TEXT = 8192 };
 
 /* What a player holds: the bits of a word. The low 16 are the buttons of libretro's pad. PAUSE stops the frame for all as long as
  * one holds it; RESET begins the game anew in this frame. */
@@ -88,4 +88,8 @@ void core_tell_ports(const core *self);
 
 /* All options with their values, and what is plugged in, as text. */
 void core_options_text(const core *self, char *out, size_t room);
+
+/* Puts what such a text says into a recipe, which keeps pointers into it. False if it can't be read, or something is to be plugged in
+ * that this core doesn't know. Whether it has the options and their values is seen as an instance is opened. */
+bool core_options_take(const core *self, char *text, recipe *to);
 #endif

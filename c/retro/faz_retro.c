@@ -19,6 +19,7 @@ static const char usage[] =
     "faz-retro --view MATCH --broker URL [OPTIONS] CORE ROM    watches one that is published on a broker; --from FRAME\n"
     "faz-retro --play FILE [OPTIONS] CORE ROM     plays a match again that was recorded\n"
     "CORE is a libretro core, as nestopia_libretro.so, and ROM a game for it, or a .zip with one. All have to have the same.\n"
+    "With a key, who joins is given the host's save RAM, options and opening; without, all have to have the same.\n"
     "  --machines N     the host waits for so many in all (2)\n"
     "  --seats N        one or two play at this machine (1)\n"
     "  --key WORDS      the same at all: keeps others out\n"
@@ -46,6 +47,7 @@ static struct {
     runner main;
     states states;
     verdict verdict;
+    char *option_words; /* of the command line, or the host's */
     const char *options, *ports, *save, *key, *join, *watch, *play, *view;
     long from_frame, host, machines, seats, delays[SEATS], threshold, helpers, port, timeout, frames, bot, lag, jitter, loss, speed;
     bool is_verbose, is_unchecked, goes_again;
@@ -164,19 +166,20 @@ static void take_wish(void) {
     self.net.speed = (uint32_t)self.speed;
 }
 
+static char options_text[OPTIONS_TEXT];
+
 /* Opens the core, and what has to be alike at all machines. */
 static bool open_core(core_state *opening) {
     core *one = &self.main.core;
-    static char text[8192];
     if (!core_open(one, &self.from) || !core_save(one, opening))
         return fail(one->why[0] != 0 ? one->why : "the core has no states"), false;
     one->is_shown = true;
     self.main.states = &self.states;
-    core_options_text(one, text, sizeof text);
+    core_options_text(one, options_text, sizeof options_text);
     self.facts = (facts){ .core = strong_digest_of(self.from.library.at, self.from.library.size),
                           .rom = strong_digest_of(self.from.rom.at, self.from.rom.size),
                           .save_ram = strong_digest_of(self.from.save_ram.at, self.from.save_ram.size),
-                          .options = strong_digest_of(text, strlen(text)), .opening = core_digest(one),
+                          .options = strong_digest_of(options_text, strlen(options_text)), .opening = core_digest(one),
                           .reloads = self.verdict.safety == SAFE_IF_RELOADED };
     snprintf(self.facts.name, sizeof self.facts.name, "%.30s %.30s", one->info.library_name, one->info.library_version);
     return true;
@@ -184,17 +187,97 @@ static bool open_core(core_state *opening) {
 
 /* The meeting. */
 
+/* An opening as it is sent: the digest of the picture before it, and the state. */
+enum { PICTURE = 8 };
+
+static bool give_all(const core_state *opening) {
+    uint8_t *image = malloc(PICTURE + opening->size);
+    bool is_given = image != NULL;
+    for (int at = 0; at < PICTURE && is_given; at++)
+        image[at] = (uint8_t)(opening->picture >> 8 * at);
+    if (is_given)
+        memcpy(image + PICTURE, opening->at, opening->size);
+    is_given = is_given && meeting_give(&self.meeting, SAVE_RAM, self.from.save_ram.at, self.from.save_ram.size)
+        && meeting_give(&self.meeting, CORE_OPTIONS, options_text, strlen(options_text))
+        && meeting_give(&self.meeting, OPENING, image, PICTURE + opening->size);
+    free(image);
+    return is_given || fail("there is no memory for what guests may take") == 0;
+}
+
+/* What this machine takes at most: as much as its core says. */
+static void limit_all(void) {
+    self.meeting.limits[SAVE_RAM] = (uint32_t)self.main.core.get_memory_size(RETRO_MEMORY_SAVE_RAM);
+    self.meeting.limits[CORE_OPTIONS] = OPTIONS_TEXT - 1;
+    self.meeting.limits[OPENING] = (uint32_t)(PICTURE + self.main.core.serialize_size());
+}
+
+/* The core anew, with what was taken of the host. */
+static const char *open_anew(core_state *opening) {
+    core_close(&self.main.core);
+    return open_core(opening) ? NULL : "the core can't be opened with what the host has sent";
+}
+
+static const char *load_opening(const bytes *came, core_state *opening) {
+    core_state it = { .at = came->at + PICTURE, .size = came->size - PICTURE };
+    if (came->size <= PICTURE)
+        return "the host's opening is cut short";
+    for (int at = 0; at < PICTURE; at++)
+        it.picture |= (uint64_t)came->at[at] << 8 * at;
+    if (!core_load(&self.main.core, &it) || !state_copy(opening, &it))
+        return "the core refuses the host's opening";
+    self.facts.opening = core_digest(&self.main.core);
+    return NULL;
+}
+
+/* What came of the host becomes this machine's, in memory alone. Why not, or null. */
+static const char *take_over(int which, bytes *came, core_state *opening) {
+    if (which == OPENING)
+        return load_opening(came, opening);
+    if (which == SAVE_RAM) {
+        free(self.from.save_ram.at);
+        self.from.save_ram = *came;
+        came->at = NULL;
+        return open_anew(opening);
+    }
+    char *words = strndup((const char *)came->at, came->size);
+    if (words == NULL || !core_options_take(&self.main.core, words, &self.from)) {
+        free(words);
+        self.from.override_count = 0;
+        return "the host's options can't be had here";
+    }
+    free(self.option_words);
+    self.option_words = words;
+    return open_anew(opening);
+}
+
+static void take_what_came(core_state *opening) {
+    bytes came;
+    int which;
+    if (!meeting_has_taken(&self.meeting, &which, &came))
+        return;
+    const char *why = take_over(which, &came, opening);
+    free(came.at);
+    self.meeting.facts = self.facts;
+    if (why != NULL)
+        meeting_refuse(&self.meeting, why);
+    else
+        limit_all();
+}
+
 static void show_waiting(const char *what) {
     if (!self.wish.is_headless)
         window_show(&self.main.core, false, false, &what, 1);
 }
 
-static bool meet(void) {
+static bool meet(core_state *opening) {
     char text[96];
     address from;
     uint8_t bytes[2048];
     long length;
     self.meeting.facts = self.facts;
+    limit_all();
+    if (self.host > 0 && !give_all(opening))
+        return false;
     if (self.host > 0)
         meeting_host(&self.meeting, (uint32_t)self.machines, (uint32_t)self.seats, (uint32_t)self.threshold);
     else
@@ -202,6 +285,7 @@ static bool meet(void) {
     while (!self.meeting.is_agreed && !self.meeting.is_refused && (self.wish.is_headless || window_goes_on())) {
         while ((length = net_next(&self.net, &from, bytes, sizeof bytes)) >= 0)
             meeting_hear(&self.meeting, &from, bytes, (size_t)length);
+        take_what_came(opening);
         meeting_turn(&self.meeting);
         snprintf(text, sizeof text, self.host > 0 ? "%u of %ld machines are there" : "waiting for the host",
                  self.meeting.machines, self.machines);
@@ -220,6 +304,7 @@ static bool open_line(void) {
     if (!net_open(&self.net, (unsigned short)(self.host > 0 ? self.host : self.port)))
         return fail("the port can't be had"), false;
     self.meeting.net = &self.net;
+    self.meeting.has_key = self.key != NULL && *self.key != 0;
     self.meeting.key = strong_digest_of(self.key != NULL ? self.key : "", self.key != NULL ? strlen(self.key) : 0);
     return true;
 }
@@ -259,7 +344,7 @@ static int play(core_state *opening) {
     match it = { .wish = &self.wish, .from = &self.from, .meeting = &self.meeting, .main = &self.main, .states = &self.states,
                  .facts = &self.facts, .opening = *opening };
     outcome came = FAILED;
-    bool goes_on = meet();
+    bool goes_on = meet(&it.opening);
     while (goes_on) {
         if (self.watch != NULL)
             came = watch_match(&self.meeting, &self.main, &it.opening, &self.wish);
@@ -272,7 +357,7 @@ static int play(core_state *opening) {
         goes_on = came == DESYNCED && wants_again() && match_go_back(&it);
         match_close(&it);
         states_begin(&self.states, self.facts.reloads, self.wish.digests != NULL);
-        goes_on = goes_on && meet();
+        goes_on = goes_on && meet(&it.opening);
     }
     *opening = it.opening;
     return came == ENDED ? 0 : 1;
@@ -307,6 +392,7 @@ static int run(void) {
         status = casting_watch(&self.main, &self.wish, &self.facts, &opening) == ENDED ? 0 : 1;
     else if (open_line()) {
         status = play(&opening);
+        meeting_close(&self.meeting);
         net_close(&self.net);
     }
     states_begin(&self.states, false, false);
@@ -322,7 +408,7 @@ int main(int count, char **words) {
     int at = read_options(words + is_check, options);
     verdict found;
     if (self.options != NULL)
-        take_overrides(strdup(self.options));
+        take_overrides(self.option_words = strdup(self.options));
     self.from.is_verbose = self.is_verbose;
     take_devices(self.ports);
     if (at == 0 || count != at + is_check + 2 || self.seats < 1 || self.seats > SEATS || self.speed < 1
@@ -337,6 +423,7 @@ int main(int count, char **words) {
         status = check_core(&self.from, self.frames > 0 ? (uint32_t)self.frames : 600, &found) ? 0 : 1;
     else if (status == 0)
         status = take_verdict() ? run() : 1;
+    free(self.option_words);
     free(self.from.library.at);
     free(self.from.rom.at);
     free(self.from.save_ram.at);

@@ -4,10 +4,15 @@
 
 #include "../sha256.h"
 
+#include <inttypes.h>
 #include <stdio.h>
+#include <stdlib.h>
 #include <string.h>
 
-enum { HEAD = 12, HELLO = 1, TABLE = 2, REFUSAL = 3, PARTED = 4, VERSION = 1 };
+enum { HEAD = 12, HELLO = 1, TABLE = 2, REFUSAL = 3, PARTED = 4, OFFER = 5, VERSION = 2 };
+/* How pieces of states go: whom they name as their sender; how many an ask is for, and how many asks a turn has; the most that the
+ * host gives all others in so many milliseconds. */
+enum { HOST = 0, GUEST = 1, ASKS = 2, MOST_GIVEN = 64, GIVEN_IN = 50 };
 
 static const uint8_t magic[4] = { 'F', 'Z', 'R', 'M' };
 
@@ -102,10 +107,17 @@ static const char *difference(const meeting *self, const facts *theirs, char *te
         return text;
     }
     return theirs->rom != mine->rom ? "another ROM than the host's"
-        : theirs->options != mine->options ? "other options of the core than the host's"
-        : theirs->save_ram != mine->save_ram ? "another save RAM than the host's"
         : theirs->reloads != mine->reloads ? "one of the two machines hasn't checked the core: faz-retro check"
-        : theirs->opening != mine->opening ? "the game doesn't begin as it does at the host" : NULL;
+        : self->has_key ? NULL /* it is given the rest */
+        : theirs->options != mine->options ? "other options of the core than the host's; with a key they would be sent"
+        : theirs->save_ram != mine->save_ram ? "another save RAM than the host's; with a key it would be sent"
+        : theirs->opening != mine->opening ? "the game doesn't begin as it does at the host; with a key that would be sent" : NULL;
+}
+
+/* The first of what the host has otherwise; GIVEN if all is alike. */
+static int first_other(const facts *one, const facts *other) {
+    return one->save_ram != other->save_ram ? SAVE_RAM : one->options != other->options ? CORE_OPTIONS
+        : one->opening != other->opening ? OPENING : GIVEN;
 }
 
 static void send_refusal(const meeting *self, const guest *to, const char *why) {
@@ -129,6 +141,23 @@ static void send_table(const meeting *self, const guest *to, uint32_t place) {
     for (uint32_t at = 0; at < FAZGROND_MACHINES; at++) {
         put(&made, to->players > 0 ? self->draws[place][at] : 0, 8);
         put_address(&made, &self->machine[at].at);
+    }
+    send_sealed(self, &to->at, &made);
+}
+
+/* What the host gives: its facts, and what the states are called. One that it hasn't has no length. */
+static void send_offer(const meeting *self, const guest *to) {
+    cursor made = begin(OFFER);
+    put(&made, to->nonce, 8);
+    put(&made, self->facts.save_ram, 8);
+    put(&made, self->facts.options, 8);
+    put(&made, self->facts.opening, 8);
+    for (int which = 0; which < GIVEN; which++) {
+        fazgrond_state_name name = { 0 };
+        (void)fazgrond_giver_name((fazgrond_giver *)&self->givers[which], &name);
+        put(&made, name.length, 4);
+        for (size_t at = 0; at < sizeof name.digest; at++)
+            put(&made, name.digest[at], 1);
     }
     send_sealed(self, &to->at, &made);
 }
@@ -181,6 +210,32 @@ static bool is_known(const meeting *self, const address *from) {
     return is_one;
 }
 
+/* Somebody hasn't yet what the host has. It has no seat until it has, since it may never come to that. */
+static void teach(meeting *self, const guest *one) {
+    int place = 0;
+    while (place < LEARNERS && self->learner[place].nonce != one->nonce)
+        place++;
+    if (place == LEARNERS)
+        place = (int)(self->learners++ % LEARNERS);
+    self->learner[place] = *one;
+    send_offer(self, one);
+}
+
+/* An ask for pieces. They go to where a guest said hello, and not too many at once. */
+static void give(meeting *self, const guest *to, const uint8_t *bytes, size_t length) {
+    uint8_t out[FAZGROND_DATAGRAM];
+    size_t size;
+    uint64_t number = number_of(self, to->nonce);
+    if (net_now(self->net) - self->given_at >= GIVEN_IN) {
+        self->given_at = net_now(self->net);
+        self->given = 0;
+    }
+    for (int which = 0; which < GIVEN; which++)
+        for (size_t place = 0; self->given < MOST_GIVEN && fazgrond_giver_reply(&self->givers[which], number, HOST, bytes, length,
+             place, out, sizeof out, &size) == FAZGROND_OK; place++, self->given++)
+            net_send(self->net, &to->at, out, size);
+}
+
 static void take_hello(meeting *self, const address *from, cursor *heard) {
     guest one = { .at = *from, .nonce = take(heard, 8) };
     one.players = (uint32_t)take(heard, 1);
@@ -199,6 +254,10 @@ static void take_hello(meeting *self, const address *from, cursor *heard) {
         why = no_seat(self, &one);
     if (why != NULL) {
         send_refusal(self, &one, why);
+        return;
+    }
+    if (first_other(&self->facts, &theirs) != GIVEN) {
+        teach(self, &one);
         return;
     }
     if (place == *count) {
@@ -230,6 +289,102 @@ static void take_table(meeting *self, const address *from, cursor *heard) {
     all->digest = digest_of_all(self);
 }
 
+/* What a guest takes. */
+
+void meeting_refuse(meeting *self, const char *why) {
+    snprintf(self->why, sizeof self->why, "%s", why);
+    self->is_refused = true;
+    self->is_taking = false;
+}
+
+/* Begins to take the first of what the host has otherwise. */
+static void begin_to_take(meeting *self) {
+    static const char *const names[GIVEN] = { "save RAM", "options", "opening" };
+    int which = first_other(&self->facts, &self->theirs);
+    char text[120];
+    if (which == GIVEN)
+        return;
+    self->taking = which;
+    self->is_taking = true;
+    int32_t code = self->names[which].length == 0 ? FAZGROND_OK /* none, and so all of it */
+        : fazgrond_taker_open(&self->taker, &self->names[which], self->limits[which]);
+    if (code == FAZGROND_OK && self->names[which].length > 0)
+        code = fazgrond_taker_take_of(&self->taker, HOST);
+    snprintf(text, sizeof text, code == FAZGROND_TOO_LONG ? "the host's %s has more bytes than this game's"
+             : code == FAZGROND_NO_MEMORY ? "there is no memory for the host's %s"
+             : "the host's %s was taken over, and is another one here", names[which]);
+    if (code != FAZGROND_OK || self->has_taken[which])
+        meeting_refuse(self, text);
+    else
+        fprintf(stderr, "takes the host's %s: %" PRIu32 " bytes\n", names[which], self->names[which].length);
+}
+
+/* It comes again for as long as this machine says hello. */
+static void take_offer(meeting *self, cursor *heard) {
+    facts theirs = self->facts;
+    fazgrond_state_name names[GIVEN] = { { 0 } };
+    theirs.save_ram = take(heard, 8);
+    theirs.options = take(heard, 8);
+    theirs.opening = take(heard, 8);
+    for (int which = 0; which < GIVEN; which++) {
+        names[which].which = (uint64_t)which;
+        names[which].length = (uint32_t)take(heard, 4);
+        for (size_t at = 0; at < sizeof names[which].digest; at++)
+            names[which].digest[at] = (uint8_t)take(heard, 1);
+    }
+    if (heard->is_short || !self->has_key || (self->is_taking && memcmp(names, self->names, sizeof names) == 0))
+        return;
+    self->theirs = theirs;
+    memcpy(self->names, names, sizeof names);
+    begin_to_take(self);
+}
+
+static void take_piece(meeting *self, const uint8_t *from, size_t length) {
+    fazgrond_heard heard;
+    if (fazgrond_taker_receive(&self->taker, number_of(self, self->nonce), from, length, &heard) == FAZGROND_OK
+        && heard.what == FAZGROND_STATE_WRONG)
+        meeting_refuse(self, "what the host has sent isn't what it said");
+}
+
+static void send_asks(meeting *self) {
+    cursor made;
+    for (int count = 0; count < ASKS; count++)
+        if (fazgrond_taker_send(&self->taker, number_of(self, self->nonce), GUEST, FAZGROND_ASKED, made.bytes, sizeof made.bytes,
+                                &made.length) == FAZGROND_OK)
+            net_send(self->net, &self->host, made.bytes, made.length);
+}
+
+bool meeting_has_taken(meeting *self, int *which, bytes *out) {
+    fazgrond_taker_state state = { 0, 0 };
+    size_t size = self->is_taking ? self->names[self->taking].length : 0;
+    if (!self->is_taking || (size > 0 && (fazgrond_taker_look(&self->taker, &state) != FAZGROND_OK || state.left > 0)))
+        return false;
+    *out = (bytes){ malloc(size + 1), size };
+    if (out->at == NULL || (size > 0 && fazgrond_taker_bytes(&self->taker, out->at, size) != FAZGROND_OK)) {
+        free(out->at);
+        meeting_refuse(self, "there is no memory for what the host has sent");
+        return false;
+    }
+    *which = self->taking;
+    self->has_taken[self->taking] = true;
+    self->is_taking = false;
+    fazgrond_taker_close(&self->taker);
+    return true;
+}
+
+bool meeting_give(meeting *self, int which, const void *from, size_t size) {
+    fazgrond_giver_close(&self->givers[which]);
+    return size == 0 || fazgrond_giver_open(&self->givers[which], (uint64_t)which, 0, from, size) == FAZGROND_OK;
+}
+
+void meeting_close(meeting *self) {
+    fazgrond_taker_close(&self->taker);
+    for (int which = 0; which < GIVEN; which++)
+        fazgrond_giver_close(&self->givers[which]);
+}
+
+/* In the match. */
+
 void meeting_part(const meeting *self, uint32_t frame) {
     for (uint32_t at = 0; at < self->all.machines; at++) {
         cursor made = begin(PARTED);
@@ -252,7 +407,21 @@ static void take_parting(meeting *self, cursor *heard) {
     self->has_parted = true;
 }
 
+/* A piece of a state, or an ask for some. */
+static void hear_of_states(meeting *self, const address *from, const uint8_t *bytes, size_t length) {
+    for (int at = 0; at < LEARNERS && self->is_host; at++)
+        if (self->learner[at].nonce != 0 && address_is(&self->learner[at].at, from))
+            give(self, &self->learner[at], bytes, length);
+    if (!self->is_host && self->is_taking && address_is(&self->host, from))
+        take_piece(self, bytes, length);
+}
+
 bool meeting_hear(meeting *self, const address *from, const uint8_t *bytes, size_t length) {
+    uint8_t sender;
+    if (fazgrond_state_sender(bytes, length, &sender) == FAZGROND_OK) {
+        hear_of_states(self, from, bytes, length);
+        return true;
+    }
     cursor heard = { .at = HEAD, .length = length };
     if (length < HEAD || length > sizeof heard.bytes || memcmp(bytes, magic, sizeof magic) != 0)
         return false;
@@ -271,6 +440,8 @@ bool meeting_hear(meeting *self, const address *from, const uint8_t *bytes, size
         return true;
     if (kind == TABLE)
         take_table(self, from, &heard);
+    else if (kind == OFFER)
+        take_offer(self, &heard);
     else if (kind == REFUSAL) {
         take_text(&heard, self->why, sizeof self->why);
         self->is_refused = true;
@@ -283,6 +454,9 @@ static void start(meeting *self, uint32_t players) {
     self->players = players;
     self->is_agreed = self->is_refused = self->has_parted = false;
     self->machines = self->viewers = 0;
+    self->is_taking = false;
+    memset(self->has_taken, 0, sizeof self->has_taken);
+    memset(self->learner, 0, sizeof self->learner);
     memset(&self->all, 0, sizeof self->all);
     memset(self->machine, 0, sizeof self->machine);
     for (int at = 0; at < FAZGROND_PLAYERS; at++)
@@ -304,6 +478,9 @@ void meeting_join(meeting *self, const address *host, uint32_t players) {
 }
 
 void meeting_turn(meeting *self) {
-    if (!self->is_host && !self->is_agreed)
-        send_hello(self);
+    if (self->is_host || self->is_agreed)
+        return;
+    send_hello(self);
+    if (self->is_taking)
+        send_asks(self);
 }

@@ -1,12 +1,17 @@
 /* Before a match: who plays what with whom. The host hears all others, and tells each of them the match, by datagrams on the
- * match's own socket, which are sealed with the players' common key. Who has another core, ROM, save RAM, option or opening is
- * refused, in words. The opening state itself isn't sent: each machine makes its own, and all have to be alike. */
+ * match's own socket, which are sealed with the players' common key. Who has another core or ROM is refused, in words. If the
+ * players have told a key, who has other save RAM, options or another opening is given the host's, in pieces, and is heard again
+ * once it has taken them over; without a key it is refused too, since anybody could be the host. */
 #ifndef RETRO_MEET_H
 #define RETRO_MEET_H
 
+#include "files.h"
 #include "net.h"
 
-enum { VIEWERS = 32 };
+enum { VIEWERS = 32, LEARNERS = 8 /* so many at once are given what they haven't */ };
+
+/* What a guest takes of the host if it hasn't the same, in this order. */
+enum { SAVE_RAM, CORE_OPTIONS, OPENING, GIVEN };
 
 /* What has to be alike at all machines. */
 typedef struct facts {
@@ -32,6 +37,7 @@ typedef struct meeting {
     net *net;
     facts facts;
     uint64_t key, nonce;
+    bool has_key; /* the players have told one */
     uint32_t players, wanted; /* how many sit here; of the host: how many machines there are to be */
     bool is_host, is_agreed, is_refused;
     bool has_parted;                 /* in the match: another machine has said that it found a desync .. */
@@ -42,7 +48,19 @@ typedef struct meeting {
     guest machine[FAZGROND_MACHINES], viewer[VIEWERS];
     uint64_t draws[FAZGROND_MACHINES][FAZGROND_MACHINES];
     agreement all;
+    fazgrond_giver givers[GIVEN]; /* of the host; closed where it has none */
+    guest learner[LEARNERS];      /* who takes of them, the oldest place first to be taken anew */
+    uint32_t learners, given, given_at; /* how many there were; pieces that were given of late */
+    uint32_t limits[GIVEN];       /* of a guest: the most bytes that it takes of each .. */
+    facts theirs;                 /* .. what the host has .. */
+    fazgrond_state_name names[GIVEN];
+    fazgrond_taker taker;
+    int taking; /* .. what it takes now, if anything, and which it has taken */
+    bool is_taking, has_taken[GIVEN];
 } meeting;
+
+/* At the host, before it waits: what guests may take. None if there are no bytes. */
+bool meeting_give(meeting *self, int which, const void *from, size_t size);
 
 /* At the host, which waits for so many machines in all. */
 void meeting_host(meeting *self, uint32_t wanted, uint32_t players, uint32_t threshold);
@@ -51,6 +69,12 @@ void meeting_join(meeting *self, const address *host, uint32_t players);
 
 /* Every 100 milliseconds or so, until it is agreed or refused. */
 void meeting_turn(meeting *self);
+
+/* Elsewhere: whether something of the host has come whole, which, and its bytes (none if the host has none; free `at`). Once this
+ * machine has taken it over, `facts` say so, or it is refused in words. */
+bool meeting_has_taken(meeting *self, int *which, bytes *out);
+void meeting_refuse(meeting *self, const char *why);
+void meeting_close(meeting *self);
 
 /* In a match: tells all others that this machine has found a desync at this frame. */
 void meeting_part(const meeting *self, uint32_t frame);

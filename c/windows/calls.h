@@ -74,3 +74,30 @@ CALL(int32_t, fazgrond_habits_open,
 CALL(int32_t, fazgrond_habits_note, (fazgrond_habits *habits, uint32_t word), (habits, word))
 CALL(size_t, fazgrond_habits_guesses, (fazgrond_habits *habits, uint32_t frames, fazgrond_foreseen *out, size_t room),
      (habits, frames, out, room))
+CALL(int32_t, fazgrond_giver_open, (fazgrond_giver *giver, uint64_t which, uint32_t frame, const uint8_t *bytes, size_t length),
+     (giver, which, frame, bytes, length))
+CALL(int32_t, fazgrond_giver_name, (fazgrond_giver *giver, fazgrond_state_name *name), (giver, name))
+CALL(int32_t, fazgrond_giver_bytes, (fazgrond_giver *giver, uint8_t *out, size_t room), (giver, out, room))
+CALL(int32_t, fazgrond_giver_reply,
+     (fazgrond_giver *giver, uint64_t number, uint8_t me, const uint8_t *bytes, size_t length, size_t place, uint8_t *out,
+      size_t room, size_t *size),
+     (giver, number, me, bytes, length, place, out, room, size))
+CALL(int32_t, fazgrond_taker_open, (fazgrond_taker *taker, const fazgrond_state_name *name, uint32_t limit), (taker, name, limit))
+CALL(int32_t, fazgrond_taker_name, (fazgrond_taker *taker, fazgrond_state_name *name), (taker, name))
+CALL(int32_t, fazgrond_taker_look, (fazgrond_taker *taker, fazgrond_taker_state *state), (taker, state))
+CALL(int32_t, fazgrond_taker_send,
+     (fazgrond_taker *taker, uint64_t number, uint8_t me, size_t most, uint8_t *out, size_t room, size_t *size),
+     (taker, number, me, most, out, room, size))
+CALL(int32_t, fazgrond_taker_receive,
+     (fazgrond_taker *taker, uint64_t number, const uint8_t *bytes, size_t length, fazgrond_heard *heard),
+     (taker, number, bytes, length, heard))
+CALL(int32_t, fazgrond_taker_takes_of, (fazgrond_taker *taker, uint8_t machine, uint32_t *flag), (taker, machine, flag))
+CALL(int32_t, fazgrond_taker_take_of, (fazgrond_taker *taker, uint8_t machine), (taker, machine))
+CALL(int32_t, fazgrond_taker_bytes, (fazgrond_taker *taker, uint8_t *out, size_t room), (taker, out, room))
+CALL(int32_t, fazgrond_state_sender, (const uint8_t *bytes, size_t length, uint8_t *machine), (bytes, length, machine))
+CALL(uint64_t, fazgrond_state_digest, (const fazgrond_state_name *name, uint64_t digest), (name, digest))
+CALL(int32_t, fazgrond_state_ask,
+     (uint64_t number, uint8_t me, uint64_t which, uint32_t frame, uint8_t *out, size_t room, size_t *size),
+     (number, me, which, frame, out, room, size))
+CALL(int32_t, fazgrond_state_told, (uint64_t number, const uint8_t *bytes, size_t length, fazgrond_state_name *name),
+     (number, bytes, length, name))

@@ -6,8 +6,14 @@
  *   loose     a load changes the course, but two loads are as one
  *   wild      the course isn't known from the state
  *   rest      a state has a byte that means nothing, and differs
- *   noram     it doesn't tell where its RAM is */
+ *   noram     it doesn't tell where its RAM is
+ *   born=N    the game begins otherwise
+ *   short     states have a byte less
+ *   long      states have a byte more
+ *   deaf      a state of another beginning is taken, and changes nothing
+ *   more      there is another option */
 #include <libretro.h>
+#include <stddef.h>
 #include <stdlib.h>
 #include <string.h>
 
@@ -17,7 +23,7 @@
 
 enum { WIDTH = 64, HEIGHT = 48, SAMPLES = 800, PADS = 8, SAVED = 64 };
 
-static struct { uint32_t frame, rest; uint8_t ram[2048], save[SAVED]; } state;
+static struct state { uint32_t frame, rest, born; uint8_t ram[2048], save[SAVED]; } state;
 static uint32_t hidden, runs, loads, speed = 1;
 static retro_environment_t ask;
 static retro_video_refresh_t show;
@@ -39,8 +45,9 @@ static void read_options(void) {
 
 void retro_set_environment(retro_environment_t call) {
     static const struct retro_variable options[] = { { "test_speed", "Speed; 1|2|3" }, { NULL, NULL } };
+    static const struct retro_variable more[] = { { "test_speed", "Speed; 1|2|3" }, { "test_more", "More; 1" }, { NULL, NULL } };
     ask = call;
-    ask(RETRO_ENVIRONMENT_SET_VARIABLES, (void *)options);
+    ask(RETRO_ENVIRONMENT_SET_VARIABLES, (void *)(fault("more") != 0 ? more : options));
 }
 void retro_set_video_refresh(retro_video_refresh_t call) { show = call; }
 void retro_set_audio_sample(retro_audio_sample_t call) { (void)call; }
@@ -69,6 +76,8 @@ bool retro_load_game(const struct retro_game_info *game) {
     ask(RETRO_ENVIRONMENT_SET_PIXEL_FORMAT, &format);
     for (size_t at = 0; at < game->size; at++)
         state.ram[at % sizeof state.ram] += ((const uint8_t *)game->data)[at];
+    state.ram[1] += (uint8_t)fault("born");
+    state.born = fault("born");
     return game->size > 0;
 }
 bool retro_load_game_special(unsigned type, const struct retro_game_info *info, size_t count) {
@@ -87,7 +96,7 @@ static void stir(void) {
                 state.ram[(state.frame * 16 + port * 256 + button) % sizeof state.ram] += (uint8_t)(port + button + 1);
     for (size_t at = 1; at < sizeof state.ram; at++)
         state.ram[at] = (uint8_t)(state.ram[at] * 5 + state.ram[at - 1] + speed);
-    state.ram[0] += (uint8_t)(state.ram[sizeof state.ram - 1] ^ state.frame);
+    state.ram[0] += (uint8_t)(state.ram[sizeof state.ram - 1] ^ state.frame ^ state.save[state.frame % SAVED]);
     state.save[state.frame % SAVED] ^= state.ram[7];
 }
 
@@ -119,11 +128,18 @@ void retro_run(void) {
     draw();
 }
 
-size_t retro_serialize_size(void) { return sizeof state; }
-bool retro_serialize(void *to, size_t size) { return size >= sizeof state && memcpy(to, &state, sizeof state) != NULL; }
+/* The last byte means nothing, so that a state may have one less. */
+size_t retro_serialize_size(void) { return sizeof state + 1 - (fault("short") != 0) + (fault("long") != 0); }
+bool retro_serialize(void *to, size_t size) {
+    return size >= sizeof state && memset(to, 0, size) != NULL && memcpy(to, &state, sizeof state) != NULL;
+}
 bool retro_unserialize(const void *from, size_t size) {
-    if (size != sizeof state || (fault("refuse") != 0 && ++loads >= fault("refuse")))
+    uint32_t born;
+    if (size != retro_serialize_size() || (fault("refuse") != 0 && ++loads >= fault("refuse")))
         return false;
+    memcpy(&born, (const uint8_t *)from + offsetof(struct state, born), sizeof born);
+    if (fault("deaf") != 0 && born != state.born)
+        return true;
     hidden = 0;
     memcpy(&state, from, sizeof state);
     return true;

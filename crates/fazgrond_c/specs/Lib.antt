@@ -9,4 +9,7 @@ pub mod Peers
 pub mod LineKinds
 pub mod Lines
 pub mod Viewers
+pub mod StateKinds
+pub mod Givers
+pub mod Takers
 pub mod Texts

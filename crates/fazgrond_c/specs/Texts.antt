@@ -60,7 +60,14 @@ packet_text number =
     else (if number == 311 then codes "rows in between are missing"
     else (if number == 312 then codes "it speaks of machines or players that the match hasn't"
     else (if number == 313 then codes "the session isn't this match's"
-    else []))))))))))))
+    else (if number == 314 then codes "an ask for a taker, or a piece for a giver"
+    else (if number == 315 then codes "of another state"
+    else (if number == 316 then codes "the sender gave a wrong state"
+    else (if number == 317 then codes "the pieces of another machine are taken for now"
+    else (if number == 318 then codes "the state has no such piece"
+    else (if number == 319 then codes "a piece of another length"
+    else (if number == 320 then codes "a state of too many bytes"
+    else [])))))))))))))))))))
 
 -- what an event tells
 abbrev pub event_text : ℕ → List ℕ

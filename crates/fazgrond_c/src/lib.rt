@@ -4,6 +4,8 @@
 ghost use Rattle.std.specs.Prelude.{◌≡◌, ◌++◌, drop, length, take, None};
 
 mod calls;
+mod giver_calls;
+mod givers;
 mod habits;
 mod handle;
 mod hold;
@@ -23,6 +25,11 @@ mod peers;
 mod reads;
 mod requests;
 mod sessions;
+mod state_kinds;
+mod state_refusal;
+mod states;
+mod taker_calls;
+mod takers;
 mod texts;
 mod viewer_calls;
 mod viewers;
@@ -37,6 +44,7 @@ pub use line_kinds::{LineIn, LineState};
 pub use live::Live;
 pub use open::Open;
 pub use peer_kinds::{EventOut, MATCH_SIZE, MatchIn, StatsOut};
+pub use state_kinds::{HeardOut, NameOut, TakerOut};
 use std::alloc::Global;
 use texts::{sentence_of, write_front};
 

@@ -7,6 +7,7 @@ ghost use Rattle.roll_inputs.specs.Boards.{confirmed_word};
 ghost use Rattle.roll_peer.specs.Turning.{ends_in_roll};
 ghost use Rattle.fazgrond_c.specs.Handles.{session_in, Reads, ReadsSome};
 ghost use Rattle.fazgrond_c.specs.Kinds.{entry_out, row_out};
+ghost use Rattle.fazgrond_c.specs.StateKinds.{AreCopied};
 ghost use Rattle.fazgrond_c.specs.Made.{settled_row, IsClaimOf, IsClaimed, IsSettledAt, IsWritten};
 ghost use Rattle.roll_session.specs.Headline.{last_claim};
 
@@ -307,8 +308,9 @@ fn claim(alloc: Global, live: &Live, out: &mut [u8], size: &mut usize) -> i32
 }
 
 /// Writes bytes to the front of a buffer, if it has room for them.
-fn copied(out: &mut [u8], bytes: &[u8]) -> i32
-    ensures { (had : ℕ) → IsWritten bytes.now out.old out.new had (length bytes.now) result }
+pub fn copied(out: &mut [u8], bytes: &[u8]) -> i32
+    ensures copied { AreCopied bytes.now out.old out.new result }
+    ensures written { (had : ℕ) → IsWritten bytes.now out.old out.new had (length bytes.now) result }
 {
     if bytes.len() > out.len() {
         return TOO_SHORT;

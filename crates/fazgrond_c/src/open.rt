@@ -2,10 +2,11 @@
 use crate::live::Live;
 use roll_guess::PlayerHabits;
 use roll_peer::Peer;
+use roll_state::{Giver, Taker};
 use roll_viewer::{Viewer, ViewerLine};
 
-/// What a handle has open: a session, the network of a match, a host's end of a viewer's line, a viewer, or a
-/// player's habits.
+/// What a handle has open: a session, the network of a match, a host's end of a viewer's line, a viewer, a player's
+/// habits, or who gives or takes a state.
 #[derive(Drop)]
 pub enum Open {
     Session(Live),
@@ -13,4 +14,6 @@ pub enum Open {
     Line(ViewerLine),
     Viewer(Viewer),
     Habits(PlayerHabits),
+    Giver(Giver),
+    Taker(Taker),
 }

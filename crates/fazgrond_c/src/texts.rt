@@ -113,6 +113,13 @@ fn packet_text(number: u32) -> &'static str
         311 => "rows in between are missing",
         312 => "it speaks of machines or players that the match hasn't",
         313 => "the session isn't this match's",
+        314 => "an ask for a taker, or a piece for a giver",
+        315 => "of another state",
+        316 => "the sender gave a wrong state",
+        317 => "the pieces of another machine are taken for now",
+        318 => "the state has no such piece",
+        319 => "a piece of another length",
+        320 => "a state of too many bytes",
         _ => "",
     }
 }

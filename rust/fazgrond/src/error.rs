@@ -81,10 +81,24 @@ pub enum Error {
     Outside = 312,
     /// The session isn't the one that the peer plays, or was told of others past it.
     OtherSession = 313,
+    /// An ask came to a taker, or a piece to a giver.
+    OtherKind = 314,
+    /// The ask or the piece is of another state.
+    OtherState = 315,
+    /// The sender alone gave a whole state that was wrong.
+    Barred = 316,
+    /// The pieces of another machine alone are taken for now.
+    NotNow = 317,
+    /// The state has no such piece.
+    PastTheEnd = 318,
+    /// The piece has fewer or more bytes than the state's piece there has.
+    WrongLength = 319,
+    /// The state has more bytes than the limit that the taker was given, or 2^32 or more.
+    TooLong = 320,
 }
 
 /// All of them. c/numbers writes the list.
-const ALL: [Error; 37] = [
+const ALL: [Error; 44] = [
     Error::InvalidPlayer,
     Error::PlayerOutOfRange,
     Error::PredictionThreshold,
@@ -122,6 +136,13 @@ const ALL: [Error; 37] = [
     Error::RowsMissing,
     Error::Outside,
     Error::OtherSession,
+    Error::OtherKind,
+    Error::OtherState,
+    Error::Barred,
+    Error::NotNow,
+    Error::PastTheEnd,
+    Error::WrongLength,
+    Error::TooLong,
 ];
 
 /// Longer than each sentence of the library.

@@ -106,6 +106,7 @@ mod raw;
 mod row;
 mod session;
 mod settings;
+mod state;
 
 pub use error::Error;
 pub use habits::{Foreseen, Habits, GUESS_WORDS};
@@ -116,3 +117,4 @@ pub use peer::{Datagram, Event, Field, Match, Peer, Plays, Stats, MACHINES};
 pub use row::{Row, PLAYERS};
 pub use session::{Game, Session};
 pub use settings::Settings;
+pub use state::{Giver, Piece, StateName, Taker};

@@ -2,7 +2,7 @@
 use crate::raw;
 use std::ptr;
 
-/// A session, peer, line, viewer or player's habits of the library, which closes by itself.
+/// A session, peer, line, viewer, player's habits, giver or taker of the library, which closes by itself.
 #[derive(Debug)]
 pub(crate) struct Owned {
     // From `Box::into_raw`: the library's side must not move. A raw pointer keeps `Owned` from being `Sync`.

@@ -5,9 +5,11 @@ use crate::line::LineSettings;
 use crate::peer::Match;
 use crate::row::Row;
 use crate::settings::Settings;
+use crate::state::StateName;
 use std::ffi::c_void;
 
-/// What is open: a session, a peer, a line, a viewer or a player's habits. To another kind's calls it is closed.
+/// What is open: a session, a peer, a line, a viewer, a player's habits, or who gives or takes a state. To another kind's calls it is
+/// closed.
 #[repr(C)]
 pub struct Object {
     pub full: u8,
@@ -19,6 +21,8 @@ pub type Peer = Object;
 pub type Line = Object;
 pub type Viewer = Object;
 pub type Habits = Object;
+pub type Giver = Object;
+pub type Taker = Object;
 
 #[repr(C)]
 #[derive(Default)]
@@ -75,6 +79,22 @@ pub struct LineState {
     pub has_ended: u32,
     pub is_silent: u32,
 }
+
+#[repr(C)]
+#[derive(Default)]
+pub struct Heard {
+    pub what: u32,
+    pub machine: u32,
+}
+
+#[repr(C)]
+#[derive(Default)]
+pub struct TakerState {
+    pub pieces: usize,
+    pub left: usize,
+}
+
+pub const NO_MACHINE: u8 = 255;
 
 // c/numbers writes the list.
 pub const NOTHING: i32 = 203;
@@ -195,4 +215,52 @@ unsafe extern "C" {
     ) -> i32;
     pub fn fazgrond_habits_note(habits: *mut Habits, word: u32) -> i32;
     pub fn fazgrond_habits_guesses(habits: *mut Habits, frames: u32, out: *mut Foreseen, room: usize) -> usize;
+    pub fn fazgrond_giver_open(giver: *mut Giver, which: u64, frame: u32, bytes: *const u8, length: usize) -> i32;
+    pub fn fazgrond_giver_name(giver: *mut Giver, name: *mut StateName) -> i32;
+    pub fn fazgrond_giver_bytes(giver: *mut Giver, out: *mut u8, room: usize) -> i32;
+    pub fn fazgrond_giver_reply(
+        giver: *mut Giver,
+        number: u64,
+        me: u8,
+        bytes: *const u8,
+        length: usize,
+        place: usize,
+        out: *mut u8,
+        room: usize,
+        size: *mut usize,
+    ) -> i32;
+    pub fn fazgrond_taker_open(taker: *mut Taker, name: *const StateName, limit: u32) -> i32;
+    pub fn fazgrond_taker_name(taker: *mut Taker, name: *mut StateName) -> i32;
+    pub fn fazgrond_taker_look(taker: *mut Taker, state: *mut TakerState) -> i32;
+    pub fn fazgrond_taker_send(
+        taker: *mut Taker,
+        number: u64,
+        me: u8,
+        most: usize,
+        out: *mut u8,
+        room: usize,
+        size: *mut usize,
+    ) -> i32;
+    pub fn fazgrond_taker_receive(
+        taker: *mut Taker,
+        number: u64,
+        bytes: *const u8,
+        length: usize,
+        heard: *mut Heard,
+    ) -> i32;
+    pub fn fazgrond_taker_takes_of(taker: *mut Taker, machine: u8, flag: *mut u32) -> i32;
+    pub fn fazgrond_taker_take_of(taker: *mut Taker, machine: u8) -> i32;
+    pub fn fazgrond_taker_bytes(taker: *mut Taker, out: *mut u8, room: usize) -> i32;
+    pub fn fazgrond_state_sender(bytes: *const u8, length: usize, machine: *mut u8) -> i32;
+    pub fn fazgrond_state_digest(name: *const StateName, digest: u64) -> u64;
+    pub fn fazgrond_state_ask(
+        number: u64,
+        me: u8,
+        which: u64,
+        frame: u32,
+        out: *mut u8,
+        room: usize,
+        size: *mut usize,
+    ) -> i32;
+    pub fn fazgrond_state_told(number: u64, bytes: *const u8, length: usize, name: *mut StateName) -> i32;
 }

@@ -16,7 +16,7 @@ claim_told (Some c) text before after had size code is many w =
 
 pub returns-in-Ok : goal.returns-in-Ok
 returns-in-Ok c =
-    let w = rw c.as_slice.ensures.value at (c.copied.ensures c.args.size.now) in
+    let w = rw c.as_slice.ensures.value at (c.copied.ensures.written c.args.size.now) in
     let many : c.len.result ≡ length c.in-Ok.text.items = c.len.ensures ∙ sym c.as_slice.ensures.len ∙ ap length c.as_slice.ensures.value in
     let fits : FitsSigned w32 c.copied.result = search rules in
     rw to_z-of_z
