@@ -15,6 +15,7 @@ mod line_refusal;
 mod lines;
 mod live;
 mod looks;
+mod network;
 mod open;
 mod peer_calls;
 mod peer_kinds;
@@ -26,6 +27,8 @@ mod sessions;
 mod texts;
 mod viewer_calls;
 mod viewers;
+mod waiting;
+mod waiting_calls;
 
 ghost use Rattle.fazgrond_c.specs.Texts.{sentence_of, version_of};
 
@@ -35,6 +38,7 @@ pub use handle::Handle;
 pub use kinds::{EntryOut, ReachedOut, RequestOut, RowOut, SETTINGS_SIZE, SettingsIn};
 pub use line_kinds::{LineIn, LineState};
 pub use live::Live;
+pub use network::Network;
 pub use open::Open;
 pub use peer_kinds::{EventOut, MATCH_SIZE, MatchIn, StatsOut};
 use std::alloc::Global;

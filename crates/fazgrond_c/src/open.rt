@@ -1,7 +1,7 @@
 //! What a handle may have open.
 use crate::live::Live;
+use crate::network::Network;
 use roll_guess::PlayerHabits;
-use roll_peer::Peer;
 use roll_viewer::{Viewer, ViewerLine};
 
 /// What a handle has open: a session, the network of a match, a host's end of a viewer's line, a viewer, or a
@@ -9,7 +9,7 @@ use roll_viewer::{Viewer, ViewerLine};
 #[derive(Drop)]
 pub enum Open {
     Session(Live),
-    Peer(Peer),
+    Peer(Network),
     Line(ViewerLine),
     Viewer(Viewer),
     Habits(PlayerHabits),

@@ -105,6 +105,7 @@ impl Held {
     pub fn turn<S: Settling>(&mut self, session: &mut S) -> Result<usize, HeldFault>
         ensures due { IfOk result (λ count. count ≡ min (length self.old.words.items)
             (due self.old.turns (after_turn (length self.old.words.items) self.old.waited.items))) }
+        ensures few { IfOk result (λ count. count ≤ HELD_LIMIT) }
         ensures handed { IfOk result (λ count. roomless (S.seen session.new)
             ≡ roomless (told (S.seen session.old) (take count self.old.words.items))) }
         ensures rest { IfOk result (λ count. self.new.words.items ≡ drop count self.old.words.items) }
