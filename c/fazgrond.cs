@@ -12,6 +12,7 @@ public static unsafe class Fazgrond
     public const uint NoPlayer = 255;
     public const int Machines = 8;
     public const int Datagram = 1200;
+    public const int HeldWords = 64;
     public const int GuessWords = 24;
     public const int Piece = 1024;
     public const int Asked = 16;
@@ -108,6 +109,7 @@ public static unsafe class Fazgrond
         public uint NotifyAfter;
         public uint StalledAfter;
         public uint Words;
+        public uint HeldTurns;
     }
 
     [StructLayout(LayoutKind.Sequential)]
@@ -270,6 +272,12 @@ public static unsafe class Fazgrond
     [DllImport(Library)] public static extern int fazgrond_peer_note_settled(Peer* peer, Session* session, ulong digest);
     [DllImport(Library)] public static extern int fazgrond_peer_event(Peer* peer, Event* @event);
     [DllImport(Library)] public static extern int fazgrond_peer_stats(Peer* peer, byte machine, Stats* stats);
+    [DllImport(Library)] public static extern UIntPtr fazgrond_peer_waiting(Peer* peer, Entry* @out, UIntPtr room);
+    [DllImport(Library)] public static extern int fazgrond_peer_rerun(Peer* peer, Session* session, uint count, uint* frames);
+    [DllImport(Library)] public static extern int fazgrond_peer_guess(Peer* peer, Session* session, uint until, uint* job);
+    [DllImport(Library)] public static extern int fazgrond_peer_hand_over(Peer* peer, Session* session, uint count);
+    [DllImport(Library)] public static extern int fazgrond_peer_hand_over_due(Peer* peer, Session* session, uint* handed);
+    [DllImport(Library)] public static extern int fazgrond_peer_is_pressed(Peer* peer, Session* session, uint* flag);
     [DllImport(Library)] public static extern int fazgrond_line_open(Line* line, LineSettings* settings);
     [DllImport(Library)] public static extern int fazgrond_line_receive(Line* line, byte* bytes, UIntPtr length, uint now);
     [DllImport(Library)] public static extern int fazgrond_line_send(Line* line, Session* session, uint now, byte* @out,

@@ -346,6 +346,47 @@ public:
 
     std::optional<Stats> stats(std::uint8_t machine) { return asked<Stats>(handle.get(), fazgrond_peer_stats, machine); }
 
+    // The words that wait, in the order in which they came, if the match holds words back.
+    std::vector<Entry> waiting() {
+        std::vector<Entry> words(FAZGROND_HELD_WORDS);
+        words.resize(fazgrond_peer_waiting(handle.get(), words.data(), words.size()));
+        return words;
+    }
+
+    // How many frames the session would have to run again, if the first so many words that wait were handed over. Nothing if these
+    // are none.
+    std::optional<std::uint32_t> rerun(Session &session, std::uint32_t count) {
+        return asked<std::uint32_t>(handle.get(), fazgrond_peer_rerun, session.handle.get(), count);
+    }
+
+    // A guess with all words that wait, up to the frame `until`. Gives each request of its job to `carry_out`, as that of a
+    // session does.
+    template <class CarryOut>
+    Code guess(Session &session, std::uint32_t until, std::uint32_t &job, CarryOut &&carry_out) {
+        Code code = Code(fazgrond_peer_guess(handle.get(), session.handle.get(), until, &job));
+        session.take_requests(carry_out);
+        return code;
+    }
+
+    // Hands the first so many words that wait over to the session, or all if there are fewer.
+    Code hand_over(Session &session, std::uint32_t count = FAZGROND_HELD_WORDS) {
+        return Code(fazgrond_peer_hand_over(handle.get(), session.handle.get(), count));
+    }
+
+    // Once a turn: hands over the words that have waited for their turns. `handed` is how many they were.
+    Code hand_over_due(Session &session, std::uint32_t *handed = nullptr) {
+        std::uint32_t count = 0;
+        Code code = Code(fazgrond_peer_hand_over_due(handle.get(), session.handle.get(), &count));
+        if (code == Code::ok && handed != nullptr)
+            *handed = count;
+        return code;
+    }
+
+    // Whether words wait without which the session would stand at its next frame.
+    bool is_pressed(Session &session) {
+        return asked<std::uint32_t>(handle.get(), fazgrond_peer_is_pressed, session.handle.get()).value_or(0) != 0;
+    }
+
 private:
     Owned<fazgrond_peer> handle;
 };

@@ -44,7 +44,7 @@ HAS(fazgrond_peer, 16);
 AT(fazgrond_peer, full, 0);
 AT(fazgrond_peer, at, 8);
 
-HAS(fazgrond_match, 144);
+HAS(fazgrond_match, 152);
 AT(fazgrond_match, size, 0);
 AT(fazgrond_match, numbers, 8);
 AT(fazgrond_match, draw, 72);
@@ -56,6 +56,7 @@ AT(fazgrond_match, silent_after, 128);
 AT(fazgrond_match, notify_after, 132);
 AT(fazgrond_match, stalled_after, 136);
 AT(fazgrond_match, words, 140);
+AT(fazgrond_match, held_turns, 144);
 
 HAS(fazgrond_event, 36);
 AT(fazgrond_event, code, 0);

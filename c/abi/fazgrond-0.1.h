@@ -355,6 +355,9 @@ typedef struct fazgrond_match {
     uint32_t words;                      /* of how many words a player's input is, 1 to 4: so many of the session's players in a row
                                           * are one player of the match, with one owner. They leave together, and of no frame are some
                                           * of their words taken and others not */
+    uint32_t held_turns;                 /* for how many turns at most the others' words wait beside the session, 1 to 8: see "Words
+                                          * held back" below. 0: the session is given them as they come. No machine sees which of
+                                          * them another one has */
 } fazgrond_match;
 
 /* A match of so many machines, of which this one is `me`. Nobody is ever silent for too long, no player has an owner, and there
@@ -375,6 +378,7 @@ static inline fazgrond_match fazgrond_match_for(uint32_t machines, uint32_t me) 
     match.notify_after = 0;
     match.stalled_after = 0;
     match.words = 1;
+    match.held_turns = 0;
     return match;
 }
 
@@ -442,8 +446,8 @@ typedef struct fazgrond_stats {
  * one stays. One session can get a new peer only while it has no word of another machine's player.
  * FAZGROND_INVALID_MACHINE: too few or too many machines, or `me` is none of them.
  * FAZGROND_INVALID_PLAYER: the session's players are not those that machines own, or its local ones not those of `me`.
- * FAZGROND_INVALID_REQUEST: the draw is 0; or `me`, `machines` or an owner is over 255; or the session has words of another
- * machine's player already, or a player has left it. */
+ * FAZGROND_INVALID_REQUEST: the draw is 0; or `me`, `machines` or an owner is over 255, or `held_turns` over 8; or the session has
+ * words of another machine's player already, or a player has left it. */
 int32_t fazgrond_peer_open(fazgrond_peer *peer, fazgrond_session *session, const fazgrond_match *match);
 
 /* Closes it. Nothing happens if it is closed. The session stays open. */
@@ -480,7 +484,7 @@ int32_t fazgrond_peer_bye(fazgrond_peer *peer, uint8_t machine, uint8_t *out, si
 int32_t fazgrond_peer_disconnect(fazgrond_peer *peer, uint8_t machine);
 
 /* Notes the game's own digest of the session's settled state, by which the machines see that they play alike:
- * fazgrond_settled_slot says where that state lies. */
+ * fazgrond_settled_slot says where that state lies. If words are held back, another session isn't told apart here. */
 int32_t fazgrond_peer_note_settled(fazgrond_peer *peer, fazgrond_session *session, uint64_t digest);
 
 /* What happened, the oldest first; FAZGROND_NOTHING if no event waits. The oldest is dropped if more than 64 wait. */
@@ -488,6 +492,48 @@ int32_t fazgrond_peer_event(fazgrond_peer *peer, fazgrond_event *event);
 
 /* What was counted and measured of a machine. */
 int32_t fazgrond_peer_stats(fazgrond_peer *peer, uint8_t machine, fazgrond_stats *stats);
+
+/* ---- Words held back. If a frame of the game is dear, a word that comes late costs what it rolls back, on the thread that draws. It
+ * needn't. With `held_turns` in the match, the peer keeps the others' words beside the session as they come, and acknowledges them.
+ * Meanwhile another thread runs the frames that they make, as a guess that is right; then they are handed over, and the rollback is
+ * a load.
+ *
+ * In a turn, after fazgrond_peer_poll: graft the jobs that are done; hand over the words that would make no frame run again
+ * (fazgrond_peer_rerun), and all of them if fazgrond_peer_is_pressed says 1; call fazgrond_peer_hand_over_due. After the advance,
+ * make a guess with those that still wait (fazgrond_peer_guess). docs/C.md has the loop.
+ *
+ * All calls here take at most what waits. If none does, or `held_turns` is 0, there is nothing to hand over, and no guess is made.
+ * If the session isn't the one of the peer, they answer FAZGROND_OTHER_SESSION or what a guess does, and nothing is changed. With
+ * words that wait, fazgrond_peer_receive, fazgrond_peer_poll and fazgrond_peer_send may answer FAZGROND_LOG_FULL or
+ * FAZGROND_NO_MEMORY too: there is no room in the session for these words, and nothing is changed. */
+
+/* The most words that wait. If one more comes, all are handed over. */
+#define FAZGROND_HELD_WORDS 64
+
+/* The words that wait, in the order in which they came, as FAZGROND_REMOTE entries: fills `out`, which has room for so many, and
+ * says how many it wrote. 0 if the peer is closed. */
+size_t fazgrond_peer_waiting(fazgrond_peer *peer, fazgrond_entry *out, size_t room);
+
+/* How many frames up to the current one the session would have to run again, if the first `count` words that wait were handed over,
+ * or all if there are fewer. FAZGROND_INVALID_REQUEST if they are none. */
+int32_t fazgrond_peer_rerun(fazgrond_peer *peer, fazgrond_session *session, uint32_t count, uint32_t *frames);
+
+/* A guess with all words that wait, of several players too: leaves the requests of a job, as fazgrond_guess does, and all that is
+ * said there holds. FAZGROND_NOTHING if all frames up to `until` are kept already. FAZGROND_INVALID_REQUEST if no word waits, or
+ * `until` is more than 24 frames past the settled one. */
+int32_t fazgrond_peer_guess(fazgrond_peer *peer, fazgrond_session *session, uint32_t until, uint32_t *job);
+
+/* Hands the first `count` words that wait over to the session, or all if there are fewer: it takes them as any words of others, and
+ * the next advance rolls back for them. If it is refused, nothing is changed. */
+int32_t fazgrond_peer_hand_over(fazgrond_peer *peer, fazgrond_session *session, uint32_t count);
+
+/* Once a turn: hands over the words that have waited for `held_turns` of these calls; `handed` is how many they were. If it is
+ * refused, the turn doesn't count, and the next one tries it again. */
+int32_t fazgrond_peer_hand_over_due(fazgrond_peer *peer, fazgrond_session *session, uint32_t *handed);
+
+/* Whether the game would stand without the words that wait: `flag` is 1 if some wait, and once the session has come to its next
+ * frame, it would answer FAZGROND_PREDICTION_THRESHOLD to a local word, unless it is given more; else 0. */
+int32_t fazgrond_peer_is_pressed(fazgrond_peer *peer, fazgrond_session *session, uint32_t *flag);
 
 /* ---- Spectators over a network: a viewer on another machine is sent the settled rows of a match by one of its machines, the
  * host. Each viewer has a line of its own with its host. `now` is each end's own clock, as a peer's. */

@@ -105,8 +105,9 @@ static void open_peer(subject *self, input *in) {
     match.silent_after = take_some(in, 200) * 32;
     match.notify_after = take_some(in, 50) * 32;
     match.stalled_after = take_some(in, 50) * 32;
+    match.held_turns = take_byte(in) % 11;
     int32_t code = fazgrond_peer_open(&self->peer, &self->session, &match);
-    MUST(code != FAZGROND_OK || match.size == sizeof match);
+    MUST(code != FAZGROND_OK || (match.size == sizeof match && match.held_turns <= 8));
 }
 
 static void open_line(subject *self, input *in) {
@@ -324,6 +325,23 @@ static looks look_at(subject *self) {
     return seen;
 }
 
+/* A call that asks for the words that wait. No packet of another machine comes, so none ever does. */
+static int32_t call_of_waiting(fazgrond_peer *peer, fazgrond_session *session, input *in) {
+    fazgrond_entry words[4];
+    uint32_t what = take_byte(in), written = 77;
+    int32_t code;
+    MUST(fazgrond_peer_waiting(peer, words, what % 5) == 0);
+    switch (what % 5) {
+    case 0: code = fazgrond_peer_rerun(peer, session, take_some(in, 4), &written); break;
+    case 1: code = fazgrond_peer_guess(peer, session, take_some(in, 40), &written); break;
+    case 2: return fazgrond_peer_hand_over(peer, session, take_some(in, 4));
+    case 3: code = fazgrond_peer_hand_over_due(peer, session, &written); break;
+    default: code = fazgrond_peer_is_pressed(peer, session, &written);
+    }
+    MUST(written == (code == FAZGROND_OK ? 0 : 77));
+    return code;
+}
+
 /* A call of two handles, of which one may be of another kind. */
 static int32_t call_of_both(subject *self, input *in, uint32_t what, uint8_t *bytes, size_t room, size_t *length) {
     uint32_t kinds = take_byte(in);
@@ -334,6 +352,7 @@ static int32_t call_of_both(subject *self, input *in, uint32_t what, uint8_t *by
     case 1: return fazgrond_peer_send(peer, session, (uint8_t)take_some(in, 4), self->now, bytes, room, length);
     case 2: return fazgrond_peer_receive(peer, session, bytes, room, self->now);
     case 3: return fazgrond_peer_note_settled(peer, session, take_number(in));
+    case 4: return call_of_waiting(peer, session, in);
     default: self->now += take_some(in, 100); return fazgrond_peer_poll(peer, session, self->now);
     }
 }

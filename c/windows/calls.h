@@ -50,6 +50,16 @@ CALL(int32_t, fazgrond_peer_note_settled, (fazgrond_peer *peer, fazgrond_session
      (peer, session, digest))
 CALL(int32_t, fazgrond_peer_event, (fazgrond_peer *peer, fazgrond_event *event), (peer, event))
 CALL(int32_t, fazgrond_peer_stats, (fazgrond_peer *peer, uint8_t machine, fazgrond_stats *stats), (peer, machine, stats))
+CALL(size_t, fazgrond_peer_waiting, (fazgrond_peer *peer, fazgrond_entry *out, size_t room), (peer, out, room))
+CALL(int32_t, fazgrond_peer_rerun, (fazgrond_peer *peer, fazgrond_session *session, uint32_t count, uint32_t *frames),
+     (peer, session, count, frames))
+CALL(int32_t, fazgrond_peer_guess, (fazgrond_peer *peer, fazgrond_session *session, uint32_t until, uint32_t *job),
+     (peer, session, until, job))
+CALL(int32_t, fazgrond_peer_hand_over, (fazgrond_peer *peer, fazgrond_session *session, uint32_t count), (peer, session, count))
+CALL(int32_t, fazgrond_peer_hand_over_due, (fazgrond_peer *peer, fazgrond_session *session, uint32_t *handed),
+     (peer, session, handed))
+CALL(int32_t, fazgrond_peer_is_pressed, (fazgrond_peer *peer, fazgrond_session *session, uint32_t *flag),
+     (peer, session, flag))
 CALL(int32_t, fazgrond_line_open, (fazgrond_line *line, const fazgrond_line_settings *settings), (line, settings))
 CALL(int32_t, fazgrond_line_receive, (fazgrond_line *line, const uint8_t *bytes, size_t length, uint32_t now),
      (line, bytes, length, now))

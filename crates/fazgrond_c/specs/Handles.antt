@@ -4,6 +4,7 @@ use Rattle.roll_peer.specs.Peered.{Peered}
 use Rattle.roll_viewer.specs.Ends.{Hosted, Viewing}
 use Rattle.roll_wire.specs.declared.limits.TheConstants.{DATAGRAM_LIMIT}
 use Rattle.fazgrond_c.specs.declared.live.Live.{Live}
+use Rattle.fazgrond_c.specs.declared.network.Network.{Network}
 use Rattle.fazgrond_c.specs.declared.open.Open.{Open}
 use Rattle.fazgrond_c.specs.declared.open.Open.TheVariants.{Session, Peer, Line, Viewer}
 
@@ -11,8 +12,13 @@ abbrev pub session_in : Option Open → Option Live
 session_in (Some (Session live)) = Some live
 session_in held = None
 
+-- the network of a match
+abbrev pub network_in : Option Open → Option Network
+network_in (Some (Peer network)) = Some network
+network_in held = None
+
 abbrev pub peer_in : Option Open → Option Peered
-peer_in (Some (Peer peer)) = Some peer
+peer_in (Some (Peer network)) = Some network.peer
 peer_in held = None
 
 abbrev pub line_in : Option Open → Option Hosted
@@ -100,3 +106,31 @@ module _ {L : Type 0} (kind : Option Open → Option L) where
       (lent old new : Option Open) (before after : List ℕ) (had size : ℕ) (code : ℤ) : Type 0 where
     pub alone : session_in lent ≡ None → IsNothing 201 old new before after had size code
     pub made : IfSome (session_in lent) (λ live. FillsBy (does live) old new before after had size code)
+
+  -- a call of both that writes into a buffer
+  pub record FillsBeside (does : L × Live → L × Live → List ℕ → List ℕ → ℕ → ℕ → ℤ → Type 0)
+      (old new : Option Open) (lent after : Option Open) (before wrote : List ℕ) (had size : ℕ) (code : ℤ)
+      : Type 0 where
+    pub closed : kind old ≡ None → IsNothing {P = Option Open × Option Open} 201 (old, lent) (new, after) before wrote had size code
+    pub alone : session_in lent ≡ None → IsNothing {P = Option Open × Option Open} 201 (old, lent) (new, after) before wrote had size code
+    pub made : IfSome (kind old) (λ it. IfSome (session_in lent) (λ live.
+        IsSomeAnd (kind new) (λ it_now. IsSomeAnd (session_in after) (λ now.
+        Fills does (it, live) (it_now, now) before wrote had size code))))
+
+module _ {L T : Type 0} (kind : Option Open → Option L) where
+  -- a call of both that may write something
+  pub record WritesBeside (does : L → L → Live → Live → T → T → ℤ → Type 0) (old new : Option Open)
+      (before after : Option Open) (had wrote : T) (code : ℤ) : Type 0 where
+    pub closed : kind old ≡ None → (code ≡ pos 201) × ((new ≡ old) × ((after ≡ before) × (wrote ≡ had)))
+    pub alone : session_in before ≡ None → (code ≡ pos 201) × ((new ≡ old) × ((after ≡ before) × (wrote ≡ had)))
+    pub made : IfSome (kind old) (λ it. IfSome (session_in before) (λ live.
+        IsSomeAnd (kind new) (λ it_now. IsSomeAnd (session_in after) (λ now. does it it_now live now had wrote code))))
+
+  -- what is read of both, and written; they stay as they are
+  pub record ReadsBeside (does : L → Live → T → T → ℤ → Type 0) (old new : Option Open)
+      (before after : Option Open) (had wrote : T) (code : ℤ) : Type 0 where
+    pub kept : new ≡ old
+    pub same : after ≡ before
+    pub closed : kind old ≡ None → (code ≡ pos 201) × (wrote ≡ had)
+    pub alone : session_in before ≡ None → (code ≡ pos 201) × (wrote ≡ had)
+    pub read : IfSome (kind old) (λ it. IfSome (session_in before) (λ live. does it live had wrote code))

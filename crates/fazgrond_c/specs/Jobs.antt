@@ -1,5 +1,6 @@
 -- What a guess and its job come to.
 use Rattle.std.specs.Prelude.{◌≡◌, ◌≢◌, ◌⊎◌, ℕ, ℤ, List, [], Option, Some, None, Result, Ok, Err, IfErr, IfOk, OnErr, OnOk, pos, MatchOption}
+use Rattle.roll_branch.specs.Routed.{Routed}
 use Rattle.roll_frame.specs.Codes.{code_of}
 use Rattle.roll_frame.specs.declared.refusal.Refusal.{Refusal}
 use Rattle.roll_requests.specs.Asked.{rows_to_run, IsHandedIn, IsNotGuessed, IsNumbered, SameTaken}
@@ -25,17 +26,15 @@ number_in (Ok (Some number)) before = number
 number_in (Ok None) before = before
 number_in (Err why) before = before
 
--- a guess was made of an open session, or refused
-pub record IsGuessed (player : ℕ) (words : List ℕ) (until : ℕ) (old new : Live) (before after : ℕ) (code : ℤ) : Type 0 where
+-- a guess with this refusal, if it is refused, and this job, if there is anything to run, was made of an open session
+pub record IsJobAsked (refusal : Option Refusal) (job : Option Routed) (old new : Live) (before after : ℕ) (code : ℤ)
+    : Type 0 where
   pub result : Result (Option ℕ) Declined
-  pub job : IfOk result (IsNumbered (guess_job_of still old.session.seen player words until)
-      old.session new.session)
-  pub accepted : OnOk result (guess_refusal_of old.session.seen player words until ≡ None)
-  pub adds : OnOk result (Adds old.session.limit 0
-      (rows_to_run (guess_job_of still old.session.seen player words until))
+  pub numbered : IfOk result (IsNumbered job old.session new.session)
+  pub accepted : OnOk result (refusal ≡ None)
+  pub adds : OnOk result (Adds old.session.limit 0 (rows_to_run job)
       old.session.jobs old.session.requests new.session.requests)
-  pub declined : IfErr result (IsNotGuessed (guess_refusal_of old.session.seen player words until)
-      (guess_job_of still old.session.seen player words until) old.session)
+  pub declined : IfErr result (IsNotGuessed refusal job old.session)
   pub unasked : OnErr result (new.session.requests ≡ old.session.requests)
   pub unchanged : OnErr result (SameValues old.session.jobs new.session.jobs)
   pub taken : OnErr result (SameTaken old.session.taken new.session.taken)
@@ -49,6 +48,12 @@ pub record IsGuessed (player : ℕ) (words : List ℕ) (until : ℕ) (old new : 
   pub leads : KeepsLeading old.session new.session
   pub code_is : code ≡ code_of_guess result
   pub written : after ≡ number_in result before
+
+-- if this player gave these words next
+abbrev pub IsGuessed : (player : ℕ) → (words : List ℕ) → (until : ℕ) → (old new : Live) → (before after : ℕ) → ℤ → Type 0
+IsGuessed player words until old new before after code =
+    IsJobAsked (guess_refusal_of old.session.seen player words until)
+    (guess_job_of still old.session.seen player words until) old new before after code
 
 -- the code of a graft
 abbrev pub code_of_graft : Result Grafted Refusal → ℤ

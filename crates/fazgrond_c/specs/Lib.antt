@@ -6,6 +6,7 @@ pub mod Made
 pub mod Jobs
 pub mod PeerKinds
 pub mod Peers
+pub mod Waiting
 pub mod LineKinds
 pub mod Lines
 pub mod Viewers

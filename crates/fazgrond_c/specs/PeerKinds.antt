@@ -1,8 +1,9 @@
 -- What C sees of a match and of what a peer tells, and the numbers of its refusals.
-use Rattle.std.specs.Prelude.{◌≡◌, ℕ, is_some, unwrap_or, if◌then◌else◌, ◌⊎◌, ◌≤◌, slice_index}
+use Rattle.std.specs.Prelude.{◌≡◌, ℕ, is_some, unwrap_or, if◌then◌else◌, ◌⊎◌, ◌≤◌, ◌<◌, slice_index}
 use Rattle.roll_frame.specs.Codes.{code_of}
 use Rattle.roll_contact.specs.declared.terms.Field.{Field}
 use Rattle.roll_contact.specs.declared.terms.Field.TheVariants.{Machines, Owners, Settings, Words}
+use Rattle.roll_held.specs.declared.held.TheConstants.{TURN_LIMIT}
 use Rattle.roll_member.specs.declared.join.JoinRefusal.{JoinRefusal}
 use Rattle.roll_member.specs.declared.join.JoinRefusal.TheVariants.{InvalidSeat, Players, Started}
 use Rattle.roll_mesh.specs.declared.refusal.MeshRefusal.{MeshRefusal}
@@ -33,12 +34,13 @@ pub record AreMatched (given : MatchIn) (settings : MatchSettings) : Type 0 wher
   pub notify_after : settings.notify_after ≡ given.notify_after
   pub stalled_after : settings.stalled_after ≡ given.stalled_after
   pub words : settings.words ≡ given.words
+  pub held : given.held_turns ≤ TURN_LIMIT
 
--- a number of it has no room in 8 bits
+-- a number of it has no room in 8 bits, or words would be held back for too many turns
 abbrev pub HasNoRoom : MatchIn → Type 0
 HasNoRoom given =
     (256 ≤ given.me) ⊎ ((256 ≤ given.machines) ⊎ ((256 ≤ given.words)
-    ⊎ ((p : ℕ) × (256 ≤ slice_index given.owners p))))
+    ⊎ ((TURN_LIMIT < given.held_turns) ⊎ ((p : ℕ) × (256 ≤ slice_index given.owners p)))))
 
 -- an event that says nothing but its code
 abbrev pub bare : ℕ → EventOut

@@ -1,7 +1,12 @@
 -- What a call of a peer through a handle comes to.
-use Rattle.std.specs.Prelude.{◌≡◌, ◌≢◌, ◌⊎◌, ℕ, ℤ, pos, List, ◌++◌, drop, length, slice_get, not, nat_lt, ◌&&◌, ◌||◌, is_none, Option, Some, None, IfNone, IfSome, IsSome, MatchOption, Result, Ok, Err, IfErr, IfOk, OnErr, OnOk, if◌then◌else◌}
+use Rattle.std.specs.Prelude.{◌≡◌, ◌≢◌, ◌⊎◌, ℕ, ℤ, pos, List, ◌++◌, drop, length, slice_get, not, nat_lt, ◌&&◌, ◌||◌, is_none, Option, Some, None, IfNone, IfSome, IsSome, IsSomeAnd, MatchOption, Result, Ok, Err, IfErr, IfOk, OnErr, OnOk, if◌then◌else◌}
+use Rattle.std.specs.Option.{option_map}
 use Rattle.roll_contact.specs.Contacts.{is_playing}
 use Rattle.roll_frame.specs.Core.{settled}
+use Rattle.roll_held.specs.Heard.{beside, HearsHeld, PollsHeld}
+use Rattle.roll_held.specs.Told.{as_told, roomless, IsHeldFault}
+use Rattle.roll_held.specs.declared.fault.HeldFault.{HeldFault}
+use Rattle.roll_held.specs.declared.held.Held.{Held}
 use Rattle.roll_member.specs.Beside.{IsOf}
 use Rattle.roll_member.specs.Joined.{join_refusal, IsTied}
 use Rattle.roll_mesh.specs.Machines.{leave}
@@ -25,9 +30,11 @@ use Rattle.roll_requests.specs.Made.{Keeps}
 use Rattle.roll_session.specs.Gameless.{still}
 use Rattle.roll_session.specs.Seen.{Seen}
 use Rattle.roll_wire.specs.Spelling.{Leaves}
-use Rattle.fazgrond_c.specs.Handles.{peer_in, session_in, Opens}
+use Rattle.fazgrond_c.specs.Handles.{network_in, session_in, IsNothing, Opens}
 use Rattle.fazgrond_c.specs.PeerKinds.{code_of_ignored, code_of_mesh, code_of_open, code_of_refusal, event_out, stats_out, AreMatched, HasNoRoom}
+use Rattle.fazgrond_c.specs.Waiting.{code_if_told, code_of_fault, IsHeldFor}
 use Rattle.fazgrond_c.specs.declared.live.Live.{Live}
+use Rattle.fazgrond_c.specs.declared.network.Network.{Network}
 use Rattle.fazgrond_c.specs.declared.open.Open.{Open}
 use Rattle.fazgrond_c.specs.declared.peer_kinds.EventOut.{EventOut}
 use Rattle.fazgrond_c.specs.declared.peer_kinds.MatchIn.{MatchIn}
@@ -36,14 +43,15 @@ use Rattle.fazgrond_c.specs.declared.peer_kinds.TheConstants.{MATCH_SIZE}
 
 -- ---- opening
 
--- a peer of this match, opened beside a session, that has heard nothing
-pub record IsOpened (given : MatchIn) (s : Seen) (peer : Peered) : Type 0 where
+-- a peer of this match, opened beside a session, that has heard nothing, and nothing waits
+pub record IsOpened (given : MatchIn) (s : Seen) (network : Network) : Type 0 where
   pub matched : MatchSettings
   pub are_matched : AreMatched given matched
   pub accepted : join_refusal s (seat_of matched) ≡ None
   pub drawn : matched.draw ≢ 0
-  pub opened : IsOpenedAs s matched peer
-  pub tied : IsTied s peer.member.mesh
+  pub opened : IsOpenedAs s matched network.peer
+  pub tied : IsTied s network.peer.member.mesh
+  pub held : IsHeldFor given.held_turns network.held
 
 -- there is no such match, or the session can't take its seat in it
 pub record IsFaulty (given : MatchIn) (s : Seen) (code : ℤ) : Type 0 where
@@ -63,7 +71,7 @@ IsWhyClosed given s code =
 -- a peer was opened beside a session in the place of what was open before, or nothing is changed
 pub record OpensBeside (given : MatchIn) (s : Seen) (old new : Option Open) (code : ℤ)
     : Type 0 where
-  pub opens : Opens peer_in (IsOpened given s) old new code
+  pub opens : Opens network_in (IsOpened given s) old new code
   pub why : code ≢ pos 0 → IsWhyClosed given s code
   pub version : given.size ≢ MATCH_SIZE → code ≡ pos 205
 
@@ -79,7 +87,7 @@ code_of_receipt (Ok received) = pos 0
 code_of_receipt (Err why) = pos (code_of_ignored why)
 
 -- bytes are heard for a session, or they aren't, and nothing is changed but the clock; what their sender sealed is counted and told
-pub record IsReceived (bytes : List ℕ) (now : ℕ) (old new : Peered) (before after : Live) (code : ℤ)
+pub record IsHeard (bytes : List ℕ) (now : ℕ) (old new : Peered) (before after : Live) (code : ℤ)
     : Type 0 where
   pub result : Result Received Ignored
   pub received : IfOk result (Receives still before.session.seen after.session.seen
@@ -93,6 +101,25 @@ pub record IsReceived (bytes : List ℕ) (now : ℕ) (old new : Peered) (before 
   pub keeps : Keeps before.session after.session
   pub code_is : code ≡ code_of_receipt result
 
+-- bytes are heard by a peer that holds words back: to it the session is one that has heard what waits; or nothing is changed
+pub record IsHeardAhead (bytes : List ℕ) (now : ℕ) (old new : Peered) (held later : Held) (before after : Live) (code : ℤ)
+    : Type 0 where
+  pub result : Result (Result Received Ignored) HeldFault
+  pub heard : IfOk result (HearsHeld still (beside before.session.seen held.words.items old)
+      (beside after.session.seen later.words.items new) now bytes)
+  pub turns : later.turns ≡ held.turns
+  pub refused : IfErr result (IsHeldFault before.session.seen held.words.items)
+  pub unchanged : OnErr result ((later ≡ held) × ((after ≡ before) × (new ≡ old)))
+  pub rest : after ≡ record before { session = after.session }
+  pub keeps : Keeps before.session after.session
+  pub code_is : code ≡ code_if_told code_of_receipt result
+
+-- whether it holds words back or not
+abbrev pub IsReceived : (bytes : List ℕ) → (now : ℕ) → (old new : Network) → (before after : Live) → ℤ → Type 0
+IsReceived bytes now old new before after code = MatchOption old.held
+    ((new.held ≡ None) × IsHeard bytes now old.peer new.peer before after code)
+    (λ held. IsSomeAnd new.held (λ later. IsHeardAhead bytes now old.peer new.peer held later before after code))
+
 abbrev pub code_unless : {T : Type 0} → (T → ℕ) → Option T → ℤ
 code_unless number None = pos 0
 code_unless number (Some why) = pos (number why)
@@ -102,13 +129,30 @@ code_of_poll (Ok done) = pos 0
 code_of_poll (Err why) = pos (code_of_refusal why)
 
 -- a poll of a session is made, step by step, or there is none; the code says why not, or why a player who is to leave is still there
-pub record IsPolledFor (now : ℕ) (old new : Peered) (before after : Live) (code : ℤ)
+pub record IsPolledAtOnce (now : ℕ) (old new : Peered) (before after : Live) (code : ℤ)
     : Type 0 where
   pub result : Result Unit PeerRefusal
   pub polled : IsPolled before.session.seen after.session.seen (ticking now old) new result
   pub rest : after ≡ record before { session = after.session }
   pub keeps : Keeps before.session after.session
   pub code_is : code ≡ code_of_poll result
+
+-- a poll of a session from which words are held back: it is told all that waits before somebody leaves; or nothing is changed
+pub record IsPolledAhead (now : ℕ) (old new : Peered) (held later : Held) (before after : Live) (code : ℤ) : Type 0 where
+  pub result : Result (Result Unit PeerRefusal) HeldFault
+  pub polled : IfOk result (PollsHeld (beside before.session.seen held.words.items old)
+      (beside after.session.seen later.words.items new) now)
+  pub turns : later.turns ≡ held.turns
+  pub refused : IfErr result (IsHeldFault before.session.seen held.words.items)
+  pub unchanged : OnErr result ((later ≡ held) × ((after ≡ before) × (new ≡ old)))
+  pub rest : after ≡ record before { session = after.session }
+  pub keeps : Keeps before.session after.session
+  pub code_is : code ≡ code_if_told code_of_poll result
+
+abbrev pub IsPolledFor : (now : ℕ) → (old new : Network) → (before after : Live) → ℤ → Type 0
+IsPolledFor now old new before after code = MatchOption old.held
+    ((new.held ≡ None) × IsPolledAtOnce now old.peer new.peer before after code)
+    (λ held. IsSomeAnd new.held (λ later. IsPolledAhead now old.peer new.peer held later before after code))
 
 -- a peer for which a machine is gone
 abbrev pub without : ℕ → Peered → Peered
@@ -126,6 +170,9 @@ pub record IsPutOut (machine : ℕ) (old new : Peered) (code : ℤ) : Type 0 whe
   pub unchanged : IsSome why → new ≡ old
   pub code_is : code ≡ code_unless code_of_mesh why
 
+abbrev pub IsPutOutBy : (machine : ℕ) → (old new : Network) → ℤ → Type 0
+IsPutOutBy machine old new code = IsPutOut machine old.peer new.peer code × (new.held ≡ old.held)
+
 -- bytes are written to the front of a buffer, and how many they are; or there are none, and nothing is written
 abbrev pub AreWritten : Option (List ℕ) → (before after : List ℕ) → (had size : ℕ) → ℤ → Type 0
 AreWritten None before after had size code =
@@ -140,9 +187,14 @@ AreSent (Ok bytes) before after had size code = AreWritten bytes before after ha
 AreSent (Err other) before after had size code =
     (code ≡ pos 313) × ((after ≡ before) × (size ≡ had))
 
+-- the bytes of a datagram, if there are any
+abbrev pub bytes_of : {A : Type 0} → (A → List ℕ) → Result (Option A) OtherSession → Result (Option (List ℕ)) OtherSession
+bytes_of items (Ok said) = Ok (option_map items said)
+bytes_of items (Err other) = Err other
+
 -- what is sent to a machine in a turn of a session is written, and counted; nothing is sent to one that is gone, to this one, or
 -- where there is none; or the session is another, and nothing is changed but the clock
-pub record IsSentTo (s : Seen) (machine now : ℕ) (old new : Peered) (before after : List ℕ)
+pub record IsSentFor (s : Seen) (machine now : ℕ) (old new : Peered) (before after : List ℕ)
     (had size : ℕ) (code : ℤ) : Type 0 where
   pub result : Result (Option (List ℕ)) OtherSession
   pub sent : IfOk result (λ sent. IfSome sent (IsSent s (meeting s (ticking now old)) machine))
@@ -152,6 +204,27 @@ pub record IsSentTo (s : Seen) (machine now : ℕ) (old new : Peered) (before af
   pub other : OnErr result (IsOther s old)
   pub unchanged : OnErr result (new ≡ ticking now old)
   pub written : AreSent result before after had size code
+
+-- the same for a session that has heard the words that wait; or there is no room for them, or they aren't its next ones, and
+-- nothing is changed
+pub record IsSentAhead (machine now : ℕ) (old new : Peered) (held : Held) (live after : Live) (before wrote : List ℕ)
+    (had size : ℕ) (code : ℤ) : Type 0 where
+  pub fault : Option HeldFault
+  pub sent : IfNone fault
+      (IsSentFor (as_told live.session.seen held.words.items 0) machine now old new before wrote had size code)
+  pub refused : IfSome fault (IsHeldFault live.session.seen held.words.items)
+  pub unchanged : IfSome fault (λ why. IsNothing {P = Peered × Live} (code_of_fault why) (old, live) (new, after) before wrote had size code)
+  pub room : roomless after.session.seen ≡ roomless live.session.seen
+  pub rest : after ≡ record live { session = after.session }
+  pub keeps : Keeps live.session after.session
+
+abbrev pub IsSentTo : (machine now : ℕ) → (old new : Network × Live) → (before wrote : List ℕ) → (had size : ℕ) → ℤ → Type 0
+IsSentTo machine now old new before wrote had size code =
+    (new.0.held ≡ old.0.held)
+    × MatchOption old.0.held
+    ((new.1 ≡ old.1)
+    × IsSentFor old.1.session.seen machine now old.0.peer new.0.peer before wrote had size code)
+    (λ held. IsSentAhead machine now old.0.peer new.0.peer held old.1 new.1 before wrote had size code)
 
 -- the bytes by which this machine says to another that it leaves are written; there are none for one to which nothing is sent, or
 -- that hasn't said this opening's draw
@@ -177,6 +250,10 @@ abbrev pub code_of_note : Result Unit OtherSession → ℤ
 code_of_note (Ok done) = pos 0
 code_of_note (Err other) = pos 313
 
+-- the same of a peer of which nothing else is changed, nor what it holds back
+abbrev pub IsToldBy : (old new : Network) → (before after : EventOut) → ℤ → Type 0
+IsToldBy old new before after code = IsTold old.peer new.peer before after code × (new.held ≡ old.held)
+
 -- the digest of a session's settled state is noted; or the session is another, and nothing is changed
 pub record IsNoted (digest : ℕ) (s : Seen) (old new : Peered) (code : ℤ) : Type 0 where
   pub result : Result Unit OtherSession
@@ -187,6 +264,14 @@ pub record IsNoted (digest : ℕ) (s : Seen) (old new : Peered) (code : ℤ) : T
   pub other : OnErr result (IsOther s old)
   pub unchanged : OnErr result (new ≡ old)
   pub code_is : code ≡ code_of_note result
+
+-- where words are held back, it is noted for the frame that the session has settled, which is less than the peer knows
+abbrev pub IsNotedFor : (digest : ℕ) → Seen → (old new : Network) → ℤ → Type 0
+IsNotedFor digest s old new code = MatchOption old.held
+    ((new.held ≡ None) × IsNoted digest s old.peer new.peer code)
+    (λ held. (code ≡ pos 0) × (new ≡ record old {
+      peer = record old.peer { digests = noted (settled s.core) digest old.peer.digests };
+    }))
 
 -- what a peer counted of a machine of its match
 abbrev pub stats_at : ℕ → Peered → Option StatsOut

@@ -85,7 +85,7 @@ fn guess(live: &mut Live, player: u8, words: &[u32], until: u32, job: &mut u32) 
 }
 
 /// Writes the number of a guess's job, if there is a job.
-fn numbered(job: &mut u32, outcome: Result<Option<u32>, Declined>) -> i32
+pub fn numbered(job: &mut u32, outcome: Result<Option<u32>, Declined>) -> i32
     ensures code { result ≡ code_of_guess outcome }
     ensures written { job.new ≡ number_in outcome job.old }
 {

@@ -3,8 +3,10 @@ ghost use Rattle.std.specs.Prelude.{◌≡◌, IfNone, IfSome};
 ghost use Rattle.roll_session.specs.Calls.{entry_of};
 ghost use Rattle.roll_session.specs.Logs.{logged_entry};
 ghost use Rattle.fazgrond_c.specs.Kinds.{entry_out, no_row, request_out, row_out, where_led, AreGiven, HaveNoRoom};
+ghost use Rattle.fazgrond_c.specs.Waiting.{word_out};
 
 use roll_frame::{PLAYER_LIMIT, Profile, Row, Settings};
+use roll_held::RemoteWord;
 use roll_requests::Request;
 use roll_session::{Call, Logged, Reached};
 
@@ -180,6 +182,13 @@ impl EntryOut {
             Logged::Graft { .. } => EntryOut::new(6, 0, 0, 0),
             Logged::Partial { to, made } => EntryOut::new(7, 0, *to, *made),
         }
+    }
+
+    /// A remote word.
+    pub fn of_word(word: &RemoteWord) -> EntryOut
+        ensures { result ≡ word_out word.now }
+    {
+        EntryOut::new(2, word.player, word.frame, word.word)
     }
 
     fn of_call(call: Call) -> EntryOut

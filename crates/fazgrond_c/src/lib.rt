@@ -17,6 +17,7 @@ mod line_refusal;
 mod lines;
 mod live;
 mod looks;
+mod network;
 mod open;
 mod peer_calls;
 mod peer_kinds;
@@ -33,6 +34,8 @@ mod takers;
 mod texts;
 mod viewer_calls;
 mod viewers;
+mod waiting;
+mod waiting_calls;
 
 ghost use Rattle.fazgrond_c.specs.Texts.{sentence_of, version_of};
 
@@ -42,6 +45,7 @@ pub use handle::Handle;
 pub use kinds::{EntryOut, ReachedOut, RequestOut, RowOut, SETTINGS_SIZE, SettingsIn};
 pub use line_kinds::{LineIn, LineState};
 pub use live::Live;
+pub use network::Network;
 pub use open::Open;
 pub use peer_kinds::{EventOut, MATCH_SIZE, MatchIn, StatsOut};
 pub use state_kinds::{HeardOut, NameOut, TakerOut};

@@ -1,7 +1,7 @@
 //! What a handle may have open.
 use crate::live::Live;
+use crate::network::Network;
 use roll_guess::PlayerHabits;
-use roll_peer::Peer;
 use roll_state::{Giver, Taker};
 use roll_viewer::{Viewer, ViewerLine};
 
@@ -10,7 +10,7 @@ use roll_viewer::{Viewer, ViewerLine};
 #[derive(Drop)]
 pub enum Open {
     Session(Live),
-    Peer(Peer),
+    Peer(Network),
     Line(ViewerLine),
     Viewer(Viewer),
     Habits(PlayerHabits),

@@ -1,38 +1,111 @@
 //! Calls of an open peer, some of them lent the session that it stands beside.
 ghost use Rattle.std.specs.Prelude.{◌≡◌, ◌≤◌, ◌++◌, drop, length};
 ghost use Rattle.fazgrond_c.specs.Handles.{Fills};
-ghost use Rattle.fazgrond_c.specs.Peers.{IsFarewell, IsNoted, IsPolledFor, IsPutOut, IsReceived, IsSentTo, IsTold, stats_at};
+ghost use Rattle.fazgrond_c.specs.Peers.{bytes_of, code_of_poll, code_of_receipt, stats_at, AreSent, IsFarewell, IsHeard, IsHeardAhead, IsNoted, IsNotedFor, IsPolledAhead, IsPolledAtOnce, IsPolledFor, IsPutOutBy, IsReceived, IsSentAhead, IsSentTo, IsToldBy};
 
 use crate::calls::{NOTHING, TOO_SHORT};
 use crate::live::Live;
+use crate::network::Network;
 use crate::peer_kinds::{EventOut, StatsOut};
-use crate::peer_refusal::{OTHER_SESSION, code_of_ignored, code_of_mesh, code_of_refusal};
+use crate::peer_refusal::{
+    OTHER_SESSION, code_of_fault, code_of_ignored, code_of_mesh, code_of_refusal,
+};
 use arrayvec::ArrayVec;
-use roll_peer::{OtherSession, Peer};
+use roll_held::Held;
+use roll_peer::{Ignored, OtherSession, Peer, PeerRefusal, Received};
+use roll_session::Settling;
 use roll_wire::DATAGRAM_LIMIT;
 
 /// Hears bytes.
-pub fn receive(peer: &mut Peer, live: &mut Live, bytes: &[u8], now: u32) -> i32
-    ensures { IsReceived bytes.now now peer.old peer.new live.old live.new result }
+pub fn receive(network: &mut Network, live: &mut Live, bytes: &[u8], now: u32) -> i32
+    ensures { IsReceived bytes.now now network.old network.new live.old live.new result }
 {
-    match peer.receive(&mut live.session, bytes, now) {
+    let Network { peer, held } = network;
+    match held {
+        Some(held) => hear_ahead(held, peer, live, bytes, now),
+        None => hear(peer, live, bytes, now),
+    }
+}
+
+/// Hears bytes for a session that is told their words at once.
+fn hear(peer: &mut Peer, live: &mut Live, bytes: &[u8], now: u32) -> i32
+    ensures { IsHeard bytes.now now peer.old peer.new live.old live.new result }
+{
+    code_of_receipt(peer.receive(&mut live.session, bytes, now))
+}
+
+/// Hears bytes, and holds back their words.
+fn hear_ahead(held: &mut Held, peer: &mut Peer, live: &mut Live, bytes: &[u8], now: u32) -> i32
+    ensures { IsHeardAhead bytes.now now peer.old peer.new held.old held.new live.old live.new result }
+{
+    match held.receive(peer, &mut live.session, bytes, now) {
+        Ok(said) => code_of_receipt(said),
+        Err(why) => code_of_fault(why),
+    }
+}
+
+fn code_of_receipt(said: Result<Received, Ignored>) -> i32
+    ensures { result ≡ code_of_receipt said }
+{
+    match said {
         Ok(_) => 0,
         Err(why) => code_of_ignored(why),
     }
 }
 
 /// What a turn does before it plays.
-pub fn poll(peer: &mut Peer, live: &mut Live, now: u32) -> i32
-    ensures { IsPolledFor now peer.old peer.new live.old live.new result }
+pub fn poll(network: &mut Network, live: &mut Live, now: u32) -> i32
+    ensures { IsPolledFor now network.old network.new live.old live.new result }
 {
-    match peer.poll(&mut live.session, now) {
+    let Network { peer, held } = network;
+    match held {
+        Some(held) => poll_ahead(held, peer, live, now),
+        None => poll_at_once(peer, live, now),
+    }
+}
+
+/// That of a session that is told words at once.
+fn poll_at_once(peer: &mut Peer, live: &mut Live, now: u32) -> i32
+    ensures { IsPolledAtOnce now peer.old peer.new live.old live.new result }
+{
+    code_of_poll(peer.poll(&mut live.session, now))
+}
+
+/// That of one from which they are held back.
+fn poll_ahead(held: &mut Held, peer: &mut Peer, live: &mut Live, now: u32) -> i32
+    ensures { IsPolledAhead now peer.old peer.new held.old held.new live.old live.new result }
+{
+    match held.poll(peer, &mut live.session, now) {
+        Ok(said) => code_of_poll(said),
+        Err(why) => code_of_fault(why),
+    }
+}
+
+fn code_of_poll(said: Result<(), PeerRefusal>) -> i32
+    ensures { result ≡ code_of_poll said }
+{
+    match said {
         Ok(()) => 0,
         Err(why) => code_of_refusal(why),
     }
 }
 
-/// Notes the digest of the settled state.
-pub fn note_settled(peer: &mut Peer, live: &Live, digest: u64) -> i32
+/// Notes the digest of the settled state. Where words are held back, the session has settled less than the peer knows.
+pub fn note_settled(network: &mut Network, live: &Live, digest: u64) -> i32
+    ensures { IsNotedFor digest live.now.session.seen network.old network.new result }
+{
+    let Network { peer, held } = network;
+    match held {
+        Some(_) => {
+            peer.note_state_at(live.session.settled(), digest);
+            0
+        }
+        None => note_at_once(peer, live, digest),
+    }
+}
+
+/// Notes the digest of the settled state of a session that is told words at once.
+fn note_at_once(peer: &mut Peer, live: &Live, digest: u64) -> i32
     ensures { IsNoted digest live.now.session.seen peer.old peer.new result }
 {
     match peer.note_settled(&live.session, digest) {
@@ -42,10 +115,10 @@ pub fn note_settled(peer: &mut Peer, live: &Live, digest: u64) -> i32
 }
 
 /// Regards a machine as gone.
-pub fn disconnect(peer: &mut Peer, machine: u8) -> i32
-    ensures { IsPutOut machine peer.old peer.new result }
+pub fn disconnect(network: &mut Network, machine: u8) -> i32
+    ensures { IsPutOutBy machine network.old network.new result }
 {
-    match peer.disconnect(machine) {
+    match network.peer.disconnect(machine) {
         Ok(()) => 0,
         Err(why) => code_of_mesh(why),
     }
@@ -53,20 +126,57 @@ pub fn disconnect(peer: &mut Peer, machine: u8) -> i32
 
 /// Writes what is to be sent to a machine.
 pub fn send(
-    peer: &mut Peer,
-    live: &Live,
+    network: &mut Network,
+    live: &mut Live,
     machine: u8,
     now: u32,
     out: &mut [u8],
     size: &mut usize,
 ) -> i32
-    ensures { Fills (IsSentTo live.now.session.seen machine now) peer.old peer.new out.old out.new
+    ensures { Fills (IsSentTo machine now) (network.old, live.old) (network.new, live.new) out.old out.new
         size.old size.new result }
 {
     if out.len() < DATAGRAM_LIMIT {
         return TOO_SHORT;
     }
-    match peer.send(&live.session, machine, now) {
+    let Network { peer, held } = network;
+    match held {
+        Some(held) => send_ahead(held, peer, live, machine, now, out, size),
+        None => write_sent(out, size, peer.send(&live.session, machine, now)),
+    }
+}
+
+/// Writes what is to be sent for a session from which words are held back.
+fn send_ahead(
+    held: &mut Held,
+    peer: &mut Peer,
+    live: &mut Live,
+    machine: u8,
+    now: u32,
+    out: &mut [u8],
+    size: &mut usize,
+) -> i32
+    requires { DATAGRAM_LIMIT ≤ length out.old }
+    ensures sent { IsSentAhead machine now peer.old peer.new held.old live.old live.new out.old out.new
+        size.old size.new result }
+    ensures same { held.new ≡ held.old }
+{
+    match held.send(peer, &mut live.session, machine, now) {
+        Ok(said) => write_sent(out, size, said),
+        Err(why) => code_of_fault(why),
+    }
+}
+
+/// Writes what there is to send, if anything is.
+fn write_sent(
+    out: &mut [u8],
+    size: &mut usize,
+    said: Result<Option<ArrayVec<u8, DATAGRAM_LIMIT>>, OtherSession>,
+) -> i32
+    requires { DATAGRAM_LIMIT ≤ length out.old }
+    ensures { AreSent (bytes_of (λ bytes. bytes.items) said) out.old out.new size.old size.new result }
+{
+    match said {
         Ok(Some(bytes)) => {
             write(out, size, &bytes);
             0
@@ -104,10 +214,10 @@ pub fn write(out: &mut [u8], size: &mut usize, bytes: &ArrayVec<u8, DATAGRAM_LIM
 }
 
 /// Tells the next event.
-pub fn tell(peer: &mut Peer, event: &mut EventOut) -> i32
-    ensures { IsTold peer.old peer.new event.old event.new result }
+pub fn tell(network: &mut Network, event: &mut EventOut) -> i32
+    ensures { IsToldBy network.old network.new event.old event.new result }
 {
-    match peer.next_event() {
+    match network.peer.next_event() {
         Some(next) => {
             *event = EventOut::of(&next);
             0

@@ -3,13 +3,14 @@ ghost use Rattle.std.specs.Prelude.{◌≡◌, ◌≤◌, ℕ, IfNone, IfSome, s
 ghost use Rattle.fazgrond_c.specs.PeerKinds.{bare, event_out, field_out, stats_out, AreMatched, HasNoRoom};
 
 use roll_frame::PLAYER_LIMIT;
+use roll_held::TURN_LIMIT;
 use roll_mesh::MACHINE_LIMIT;
 use roll_peer::{Field, MatchSettings, PeerEvent, Stats};
 
 /// How many bytes `MatchIn` takes.
-pub const MATCH_SIZE: u32 = 144;
+pub const MATCH_SIZE: u32 = 152;
 
-const _: () = prove!(size_of::<MatchIn>() == 144);
+const _: () = prove!(size_of::<MatchIn>() == 152);
 
 /// How a peer is opened beside a session.
 #[repr(C)]
@@ -27,6 +28,8 @@ pub struct MatchIn {
     pub notify_after: u32,
     pub stalled_after: u32,
     pub words: u32,
+    /// For how many turns at most words are held back; 0: they aren't.
+    pub held_turns: u32,
 }
 
 impl MatchIn {
@@ -41,6 +44,9 @@ impl MatchIn {
         let Ok(words) = u8::try_from(self.words) else {
             return None;
         };
+        if self.held_turns as usize > TURN_LIMIT {
+            return None;
+        }
         let owners = bytes_of(&self.owners)?;
         Some(MatchSettings {
             me,

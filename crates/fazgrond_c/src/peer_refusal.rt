@@ -1,8 +1,10 @@
 //! Why a peer refuses a call, and the numbers of it.
 ghost use Rattle.std.specs.Prelude.{◌≡◌, pos};
 ghost use Rattle.fazgrond_c.specs.PeerKinds.{code_of_ignored, code_of_join, code_of_mesh, code_of_open, code_of_refusal};
+ghost use Rattle.fazgrond_c.specs.Waiting.{code_of_fault};
 
 use roll_frame::Refusal;
+use roll_held::HeldFault;
 use roll_member::JoinRefusal;
 use roll_mesh::MeshRefusal;
 use roll_peer::{Ignored, OpenRefusal, PeerRefusal};
@@ -33,6 +35,16 @@ pub fn code_of_refusal(why: PeerRefusal) -> i32
     match why {
         PeerRefusal::OtherSession => OTHER_SESSION,
         PeerRefusal::Session(why) => why.code(),
+    }
+}
+
+/// The number of why a session isn't told the words that wait.
+pub fn code_of_fault(why: HeldFault) -> i32
+    ensures { result ≡ pos (code_of_fault why) }
+{
+    match why {
+        HeldFault::OtherSession => OTHER_SESSION,
+        HeldFault::Session(why) => why.code(),
     }
 }
 

@@ -1,11 +1,12 @@
 //! Peers for games in other languages. The session stands beside its peer, under a handle of its own.
 ghost use Rattle.std.specs.Prelude.{◌≡◌, if◌then◌else◌};
-ghost use Rattle.fazgrond_c.specs.Handles.{peer_in, FillsBy, FillsFor, Makes, MakesBeside, MakesFor, Reads, ReadsOr, Writes};
-ghost use Rattle.fazgrond_c.specs.Peers.{stats_at, IsFarewell, IsNoted, IsOpenedBy, IsPolledFor, IsPutOut, IsReceived, IsSentTo, IsTold, OpensBeside};
+ghost use Rattle.fazgrond_c.specs.Handles.{network_in, peer_in, FillsBeside, FillsBy, Makes, MakesBeside, MakesFor, Reads, ReadsOr, Writes};
+ghost use Rattle.fazgrond_c.specs.Peers.{stats_at, IsFarewell, IsNotedFor, IsOpenedBy, IsPolledFor, IsPutOutBy, IsReceived, IsSentTo, IsToldBy, OpensBeside};
 
 use crate::calls::{CLOSED, OTHER_VERSION, open_in};
 use crate::handle::Handle;
 use crate::live::Live;
+use crate::network::Network;
 use crate::open::Open;
 use crate::peer_calls;
 use crate::peer_kinds::{EventOut, MATCH_SIZE, MatchIn, StatsOut};
@@ -56,7 +57,11 @@ fn open_beside(alloc: Global, handle: &mut Handle, live: &Live, given: &MatchIn)
         Ok(peer) => peer,
         Err(why) => return code_of_open(why),
     };
-    open_in(alloc, handle, Open::Peer(peer))
+    open_in(
+        alloc,
+        handle,
+        Open::Peer(Network::new(peer, given.held_turns)),
+    )
 }
 
 /// Hears a datagram that came: words that it holds become words of the session.
@@ -68,7 +73,7 @@ pub extern "C" fn fazgrond_peer_receive(
     bytes: &[u8],
     now: u32,
 ) -> i32
-    ensures { MakesBeside peer_in (IsReceived bytes.now now) handle.old.hold.value handle.new.hold.value
+    ensures { MakesBeside network_in (IsReceived bytes.now now) handle.old.hold.value handle.new.hold.value
         session.old.hold.value session.new.hold.value result }
 {
     let Some(mut held) = handle.take(alloc) else {
@@ -78,7 +83,7 @@ pub extern "C" fn fazgrond_peer_receive(
         handle.put(held);
         return CLOSED;
     };
-    let Open::Peer(peer) = &mut *held else {
+    let Open::Peer(network) = &mut *held else {
         session.put(lent);
         handle.put(held);
         return CLOSED;
@@ -88,7 +93,7 @@ pub extern "C" fn fazgrond_peer_receive(
         handle.put(held);
         return CLOSED;
     };
-    let code = peer_calls::receive(peer, live, bytes, now);
+    let code = peer_calls::receive(network, live, bytes, now);
     session.put(lent);
     handle.put(held);
     code
@@ -103,7 +108,7 @@ pub extern "C" fn fazgrond_peer_poll(
     session: &mut Handle,
     now: u32,
 ) -> i32
-    ensures { MakesBeside peer_in (IsPolledFor now) handle.old.hold.value handle.new.hold.value
+    ensures { MakesBeside network_in (IsPolledFor now) handle.old.hold.value handle.new.hold.value
         session.old.hold.value session.new.hold.value result }
 {
     let Some(mut held) = handle.take(alloc) else {
@@ -113,7 +118,7 @@ pub extern "C" fn fazgrond_peer_poll(
         handle.put(held);
         return CLOSED;
     };
-    let Open::Peer(peer) = &mut *held else {
+    let Open::Peer(network) = &mut *held else {
         session.put(lent);
         handle.put(held);
         return CLOSED;
@@ -123,7 +128,7 @@ pub extern "C" fn fazgrond_peer_poll(
         handle.put(held);
         return CLOSED;
     };
-    let code = peer_calls::poll(peer, live, now);
+    let code = peer_calls::poll(network, live, now);
     session.put(lent);
     handle.put(held);
     code
@@ -142,11 +147,11 @@ pub extern "C" fn fazgrond_peer_is_running(
     let Some(held) = handle.take(alloc) else {
         return CLOSED;
     };
-    let Open::Peer(peer) = &*held else {
+    let Open::Peer(network) = &*held else {
         handle.put(held);
         return CLOSED;
     };
-    *flag = u32::from(peer.is_running());
+    *flag = u32::from(network.peer.is_running());
     handle.put(held);
     0
 }
@@ -162,43 +167,28 @@ pub extern "C" fn fazgrond_peer_send(
     out: &mut [u8],
     size: &mut usize,
 ) -> i32
-    ensures sent { FillsFor peer_in (λ live. IsSentTo live.session.seen machine now) session.old.hold.value
-        handle.old.hold.value handle.new.hold.value out.old out.new size.old size.new result }
-    ensures session { session.new.hold.value ≡ session.old.hold.value }
-{
-    let Some(lent) = session.take(alloc) else {
-        return CLOSED;
-    };
-    let Open::Session(live) = &*lent else {
-        session.put(lent);
-        return CLOSED;
-    };
-    let code = send(alloc, handle, live, machine, now, out, size);
-    session.put(lent);
-    code
-}
-
-/// What to send to a machine beside an open session.
-fn send(
-    alloc: Global,
-    handle: &mut Handle,
-    live: &Live,
-    machine: u8,
-    now: u32,
-    out: &mut [u8],
-    size: &mut usize,
-) -> i32
-    ensures { FillsBy peer_in (IsSentTo live.now.session.seen machine now) handle.old.hold.value
-        handle.new.hold.value out.old out.new size.old size.new result }
+    ensures { FillsBeside network_in (IsSentTo machine now) handle.old.hold.value handle.new.hold.value
+        session.old.hold.value session.new.hold.value out.old out.new size.old size.new result }
 {
     let Some(mut held) = handle.take(alloc) else {
         return CLOSED;
     };
-    let Open::Peer(peer) = &mut *held else {
+    let Some(mut lent) = session.take(alloc) else {
         handle.put(held);
         return CLOSED;
     };
-    let code = peer_calls::send(peer, live, machine, now, out, size);
+    let Open::Peer(network) = &mut *held else {
+        session.put(lent);
+        handle.put(held);
+        return CLOSED;
+    };
+    let Open::Session(live) = &mut *lent else {
+        session.put(lent);
+        handle.put(held);
+        return CLOSED;
+    };
+    let code = peer_calls::send(network, live, machine, now, out, size);
+    session.put(lent);
     handle.put(held);
     code
 }
@@ -211,7 +201,7 @@ pub extern "C" fn fazgrond_peer_note_settled(
     session: &mut Handle,
     digest: u64,
 ) -> i32
-    ensures noted { MakesFor peer_in (λ live. IsNoted digest live.session.seen) session.old.hold.value
+    ensures noted { MakesFor network_in (λ live. IsNotedFor digest live.session.seen) session.old.hold.value
         handle.old.hold.value handle.new.hold.value result }
     ensures session { session.new.hold.value ≡ session.old.hold.value }
 {
@@ -229,17 +219,17 @@ pub extern "C" fn fazgrond_peer_note_settled(
 
 /// Notes the digest of an open session's settled state.
 fn note_settled(alloc: Global, handle: &mut Handle, live: &Live, digest: u64) -> i32
-    ensures { Makes peer_in (IsNoted digest live.now.session.seen) handle.old.hold.value handle.new.hold.value
-        result }
+    ensures { Makes network_in (IsNotedFor digest live.now.session.seen) handle.old.hold.value
+        handle.new.hold.value result }
 {
     let Some(mut held) = handle.take(alloc) else {
         return CLOSED;
     };
-    let Open::Peer(peer) = &mut *held else {
+    let Open::Peer(network) = &mut *held else {
         handle.put(held);
         return CLOSED;
     };
-    let code = peer_calls::note_settled(peer, live, digest);
+    let code = peer_calls::note_settled(network, live, digest);
     handle.put(held);
     code
 }
@@ -253,17 +243,18 @@ pub extern "C" fn fazgrond_peer_bye(
     out: &mut [u8],
     size: &mut usize,
 ) -> i32
-    ensures { FillsBy peer_in (IsFarewell machine) handle.old.hold.value handle.new.hold.value
+    ensures said { FillsBy peer_in (IsFarewell machine) handle.old.hold.value handle.new.hold.value
         out.old out.new size.old size.new result }
+    ensures kept { handle.new.hold.value ≡ handle.old.hold.value }
 {
     let Some(held) = handle.take(alloc) else {
         return CLOSED;
     };
-    let Open::Peer(peer) = &*held else {
+    let Open::Peer(network) = &*held else {
         handle.put(held);
         return CLOSED;
     };
-    let code = peer_calls::bye(peer, machine, out, size);
+    let code = peer_calls::bye(&network.peer, machine, out, size);
     handle.put(held);
     code
 }
@@ -271,16 +262,16 @@ pub extern "C" fn fazgrond_peer_bye(
 /// Regards a machine as gone.
 #[unsafe(no_mangle)]
 pub extern "C" fn fazgrond_peer_disconnect(alloc: Global, handle: &mut Handle, machine: u8) -> i32
-    ensures { Makes peer_in (IsPutOut machine) handle.old.hold.value handle.new.hold.value result }
+    ensures { Makes network_in (IsPutOutBy machine) handle.old.hold.value handle.new.hold.value result }
 {
     let Some(mut held) = handle.take(alloc) else {
         return CLOSED;
     };
-    let Open::Peer(peer) = &mut *held else {
+    let Open::Peer(network) = &mut *held else {
         handle.put(held);
         return CLOSED;
     };
-    let code = peer_calls::disconnect(peer, machine);
+    let code = peer_calls::disconnect(network, machine);
     handle.put(held);
     code
 }
@@ -292,17 +283,17 @@ pub extern "C" fn fazgrond_peer_event(
     handle: &mut Handle,
     event: &mut EventOut,
 ) -> i32
-    ensures { Writes peer_in IsTold handle.old.hold.value handle.new.hold.value event.old event.new
+    ensures { Writes network_in IsToldBy handle.old.hold.value handle.new.hold.value event.old event.new
         result }
 {
     let Some(mut held) = handle.take(alloc) else {
         return CLOSED;
     };
-    let Open::Peer(peer) = &mut *held else {
+    let Open::Peer(network) = &mut *held else {
         handle.put(held);
         return CLOSED;
     };
-    let code = peer_calls::tell(peer, event);
+    let code = peer_calls::tell(network, event);
     handle.put(held);
     code
 }
@@ -321,11 +312,11 @@ pub extern "C" fn fazgrond_peer_stats(
     let Some(held) = handle.take(alloc) else {
         return CLOSED;
     };
-    let Open::Peer(peer) = &*held else {
+    let Open::Peer(network) = &*held else {
         handle.put(held);
         return CLOSED;
     };
-    let there = peer_calls::stats(peer, machine);
+    let there = peer_calls::stats(&network.peer, machine);
     handle.put(held);
     match there {
         Some(there) => {

@@ -3,3 +3,5 @@ pub mod Seeing
 pub mod Same
 pub mod Ahead
 pub mod OneMatch
+pub mod Fronts
+pub mod Pressed

@@ -1,10 +1,12 @@
 //! Words that are held back, and for how many turns.
-ghost use Rattle.std.specs.Prelude.{◌≡◌, ◌≤◌, [], drop, is_none, length, min, not, take, true, IfErr, IfOk, IfSome, OnErr, OnOk};
+ghost use Rattle.std.specs.Prelude.{◌≡◌, ◌⊎◌, ◌≤◌, [], drop, is_none, length, min, not, take, true, IfErr, IfOk, IfSome, IsFalse, IsTrue, OnErr, OnOk};
 ghost use Rattle.std.specs.Int.{is_in_range};
+ghost use Rattle.roll_held.specs.Pressed.{is_pressed, RefusesNext, TakesNext};
 ghost use Rattle.roll_held.specs.Told.{are_next, roomless, told, IsHeldFault};
 ghost use Rattle.roll_held.specs.Turns.{after_turn, due, lessened};
 
 use crate::fault::HeldFault;
+use crate::front::stands_next;
 use crate::words::{make_room, tell};
 use arrayvec::ArrayVec;
 use roll_session::{RemoteWord, Settling};
@@ -52,6 +54,17 @@ impl Held {
         self.words.as_slice()
     }
 
+    /// Whether the words should be handed over now: some wait, and once the session has come to its next frame, it would refuse a
+    /// local word for its prediction threshold (code 4), unless it is told more.
+    #[tactic(auto, using(crate::proofs::Pressed::refuses_next, crate::proofs::Pressed::takes_next))]
+    pub fn is_pressed<S: Settling>(&self, session: &S) -> bool
+        ensures pressed { result ≡ is_pressed (S.seen session.now) self.now.words.items }
+        ensures refused { IsTrue result → RefusesNext (S.seen session.now) }
+        ensures taken { IsFalse result → (self.now.words.items ≡ []) ⊎ TakesNext (S.seen session.now) }
+    {
+        !self.words.is_empty() && stands_next(session)
+    }
+
     /// Hands the first so many words that wait over to their session, or all if there are fewer: it hears them as they came.
     ///
     /// # Errors
@@ -90,7 +103,9 @@ impl Held {
     ///
     /// As `hand_over`. Nothing is changed then, and the next turn tries it again.
     pub fn turn<S: Settling>(&mut self, session: &mut S) -> Result<usize, HeldFault>
-        ensures due { IfOk result (λ count. count ≡ due self.old.turns (after_turn (length self.old.words.items) self.old.waited.items)) }
+        ensures due { IfOk result (λ count. count ≡ min (length self.old.words.items)
+            (due self.old.turns (after_turn (length self.old.words.items) self.old.waited.items))) }
+        ensures few { IfOk result (λ count. count ≤ HELD_LIMIT) }
         ensures handed { IfOk result (λ count. roomless (S.seen session.new)
             ≡ roomless (told (S.seen session.old) (take count self.old.words.items))) }
         ensures rest { IfOk result (λ count. self.new.words.items ≡ drop count self.old.words.items) }
@@ -103,7 +118,7 @@ impl Held {
         ensures keeps { S.keeps session.old session.new }
     {
         let waited = one_turn_more(&self.waited, self.words.len());
-        let due = due_of(&waited, self.turns);
+        let due = self.words.len().min(due_of(&waited, self.turns));
         match self.hand_over(session, due) {
             Ok(()) => {
                 self.waited = less(&waited, due);

@@ -2,6 +2,7 @@
 #![tactic(auto)]
 
 mod fault;
+mod front;
 mod held;
 mod laws;
 mod network;

@@ -1,7 +1,7 @@
 //! The network of a match beside a session from which words are held back.
 ghost use Rattle.std.specs.Prelude.{◌≡◌, is_none, IfErr, IfOk, IfSome, OnErr, OnOk};
 ghost use Rattle.roll_held.specs.Heard.{beside, HearsHeld, PollsHeld};
-ghost use Rattle.roll_held.specs.Told.{as_told, IsHeldFault};
+ghost use Rattle.roll_held.specs.Told.{as_told, roomless, IsHeldFault};
 ghost use Rattle.roll_member.specs.Beside.{IsOf};
 ghost use Rattle.roll_peer.specs.Receiving.{meeting, ticking, IsOther};
 ghost use Rattle.roll_peer.specs.Sending.{after_send, is_lost, IsSent};
@@ -32,6 +32,7 @@ impl Held {
         ensures heard { IfOk result (HearsHeld S.step
             (beside (S.seen session.old) self.old.words.items peer.old)
             (beside (S.seen session.new) self.new.words.items peer.new) now bytes.now) }
+        ensures turns { self.new.turns ≡ self.old.turns }
         ensures refused { IfErr result (IsHeldFault (S.seen session.old) self.old.words.items) }
         ensures unchanged { OnErr result ((self.new ≡ self.old) × (session.new ≡ session.old) × (peer.new ≡ peer.old)) }
         ensures keeps { S.keeps session.old session.new }
@@ -64,6 +65,7 @@ impl Held {
         ensures polled { IfOk result (PollsHeld
             (beside (S.seen session.old) self.old.words.items peer.old)
             (beside (S.seen session.new) self.new.words.items peer.new) now) }
+        ensures turns { self.new.turns ≡ self.old.turns }
         ensures refused { IfErr result (IsHeldFault (S.seen session.old) self.old.words.items) }
         ensures unchanged { OnErr result ((self.new ≡ self.old) × (session.new ≡ session.old) × (peer.new ≡ peer.old)) }
         ensures keeps { S.keeps session.old session.new }
@@ -106,6 +108,7 @@ impl Held {
             (IsOther (as_told (S.seen session.old) self.old.words.items 0) peer.old)) }
         ensures ticked { IfOk result (λ said. OnErr said (peer.new ≡ ticking now peer.old)) }
         ensures same { self.new ≡ self.old }
+        ensures session { roomless (S.seen session.new) ≡ roomless (S.seen session.old) }
         ensures refused { IfErr result (IsHeldFault (S.seen session.old) self.old.words.items) }
         ensures unchanged { OnErr result ((session.new ≡ session.old) × (peer.new ≡ peer.old)) }
         ensures keeps { S.keeps session.old session.new }

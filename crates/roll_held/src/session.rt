@@ -26,14 +26,17 @@ impl<'a, S: Settling> HeldSession<'a, S> {
     /// Tells the session all words that are held back.
     fn tell_all(&mut self)
         ensures none { self.new.held.now.words.items ≡ [] }
+        ensures waited { self.new.held.now.waited.items ≡ [] }
         ensures session { S.seen self.new.session.now
             ≡ told (S.seen self.old.session.now) self.old.held.now.words.items }
         ensures reserved { self.new.reserved ≡ self.old.reserved }
         ensures same_session { self.new.session.ghost_name ≡ self.old.session.ghost_name }
+        ensures turns { self.new.held.now.turns ≡ self.old.held.now.turns }
         ensures same_held { self.new.held.ghost_name ≡ self.old.held.ghost_name }
         ensures keeps { S.keeps self.old.session.now self.new.session.now }
     {
         let words = mem::replace(&mut self.held.words, ArrayVec::new());
+        self.held.waited = ArrayVec::new();
         tell(self.session, words.as_slice());
     }
 
@@ -50,6 +53,7 @@ impl<'a, S: Settling> HeldSession<'a, S> {
         ensures words { self.new.held.now.words.items ≡ self.old.held.now.words.items }
         ensures reserved { self.new.reserved ≡ self.old.reserved }
         ensures same_session { self.new.session.ghost_name ≡ self.old.session.ghost_name }
+        ensures turns { self.new.held.now.turns ≡ self.old.held.now.turns }
         ensures same_held { self.new.held.ghost_name ≡ self.old.held.ghost_name }
         ensures keeps { S.keeps self.old.session.now self.new.session.now }
     {
@@ -70,6 +74,7 @@ impl<'a, S: Settling> HeldSession<'a, S> {
             ≡ told (S.seen self.old.session.now) self.old.held.now.words.items }
         ensures reserved { self.new.reserved ≡ self.old.reserved }
         ensures same_session { self.new.session.ghost_name ≡ self.old.session.ghost_name }
+        ensures turns { self.new.held.now.turns ≡ self.old.held.now.turns }
         ensures same_held { self.new.held.ghost_name ≡ self.old.held.ghost_name }
         ensures keeps { S.keeps self.old.session.now self.new.session.now }
     {
@@ -88,6 +93,7 @@ impl<'a, S: Settling> HeldSession<'a, S> {
         ensures reserved { self.new.reserved ≡ self.old.reserved - 1 }
         ensures session { self.new.session.now ≡ self.old.session.now }
         ensures same_session { self.new.session.ghost_name ≡ self.old.session.ghost_name }
+        ensures turns { self.new.held.now.turns ≡ self.old.held.now.turns }
         ensures same_held { self.new.held.ghost_name ≡ self.old.held.ghost_name }
     {
         self.reserved = self.reserved.saturating_sub(1);
@@ -105,15 +111,19 @@ impl<'a, S: Settling> Networked for HeldSession<'a, S> {
     ghost step = { S.step };
 
     ghost keeps = { λ old new. (new.session.ghost_name ≡ old.session.ghost_name)
-        × ((new.held.ghost_name ≡ old.held.ghost_name) × S.keeps old.session.now new.session.now) };
+        × ((new.held.ghost_name ≡ old.held.ghost_name)
+        × ((new.held.now.turns ≡ old.held.now.turns) × S.keeps old.session.now new.session.now)) };
 
-    ghost keeps_itself = { λ it. (refl, (refl, S.keeps_itself it.session.now)) };
+    ghost keeps_itself = { λ it. (refl, (refl, (refl, S.keeps_itself it.session.now))) };
 
     ghost keeps_on = { λ a b c one two. (
       two.0 ∙ one.0,
       (
         two.1.0 ∙ one.1.0,
-        S.keeps_on a.session.now b.session.now c.session.now one.1.1 two.1.1,
+        (
+          two.1.1.0 ∙ one.1.1.0,
+          S.keeps_on a.session.now b.session.now c.session.now one.1.1.1 two.1.1.1,
+        ),
       ),
     ) };
 

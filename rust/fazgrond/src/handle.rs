@@ -1,5 +1,6 @@
 use crate::error::{said, Error};
 use crate::owned::{answered, Owned};
+use crate::peer::Peer;
 use crate::raw;
 use crate::row::Row;
 use crate::settings::Settings;
@@ -140,10 +141,14 @@ impl Handle {
     /// them, nor the slot that it starts from. A guess that is refused leaves no requests.
     pub fn guess(&mut self, player: u8, words: &[u32], until: u32) -> Result<Option<u32>, Error> {
         let mut job = 0;
-        match unsafe { raw::fazgrond_guess(self.raw(), player, words.as_ptr(), words.len(), until, &mut job) } {
-            raw::NOTHING => Ok(None),
-            code => said(code).map(|()| Some(job)),
-        }
+        let code = unsafe { raw::fazgrond_guess(self.raw(), player, words.as_ptr(), words.len(), until, &mut job) };
+        numbered(code, &job)
+    }
+
+    /// A guess with all words that a peer holds back from this session: as [`guess`](Handle::guess), whose job it asks for. Refused
+    /// with [`Error::InvalidRequest`] if none waits.
+    pub fn guess_waiting(&mut self, peer: &Peer, until: u32) -> Result<Option<u32>, Error> {
+        peer.guess(self, until)
     }
 
     /// Takes in the states of a job all of whose requests are carried out, and says how many of them are kept. Whatever the
@@ -265,6 +270,14 @@ impl Handle {
     /// The frame in which a local player's next word counts. None if there is no such local player.
     pub fn input_frame(&self, player: u8) -> Option<u32> {
         answered(|out| unsafe { raw::fazgrond_input_frame(self.raw(), player, out) })
+    }
+}
+
+/// The number of a guess's job, if there is a job.
+pub(crate) fn numbered(code: i32, job: &u32) -> Result<Option<u32>, Error> {
+    match code {
+        raw::NOTHING => Ok(None),
+        code => said(code).map(|()| Some(*job)),
     }
 }
 

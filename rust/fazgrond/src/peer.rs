@@ -1,5 +1,5 @@
 use crate::error::{said, Error};
-use crate::handle::{Handle, Reached};
+use crate::handle::{numbered, Handle, Reached};
 use crate::owned::{answered, Owned};
 use crate::raw;
 use crate::row::PLAYERS;
@@ -29,6 +29,7 @@ pub struct Match {
     notify_after: u32,
     stalled_after: u32,
     words: u32,
+    held_turns: u32,
 }
 
 impl Match {
@@ -54,6 +55,7 @@ impl Match {
             notify_after: 0,
             stalled_after: 0,
             words: 1,
+            held_turns: 0,
         }
     }
 
@@ -92,6 +94,12 @@ impl Match {
     /// owner. They leave together, and of no frame are some of their words taken and others not.
     pub fn words(self, words: u32) -> Match {
         Match { words, ..self }
+    }
+
+    /// For how many turns at most the others' words wait beside the session, 1 to 8, while another thread runs their frames. 0: the
+    /// session is given them as they come.
+    pub fn held_turns(self, turns: u32) -> Match {
+        Match { held_turns: turns, ..self }
     }
 }
 
@@ -294,6 +302,20 @@ pub struct Stats {
     pub refused: u32,
 }
 
+/// A word of another machine's player.
+#[derive(Clone, Copy, PartialEq, Eq, Debug)]
+pub struct RemoteWord {
+    /// The player.
+    pub player: u8,
+    /// The frame of the word.
+    pub frame: u32,
+    /// The word.
+    pub word: u32,
+}
+
+/// The most words that wait. If one more comes, all are handed over.
+pub const HELD_WORDS: usize = 64;
+
 mod sealed {
     pub trait Sealed {
         fn raw(&self) -> *mut crate::raw::Session;
@@ -472,5 +494,55 @@ impl Peer {
             their_frames_behind: seen.their_frames_behind,
             refused: seen.refused,
         })
+    }
+
+    /// The words that wait, in the order in which they came. None do if the match has no [`held_turns`](Match::held_turns).
+    ///
+    /// In each turn, before the session is given its own players' words: graft the jobs that are done,
+    /// [`hand over`](Peer::hand_over) the words that would make no frame run again ([`rerun`](Peer::rerun)), and all of them if the
+    /// session is [`pressed`](Peer::is_pressed); then call [`hand_over_due`](Peer::hand_over_due). After the
+    /// [`turn`](Peer::turn), make a guess with those that still wait ([`Session::guess_waiting`]), and have its job run on another
+    /// thread.
+    pub fn waiting(&self) -> Vec<RemoteWord> {
+        let mut entries = [(); HELD_WORDS].map(|()| raw::Entry::default());
+        let count = unsafe { raw::fazgrond_peer_waiting(self.raw(), entries.as_mut_ptr(), entries.len()) };
+        let words = entries[..count].iter();
+        words.map(|it| RemoteWord { player: it.player as u8, frame: it.frame, word: it.word }).collect()
+    }
+
+    /// How many frames the session would have to run again, if the first so many words that wait were handed over, or all if there
+    /// are fewer. Refused with [`Error::InvalidRequest`] if these are none.
+    pub fn rerun(&self, session: &impl Plays, count: usize) -> Result<u32, Error> {
+        let mut frames = 0;
+        said(unsafe {
+            raw::fazgrond_peer_rerun(self.raw(), session.raw(), count.min(HELD_WORDS) as u32, &mut frames)
+        })?;
+        Ok(frames)
+    }
+
+    /// A guess with all words that wait, of which a session or handle makes a job.
+    pub(crate) fn guess(&self, session: &Handle, until: u32) -> Result<Option<u32>, Error> {
+        let mut job = 0;
+        numbered(unsafe { raw::fazgrond_peer_guess(self.raw(), session.raw(), until, &mut job) }, &job)
+    }
+
+    /// Hands the first so many words that wait over to the session, or all if there are fewer: it takes them as any words of others.
+    /// If it is refused, nothing is changed.
+    pub fn hand_over(&mut self, session: &mut impl Plays, count: usize) -> Result<(), Error> {
+        said(unsafe { raw::fazgrond_peer_hand_over(self.raw(), session.raw(), count.min(HELD_WORDS) as u32) })
+    }
+
+    /// Once a turn: hands over the words that have waited for as many of these calls as the match has turns, and says how many they
+    /// were. If it is refused, the turn doesn't count.
+    pub fn hand_over_due(&mut self, session: &mut impl Plays) -> Result<usize, Error> {
+        let mut handed = 0;
+        said(unsafe { raw::fazgrond_peer_hand_over_due(self.raw(), session.raw(), &mut handed) })?;
+        Ok(handed as usize)
+    }
+
+    /// Whether the session would stand without the words that wait: some do, and once it has come to its next frame, it would refuse
+    /// a local word with [`Error::PredictionThreshold`], unless it is given more.
+    pub fn is_pressed(&self, session: &impl Plays) -> bool {
+        answered(|out| unsafe { raw::fazgrond_peer_is_pressed(self.raw(), session.raw(), out) }).unwrap_or(0u32) != 0
     }
 }

@@ -182,6 +182,12 @@ unsafe extern "C" {
     pub fn fazgrond_peer_note_settled(peer: *mut Peer, session: *mut Session, digest: u64) -> i32;
     pub fn fazgrond_peer_event(peer: *mut Peer, event: *mut Event) -> i32;
     pub fn fazgrond_peer_stats(peer: *mut Peer, machine: u8, stats: *mut Stats) -> i32;
+    pub fn fazgrond_peer_waiting(peer: *mut Peer, out: *mut Entry, room: usize) -> usize;
+    pub fn fazgrond_peer_rerun(peer: *mut Peer, session: *mut Session, count: u32, frames: *mut u32) -> i32;
+    pub fn fazgrond_peer_guess(peer: *mut Peer, session: *mut Session, until: u32, job: *mut u32) -> i32;
+    pub fn fazgrond_peer_hand_over(peer: *mut Peer, session: *mut Session, count: u32) -> i32;
+    pub fn fazgrond_peer_hand_over_due(peer: *mut Peer, session: *mut Session, handed: *mut u32) -> i32;
+    pub fn fazgrond_peer_is_pressed(peer: *mut Peer, session: *mut Session, flag: *mut u32) -> i32;
     pub fn fazgrond_line_open(line: *mut Line, settings: *const LineSettings) -> i32;
     pub fn fazgrond_line_receive(line: *mut Line, bytes: *const u8, length: usize, now: u32) -> i32;
     pub fn fazgrond_line_send(

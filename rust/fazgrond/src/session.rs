@@ -1,6 +1,7 @@
 use crate::error::Error;
 use crate::handle::{Entry, Handle, Heard, Reached, Request};
 use crate::job::{Done, Job, Jobs};
+use crate::peer::Peer;
 use crate::row::Row;
 use crate::settings::Settings;
 
@@ -129,8 +130,28 @@ impl<G: Game> Session<G> {
     where
         G::State: Clone,
     {
+        self.job_of(|handle| handle.guess(player, words, until))
+    }
+
+    /// A guess with all words that a peer holds back from this session: as [`guess`](Session::guess), whose job it answers. It is
+    /// right once they are handed over. Refused with [`Error::InvalidRequest`] if none waits.
+    pub fn guess_waiting(&mut self, peer: &Peer, until: u32) -> Result<Option<Job<G::State>>, Error>
+    where
+        G::State: Clone,
+    {
+        self.job_of(|handle| handle.guess_waiting(peer, until))
+    }
+
+    /// The job of a guess, if there is anything to run.
+    fn job_of(
+        &mut self,
+        guess: impl FnOnce(&mut Handle) -> Result<Option<u32>, Error>,
+    ) -> Result<Option<Job<G::State>>, Error>
+    where
+        G::State: Clone,
+    {
         self.forget_dropped()?;
-        let answer = self.handle.guess(player, words, until)?;
+        let answer = guess(&mut self.handle)?;
         let (mut start, mut rows, mut slots) = (0, Vec::new(), Vec::new());
         for request in self.handle.requests() {
             match request {

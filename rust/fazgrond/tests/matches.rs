@@ -1,10 +1,11 @@
-//! Matches of two machines in one process, over lines that lose datagrams and bring the others late, with guesses and without; and a
-//! viewer of one of them.
+//! Matches of two machines in one process, over lines that lose datagrams and bring the others late, with guesses, with words held
+//! back, and without; and a viewer of one of them.
 #[allow(dead_code)] // not all of it is used here
 mod random_numbers;
 
 use fazgrond::{
-    Datagram, Error, Event, Game, Handle, Line, LineSettings, Match, Peer, Plays, Row, Session, Settings, Viewer,
+    Datagram, Done, Error, Event, Game, Handle, Line, LineSettings, Match, Peer, Plays, RemoteWord, Row, Session,
+    Settings, Viewer,
 };
 use random_numbers::Random;
 use std::collections::BTreeMap;
@@ -80,13 +81,16 @@ struct Machine {
     to_me: Way,
     wait: u32,
     grafted: u32,
+    /// The job that ran while words waited, and of how many.
+    done: Option<Done<u64>>,
+    covered: usize,
 }
 
 impl Machine {
-    fn new(me: u8) -> Machine {
+    fn new(me: u8, held_turns: u32) -> Machine {
         let mut session = Session::open(&settings_of(me), Digest::default()).unwrap();
-        let peer = Peer::open(&mut session, &match_of(me, 70 + u64::from(me))).unwrap();
-        Machine { me, session, peer, to_me: Way::default(), wait: 0, grafted: 0 }
+        let peer = Peer::open(&mut session, &match_of(me, 70 + u64::from(me)).held_turns(held_turns)).unwrap();
+        Machine { me, session, peer, to_me: Way::default(), wait: 0, grafted: 0, done: None, covered: 0 }
     }
 
     fn turn(&mut self, turn: u32, is_guessing: bool) {
@@ -94,6 +98,7 @@ impl Machine {
             let heard = self.peer.receive(&mut self.session, &bytes, turn * TURN);
             assert!(matches!(heard, Ok(()) | Err(Error::NotSealed)), "{heard:?}");
         }
+        self.hand_over();
         if self.peer.is_running() && self.wait == 0 {
             let word = word_of(self.me, self.session.frame());
             let given = self.session.add_local_input(self.me + 1, word);
@@ -107,6 +112,7 @@ impl Machine {
         if is_guessing {
             self.guess();
         }
+        self.guess_waiting();
         while let Some(event) = self.peer.event() {
             match event {
                 Event::TimeSync { frames_ahead } => self.wait = frames_ahead,
@@ -130,9 +136,30 @@ impl Machine {
         }
     }
 
-    /// How many frames were run more than once.
-    fn again(&self) -> u32 {
-        self.session.game().steps - self.session.frame()
+    /// Hands over the words that make no frame run again, and those that have waited for their turns.
+    fn hand_over(&mut self) {
+        if let Some(done) = self.done.take() {
+            self.grafted += self.session.graft(done).unwrap_or(0);
+        }
+        let all = self.peer.waiting().len();
+        let ready = [all, self.covered.min(all)].into_iter();
+        let ready = ready.filter(|count| *count > 0).find(|count| self.peer.rerun(&self.session, *count) == Ok(0));
+        self.peer.hand_over(&mut self.session, ready.unwrap_or(0)).unwrap();
+        self.peer.hand_over_due(&mut self.session).unwrap();
+    }
+
+    fn guess_waiting(&mut self) {
+        self.covered = self.peer.waiting().len();
+        if self.covered > 0 {
+            let until = FRAMES.min(self.session.frame() + 1);
+            let job = self.session.guess_waiting(&self.peer, until).unwrap();
+            self.done = job.map(|job| job.run(&mut Digest::default()));
+        }
+    }
+
+    /// How many frames were run more than once: fewer than none if a job ran frames before.
+    fn again(&self) -> i64 {
+        i64::from(self.session.game().steps) - i64::from(self.session.frame())
     }
 }
 
@@ -183,7 +210,12 @@ struct Scene {
 
 impl Scene {
     fn new(is_guessing: bool) -> Scene {
-        let machines = [Machine::new(0), Machine::new(1)];
+        Scene::holding(is_guessing, [0, 0])
+    }
+
+    /// Machines that hold words back for so many turns.
+    fn holding(is_guessing: bool, turns: [u32; 2]) -> Scene {
+        let machines = [0, 1].map(|me| Machine::new(me, turns[usize::from(me)]));
         Scene { machines, watched: Watched::new(), random: Random(3), turn: 0, is_guessing }
     }
 
@@ -243,6 +275,54 @@ fn guesses_save_frames_and_change_no_state() {
         assert!(guessed.grafted > FRAMES);
         assert!(guessed.session.claim().unwrap().starts_with(b"rollcert"));
     }
+}
+
+#[test]
+fn words_that_wait_make_no_frame_run_again() {
+    for turns in [[0, 2], [3, 8]] {
+        let mut scene = Scene::holding(false, turns);
+        scene.play_to(FRAMES);
+        for (machine, turns) in scene.machines.iter().zip(turns) {
+            assert_eq!(machine.session.settled_state(), Some((FRAMES, &without_a_network())));
+            let again = machine.again();
+            assert!(
+                if turns == 0 { again > 100 } else { again <= 0 && machine.grafted > 100 },
+                "{again} frames are run again"
+            );
+        }
+    }
+}
+
+#[test]
+fn words_wait_for_their_turns() {
+    let mut session = Session::open(&settings_of(0), Digest::default()).unwrap();
+    assert_eq!(Peer::open(&mut session, &match_of(0, 1).held_turns(9)).map(|_| ()), Err(Error::InvalidRequest));
+    let mut machines = [Machine::new(0, 0), Machine::new(1, 3)];
+    for turn in 0..8 {
+        for (me, other) in [(0, 1), (1, 0)] {
+            let Machine { session, peer, .. } = &mut machines[me];
+            peer.poll(session, turn).unwrap();
+            let sent = peer.send(session, other as u8, turn).unwrap().unwrap();
+            let Machine { session, peer, .. } = &mut machines[other];
+            let _ = peer.receive(session, &sent, turn);
+        }
+    }
+    let [one, two] = &mut machines;
+    one.session.add_local_input(1, 7).unwrap();
+    two.session.add_local_input(2, 5).unwrap();
+    two.session.advance_frame().unwrap();
+    let sent = one.peer.send(&one.session, 1, 8).unwrap().unwrap();
+    two.peer.receive(&mut two.session, &sent, 8).unwrap();
+    assert_eq!(two.peer.waiting(), [RemoteWord { player: 1, frame: 0, word: 7 }]);
+    assert_eq!((two.session.confirmed(1), two.peer.rerun(&two.session, 1)), (Some(0), Ok(1)));
+    assert_eq!(two.peer.rerun(&two.session, 0), Err(Error::InvalidRequest));
+    assert!(!two.peer.is_pressed(&two.session));
+    let answer = two.peer.send(&two.session, 0, 8).unwrap().unwrap();
+    one.peer.receive(&mut one.session, &answer, 8).unwrap();
+    assert_eq!(one.peer.stats(1).unwrap().words_queued, 0); // it is acknowledged
+    let handed = [(); 4].map(|()| two.peer.hand_over_due(&mut two.session).unwrap());
+    assert_eq!((handed, two.session.confirmed(1)), ([0, 0, 1, 0], Some(1)));
+    assert_eq!(two.session.guess_waiting(&two.peer, 1).map(|_| ()), Err(Error::InvalidRequest));
 }
 
 #[test]

@@ -1,5 +1,5 @@
 use Rattle.std.proofs.Common.{Ok, Err, refl}
-use Rattle.fazgrond_c.proofs.peer_calls.note_settled.Goals as goal
+use Rattle.fazgrond_c.proofs.peer_calls.note_at_once.Goals as goal
 
 pub returns-in-Ok : goal.returns-in-Ok
 returns-in-Ok c = record {

@@ -1,0 +1,18 @@
+use Rattle.std.proofs.Common.{rules, w32, ◌≡◌, ◌∙◌, Option, Some, ap, pos, refl, subst, sym, take}
+use Rattle.std.specs.Prelude.{FitsSigned, MatchOption}
+use Rattle.std.proofs.lemmas.Int.{to_z-of_z}
+use Rattle.roll_frame.specs.Codes.{code_of}
+use Rattle.roll_frame.specs.declared.refusal.Refusal.{Refusal}
+use Rattle.roll_session.specs.Foretold.{rerun_of, words_refusal_of}
+use Rattle.fazgrond_c.specs.Waiting.{waiting_in}
+use Rattle.fazgrond_c.proofs.waiting_calls.rerun.Goals as goal
+
+pub returns-in-Err : goal.returns-in-Err
+returns-in-Err c =
+    let s = c.args.live.now.session.seen in
+    let words = take c.args.count (waiting_in c.args.network.now.held) in
+    let why : words_refusal_of s words ≡ Some c.in-Err.why = ap (words_refusal_of s) (sym c.first.ensures) ∙ c.in-Err.ensures.refused in
+    let fits : FitsSigned w32 c.code.result = search rules in
+    rw to_z-of_z
+    (subst (λ (o : Option Refusal). MatchOption o ((c.code.result ≡ pos 0) × (c.args.frames.now ≡ rerun_of s words))
+    (λ why. (c.code.result ≡ pos (code_of why)) × (c.args.frames.now ≡ c.args.frames.now))) (sym why) (c.code.ensures, refl))

@@ -1,0 +1,47 @@
+//! The network of a match, and the words that it holds back from the session beside it.
+ghost use Rattle.std.specs.Prelude.{◌≡◌, ◌≤◌, take};
+ghost use Rattle.fazgrond_c.specs.Waiting.{waiting_in, IsHeldFor};
+ghost use Rattle.roll_held.specs.declared.held.TheConstants.{TURN_LIMIT};
+
+use roll_held::{Held, RemoteWord};
+use roll_peer::Peer;
+
+/// The network of a match at one machine.
+#[derive(Drop)]
+pub struct Network {
+    pub peer: Peer,
+    /// What is held back from the session. None if words go there as they come.
+    pub held: Option<Held>,
+}
+
+impl Network {
+    /// One that holds words back for so many turns at most; for 0, none.
+    pub fn new(peer: Peer, turns: u32) -> Network
+        requires { turns ≤ TURN_LIMIT }
+        ensures peer { result.peer ≡ peer }
+        ensures held { IsHeldFor turns result.held }
+    {
+        Network {
+            peer,
+            held: Held::new(turns as u8),
+        }
+    }
+
+    /// The words that wait, in the order in which they came.
+    pub fn waiting(&self) -> &[RemoteWord]
+        ensures { result.now ≡ waiting_in self.now.held }
+    {
+        match &self.held {
+            Some(held) => held.waiting(),
+            None => &[],
+        }
+    }
+    /// The first so many of them, or all if there are fewer.
+    pub fn first(&self, count: u32) -> &[RemoteWord]
+        ensures { result.now ≡ take count (waiting_in self.now.held) }
+    {
+        let waiting = self.waiting();
+        let count = waiting.len().min(count as usize);
+        &waiting[..count]
+    }
+}

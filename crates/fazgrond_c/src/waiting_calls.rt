@@ -1,0 +1,109 @@
+//! Calls that ask for the words that wait beside an open peer, most of them lent its session.
+ghost use Rattle.std.specs.Prelude.{◌≡◌, ◌≤◌, ◌++◌, drop, length, map};
+ghost use Rattle.fazgrond_c.specs.Waiting.{waiting_in, word_out, AreHandedDue, AreHandedFirst, AreListed, AreToldDue, AreToldFirst, IsForetold, IsPressed, IsRerun};
+
+use crate::jobs::numbered;
+use crate::kinds::EntryOut;
+use crate::live::Live;
+use crate::network::Network;
+use crate::peer_refusal::code_of_fault;
+use roll_held::{Held, RemoteWord};
+
+/// Writes the words that wait to the front of a buffer, as many as there is room for, and says how many they are.
+pub fn list(network: &Network, out: &mut [EntryOut]) -> usize
+    ensures { AreListed (waiting_in network.now.held) out.old out.new result }
+{
+    let waiting = network.waiting();
+    let count = out.len().min(waiting.len());
+    write_all(&waiting[..count], out);
+    count
+}
+
+/// Writes words to the front of a buffer.
+fn write_all(words: &[RemoteWord], out: &mut [EntryOut])
+    requires { length words.now ≤ length out.old }
+    ensures { out.new ≡ map word_out words.now ++ drop (length words.now) out.old }
+{
+    for (place, word) in words.iter().enumerate() {
+        out[place] = EntryOut::of_word(word);
+    }
+}
+
+/// Writes how many frames the session would run again, if it were told the first so many words that wait.
+pub fn rerun(network: &Network, live: &Live, count: u32, frames: &mut u32) -> i32
+    ensures { IsRerun count network.now live.now frames.old frames.new result }
+{
+    match live.session.rerun(network.first(count)) {
+        Ok(there) => {
+            *frames = there;
+            0
+        }
+        Err(why) => why.code(),
+    }
+}
+
+/// Writes whether words are to be handed over before the session comes to its next frame.
+pub fn is_pressed(network: &Network, live: &Live, flag: &mut u32) -> i32
+    ensures { IsPressed network.now live.now flag.old flag.new result }
+{
+    let pressed = match &network.held {
+        Some(held) => held.is_pressed(&live.session),
+        None => false,
+    };
+    *flag = u32::from(pressed);
+    0
+}
+
+/// Makes a guess with all words that wait, and writes the number of its job, if there is a job.
+pub fn guess(network: &Network, live: &mut Live, until: u32, job: &mut u32) -> i32
+    ensures { IsForetold until network.now network.now live.old live.new job.old job.new result }
+{
+    let outcome = live.session.guess_words(network.waiting(), until);
+    numbered(job, outcome)
+}
+
+/// Hands over the first so many words that wait.
+pub fn hand_over(network: &mut Network, live: &mut Live, count: u32) -> i32
+    ensures { AreHandedFirst count network.old network.new live.old live.new result }
+{
+    match &mut network.held {
+        Some(held) => tell_first(held, live, count),
+        None => 0,
+    }
+}
+
+/// Tells a session the first so many words that wait.
+fn tell_first(held: &mut Held, live: &mut Live, count: u32) -> i32
+    ensures { AreToldFirst count held.old held.new live.old live.new result }
+{
+    match held.hand_over(&mut live.session, count as usize) {
+        Ok(()) => 0,
+        Err(why) => code_of_fault(why),
+    }
+}
+
+/// A turn is over: hands over the words that have waited for as many turns as they may, and writes how many they were.
+pub fn hand_over_due(network: &mut Network, live: &mut Live, handed: &mut u32) -> i32
+    ensures { AreHandedDue network.old network.new live.old live.new handed.old handed.new result }
+{
+    match &mut network.held {
+        Some(held) => tell_due(held, live, handed),
+        None => {
+            *handed = 0;
+            0
+        }
+    }
+}
+
+/// Tells a session the words that are due.
+fn tell_due(held: &mut Held, live: &mut Live, handed: &mut u32) -> i32
+    ensures { AreToldDue held.old held.new live.old live.new handed.old handed.new result }
+{
+    match held.turn(&mut live.session) {
+        Ok(count) => {
+            *handed = count as u32;
+            0
+        }
+        Err(why) => code_of_fault(why),
+    }
+}
