@@ -1,8 +1,11 @@
 //! A session and the words that are held back from it, as the network of a match sees them.
-ghost use Rattle.std.specs.Prelude.{◌≡◌, ◌+◌, ◌-◌, ◌≤◌, ◌<◌, [], ◌∷◌, ◌++◌, length, IfErr, OnErr, OnOk};
+ghost use Rattle.std.specs.Prelude.{◌≡◌, ◌+◌, ◌-◌, ◌≤◌, ◌<◌, [], ◌∷◌, ◌++◌, length, IfErr, IfOk, IsSome, None, OnErr, OnOk};
+ghost use Rattle.roll_frame.specs.Inputs.{disconnect_tests};
+ghost use Rattle.roll_frame.specs.Refusals.{first_refusal};
+ghost use Rattle.roll_frame.specs.declared.event.Event.TheVariants.{DisconnectedFromPeer};
 ghost use Rattle.roll_held.specs.Told.{as_told, roomless, told, Fits, Takes};
 ghost use Rattle.roll_held.specs.declared.held.TheConstants.{HELD_LIMIT as MOST_HELD};
-ghost use Rattle.roll_session.specs.Changes.{reserve_refusal, FitsLog, IsWhy};
+ghost use Rattle.roll_session.specs.Changes.{after_disconnect, disconnect_refusal, reserve_refusal, FitsLog, IsRefused, IsWhy};
 
 use crate::held::Held;
 use crate::words::{count_among, is_next, tell, word_among};
@@ -98,6 +101,57 @@ impl<'a, S: Settling> HeldSession<'a, S> {
     {
         self.reserved = self.reserved.saturating_sub(1);
         self.held.words.push(word);
+    }
+
+    /// Why a player can't leave: there is no such remote player, or it has left already.
+    fn leave_refusal(&self, player: u8) -> Option<Refusal>
+        ensures { result ≡ first_refusal (disconnect_tests
+            (told (S.seen self.now.session.now) self.now.held.now.words.items).core.players player) }
+    {
+        let Some(count) = self.confirmed(player) else {
+            return Some(Refusal::InvalidPlayer);
+        };
+        if self.is_local(player) {
+            Some(Refusal::InvalidPlayer)
+        } else if self.source(player, count) == Some(Source::Gone) {
+            Some(Refusal::PlayerDisconnected)
+        } else {
+            None
+        }
+    }
+
+    /// A remote player leaves, with all its words: so all that wait are told first, but not if it can't leave.
+    fn leave(&mut self, player: u8) -> Result<Event, Refusal>
+        ensures accepted { OnOk result (disconnect_refusal (as_told (S.seen self.old.session.now)
+            self.old.held.now.words.items self.old.reserved) player ≡ None) }
+        ensures taken { OnOk result (as_told (S.seen self.new.session.now) self.new.held.now.words.items self.new.reserved
+            ≡ after_disconnect (as_told (S.seen self.old.session.now) self.old.held.now.words.items self.old.reserved) player) }
+        ensures event { IfOk result (λ event. event ≡ DisconnectedFromPeer player) }
+        ensures refused { IfErr result (IsRefused (disconnect_refusal (as_told (S.seen self.old.session.now)
+            self.old.held.now.words.items self.old.reserved) player)
+            (as_told (S.seen self.old.session.now) self.old.held.now.words.items self.old.reserved)
+            (as_told (S.seen self.new.session.now) self.new.held.now.words.items self.new.reserved)) }
+        ensures kept { IsSome (first_refusal (disconnect_tests
+            (told (S.seen self.old.session.now) self.old.held.now.words.items).core.players player))
+            → self.new ≡ self.old }
+        ensures same_session { self.new.session.ghost_name ≡ self.old.session.ghost_name }
+        ensures same_held { self.new.held.ghost_name ≡ self.old.held.ghost_name }
+        ensures turns { self.new.held.now.turns ≡ self.old.held.now.turns }
+        ensures keeps { S.keeps self.old.session.now self.new.session.now }
+    {
+        if let Some(why) = self.leave_refusal(player) {
+            return Err(why);
+        }
+        self.tell_all(); // It leaves with all its words.
+        let reserved = self.reserved;
+        self.reserved = reserved.saturating_sub(1);
+        match self.session.disconnect_player(player) {
+            Ok(event) => Ok(event),
+            Err(why) => {
+                self.reserved = reserved;
+                Err(why)
+            }
+        }
     }
 }
 
@@ -212,15 +266,6 @@ impl<'a, S: Settling> Networked for HeldSession<'a, S> {
     }
 
     fn disconnect_player(&mut self, player: u8) -> Result<Event, Refusal> {
-        self.tell_all(); // It leaves with all its words.
-        let reserved = self.reserved;
-        self.reserved = reserved.saturating_sub(1);
-        match self.session.disconnect_player(player) {
-            Ok(event) => Ok(event),
-            Err(why) => {
-                self.reserved = reserved;
-                Err(why)
-            }
-        }
+        self.leave(player)
     }
 }
