@@ -321,9 +321,10 @@ static void write_save_ram(match *it) {
         fail("the save RAM can't be written");
 }
 
-/* Shows how the match has ended, until the window is closed. */
+/* Shows how the match has ended, until the window is closed; unless all frames were played that were asked for. */
 static void linger(const match *it) {
-    while (it->is_over && !self.wish.is_headless && window_goes_on()) {
+    bool has_all = self.wish.frames > 0 && it->frame >= self.wish.frames;
+    while (it->is_over && !has_all && !self.wish.is_headless && window_goes_on()) {
         show_waiting(it->told);
         net_rest(&self.net, 16000);
     }
