@@ -1,4 +1,5 @@
 //! What both machines of the match have alike.
+use fazgrond::holding::HeldFault;
 use fazgrond::{MatchSettings, OpenRefusal, OtherSession, PeerRefusal, Refusal, Session, Settings};
 use game_fighter::{Fight, State};
 use std::alloc::{AllocError, Global};
@@ -28,6 +29,9 @@ pub enum Fault {
     /// The session isn't the match's.
     #[error("{0}")]
     Other(#[from] OtherSession),
+    /// What waits can't be told.
+    #[error("{0}")]
+    Held(#[from] HeldFault),
     /// The allocator has no room.
     #[error("no memory")]
     Memory(#[from] AllocError),

@@ -1,10 +1,12 @@
-//! This side of the match: its frame loop, over a host with workers and the network of the match beside the host's session.
+//! This side of the match: its frame loop, over a host with workers and the network of the match beside the host's session. What
+//! the other presses is held back from the session until the workers have run its frames, so that a rollback runs none.
 ghost use Rattle.std.specs.Prelude.{◌≡◌};
 ghost use Rattle.fazgrond.specs.Hosted.{places_of};
 
 use crate::machine::{Fault, LAST_FRAME, MOST, buttons, digest, moment, the_match};
 use crate::wire::Wire;
-use fazgrond::{Feed, Habits, Host, Peer, PeerEvent, Refusal, Spectator};
+use fazgrond::holding::{Held, HeldFault, RemoteWord};
+use fazgrond::{Feed, Habits, Host, Peer, PeerEvent, Refusal, Session, Spectator, ends_in_roll};
 use game_fighter::{Fight, State};
 use std::alloc::Global;
 use std::sync::Wait;
@@ -20,6 +22,9 @@ const ME: u8 = 0;
 
 const OTHER: u8 = 1;
 
+/// For how many turns a word of the other is held back at most.
+const TURNS: u8 = 2;
+
 /// How many guesses the workers are handed at most after a frame.
 const GUESSES: usize = 4;
 
@@ -28,6 +33,10 @@ const GUESSES: usize = 4;
 pub struct Side {
     peer: Peer,
     wire: Wire,
+    /// The other's words that the session isn't told yet.
+    held: Held,
+    /// How many of these the workers were last handed.
+    handed: usize,
     turn: u32,
     /// How many turns more this side waits for the other.
     wait: u32,
@@ -50,6 +59,8 @@ impl Side {
             Ok(viewer) => Ok(Side {
                 peer,
                 wire,
+                held: Held::new(TURNS).unwrap(),
+                handed: 0,
                 turn: 0,
                 wait: 0,
                 feed,
@@ -87,29 +98,33 @@ impl Side {
     {
         self.turn = self.turn.wrapping_add(1);
         let now = moment(self.turn);
-        self.hear(host, now);
+        self.hear(host, now)?;
         self.note_events()?;
+        self.held.poll(&mut self.peer, host.session_mut(), now)??;
         // What the workers ran.
         host.absorb();
+        self.hand_over(host)?;
         self.press(host)?;
-        self.peer.turn(host.session_mut(), now)?;
-        self.guess(host);
+        self.play_frame(host)?;
+        self.run_ahead(host);
         self.tell(host, now)?;
         self.show(host)?;
         Ok(())
     }
 
-    /// Hears what has come: the words become the host's session's.
-    fn hear(&mut self, host: &mut Host<Fight>, now: u32)
+    /// Hears what has come: the other's words wait.
+    fn hear(&mut self, host: &mut Host<Fight>, now: u32) -> Result<(), HeldFault>
         ensures { places_of host.new.pool ≡ places_of host.old.pool }
     {
         for _ in 0..MOST {
             let Some(bytes) = self.wire.receive() else {
-                return;
+                break;
             };
+            let session = host.session_mut();
             // What is ignored changed nothing of the match.
-            let _ = self.peer.receive(host.session_mut(), &bytes, now);
+            let _ = self.held.receive(&mut self.peer, session, &bytes, now)?;
         }
+        Ok(())
     }
 
     /// Takes what the network tells: for how many turns to wait, and that the machines differ.
@@ -122,6 +137,16 @@ impl Side {
                 None => break,
             }
         }
+        Ok(())
+    }
+
+    /// Tells the session words that wait, once it would run no frame again for them. After two turns it is told them anyway.
+    fn hand_over(&mut self, host: &mut Host<Fight>) -> Result<(), HeldFault>
+        ensures { places_of host.new.pool ≡ places_of host.old.pool }
+    {
+        let ready = ready(host.session(), self.held.waiting(), self.handed);
+        self.held.hand_over(host.session_mut(), ready)?;
+        self.held.turn(host.session_mut())?;
         Ok(())
     }
 
@@ -147,6 +172,34 @@ impl Side {
         waits
     }
 
+    /// Goes to the next frame if this side's word of it is there; else rolls back, if there is anything new.
+    fn play_frame(&mut self, host: &mut Host<Fight>) -> Result<(), Refusal>
+        ensures { places_of host.new.pool ≡ places_of host.old.pool }
+    {
+        if !self.peer.is_running() {
+            return Ok(());
+        }
+        match host.advance_frame() {
+            Ok(_) => Ok(()),
+            Err(Refusal::LocalInputMissing) => roll_back(host),
+            Err(why) => Err(why),
+        }
+    }
+
+    /// Has the workers run the frames of the words that wait; if none does, they run guesses.
+    fn run_ahead(&mut self, host: &mut Host<Fight>)
+        ensures { places_of host.new.pool ≡ places_of host.old.pool }
+    {
+        self.handed = self.held.waiting().len();
+        if self.handed == 0 {
+            self.guess(host);
+            return;
+        }
+        let frame = host.session().frame();
+        // If it is refused, the words are told in time all the same.
+        let _ = host.speculate_words(self.held.waiting(), frame);
+    }
+
     /// Has the workers run what comes of it if the other player goes on as it did, or changes as it often does. A guess that is
     /// refused costs nothing.
     fn guess(&mut self, host: &mut Host<Fight>)
@@ -167,11 +220,16 @@ impl Side {
     }
 
     /// Tells the other machine what it lacks, and the digest of what is settled.
-    fn tell(&mut self, host: &Host<Fight>, now: u32) -> Result<(), Fault> {
+    fn tell(&mut self, host: &mut Host<Fight>, now: u32) -> Result<(), Fault>
+        ensures { places_of host.new.pool ≡ places_of host.old.pool }
+    {
         let session = host.session();
-        self.peer
-            .note_settled(session, digest(session.settled_state()))?;
-        if let Some(bytes) = self.peer.send(session, OTHER, now)? {
+        let digest = digest(session.settled_state());
+        self.peer.note_state_at(session.settled(), digest);
+        let sent = self
+            .held
+            .send(&mut self.peer, host.session_mut(), OTHER, now)??;
+        if let Some(bytes) = sent {
             self.wire.send(self.turn, &bytes)?;
         }
         Ok(())
@@ -198,4 +256,27 @@ impl Side {
         }
         Ok(())
     }
+}
+
+/// Of how many of these words a session can be told so that it runs no frame again: of all; else of as many as the workers were
+/// handed; else of none.
+fn ready(session: &Session<Fight>, words: &[RemoteWord], handed: usize) -> usize {
+    let handed = handed.min(words.len());
+    if matches!(session.rerun(words), Ok(0)) {
+        words.len()
+    } else if matches!(session.rerun(&words[..handed]), Ok(0)) {
+        handed
+    } else {
+        0
+    }
+}
+
+/// Rolls back, unless nothing but branches came since the last frame.
+fn roll_back(host: &mut Host<Fight>) -> Result<(), Refusal>
+    ensures { places_of host.new.pool ≡ places_of host.old.pool }
+{
+    if !ends_in_roll(host.session().log()) {
+        host.synchronize_input()?;
+    }
+    Ok(())
 }
