@@ -230,12 +230,12 @@ static void tell_bytes(core *one, uint32_t frames) {
     free(marks);
 }
 
-/* Which threshold and how many helpers are right: none, if eight frames can be run again within a turn; and further ahead, the
- * dearer a frame is, as a helper then needs longer to catch up. */
+/* Which threshold and how many helpers are right: none, if eight frames can be run again within a quarter of a turn, or there is no
+ * processor for one; and further ahead, the dearer a frame is, as a helper then needs longer to catch up. */
 static void advise(verdict *out, double turn) {
     double frame = out->step + out->save + (out->safety == SAFE_IF_RELOADED ? out->load : 0);
     out->threshold = frame < turn / 5 ? 8 : frame < turn * 2 / 5 ? 12 : 15;
-    out->helpers = out->load + 9 * frame > turn;
+    out->helpers = out->load + 9 * frame > turn / 4 && sysconf(_SC_NPROCESSORS_ONLN) > 1;
     if (frame > turn * 3 / 5) {
         out->safety = NOT_TO_BE_HAD;
         snprintf(out->why, sizeof out->why, "a frame takes %.1f ms of the %.1f that there are", frame, turn);
