@@ -18,7 +18,7 @@ typedef struct holding {
     uint32_t held, later[HOLDING_TURNS + 1], forced;
 } holding;
 
-/* All of these answer as the library does. */
+/* What answers a number answers as the library does. */
 
 /* A turn begins: hands over what would run nothing again by now, and what has waited as long as it may. */
 int32_t holding_turn(holding *self);
