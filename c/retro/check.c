@@ -11,7 +11,7 @@
 #include <time.h>
 #include <unistd.h>
 
-enum { BACK = 8, TRIES = 240, BYTES_OF = 120, PLACES = 6, PATIENCE = 900 /* seconds */ };
+enum { BACK = 8, TRIES = 240, BYTES_OF = 120, PLACES = 6, PATIENCE = 900 /* seconds */, MOST_TURNS = 5 };
 
 /* A course of frames: played once, or each stretch of so many frames twice, with the way back by a load. */
 typedef struct course {
@@ -240,6 +240,15 @@ static void advise(verdict *out, double turn) {
         out->safety = NOT_TO_BE_HAD;
         snprintf(out->why, sizeof out->why, "a frame takes %.1f ms of the %.1f that there are", frame, turn);
     }
+}
+
+/* A helper has to play some ten frames in this time, and then those that the game has played meanwhile. */
+uint32_t verdict_turns(const verdict *it) {
+    double frame = it->step + it->save + (it->safety == SAFE_IF_RELOADED ? it->load : 0);
+    uint32_t turns = 2;
+    while (turns < MOST_TURNS && 2 * it->load + (9 + turns) * frame > turns * 16.7)
+        turns++;
+    return turns;
 }
 
 static bool look_at(core *one, const recipe *from, core_state *opening, verdict *out) {

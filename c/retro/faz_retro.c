@@ -30,7 +30,8 @@ static const char usage[] =
     "  --cast MATCH --broker URL    publishes the match with this name, on a broker (nats://127.0.0.1:4222)\n"
     "  --threshold N    the host says how many frames ahead one may be, --helpers N how many threads play ahead here: else as\n"
     "                   the check found it right\n"
-    "  --hold N         words that come late wait for up to N turns while a helper plays their frames again (2, without helpers 0)\n"
+    "  --hold N         words that come late wait for up to N turns while a helper plays their frames again (2 or more, as the\n"
+    "                   check found it right; without helpers 0)\n"
     "  --port N         the port of who joins or watches (any)\n"
     "  --timeout MS     a machine that is silent so long is gone (5000)\n"
     "  --headless       no window; --bot SEED plays by itself; --frames N ends then; --digests FILE has those of all frames\n"
@@ -150,7 +151,7 @@ static bool take_verdict(void) {
     if (self.helpers < 0)
         self.helpers = self.verdict.helpers;
     if (self.hold < 0 || self.helpers == 0)
-        self.hold = self.helpers > 0 ? 2 : 0;
+        self.hold = self.helpers > 0 ? verdict_turns(&self.verdict) : 0;
     if (self.threshold == 0) { /* further by as many turns as words wait, so that nobody stands still for these */
         self.threshold = (self.verdict.threshold > 0 ? self.verdict.threshold : 8) + self.hold;
         self.threshold = self.threshold < MOST_AHEAD ? self.threshold : MOST_AHEAD;
