@@ -364,7 +364,7 @@ bool check_core(const recipe *from, uint32_t frames, verdict *out) {
     if (out->safety == NOT_TO_BE_HAD)
         printf("not to be had: %s\n", out->why);
     else
-        printf("%s; threshold %u, helpers %u\n", out->safety == SAFE ? "safe" : "safe if each state is loaded as it is saved",
-               out->threshold, out->helpers);
+        printf("%s; threshold %u, helpers %u, hold %u\n", out->safety == SAFE ? "safe" : "safe if each state is loaded as it is saved",
+               out->threshold, out->helpers, out->helpers > 0 ? verdict_turns(out) : 0);
     return out->safety != NOT_TO_BE_HAD;
 }
