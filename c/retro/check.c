@@ -11,7 +11,7 @@
 #include <time.h>
 #include <unistd.h>
 
-enum { BACK = 8, TRIES = 240, BYTES_OF = 120, PLACES = 6, PATIENCE = 900 /* seconds */ };
+enum { BACK = 8, TRIES = 240, BYTES_OF = 120, PLACES = 6, PATIENCE = 900 /* seconds */, MOST_TURNS = 5 };
 
 /* A course of frames: played once, or each stretch of so many frames twice, with the way back by a load. */
 typedef struct course {
@@ -230,16 +230,25 @@ static void tell_bytes(core *one, uint32_t frames) {
     free(marks);
 }
 
-/* Which threshold and how many helpers are right: none, if eight frames can be run again within a turn; and further ahead, the
- * dearer a frame is, as a helper then needs longer to catch up. */
+/* Which threshold and how many helpers are right: none, if eight frames can be run again within a quarter of a turn, or there is no
+ * processor for one; and further ahead, the dearer a frame is, as a helper then needs longer to catch up. */
 static void advise(verdict *out, double turn) {
     double frame = out->step + out->save + (out->safety == SAFE_IF_RELOADED ? out->load : 0);
     out->threshold = frame < turn / 5 ? 8 : frame < turn * 2 / 5 ? 12 : 15;
-    out->helpers = out->load + 9 * frame > turn;
+    out->helpers = out->load + 9 * frame > turn / 4 && sysconf(_SC_NPROCESSORS_ONLN) > 1;
     if (frame > turn * 3 / 5) {
         out->safety = NOT_TO_BE_HAD;
         snprintf(out->why, sizeof out->why, "a frame takes %.1f ms of the %.1f that there are", frame, turn);
     }
+}
+
+/* A helper has to play some ten frames in this time, and then those that the game has played meanwhile. */
+uint32_t verdict_turns(const verdict *it) {
+    double frame = it->step + it->save + (it->safety == SAFE_IF_RELOADED ? it->load : 0);
+    uint32_t turns = 2;
+    while (turns < MOST_TURNS && 2 * it->load + (9 + turns) * frame > turns * 16.7)
+        turns++;
+    return turns;
 }
 
 static bool look_at(core *one, const recipe *from, core_state *opening, verdict *out) {
@@ -355,7 +364,7 @@ bool check_core(const recipe *from, uint32_t frames, verdict *out) {
     if (out->safety == NOT_TO_BE_HAD)
         printf("not to be had: %s\n", out->why);
     else
-        printf("%s; threshold %u, helpers %u\n", out->safety == SAFE ? "safe" : "safe if each state is loaded as it is saved",
-               out->threshold, out->helpers);
+        printf("%s; threshold %u, helpers %u, hold %u\n", out->safety == SAFE ? "safe" : "safe if each state is loaded as it is saved",
+               out->threshold, out->helpers, out->helpers > 0 ? verdict_turns(out) : 0);
     return out->safety != NOT_TO_BE_HAD;
 }

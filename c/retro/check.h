@@ -20,6 +20,9 @@ typedef struct verdict {
 /* Plays so many frames in a process of its own, which a core may end, says what came out, and keeps the verdict for this core. */
 bool check_core(const recipe *from, uint32_t frames, verdict *out);
 
+/* For how many turns a word may wait for a helper here, if one is right. */
+uint32_t verdict_turns(const verdict *it);
+
 /* The verdict that was kept for a core with this library. */
 bool verdict_read(const recipe *from, verdict *out);
 #endif

@@ -30,13 +30,18 @@ static const char usage[] =
     "  --cast MATCH --broker URL    publishes the match with this name, on a broker (nats://127.0.0.1:4222)\n"
     "  --threshold N    the host says how many frames ahead one may be, --helpers N how many threads play ahead here: else as\n"
     "                   the check found it right\n"
+    "  --hold N         words that come late wait for up to N turns while a helper plays their frames again (2 or more, as the\n"
+    "                   check found it right; without helpers 0)\n"
     "  --port N         the port of who joins or watches (any)\n"
     "  --timeout MS     a machine that is silent so long is gone (5000)\n"
     "  --headless       no window; --bot SEED plays by itself; --frames N ends then; --digests FILE has those of all frames\n"
+    "  --figures FILE   how long turns took, and what was played again\n"
     "  --lag MS, --jitter MS, --loss PERCENT    makes the line worse for what this machine sends; --speed N, a faster clock\n"
     "  --again          after a desync it begins a new match without waiting for the key\n"
     "  --unchecked      plays on a core that was found unfit\n"
     "  --verbose        what the core says about errors is shown\n";
+
+enum { MOST_AHEAD = 15 };
 
 static struct {
     recipe from;
@@ -49,9 +54,9 @@ static struct {
     verdict verdict;
     char *option_words; /* of the command line, or the host's */
     const char *options, *ports, *save, *key, *join, *watch, *play, *view;
-    long from_frame, host, machines, seats, delays[SEATS], threshold, helpers, port, timeout, frames, bot, lag, jitter, loss, speed;
+    long from_frame, host, machines, seats, delays[SEATS], threshold, helpers, hold, port, timeout, frames, bot, lag, jitter, loss, speed;
     bool is_verbose, is_unchecked, goes_again;
-} self = { .machines = 2, .seats = 1, .delays = { 1, 1 }, .helpers = -1, .timeout = 5000, .speed = 1, .from_frame = -1,
+} self = { .machines = 2, .seats = 1, .delays = { 1, 1 }, .helpers = -1, .hold = -1, .timeout = 5000, .speed = 1, .from_frame = -1,
            .wish = { .broker = "nats://127.0.0.1:4222" } };
 
 static const option options[] = {
@@ -69,7 +74,8 @@ static const option options[] = {
     { "--loss", &self.loss, NULL, NULL },           { "--speed", &self.speed, NULL, NULL },
     { "--ports", NULL, &self.ports, NULL },         { "--cast", NULL, &self.wish.cast, NULL },
     { "--view", NULL, &self.view, NULL },           { "--broker", NULL, &self.wish.broker, NULL },
-    { "--from", &self.from_frame, NULL, NULL },
+    { "--from", &self.from_frame, NULL, NULL },     { "--hold", &self.hold, NULL, NULL },
+    { "--figures", NULL, &self.wish.figures, NULL },
     { "--headless", NULL, NULL, &self.wish.is_headless }, { "--again", NULL, NULL, &self.goes_again },
     { "--unchecked", NULL, NULL, &self.is_unchecked }, { "--verbose", NULL, NULL, &self.is_verbose },
     { NULL, NULL, NULL, NULL },
@@ -142,10 +148,14 @@ static bool take_verdict(void) {
     }
     if (self.verdict.safety == NOT_TO_BE_HAD && !self.is_unchecked)
         return fail("no match can be played on this core: faz-retro check CORE ROM says why"), false;
-    if (self.threshold == 0)
-        self.threshold = self.verdict.threshold > 0 ? self.verdict.threshold : 8;
     if (self.helpers < 0)
         self.helpers = self.verdict.helpers;
+    if (self.hold < 0 || self.helpers == 0)
+        self.hold = self.helpers > 0 ? verdict_turns(&self.verdict) : 0;
+    if (self.threshold == 0) { /* further by as many turns as words wait, so that nobody stands still for these */
+        self.threshold = (self.verdict.threshold > 0 ? self.verdict.threshold : 8) + self.hold;
+        self.threshold = self.threshold < MOST_AHEAD ? self.threshold : MOST_AHEAD;
+    }
     return true;
 }
 
@@ -153,6 +163,7 @@ static void take_wish(void) {
     self.wish.frames = (uint32_t)self.frames;
     self.wish.helpers = (uint32_t)self.helpers;
     self.wish.silent_after = (uint32_t)self.timeout;
+    self.wish.hold = (uint32_t)self.hold;
     self.wish.speed = (uint32_t)self.speed;
     self.wish.from = self.from_frame >= 0 ? (uint32_t)self.from_frame : UINT32_MAX; /* the newest snapshot's */
     if (self.view != NULL)
@@ -412,7 +423,7 @@ int main(int count, char **words) {
         take_overrides(self.option_words = strdup(self.options));
     self.from.is_verbose = self.is_verbose;
     take_devices(self.ports);
-    if (at == 0 || count != at + is_check + 2 || self.seats < 1 || self.seats > SEATS || self.speed < 1
+    if (at == 0 || count != at + is_check + 2 || self.seats < 1 || self.seats > SEATS || self.speed < 1 || self.hold > HOLDING_TURNS
         || self.machines < 2 || self.machines > FAZGROND_MACHINES
         || is_check + (self.host > 0) + (self.join != NULL) + (self.watch != NULL) + (self.play != NULL)
                + (self.view != NULL) != 1) {

@@ -9,13 +9,14 @@ enum { GUESSES = 512, A_TURN = 2 /* jobs, for each helper */, PATIENCE = 2 /* tu
 typedef struct helper {
     helpers *all;
     runner *runner;
+    bool is_kept; /* for words that have come */
 } helper;
 
 /* The next job, once there is one; null if it is over. */
-static job *fetch(helpers *all) {
+static job *fetch(helpers *all, bool is_kept) {
     job *one = NULL;
     pthread_mutex_lock(&all->lock);
-    while (all->queued == 0 && !all->is_over)
+    while (!all->is_over && (all->queued == 0 || (is_kept && !all->queue[0]->is_certain)))
         pthread_cond_wait(&all->wake, &all->lock);
     if (!all->is_over) {
         one = all->queue[0];
@@ -29,7 +30,7 @@ static job *fetch(helpers *all) {
 static void *help(void *closure) {
     helper *self = closure;
     job *one;
-    while ((one = fetch(self->all)) != NULL) {
+    while ((one = fetch(self->all, self->is_kept)) != NULL) {
         bool goes_on = true;
         for (size_t at = 0; at < one->count && goes_on; at++)
             goes_on = runner_obey(self->runner, &one->requests[at]);
@@ -42,8 +43,9 @@ static void *help(void *closure) {
     return NULL;
 }
 
-bool helpers_begin(helpers *self, uint32_t count, const recipe *from, states *states, char *why, size_t room) {
+bool helpers_begin(helpers *self, uint32_t count, bool keeps_one, const recipe *from, states *states, char *why, size_t room) {
     memset(self, 0, sizeof *self);
+    self->keeps_one = keeps_one;
     pthread_mutex_init(&self->lock, NULL);
     pthread_cond_init(&self->wake, NULL);
     for (int at = 0; at < FAZGROND_PLAYERS; at++)
@@ -53,7 +55,7 @@ bool helpers_begin(helpers *self, uint32_t count, const recipe *from, states *st
         helper *one = malloc(sizeof *one);
         if (made != NULL && one != NULL && core_open(&made->core, from)) {
             made->states = states;
-            *one = (helper){ self, made };
+            *one = (helper){ self, made, keeps_one && self->count == 0 };
             if (pthread_create(&self->threads[self->count], NULL, help, one) == 0)
                 continue;
         }
@@ -93,58 +95,110 @@ static bool take_back(helpers *self, job *one) {
     return true;
 }
 
-bool helpers_collect(helpers *self, fazgrond_session *session) {
+/* Gives a job up that nobody has begun, and says whether that was so. */
+static bool give_up(helpers *self, fazgrond_session *session, job *one) {
+    bool is_idle = one->stage == JOB_WAITS && take_back(self, one);
+    if (is_idle) {
+        (void)fazgrond_forget(session, one->number);
+        one->stage = JOB_NONE;
+    }
+    return is_idle;
+}
+
+static void graft_done(helpers *self, fazgrond_session *session) {
     uint32_t added;
-    pthread_mutex_lock(&self->lock);
-    self->turn++;
     for (int at = 0; at < JOBS && self->count > 0 && !self->has_failed; at++) {
         job *one = &self->jobs[at];
-        if (one->stage == JOB_DONE) {
-            if (fazgrond_graft(session, one->number, &added) == FAZGROND_OK) {
-                self->grafted++;
-                self->added += added;
-            }
-            one->stage = JOB_NONE;
-        } else if (one->stage == JOB_WAITS && self->turn - one->turn >= PATIENCE && take_back(self, one)) {
-            (void)fazgrond_forget(session, one->number);
-            one->stage = JOB_NONE;
+        if (one->stage != JOB_DONE)
+            continue;
+        if (fazgrond_graft(session, one->number, &added) == FAZGROND_OK && !one->is_certain) {
+            self->grafted++;
+            self->added += added;
         }
+        one->stage = JOB_NONE;
+        self->certain = one == self->certain ? NULL : self->certain;
     }
+}
+
+bool helpers_graft(helpers *self, fazgrond_session *session) {
+    pthread_mutex_lock(&self->lock);
+    graft_done(self, session);
     bool goes_on = !self->has_failed;
     pthread_mutex_unlock(&self->lock);
     return goes_on;
 }
 
-/* A place for a job; null if there is none, or the same one is out. */
+bool helpers_collect(helpers *self, fazgrond_session *session) {
+    pthread_mutex_lock(&self->lock);
+    self->turn++;
+    graft_done(self, session);
+    for (int at = 0; at < JOBS && self->count > 0 && !self->has_failed; at++)
+        if (!self->jobs[at].is_certain && self->turn - self->jobs[at].turn >= PATIENCE)
+            give_up(self, session, &self->jobs[at]);
+    bool goes_on = !self->has_failed;
+    pthread_mutex_unlock(&self->lock);
+    return goes_on;
+}
+
+/* A place for a guess's job; null if there is none, or the same one is out. */
 static job *place_for(helpers *self, const guess *of) {
     job *found = NULL;
     for (int at = 0; at < JOBS; at++) {
         job *one = &self->jobs[at];
         if (one->stage == JOB_NONE)
             found = one;
-        else if (one->of.player == of->player && one->of.frame == of->frame && one->of.word == of->word)
+        else if (!one->is_certain && one->of.player == of->player && one->of.frame == of->frame && one->of.word == of->word)
             return NULL;
     }
     return found;
 }
 
-/* Has a helper play up to frame `until` what would be if a player gave these words next. What is known of the words doesn't matter
- * here: they may be a guess, or have come. */
-static bool start(helpers *self, fazgrond_session *session, job *one, const uint32_t *words, size_t count, uint32_t until) {
+/* Takes the requests of a job that the session has made if it answered so, and puts it into the queue: what is certain goes first. */
+static bool begin(helpers *self, fazgrond_session *session, job *one, int32_t code) {
     fazgrond_request none;
-    int32_t code = fazgrond_guess(session, (uint8_t)one->of.player, words, count, until, &one->number);
     one->count = code == FAZGROND_OK ? fazgrond_take_requests(session, one->requests, JOB_REQUESTS) : 0;
     while (fazgrond_take_requests(session, &none, 1) > 0) {}
     if (code != FAZGROND_OK)
         return false;
     one->turn = self->turn;
     pthread_mutex_lock(&self->lock);
+    uint32_t at = one->is_certain ? 0 : self->queued;
+    memmove(&self->queue[at + 1], &self->queue[at], (self->queued++ - at) * sizeof(job *));
+    self->queue[at] = one;
     one->stage = JOB_WAITS;
-    self->queue[self->queued++] = one;
-    pthread_cond_signal(&self->wake);
+    pthread_cond_broadcast(&self->wake);
     pthread_mutex_unlock(&self->lock);
-    self->made++;
     return true;
+}
+
+/* A helper plays up to frame `until` what would be if a player gave these words next. */
+static bool start(helpers *self, fazgrond_session *session, job *one, const uint32_t *words, size_t count, uint32_t until) {
+    one->is_certain = false;
+    bool is_made = begin(self, session, one, fazgrond_guess(session, (uint8_t)one->of.player, words, count, until, &one->number));
+    self->made += is_made;
+    return is_made;
+}
+
+bool helpers_run_waiting(helpers *self, fazgrond_session *session, fazgrond_peer *peer, uint32_t until) {
+    job *one = NULL;
+    pthread_mutex_lock(&self->lock);
+    bool is_free = self->certain == NULL || give_up(self, session, self->certain);
+    for (int at = 0; at < JOBS && is_free; at++)
+        one = self->jobs[at].stage == JOB_NONE ? &self->jobs[at] : one;
+    pthread_mutex_unlock(&self->lock);
+    if (one == NULL)
+        return false;
+    one->is_certain = true;
+    self->certain = begin(self, session, one, fazgrond_peer_guess(peer, session, until, &one->number)) ? one : NULL;
+    return self->certain != NULL;
+}
+
+void helpers_let_go(helpers *self, fazgrond_session *session) {
+    pthread_mutex_lock(&self->lock);
+    if (self->certain != NULL)
+        give_up(self, session, self->certain);
+    self->certain = NULL;
+    pthread_mutex_unlock(&self->lock);
 }
 
 /* All guesses of the players who are far; `now` is the frame that the game is at. */
@@ -169,12 +223,12 @@ static int by_worth(const void *one, const void *other) {
 
 void helpers_guess(helpers *self, fazgrond_session *session, uint32_t far) {
     guess list[GUESSES];
-    uint32_t now, known, words[JOB_WORDS], made = 0;
-    if (self->count == 0 || fazgrond_frame(session, &now) != FAZGROND_OK)
+    uint32_t now, known, words[JOB_WORDS], made = 0, guessing = self->count - (self->keeps_one && self->count > 0);
+    if (guessing == 0 || fazgrond_frame(session, &now) != FAZGROND_OK)
         return;
     int count = all_guesses(self, session, far, now, list);
     qsort(list, (size_t)count, sizeof *list, by_worth);
-    for (int at = 0; at < count && made < A_TURN * self->count; at++) {
+    for (int at = 0; at < count && made < A_TURN * guessing; at++) {
         const guess *of = &list[at];
         pthread_mutex_lock(&self->lock);
         job *one = place_for(self, of);

@@ -13,6 +13,7 @@
 #include <string.h>
 
 enum { MOST_LATE = 20 /* turns that are made up for */, FLOOD = 256, MARK_EVERY = 600, SURELY = 180, BYES = 3,
+       SLICE = 1000 /* microseconds between two looks at a helper */,
        ENDING = 90 /* turns in which a desync is still told to the others */ };
 
 static void say(match *self, const char *what, uint32_t machine) {
@@ -69,6 +70,7 @@ static bool open_session(match *self) {
     match.digest = all->digest;
     match.silent_after = self->wish->silent_after;
     match.notify_after = 750;
+    match.held_turns = self->wish->hold;
     must(self, fazgrond_open(&self->session, &settings));
     must(self, fazgrond_limit_slots(&self->session, SLOTS));
     must(self, fazgrond_peer_open(&self->peer, &self->session, &match));
@@ -79,8 +81,10 @@ static bool begin(match *self) {
     char why[200] = "the core refuses its opening";
     self->session = (fazgrond_session)FAZGROND_CLOSED;
     self->peer = (fazgrond_peer)FAZGROND_CLOSED;
+    self->holding = (holding){ .session = &self->session, .peer = &self->peer, .helpers = &self->helpers,
+                               .turns = self->wish->hold };
     if (!runner_open(self->main, &self->opening)
-        || !helpers_begin(&self->helpers, self->wish->helpers, self->from, self->states, why, sizeof why)) {
+        || !helpers_begin(&self->helpers, self->wish->helpers, self->wish->hold > 0, self->from, self->states, why, sizeof why)) {
         fail(self, why);
         return false;
     }
@@ -137,7 +141,7 @@ static bool is_last_step(const fazgrond_request *requests, size_t at, size_t cou
 static void obey_all(match *self) {
     fazgrond_request requests[16];
     size_t count;
-    uint32_t steps = self->main->steps;
+    uint32_t steps = self->main->steps, loads = self->main->loads;
     while ((count = fazgrond_take_requests(&self->session, requests, 16)) > 0)
         for (size_t at = 0; at < count && !self->has_failed; at++) {
             self->main->core.is_shown = is_last_step(requests, at, count);
@@ -145,6 +149,7 @@ static void obey_all(match *self) {
                 fail(self, "the core refuses to save or load a state");
         }
     self->again = self->main->steps - steps;
+    self->jumps = self->main->loads > loads;
 }
 
 static uint32_t word_of(match *self, uint32_t seat) {
@@ -175,13 +180,32 @@ static int32_t give(match *self) {
     return code;
 }
 
+/* Whether the game stands still for nobody but players of whom words wait. */
+static bool waits_for_held(match *self) {
+    uint32_t known, players = holding_players(&self->holding), others = self->far & ~players;
+    for (uint32_t player = 1; player <= FAZGROND_PLAYERS; player++)
+        if ((others >> (player - 1) & 1) != 0 && fazgrond_confirmed(&self->session, (uint8_t)player, &known) == FAZGROND_OK
+            && self->frame >= known + self->meeting->all.threshold)
+            return false;
+    return players != 0;
+}
+
+/* As `give`; and words without which the game would stand still don't wait. */
+static int32_t give_anyway(match *self) {
+    int32_t code = give(self);
+    if (code != FAZGROND_PREDICTION_THRESHOLD || !waits_for_held(self))
+        return code;
+    must(self, holding_give_all(&self->holding));
+    return give(self);
+}
+
 static void play(match *self) {
     fazgrond_reached reached;
     fazgrond_row row;
     uint32_t has_news = 0;
-    if (!helpers_collect(&self->helpers, &self->session))
-        fail(self, "a helper's core refuses to save or load a state");
-    int32_t given = give(self);
+    must(self, holding_sort(&self->holding));
+    int32_t given = give_anyway(self);
+    holding_run(&self->holding, self->frame + (given == FAZGROND_OK)); /* now, as this frame's words of the players here are known */
     must(self, fazgrond_has_news(&self->session, &has_news));
     self->waits += given != FAZGROND_OK && !has_all(self);
     if (given == FAZGROND_OK)
@@ -189,13 +213,16 @@ static void play(match *self) {
     else if (has_news != 0) /* too far ahead, or told to wait: it shows at least what has come */
         must(self, fazgrond_synchronize_input(&self->session, &row));
     obey_all(self);
+    self->unseen += given == FAZGROND_OK && self->again == 0;
     if (given == FAZGROND_OK && self->again > 0)
         self->again--; /* the new one */
     self->all_again += self->again;
+    self->stood += given == FAZGROND_PREDICTION_THRESHOLD && self->holding.waiting > 0
+        && (self->far & ~holding_players(&self->holding)) == 0;
     if (self->again > self->deepest)
         self->deepest = self->again;
     must(self, fazgrond_frame(&self->session, &self->frame));
-    helpers_guess(&self->helpers, &self->session, self->far);
+    helpers_guess(&self->helpers, &self->session, self->far & ~holding_players(&self->holding));
 }
 
 /* Notes what is settled, for the other machines, and keeps a state of it at times. */
@@ -247,7 +274,11 @@ static void react(match *self, const fazgrond_event *event) {
     case FAZGROND_RESUMED: say(self, "machine %" PRIu32 " is heard again", event->machine); break;
     case FAZGROND_MISSING: say(self, "machine %" PRIu32 " isn't there", event->machine); break;
     case FAZGROND_RESTARTED: say(self, "machine %" PRIu32 " was begun anew, and can't come back", event->machine); break;
-    case FAZGROND_DISCONNECTED: say(self, "player %" PRIu32 " has left", event->player); break;
+    case FAZGROND_DISCONNECTED:
+        say(self, "player %" PRIu32 " has left", event->player);
+        self->far &= ~(1u << (event->player - 1));
+        self->holding.is_forced = true; /* the peer has handed over all that waited */
+        break;
     case FAZGROND_LEFT: leave(self, event); break;
     case FAZGROND_DROPPED: fail(self, "the others regard this machine as gone"); break;
     case FAZGROND_MISMATCH: fail(self, "another machine means another match"); break;
@@ -286,7 +317,7 @@ static void say_bye(match *self) {
 }
 
 static void show(match *self) {
-    enum { LINES = FAZGROND_MACHINES + 2, ROOM = TOLD };
+    enum { LINES = FAZGROND_MACHINES + 3, ROOM = TOLD };
     char text[LINES][ROOM];
     const char *lines[LINES];
     int count = 0;
@@ -297,11 +328,13 @@ static void show(match *self) {
                      it.lost);
     }
     snprintf(text[count++], ROOM, "frame %u, again %u, waits %u", self->frame, self->all_again, self->waits);
+    if (self->wish->hold > 0)
+        snprintf(text[count++], ROOM, "held back %u, shown %.1f turns later", self->holding.held, holding_later(&self->holding));
     if (self->told[0] != 0)
         snprintf(text[count++], ROOM, "%s", self->told);
     for (int at = 0; at < count; at++)
         lines[at] = text[at];
-    window_show(&self->main->core, self->main->is_fresh, self->again > 0, lines, count);
+    window_show(&self->main->core, self->main->is_fresh, self->jumps, lines, count);
     self->main->is_fresh = false;
 }
 
@@ -309,6 +342,10 @@ static void turn(match *self) {
     uint32_t now = net_now(self->meeting->net), is_running = 0;
     fazgrond_event event;
     self->again = 0;
+    self->jumps = false;
+    if (!helpers_collect(&self->helpers, &self->session))
+        fail(self, "a helper's core refuses to save or load a state");
+    must(self, holding_turn(&self->holding));
     hear(self, now);
     open_lines(self);
     must(self, fazgrond_peer_poll(&self->peer, &self->session, now));
@@ -325,6 +362,7 @@ static void turn(match *self) {
     casting_turn(self);
     while (fazgrond_peer_event(&self->peer, &event) == FAZGROND_OK)
         react(self, &event);
+    self->astray += self->wish->hold > 0 && !self->holding.is_forced ? self->again : 0;
     send_all(self, now);
     if (!self->wish->is_headless)
         show(self);
@@ -345,12 +383,61 @@ static bool is_done(match *self) {
     return true;
 }
 
+/* The end: figures. */
+
 static void tell(const match *self) {
+    const figures *it = &self->figures;
     fprintf(stderr, "played %u frames, and %u again, %u at most in a turn; waited %u turns; %" PRIu64 " bytes sent\n", self->frame,
             self->all_again, self->deepest, self->waits, self->meeting->net->sent_bytes);
-    if (self->wish->helpers > 0)
+    fprintf(stderr, "a turn took %.2f ms of a processor at most in 99 of 100, %.2f in 999 of 1000, %.2f once; by the clock %.2f, %.2f, "
+            "%.2f, and %u of %u turns over %.1f\n", spread_at(&it->processor, 990) / 1e3, spread_at(&it->processor, 999) / 1e3,
+            it->processor.worst / 1e3, spread_at(&it->clock, 990) / 1e3, spread_at(&it->clock, 999) / 1e3, it->clock.worst / 1e3,
+            it->slow, it->clock.count, FIGURES_SLOW / 1e3);
+    if (self->wish->hold > 0)
+        fprintf(stderr, "held back %u corrections: shown %.2f turns later, %u of them by two at most; %u before a helper was done\n",
+                self->holding.held, holding_later(&self->holding), holding_soon(&self->holding), self->holding.forced);
+    if (self->wish->helpers > (self->wish->hold > 0))
         fprintf(stderr, "guessed %" PRIu32 " jobs: %" PRIu32 " were taken, with %" PRIu32 " states\n", self->helpers.made,
                 self->helpers.grafted, self->helpers.added);
+}
+
+/* The same as a file. */
+static bool write_figures(const match *self) {
+    const holding *it = &self->holding;
+    FILE *file = self->wish->figures != NULL ? fopen(self->wish->figures, "w") : NULL;
+    if (self->wish->figures == NULL)
+        return true;
+    if (file == NULL)
+        return fprintf(stderr, "%s can't be written\n", self->wish->figures), false;
+    figures_write(&self->figures, file);
+    fprintf(file, "frames %u\nagain %u\ndeepest %u\nwaits %u\nunseen %u\nbytes %" PRIu64 "\n", self->frame, self->all_again,
+            self->deepest, self->waits, self->unseen, self->meeting->net->sent_bytes);
+    fprintf(file, "held %u\nlater %.2f\nsoon %u\nforced %u\nastray %u\nstood %u\n", it->held, holding_later(it), holding_soon(it),
+            it->forced, self->astray, self->stood);
+    return fclose(file) == 0;
+}
+
+/* Until the next turn. A helper that is done by then may be given what the game has played since. */
+static void rest(match *self, int64_t micros) {
+    int64_t end = clock_micros() + micros, left = micros;
+    do {
+        bool is_run = holding_is_run(&self->holding);
+        net_rest(self->meeting->net, is_run && left > SLICE ? SLICE : left);
+        if (is_run && !holding_go_on(&self->holding, self->frame))
+            fail(self, "a helper's core refuses to save or load a state");
+        left = end - clock_micros();
+    } while (left > 0);
+}
+
+/* Nothing waits any more, and what has come is played. */
+static void finish(match *self) {
+    fazgrond_row row;
+    if (self->has_failed || self->holding.waiting == 0)
+        return;
+    must(self, holding_give_all(&self->holding));
+    must(self, fazgrond_synchronize_input(&self->session, &row));
+    obey_all(self);
+    note_settled(self);
 }
 
 outcome match_play(match *self) {
@@ -358,15 +445,20 @@ outcome match_play(match *self) {
     if (!begin(self))
         return FAILED;
     while (!self->is_over && (self->wish->is_headless || window_goes_on()) && !is_done(self)) {
+        int64_t begun = clock_micros(), processor = figures_processor();
         turn(self);
         int64_t now = clock_micros();
         due = now > due + MOST_LATE * length ? now : due + length;
-        net_rest(self->meeting->net, due - now);
+        rest(self, due - now);
+        if (self->is_running && !has_all(self))
+            figures_note(&self->figures, figures_processor() - processor, now - begun);
     }
+    finish(self);
     say_bye(self);
     helpers_end(&self->helpers);
     tell(self);
     bool is_written = replay_write_all(self), goes_on = !self->has_failed && !self->has_desync;
+    is_written = write_figures(self) && is_written;
     is_written = casting_close(goes_on ? "the match was closed" : "the match can't go on") && is_written;
     return self->has_desync ? DESYNCED : self->has_failed || !is_written ? FAILED : ENDED;
 }

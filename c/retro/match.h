@@ -2,7 +2,8 @@
 #ifndef RETRO_MATCH_H
 #define RETRO_MATCH_H
 
-#include "helpers.h"
+#include "figures.h"
+#include "holding.h"
 #include "meet.h"
 #include "pads.h"
 
@@ -14,8 +15,9 @@ typedef struct wish {
     uint32_t frames;        /* it ends once so many are settled; 0: as it is closed */
     uint32_t delays[SEATS]; /* of the players here */
     uint32_t helpers, silent_after;
+    uint32_t hold;          /* a word that came late waits for so many turns at most, while a helper plays its frames; 0: none does */
     uint64_t bot;           /* the players here play by themselves, by this seed; 0: they don't */
-    const char *digests, *replay, *picture; /* files that are written; null: not */
+    const char *digests, *replay, *picture, *figures; /* files that are written; null: not */
     const char *cast, *broker; /* the name under which the match is published or watched on a broker; null: it isn't */
     uint32_t from, speed;      /* who watches there begins at this frame; the clock runs so many times as fast */
 } wish;
@@ -34,12 +36,18 @@ typedef struct match {
     fazgrond_session session;
     fazgrond_peer peer;
     helpers helpers;
+    holding holding;
+    figures figures;
     fazgrond_line lines[VIEWERS];
     uint32_t open_lines, rows_seen[VIEWERS]; /* how many rows a viewer has */
     hand hands[SEATS];
     uint32_t next_words[SEATS];
     uint32_t locals[SEATS], seats, far; /* this machine's players, and bits of the others' */
     uint32_t frame, settled, wait, waits, again, all_again, deepest;
+    /* what words that are held back must never cost: new frames that weren't played here, so that they had no picture; turns in which
+     * the game stood still though words of all others were there; frames that were played again though nothing was handed over by force */
+    uint32_t unseen, stood, astray;
+    bool jumps; /* this turn went back first */
     bool is_running, is_over, has_failed;
     uint32_t desync, ending; /* the frame at which another machine had another state, if has_desync; turns until it ends */
     bool has_desync;

@@ -3,6 +3,7 @@
  *   upset=N   frame N leads to another state than elsewhere
  *   crash=N   the N-th frame that is run ends the process
  *   refuse=N  from the N-th load on it refuses states
+ *   slow=N    a frame that isn't run by the process's first thread takes N milliseconds more
  *   loose     a load changes the course, but two loads are as one
  *   wild      the course isn't known from the state
  *   rest      a state has a byte that means nothing, and differs
@@ -12,10 +13,13 @@
  *   long      states have a byte more
  *   deaf      a state of another beginning is taken, and changes nothing
  *   more      there is another option */
+#define _GNU_SOURCE
 #include <libretro.h>
 #include <stddef.h>
 #include <stdlib.h>
 #include <string.h>
+#include <time.h>
+#include <unistd.h>
 
 #ifndef TEST_VERSION
 #define TEST_VERSION "1"
@@ -111,7 +115,14 @@ static void draw(void) {
     hear(sound, SAMPLES);
 }
 
+static void be_slow(void) {
+    uint32_t wait = gettid() != getpid() ? fault("slow") : 0;
+    if (wait > 0)
+        nanosleep(&(struct timespec){ wait / 1000, wait % 1000 * 1000000 }, NULL);
+}
+
 void retro_run(void) {
+    be_slow();
     poll_pads();
     if (fault("crash") == ++runs)
         abort();

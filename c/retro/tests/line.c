@@ -1,6 +1,6 @@
-/* A bad line between machines that are namespaces of this one: line MACHINES DELAY JITTER LOSS. Machine N is the namespace
+/* A bad line between machines that are namespaces of this one: line MACHINES DELAY JITTER LOSS [order]. Machine N is the namespace
  * faz-PID-N with the address 10.77.0.N, from 1 on. Packets come DELAY milliseconds later, by up to JITTER more or less, so that
- * they overtake, and LOSS of a hundred are lost. It needs root and no support of the kernel but TUN devices. It prints its own PID
+ * they overtake unless they are to keep their order, and LOSS of a hundred are lost. It needs root and no support of the kernel but TUN devices. It prints its own PID
  * once the line is there, goes on until it is told to end, and takes the namespaces away. */
 #define _GNU_SOURCE
 #include <fcntl.h>
@@ -31,8 +31,10 @@ typedef struct packet {
 static struct {
     int count, tuns[MOST];
     double delay, jitter, loss;
+    bool is_ordered;
+    double last[MOST][MOST]; /* when the last packet from here to there is due */
     packet *held;
-    uint64_t passed, lost;
+    uint64_t passed, bytes, lost;
 } self;
 static volatile sig_atomic_t is_over;
 
@@ -71,6 +73,15 @@ static int make_machine(int number) {
                            " && ip -n faz-%d-%d link set lo up", number) ? tun : -1;
 }
 
+/* Behind all that are due no later. */
+static void hold(packet *one) {
+    packet **at = &self.held;
+    while (*at != NULL && (*at)->due <= one->due)
+        at = &(*at)->next;
+    one->next = *at;
+    *at = one;
+}
+
 static void take(int from) {
     packet *one;
     while ((one = malloc(sizeof *one)) != NULL) {
@@ -80,10 +91,13 @@ static void take(int from) {
         one->to = one->bytes[LAST_OF_TO] - 1;
         one->length = (size_t)length;
         one->due = milliseconds() + self.delay + self.jitter * (2 * drand48() - 1);
-        one->next = self.held;
-        if (one->bytes[0] >> 4 == 4 && one->to >= 0 && one->to < self.count && drand48() * 100 >= self.loss)
-            self.held = one;
-        else {
+        bool is_known = one->bytes[0] >> 4 == 4 && one->to >= 0 && one->to < self.count;
+        if (is_known && self.is_ordered && one->due < self.last[from][one->to])
+            one->due = self.last[from][one->to];
+        if (is_known && drand48() * 100 >= self.loss) {
+            self.last[from][one->to] = one->due;
+            hold(one);
+        } else {
             self.lost++;
             free(one);
         }
@@ -93,19 +107,14 @@ static void take(int from) {
 
 /* Passes on what is due, and says in how many milliseconds the next is. */
 static double pass(void) {
-    double now = milliseconds(), next = 50;
-    for (packet **at = &self.held; *at != NULL;) {
-        packet *one = *at;
-        if (one->due > now) {
-            next = one->due - now < next ? one->due - now : next;
-            at = &one->next;
-            continue;
-        }
-        self.passed += write(self.tuns[one->to], one->bytes, one->length) == (ssize_t)one->length;
-        *at = one->next;
-        free(one);
+    double now = milliseconds();
+    for (packet *one; (one = self.held) != NULL && one->due <= now; free(one)) {
+        bool is_passed = write(self.tuns[one->to], one->bytes, one->length) == (ssize_t)one->length;
+        self.passed += is_passed;
+        self.bytes += is_passed ? one->length : 0;
+        self.held = one->next;
     }
-    return next;
+    return self.held != NULL && self.held->due - now < 50 ? self.held->due - now : 50;
 }
 
 static void turn(void) {
@@ -120,13 +129,14 @@ static void turn(void) {
 }
 
 int main(int count, char **words) {
-    if (count != 5)
+    if (count < 5 || count > 6 || (count == 6 && strcmp(words[5], "order") != 0))
         return 2;
     int machines = atoi(words[1]);
     bool is_made = machines > 0 && machines <= MOST;
     self.delay = atof(words[2]);
     self.jitter = atof(words[3]);
     self.loss = atof(words[4]);
+    self.is_ordered = count == 6;
     srand48(1);
     signal(SIGTERM, stop);
     signal(SIGINT, stop);
@@ -140,6 +150,7 @@ int main(int count, char **words) {
         turn();
     for (int at = 1; at <= self.count; at++)
         run("ip netns del faz-%d-%d", at);
-    fprintf(stderr, "%llu packets were passed on, %llu lost\n", (unsigned long long)self.passed, (unsigned long long)self.lost);
+    fprintf(stderr, "%llu packets of %llu bytes were passed on, %llu lost\n", (unsigned long long)self.passed,
+            (unsigned long long)self.bytes, (unsigned long long)self.lost);
     return is_made ? 0 : 1;
 }

@@ -39,3 +39,22 @@ again() {
     done
     [ $sum -ge 50 ] || { echo "$sum frames were played again"; false; }
 }
+
+# A figure of a machine by its name (--figures).
+figure() {
+    sed -n "s/^$2 //p" "$work/$1.figures"
+}
+
+# Whether machines held words back, and these cost what they may: no frame is without a picture, nobody stands still for words that are
+# there, frames are played again only where words had waited as long as they may, and no longer than two turns.
+held() {
+    sum=0
+    for name; do
+        sum=$((sum + $(figure $name held)))
+        [ "$(figure $name unseen)$(figure $name stood)$(figure $name astray)" = 000 ] \
+            && [ "$(figure $name soon)" = "$(figure $name held)" ] && continue
+        cat "$work/$name.figures" "$work/$name.err"
+        return 1
+    done
+    [ $sum -ge 20 ] || { echo "$sum corrections were held back"; false; }
+}
