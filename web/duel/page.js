@@ -1,7 +1,7 @@
 // The page: two players meet by texts that they send each other, and play; or a match is watched.
 //
 // Behind the address, for trials: `?bot=5` flies the ship, `frames=1800` ends the match there and shows the state, `delay=2`,
-// `lag=50`, `loss=10` and `speed=4` are as those of c/out/duel.
+// `lag=50`, `loss=10`, `timeout=5000` and `speed=4` are as those of c/out/duel.
 import { Code, Fazgrond } from "./fazgrond/fazgrond.js";
 import { Match, eachTurn } from "./match.js";
 import { Meeting, serversOf } from "./meet.js";
@@ -89,7 +89,8 @@ function begin(me, channel) {
   const { word, taken } = wordOf(me);
   match = new Match(library, {
     number: BigInt(meeting.number), me, channel, word, taken, delay: number("delay", 1), frames: number("frames", 0),
-    lag: number("lag", 0), loss: number("loss", 0), told: (event) => SAYINGS[event.code] && tell(SAYINGS[event.code](event)),
+    lag: number("lag", 0), loss: number("loss", 0), timeout: number("timeout", 5000),
+    told: (event) => SAYINGS[event.code] && tell(SAYINGS[event.code](event)),
   });
   show("meet", false);
   show("match", true);

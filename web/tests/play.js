@@ -41,7 +41,8 @@ async function run() {
   const events = [];
   const match = new Match(library, {
     number: BigInt(meeting.number), me, channel, word: () => bot.word, taken: () => bot.draw(), delay: number("delay"),
-    frames: number("frames"), lag: number("lag"), loss: number("loss"), told: (event) => events.push(event.code),
+    frames: number("frames"), lag: number("lag"), loss: number("loss"), timeout: number("timeout") || 5000,
+    told: (event) => events.push(event.code),
   });
   let hiddenTurns = 0;
   let announced = false;

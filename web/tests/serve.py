@@ -19,6 +19,11 @@ class Post:
             self.texts[name] = text
             self.changed.notify_all()
 
+    def clear(self, *names):
+        with self.changed:
+            for name in names:
+                self.texts.pop(name, None)
+
     def get(self, name, wait):
         with self.changed:
             self.changed.wait_for(lambda: name in self.texts, wait)
