@@ -51,7 +51,7 @@ export class Fazgrond {
   }
 
   constructor(module) {
-    this.calls = new WebAssembly.Instance(module, {}).exports;
+    this.calls = { ...new WebAssembly.Instance(module, {}).exports };
     this.memory = this.calls.memory;
     this.refresh();
     this.room = this.allocate(4096); // what calls are given, and give back

@@ -9,7 +9,7 @@ import urllib.request
 
 from browsers import CHROMIUM
 
-WAIT = 60
+WAIT = 180
 
 
 class Driver:
