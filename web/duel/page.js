@@ -1,0 +1,232 @@
+// The page: two players meet by texts that they send each other, and play; or a match is watched.
+//
+// Behind the address, for trials: `?bot=5` flies the ship, `frames=1800` ends the match there and shows the state, `delay=2`,
+// `lag=50`, `loss=10`, `timeout=5000` and `speed=4` are as those of c/out/duel.
+import { Code, Fazgrond } from "./fazgrond/fazgrond.js";
+import { Match, eachTurn } from "./match.js";
+import { Meeting, serversOf } from "./meet.js";
+import { Bot, FIRE, LEFT, RIGHT, THRUST, WatchedDuel, opening, text } from "./rules.js";
+import { Watched } from "./fazgrond/watch.js";
+import { draw } from "./draw.js";
+
+const KEYS = { ArrowUp: THRUST, ArrowLeft: LEFT, ArrowRight: RIGHT, Space: FIRE };
+const at = (id) => document.getElementById(id);
+const options = new URLSearchParams(location.search);
+const number = (name, otherwise) => Number(options.get(name) ?? otherwise);
+
+let library = null;
+let stop = null; // ends the turns
+let match = null;
+let meeting = null;
+let held = 0;
+
+function tell(words) {
+  at("told").textContent = words;
+}
+
+/** Runs what a button asks for, and tells what goes wrong. */
+function on(id, act) {
+  at(id).addEventListener("click", async () => {
+    try {
+      await act();
+    } catch (why) {
+      tell(why.message);
+    }
+  });
+}
+
+function show(id, is) {
+  at(id).hidden = !is;
+}
+
+// ---- Keys, and buttons for screens without them.
+
+addEventListener("keydown", (event) => {
+  const bit = KEYS[event.code];
+  if (bit === undefined || match === null) return;
+  held |= bit;
+  event.preventDefault();
+});
+addEventListener("keyup", (event) => {
+  held &= ~(KEYS[event.code] ?? 0);
+});
+// A key that is let go elsewhere isn't told.
+addEventListener("blur", () => {
+  held = 0;
+});
+for (const button of document.querySelectorAll("#held button")) {
+  const bit = Number(button.dataset.word);
+  button.addEventListener("pointerdown", () => {
+    held |= bit;
+  });
+  for (const name of ["pointerup", "pointerleave", "pointercancel"])
+    button.addEventListener(name, () => {
+      held &= ~bit;
+    });
+}
+
+// ---- A match.
+
+function wordOf(me) {
+  const seed = number("bot", 0);
+  if (seed === 0) return { word: () => held, taken: () => {} };
+  const bot = new Bot(seed, me + 1);
+  return { word: () => bot.word, taken: () => bot.draw() };
+}
+
+const SAYINGS = {
+  [Code.SYNCHRONIZING]: () => "the other one is heard",
+  [Code.SYNCHRONIZED]: () => "both hear each other",
+  [Code.RUNNING]: () => "the match begins",
+  [Code.INTERRUPTED]: (it) => `nothing comes of the other one, who is gone in ${Math.ceil(it.disconnectIn / 1000)} s`,
+  [Code.RESUMED]: () => "the other one is back",
+  [Code.LEFT]: () => "the other one has left: for another match make a new invitation",
+  [Code.DESYNC]: (it) => `the two machines don't have the same state at frame ${it.frame}: the match is over`,
+  [Code.MISMATCH]: () => "the other one plays another game: the match is over",
+};
+
+function begin(me, channel) {
+  const { word, taken } = wordOf(me);
+  match = new Match(library, {
+    number: BigInt(meeting.number), me, channel, word, taken, delay: number("delay", 1), frames: number("frames", 0),
+    lag: number("lag", 0), loss: number("loss", 0), timeout: number("timeout", 5000),
+    told: (event) => SAYINGS[event.code] && tell(SAYINGS[event.code](event)),
+  });
+  show("meet", false);
+  show("match", true);
+  show("held", matchMedia("(pointer: coarse)").matches);
+  stop = eachTurn((now) => {
+    match.turn(now);
+    if (match.isDone) end(`frame ${match.frames} state ${match.game.atLast}`);
+    else if (match.isOver || match.isAlone) end(null);
+  }, number("speed", 1));
+  frame();
+}
+
+function linesOf({ session, peer, other, again }) {
+  const stats = peer.stats(other);
+  const ping = stats !== null && stats.isMeasured ? `${stats.roundTrip} ms to the other one` : "";
+  return [ping, `frame ${session.frame}, ${again} of them played again`];
+}
+
+function frame() {
+  if (match === null) return;
+  draw(at("canvas"), match.game.field, match.me + 1, linesOf(match));
+  requestAnimationFrame(frame);
+}
+
+/** The match is over. What is under way gets a moment to arrive. */
+function end(result) {
+  stop();
+  const ended = { match, meeting };
+  match = null;
+  ended.match.close();
+  setTimeout(() => ended.meeting.close(), 500);
+  meeting = null;
+  if (result !== null) {
+    at("result").textContent = result;
+    show("result", true);
+  }
+  show("match", false);
+  show("held", false);
+  openMeet();
+}
+
+on("leave", () => {
+  tell("you have left the match");
+  end(null);
+});
+
+// A page that is closed or loaded anew says so, if it still can. It can't come back into the match.
+addEventListener("pagehide", () => {
+  match?.close();
+  meeting?.close();
+});
+
+// ---- Meeting.
+
+function openMeet() {
+  for (const id of ["invitation", "their-answer", "their-invitation", "answer"]) at(id).value = "";
+  show("invited", false);
+  show("accepted", false);
+  show("meet", true);
+}
+
+function newMeeting() {
+  meeting?.close();
+  localStorage.setItem("servers", at("servers").value);
+  meeting = new Meeting(serversOf(at("servers").value));
+  return meeting;
+}
+
+/** Begins the match once there is a way to the other one. */
+async function awaitChannel(me, mine) {
+  try {
+    const channel = await mine.channel;
+    if (meeting === mine && match === null) begin(me, channel);
+  } catch (why) {
+    if (meeting === mine) tell(why.message);
+  }
+}
+
+on("invite", async () => {
+  tell("looking for this machine's addresses ..");
+  const mine = newMeeting();
+  at("invitation").value = await mine.invite();
+  show("invited", true);
+  tell("send the invitation, and paste the answer");
+  awaitChannel(0, mine);
+});
+
+on("begin", async () => {
+  await meeting.finish(at("their-answer").value);
+  tell("looking for a way to the other one ..");
+});
+
+on("accept", async () => {
+  const mine = newMeeting();
+  at("answer").value = await mine.answer(at("their-invitation").value);
+  show("accepted", true);
+  tell("send the answer back; the match begins when it is pasted there");
+  awaitChannel(1, mine);
+});
+
+for (const id of ["invitation", "answer"]) on(`copy-${id}`, () => navigator.clipboard.writeText(at(id).value));
+
+// ---- Watching.
+
+on("watch", () => {
+  const game = new WatchedDuel();
+  const watched = new Watched(library, {
+    url: at("broker").value, user: at("user").value, password: at("password").value, match: at("name").value, game,
+  });
+  show("meet", false);
+  const stopTurns = eachTurn(() => watched.turn());
+  const look = () => {
+    if (watched.isShown) draw(at("canvas"), game.field, 0, [`frame ${watched.frame}, ${watched.known - watched.frame} behind`]);
+    tell(watched.why ?? (watched.desync === null ? "you watch the match" : `the players' states are others from frame ${watched.desync} on`));
+    if (!watched.hasEnded) {
+      requestAnimationFrame(look);
+      return;
+    }
+    tell(`the match has ended: ${watched.end.reason}`);
+    stopTurns();
+    watched.close();
+    at("result").textContent = `frame ${watched.frame} state ${text(game.field)}`;
+    show("result", true);
+    openMeet();
+  };
+  look();
+});
+
+// ---- The begin.
+
+at("servers").value = localStorage.getItem("servers") ?? "";
+draw(at("canvas"), opening(2), 0, []);
+try {
+  library = await Fazgrond.load();
+  tell(`library ${library.version}`);
+  openMeet();
+} catch (why) {
+  tell(why.message);
+}

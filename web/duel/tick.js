@@ -1,0 +1,2 @@
+// A worker that tells the page a turn's beginning.
+setInterval(() => postMessage(0), 1000 / 120);

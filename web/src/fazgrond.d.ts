@@ -1,0 +1,167 @@
+// Rollback sessions for games in a browser. docs/WEB.md shows a whole game.
+import * as raw from "./raw.js";
+
+export { raw };
+export const Answer: typeof raw.Answer;
+export const Code: typeof raw.Code;
+
+/** The game, as a session plays it. A state that was saved never changes any more: `save` makes a copy, and `load` takes from it. */
+export interface Game<State> {
+  save(): State;
+  load(state: State): void;
+  /** A frame. `words` has a word for each player, and is another one in the next call; bit p - 1 of `gone` is set if player p has left. */
+  step(words: Uint32Array, gone: number): void;
+  /** Nothing needs this state any more. */
+  free?(state: State): void;
+  /** A number that is another one for most other states: by it the machines see that they play alike. Not negative. */
+  digest?(state: State): number | bigint;
+}
+
+export interface SessionSettings {
+  /** How many players there are, 1 to 8. */
+  players: number;
+  /** Those of this machine, from 1 on. */
+  local?: number[];
+  /** How many frames the session may run ahead of the confirmed inputs. 8, or 15 with more than 4 players. */
+  threshold?: number;
+  /** `raw.GGPO` or `raw.WIDE`: by the number of players, if it isn't said. */
+  profile?: number;
+  limit?: number;
+  log?: number;
+  /** By how many frames each player's words count later, player 1 first: 0 for a remote one. */
+  delays?: number[];
+  /** Which bits of a player's last word are predicted as held. All, if it isn't said. */
+  masks?: number[];
+}
+
+export interface MatchSettings {
+  /** Which machine this is, from 0 on, and how many there are. */
+  me: number;
+  machines: number;
+  /** The machine of each player, player 1 first. */
+  owners: number[];
+  /** A number that all machines know, 64 random bits; or one with each of them. */
+  number?: bigint;
+  numbers?: bigint[];
+  /** Drawn anew for each opening, if it isn't said. */
+  draw?: bigint | number;
+  /** Of all else that has to be alike at all machines. */
+  digest?: bigint;
+  /** Milliseconds: 5000, 750 and 0, if it isn't said. */
+  silentAfter?: number;
+  notifyAfter?: number;
+  stalledAfter?: number;
+  /** How many words an input has. */
+  words?: number;
+}
+
+export interface LineSettings {
+  number: bigint;
+  draw?: bigint | number;
+  digest?: bigint;
+  host: number;
+  machines: number;
+  owners: number[];
+  silentAfter?: number;
+}
+
+export interface Row {
+  words: Uint32Array;
+  gone: number;
+}
+
+export class Refusal extends Error {
+  constructor(code: number, sentence: string);
+  readonly code: number;
+}
+
+export function hasMemory64(): boolean;
+export function randomNumber(): bigint;
+
+export class Fazgrond {
+  static load(source?: string | URL | Response | BufferSource | WebAssembly.Module): Promise<Fazgrond>;
+  constructor(module: WebAssembly.Module);
+  readonly calls: raw.Exports;
+  readonly memory: WebAssembly.Memory;
+  get version(): string;
+  text(code: number): string;
+  session<State>(settings: SessionSettings, game: Game<State>): Session<State>;
+  peer(session: Session<any>, match: MatchSettings): Peer;
+  line(session: Session<any>, settings: LineSettings): Line;
+  viewer(settings: LineSettings): Viewer;
+  habits(parts?: number[], likely?: number[]): Habits;
+}
+
+declare class Handle {
+  close(): void;
+}
+
+export class Session<State> extends Handle {
+  readonly states: (State | undefined)[];
+  readonly reached: { frame: number; from: number; rerun: number };
+  readonly answer: number;
+  get frame(): number;
+  get settled(): number;
+  get hasNews(): boolean;
+  get framesAhead(): number;
+  get logLength(): number;
+  addLocalInput(player: number, word: number): number;
+  remoteInput(player: number, frame: number, word: number): number;
+  disconnectPlayer(player: number): number;
+  synchronizeInput(): number;
+  advanceFrame(): number;
+  turn(words: ArrayLike<number> | null): number;
+  guess(player: number, words: number[], until: number): Job<State> | null;
+  graft(job: Job<State>): number;
+  forget(job: Job<State>): number;
+  settledState(): { frame: number; state: State } | null;
+  settledRow(frame: number): Row | null;
+  confirmed(player: number): number | null;
+  confirmedWord(player: number, frame: number): number | null;
+  inputFrame(player: number): number | null;
+  logEntry(place: number): raw.Entry | null;
+  noteAdvantages(local: number, remote: number): number;
+  limitSlots(slots: number): number;
+  reserveLog(events: number): number;
+  claim(): string | null;
+}
+
+export class Job<State> {
+  readonly number: number;
+  readonly from: State;
+  readonly steps: Row[];
+  states: State[];
+  run(game: Game<State>): void;
+}
+
+export class Peer extends Handle {
+  receive(bytes: Uint8Array, now: number): number;
+  poll(now: number): number;
+  get isRunning(): boolean;
+  send(machine: number, now: number): Uint8Array | null;
+  bye(machine: number): Uint8Array | null;
+  disconnect(machine: number): number;
+  noteSettled(): number;
+  event(): raw.Event | null;
+  stats(machine: number): raw.Stats | null;
+}
+
+export class Line extends Handle {
+  receive(bytes: Uint8Array, now: number): number;
+  send(now: number): Uint8Array | null;
+  bye(): Uint8Array | null;
+  look(now: number): raw.LineState | null;
+}
+
+export class Viewer extends Handle {
+  receive(bytes: Uint8Array, now: number): number;
+  send(now: number): Uint8Array | null;
+  bye(): Uint8Array | null;
+  row(): Row | null;
+  look(now: number): raw.LineState | null;
+}
+
+export class Habits extends Handle {
+  note(word: number): number;
+  guesses(frames: number): { words: number[]; worth: number }[];
+}

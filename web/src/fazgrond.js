@@ -1,0 +1,686 @@
+// Rollback sessions for games in a browser, over the library for C as WebAssembly. docs/WEB.md shows a whole game.
+//
+// What a game calls in each turn answers with a number of `Answer`: `Answer.OK`, or why it was refused. What is opened once throws a
+// `Refusal`. A word is an input of a player for a frame: 32 bits, as a number from 0 on.
+import * as raw from "./raw.js";
+
+export { raw };
+export const { Answer, Code } = raw;
+
+const ROOM = 32; // requests that are taken at once
+const { OK } = Answer;
+
+/** Why something can't be opened. */
+export class Refusal extends Error {
+  constructor(code, sentence) {
+    super(sentence);
+    this.name = "Refusal";
+    this.code = code;
+  }
+}
+
+/** Whether this browser has 64-bit memory for WebAssembly: Chromium from 133 on, Firefox from 134 on. */
+export function hasMemory64() {
+  return WebAssembly.validate(new Uint8Array([0, 97, 115, 109, 1, 0, 0, 0, 5, 3, 1, 4, 1]));
+}
+
+const LACKS = "this browser has no 64-bit memory for WebAssembly: Chromium has it from 133 on, Firefox from 134 on";
+
+/** 64 random bits, which aren't 0. */
+export function randomNumber() {
+  const bits = new BigUint64Array(1);
+  do crypto.getRandomValues(bits);
+  while (bits[0] === 0n);
+  return bits[0];
+}
+
+async function bytesOf(source) {
+  if (source instanceof ArrayBuffer || ArrayBuffer.isView(source)) return source;
+  const response = source instanceof Response ? source : await fetch(source);
+  if (!response.ok) throw new Error(`${response.url}: ${response.status} ${response.statusText}`);
+  return response.arrayBuffer();
+}
+
+/** The library: a module, and its memory. One is enough for all matches of a page. */
+export class Fazgrond {
+  /** Loads it: from beside this file, a URL, a response, bytes, or a module that is compiled. */
+  static async load(source = new URL("./fazgrond.wasm", import.meta.url)) {
+    if (source instanceof WebAssembly.Module) return new Fazgrond(source);
+    if (!hasMemory64()) throw new Error(LACKS);
+    return new Fazgrond(await WebAssembly.compile(await bytesOf(source)));
+  }
+
+  constructor(module) {
+    this.calls = { ...new WebAssembly.Instance(module, {}).exports };
+    this.memory = this.calls.memory;
+    this.refresh();
+    this.room = this.allocate(4096); // what calls are given, and give back
+    this.requests = this.allocate(ROOM * raw.Request.size);
+    this.bytes = this.allocate(2 * raw.DATAGRAM);
+    const version = this.calls.version();
+    if (version >>> 8 !== raw.VERSION >>> 8) throw new Error(`the module has version ${version >>> 16}.${(version >>> 8) & 255}`);
+  }
+
+  /** "0.1.0": the version of the library. */
+  get version() {
+    const version = this.calls.version();
+    return `${version >>> 16}.${(version >>> 8) & 255}.${version & 255}`;
+  }
+
+  /** What an answer or the code of an event means, in a sentence. */
+  text(code) {
+    const length = Math.min(this.calls.text(code, this.room, 256), 256);
+    return new TextDecoder().decode(this.u8().subarray(this.room, this.room + length));
+  }
+
+  /** Opens a session of a game whose state is the opening now. */
+  session(settings, game) {
+    return new Session(this, settings, game);
+  }
+
+  /** Opens the network of a match beside a session. */
+  peer(session, match) {
+    return new Peer(this, session, match);
+  }
+
+  /** Opens a host's end of a viewer's line, beside a session. */
+  line(session, settings) {
+    return new Line(this, session, settings);
+  }
+
+  /** Opens a viewer's end of a line. */
+  viewer(settings) {
+    return new Viewer(this, settings);
+  }
+
+  /** Opens the habits of a player. */
+  habits(parts = [], likely = []) {
+    return new Habits(this, parts, likely);
+  }
+
+  // ---- Memory. It moves when it grows, so views of it are asked for anew.
+
+  refresh() {
+    this.buffer = this.memory.buffer;
+    this.view8 = new Uint8Array(this.buffer);
+    this.view32 = new Uint32Array(this.buffer);
+    this.view = new DataView(this.buffer);
+  }
+
+  u8() {
+    if (this.buffer !== this.memory.buffer) this.refresh();
+    return this.view8;
+  }
+
+  u32() {
+    if (this.buffer !== this.memory.buffer) this.refresh();
+    return this.view32;
+  }
+
+  data() {
+    if (this.buffer !== this.memory.buffer) this.refresh();
+    return this.view;
+  }
+
+  allocate(size) {
+    const at = this.calls.alloc(size) >>> 0;
+    if (at === 0) throw new Refusal(Answer.NO_MEMORY, "out of memory");
+    this.u8().fill(0, at, at + size);
+    return at;
+  }
+
+  /** A number that a call wrote. */
+  number(at = this.room) {
+    return this.u32()[at >>> 2];
+  }
+
+  /** Writes those members of a struct that a value has. */
+  write(layout, at, value) {
+    const view = this.data();
+    for (const [name, member] of Object.entries(layout.members)) {
+      if (value[name] === undefined) continue;
+      const all = member.count > 0 ? value[name] : [value[name]];
+      const width = widthOf(member.kind);
+      for (let one = 0; one < Math.max(member.count, 1) && one < all.length; one++)
+        put(view, at + member.at + one * width, member.kind, all[one]);
+    }
+  }
+
+  /** All members of a struct. */
+  read(layout, at = this.room) {
+    const view = this.data();
+    const found = {};
+    for (const [name, member] of Object.entries(layout.members)) {
+      const width = widthOf(member.kind);
+      const get = (one) =>
+        member.kind in raw.structs
+          ? this.read(raw.structs[member.kind], at + member.at + one * width)
+          : got(view, at + member.at + one * width, member.kind);
+      found[name] = member.count > 0 ? Array.from({ length: member.count }, (_, one) => get(one)) : get(0);
+    }
+    return found;
+  }
+}
+
+function widthOf(kind) {
+  return kind in raw.structs ? raw.structs[kind].size : { u8: 1, u32: 4, i32: 4, u64: 8, pointer: 8 }[kind];
+}
+
+function put(view, at, kind, value) {
+  if (kind === "u8") view.setUint8(at, value);
+  else if (kind === "u64") view.setBigUint64(at, BigInt(value), true);
+  else view.setUint32(at, value, true);
+}
+
+function got(view, at, kind) {
+  if (kind === "u8") return view.getUint8(at);
+  if (kind === "u64" || kind === "pointer") return view.getBigUint64(at, true);
+  return kind === "i32" ? view.getInt32(at, true) : view.getUint32(at, true);
+}
+
+/** What has a handle in the module's memory. */
+class Handle {
+  constructor(library) {
+    this.library = library;
+    this.at = library.allocate(raw.Session.size);
+  }
+
+  /** Throws why this can't be opened, and gives its memory back. */
+  opened(code) {
+    if (code === OK) return;
+    this.library.calls.dealloc(this.at);
+    this.at = 0;
+    throw new Refusal(code, this.library.text(code));
+  }
+
+  /** Closes it. Nothing happens if it is closed. */
+  close() {
+    if (this.at === 0) return;
+    this.library.calls.close(this.at);
+    this.library.calls.dealloc(this.at);
+    this.at = 0;
+  }
+
+  /** Throws if it is closed: a place of 0 means nothing to the module. */
+  get open() {
+    if (this.at === 0) throw new Refusal(Answer.IS_CLOSED, this.library.text(Answer.IS_CLOSED));
+    return this.at;
+  }
+
+  /** A number that the library says of this, or null if it answers that it can't. */
+  ask(call, ...words) {
+    const code = this.library.calls[call](this.open, ...words, this.library.room);
+    return code === OK ? this.library.number() : null;
+  }
+}
+
+/** Settings as `fazgrond_settings_for` has them, with what the game says. */
+function settingsOf(given) {
+  const wide = given.players > 4;
+  return {
+    size: raw.Settings.size,
+    profile: wide ? raw.WIDE : raw.GGPO,
+    players: given.players,
+    local: (given.local ?? []).reduce((bits, player) => bits | (1 << (player - 1)), 0) >>> 0,
+    threshold: given.threshold ?? (wide ? 15 : 8),
+    limit: given.limit ?? 1048576,
+    log: given.log ?? 16777216,
+    delays: Array.from({ length: raw.PLAYERS }, (_, at) => given.delays?.[at] ?? 0),
+    masks: Array.from({ length: raw.PLAYERS }, (_, at) => given.masks?.[at] ?? 0xffffffff),
+    ...(given.profile === undefined ? {} : { profile: given.profile }),
+  };
+}
+
+/** A session, which plays a game. It carries out its requests by itself. */
+export class Session extends Handle {
+  constructor(library, settings, game) {
+    super(library);
+    const told = settingsOf(settings);
+    library.write(raw.Settings, library.room, told);
+    this.opened(library.calls.open(this.at, library.room));
+    this.game = game;
+    this.local = [...(settings.local ?? [])];
+    /** The states that the session has saved, by their slots. */
+    this.states = [game.save()];
+    /** Where the last advance led: the new frame, the one that it started from, and how many frames were run. */
+    this.reached = { frame: 0, from: 0, rerun: 0 };
+    /** The answer of the last `guess`. */
+    this.answer = OK;
+    this.words = new Uint32Array(told.players);
+    this.isBroken = false;
+    this.noted = -1;
+  }
+
+  close() {
+    super.close();
+    for (const state of this.states) if (state !== undefined) this.game.free?.(state);
+    this.states = [];
+  }
+
+  get open() {
+    if (this.isBroken) throw new Error("a function of the game has thrown, so its states aren't those of the session");
+    return super.open;
+  }
+
+  /** The current frame. */
+  get frame() {
+    return this.ask("frame");
+  }
+
+  /** How many rows are settled: they never change. */
+  get settled() {
+    return this.ask("settled");
+  }
+
+  /** Whether the state that is shown may be out of date. */
+  get hasNews() {
+    return this.ask("has_news") === 1;
+  }
+
+  /** How many frames this machine should wait, if there is no peer. */
+  get framesAhead() {
+    return this.ask("frames_ahead");
+  }
+
+  /** How many entries the log has. */
+  get logLength() {
+    return this.ask("log_length");
+  }
+
+  /** A local player's word of this frame. */
+  addLocalInput(player, word) {
+    return this.library.calls.add_local_input(this.open, player, word);
+  }
+
+  /** A remote player's next word, for a game with a network of its own. */
+  remoteInput(player, frame, word) {
+    return this.library.calls.remote_input(this.open, player, frame, word, this.library.room);
+  }
+
+  /** A remote player leaves, for a game with a network of its own. */
+  disconnectPlayer(player) {
+    return this.library.calls.disconnect_player(this.open, player);
+  }
+
+  /** Rolls back if a prediction was wrong. */
+  synchronizeInput() {
+    const code = this.library.calls.synchronize_input(this.open, this.library.room);
+    this.carryOut();
+    return code;
+  }
+
+  /** Goes on to the next frame, after a rollback if a prediction was wrong. */
+  advanceFrame() {
+    const { calls, room } = this.library;
+    const code = calls.advance_frame(this.open, room);
+    if (code === OK) {
+      const memory = this.library.u32();
+      this.reached = { frame: memory[room >>> 2], from: memory[(room >>> 2) + 1], rerun: memory[(room >>> 2) + 2] };
+    }
+    this.carryOut();
+    return code;
+  }
+
+  /**
+   * A turn: the words of the local players, in their order, and a frame. If that is refused, or there are no words since the game
+   * is to wait, what came too late is played again. The answer is that of the frame.
+   */
+  turn(words) {
+    let code = words === null ? Answer.LOCAL_INPUT_MISSING : OK;
+    for (let at = 0; at < this.local.length && code === OK; at++) {
+      code = this.addLocalInput(this.local[at], words[at]);
+      if (code === Answer.INPUT_TWICE) code = OK; // another player's word was refused after it
+    }
+    if (code === OK) return this.advanceFrame();
+    if (this.hasNews) this.synchronizeInput();
+    return code;
+  }
+
+  /** A guess: a job to carry out anywhere, or null if there is none; `answer` says why. */
+  guess(player, words, until) {
+    const { calls, room } = this.library;
+    this.library.u32().set(words.slice(0, 64), (room + 64) >>> 2);
+    this.answer = calls.guess(this.open, player, room + 64, Math.min(words.length, 64), until, room);
+    if (this.answer !== OK) return null;
+    const job = new Job(this.library.number());
+    this.eachRequest((kind, slot, row, memory) => {
+      if (kind === raw.JOB_LOAD) job.from = this.states[slot];
+      else if (kind === raw.JOB_STEP) job.steps.push({ words: memory.slice(row + 2, row + 2 + memory[row]), gone: memory[row + 1] });
+      else job.slots.push(slot);
+    });
+    return job;
+  }
+
+  /** Takes a job's states in. The answer says whether they are of use; afterwards the job is over in any case. */
+  graft(job) {
+    if (job.states.length !== job.slots.length) throw new Error("the job has not been carried out");
+    const code = this.library.calls.graft(this.open, job.number, this.library.room);
+    if (code === Answer.PENDING) return code;
+    job.slots.forEach((slot, at) => {
+      if (code === OK) this.states[slot] = job.states[at];
+      else this.game.free?.(job.states[at]);
+    });
+    return code;
+  }
+
+  /** Gives a job up. */
+  forget(job) {
+    return this.library.calls.forget(this.open, job.number);
+  }
+
+  /** The settled frame, and the state after all settled rows. */
+  settledState() {
+    const { calls, room } = this.library;
+    if (calls.settled_slot(this.open, room, room + 4) !== OK) return null;
+    return { frame: this.library.number(), state: this.states[this.library.number(room + 4)] };
+  }
+
+  /** A settled row, or null. */
+  settledRow(frame) {
+    return this.library.calls.settled_row(this.open, frame, this.library.room) === OK ? rowAt(this.library) : null;
+  }
+
+  /** How many words of a player are confirmed. */
+  confirmed(player) {
+    return this.ask("confirmed", player);
+  }
+
+  /** The confirmed word of a player at a frame, or null. */
+  confirmedWord(player, frame) {
+    return this.ask("confirmed_word", player, frame);
+  }
+
+  /** The frame in which a local player's next word counts. */
+  inputFrame(player) {
+    return this.ask("input_frame", player);
+  }
+
+  /** The entry at a place of the log, or null. */
+  logEntry(place) {
+    return this.library.calls.log_entry(this.open, place, this.library.room) === OK ? this.library.read(raw.Entry) : null;
+  }
+
+  noteAdvantages(local, remote) {
+    return this.library.calls.note_advantages(this.open, local, remote);
+  }
+
+  limitSlots(slots) {
+    return this.library.calls.limit_slots(this.open, slots);
+  }
+
+  reserveLog(events) {
+    return this.library.calls.reserve_log(this.open, events);
+  }
+
+  /** The text of the last rollback's claim, or null if there was none. */
+  claim() {
+    const { calls, room } = this.library;
+    if (calls.claim(this.open, room + 8, 0, room) !== Answer.TOO_SHORT) return null;
+    const length = this.library.number();
+    const at = this.library.allocate(length);
+    const code = calls.claim(this.open, at, length, room);
+    const text = new TextDecoder().decode(this.library.u8().slice(at, at + length));
+    calls.dealloc(at);
+    return code === OK ? text : null;
+  }
+
+  // ---- Requests.
+
+  /** Takes all requests: each is told by its kind, its slot, and where in the memory's words its row is. */
+  eachRequest(take) {
+    const { calls, requests } = this.library;
+    for (let count = calls.take_requests(this.at, requests, ROOM); count > 0; count = calls.take_requests(this.at, requests, ROOM))
+      for (let at = 0; at < count; at++) {
+        const memory = this.library.u32();
+        const place = (requests + at * raw.Request.size) >>> 2;
+        take(memory[place], memory[place + 1], place + (raw.Request.members.row.at >>> 2), memory);
+      }
+  }
+
+  carryOut() {
+    this.isBroken = true; // unless no function of the game throws
+    const { game, states, words } = this;
+    this.eachRequest((kind, slot, row, memory) => {
+      switch (kind) {
+        case raw.STEP:
+          for (let player = 0; player < words.length; player++) words[player] = memory[row + 2 + player];
+          game.step(words, memory[row + 1]);
+          break;
+        case raw.SAVE:
+          if (states[slot] !== undefined) game.free?.(states[slot]); // of a job that was grafted only in part
+          states[slot] = game.save();
+          break;
+        case raw.LOAD:
+          game.load(states[slot]);
+          break;
+        case raw.FREE:
+          game.free?.(states[slot]);
+          states[slot] = undefined;
+          break;
+      }
+    });
+    this.isBroken = false;
+  }
+}
+
+function rowAt(library, at = library.room) {
+  const memory = library.u32();
+  const place = at >>> 2;
+  return { words: memory.slice(place + 2, place + 2 + memory[place]), gone: memory[place + 1] };
+}
+
+/**
+ * A guess's frames: load `from`, and then for each step make it and save the state. A worker can be given `from` and `steps`, and
+ * gives `states` back.
+ */
+export class Job {
+  constructor(number) {
+    this.number = number;
+    this.from = undefined;
+    this.steps = [];
+    this.slots = [];
+    this.states = [];
+  }
+
+  /** Carries it out by a game that is not the session's: its state is another one afterwards. */
+  run(game) {
+    game.load(this.from);
+    this.states = this.steps.map(({ words, gone }) => {
+      game.step(words, gone);
+      return game.save();
+    });
+  }
+}
+
+/** Datagrams of what has one other end, or several. */
+class Sealed extends Handle {
+  /** Puts bytes where calls read them, or answers that they are too many. */
+  given(bytes) {
+    if (bytes.length > raw.DATAGRAM) return false;
+    this.library.u8().set(bytes, this.library.bytes);
+    return true;
+  }
+
+  /** A copy of the datagram that a call wrote, or null if there is none. */
+  written(code) {
+    const { bytes } = this.library;
+    return code === OK ? this.library.u8().slice(bytes, bytes + this.library.number()) : null;
+  }
+}
+
+/** The network of a match, at one of its machines. `now` is this machine's clock in whole milliseconds. */
+export class Peer extends Sealed {
+  constructor(library, session, match) {
+    super(library);
+    this.session = session;
+    const one = match.number ?? 0n;
+    library.write(raw.Match, library.room, {
+      size: raw.Match.size,
+      numbers: Array.from({ length: raw.MACHINES }, (_, at) => match.numbers?.[at] ?? one),
+      draw: match.draw ?? randomNumber(),
+      digest: match.digest ?? 0n,
+      me: match.me,
+      machines: match.machines,
+      owners: Array.from({ length: raw.PLAYERS }, (_, at) => match.owners[at] ?? raw.NO_PLAYER),
+      silentAfter: match.silentAfter ?? 5000,
+      notifyAfter: match.notifyAfter ?? 750,
+      stalledAfter: match.stalledAfter ?? 0,
+      words: match.words ?? 1,
+    });
+    this.opened(library.calls.peer_open(this.at, session.open, library.room));
+  }
+
+  /** Takes a datagram that came. */
+  receive(bytes, now) {
+    if (!this.given(bytes)) return Answer.NOT_SEALED;
+    return this.library.calls.peer_receive(this.open, this.session.open, this.library.bytes, bytes.length, now >>> 0);
+  }
+
+  /** Once a turn, before the session's own calls. */
+  poll(now) {
+    return this.library.calls.peer_poll(this.open, this.session.open, now >>> 0);
+  }
+
+  /** Whether the match has begun: give the session no words before. */
+  get isRunning() {
+    return this.ask("peer_is_running") === 1;
+  }
+
+  /** The datagram to send to a machine in this turn, or null. */
+  send(machine, now) {
+    const { calls, bytes, room } = this.library;
+    return this.written(calls.peer_send(this.open, this.session.open, machine, now >>> 0, bytes, raw.DATAGRAM, room));
+  }
+
+  /** The datagram that says to a machine that this one leaves, or null. Send it a few times. */
+  bye(machine) {
+    const { calls, bytes, room } = this.library;
+    return this.written(calls.peer_bye(this.open, machine, bytes, raw.DATAGRAM, room));
+  }
+
+  /** Regards a machine as gone, for good. */
+  disconnect(machine) {
+    return this.library.calls.peer_disconnect(this.open, machine);
+  }
+
+  /** Tells the others the digest of the settled state, if the game has a function for it. */
+  noteSettled() {
+    const { session } = this;
+    const settled = session.game.digest === undefined ? null : session.settledState();
+    if (settled === null || settled.frame === session.noted) return OK;
+    session.noted = settled.frame;
+    return this.library.calls.peer_note_settled(this.open, session.open, BigInt(session.game.digest(settled.state)));
+  }
+
+  /** What happened, the oldest first; null if nothing did. */
+  event() {
+    return this.library.calls.peer_event(this.open, this.library.room) === OK ? this.library.read(raw.Event) : null;
+  }
+
+  /** What was counted and measured of a machine. */
+  stats(machine) {
+    return this.library.calls.peer_stats(this.open, machine, this.library.room) === OK ? this.library.read(raw.Stats) : null;
+  }
+}
+
+function writeLine(library, settings) {
+  library.write(raw.LineSettings, library.room, {
+    number: settings.number,
+    draw: settings.draw ?? randomNumber(),
+    digest: settings.digest ?? 0n,
+    host: settings.host,
+    machines: settings.machines,
+    owners: Array.from({ length: raw.PLAYERS }, (_, at) => settings.owners[at] ?? raw.NO_PLAYER),
+    silentAfter: settings.silentAfter ?? 0,
+  });
+}
+
+/** A host's end of a viewer's line. */
+export class Line extends Sealed {
+  constructor(library, session, settings) {
+    super(library);
+    this.session = session;
+    writeLine(library, settings);
+    this.opened(library.calls.line_open(this.at, library.room));
+  }
+
+  receive(bytes, now) {
+    if (!this.given(bytes)) return Answer.NOT_SEALED;
+    return this.library.calls.line_receive(this.open, this.library.bytes, bytes.length, now >>> 0);
+  }
+
+  send(now) {
+    const { calls, bytes, room } = this.library;
+    return this.written(calls.line_send(this.open, this.session.open, now >>> 0, bytes, raw.DATAGRAM, room));
+  }
+
+  bye() {
+    const { calls, bytes, room } = this.library;
+    return this.written(calls.line_bye(this.open, bytes, raw.DATAGRAM, room));
+  }
+
+  look(now) {
+    return this.library.calls.line_look(this.open, now >>> 0, this.library.room) === OK ? this.library.read(raw.LineState) : null;
+  }
+}
+
+/** A viewer's end of a line. */
+export class Viewer extends Sealed {
+  constructor(library, settings) {
+    super(library);
+    writeLine(library, settings);
+    this.opened(library.calls.viewer_open(this.at, library.room));
+  }
+
+  receive(bytes, now) {
+    if (!this.given(bytes)) return Answer.NOT_SEALED;
+    const { calls, room } = this.library;
+    return calls.viewer_receive(this.open, this.library.bytes, bytes.length, now >>> 0, room);
+  }
+
+  send(now) {
+    const { calls, bytes, room } = this.library;
+    return this.written(calls.viewer_send(this.open, now >>> 0, bytes, raw.DATAGRAM, room));
+  }
+
+  bye() {
+    const { calls, bytes, room } = this.library;
+    return this.written(calls.viewer_bye(this.open, bytes, raw.DATAGRAM, room));
+  }
+
+  /** The next row to play, from frame 0 on, or null. */
+  row() {
+    return this.library.calls.viewer_row(this.open, this.library.room) === OK ? rowAt(this.library) : null;
+  }
+
+  look(now) {
+    return this.library.calls.viewer_look(this.open, now >>> 0, this.library.room) === OK ? this.library.read(raw.LineState) : null;
+  }
+}
+
+/** What a player may press next, by what was seen of the player. */
+export class Habits extends Handle {
+  constructor(library, parts, likely) {
+    super(library);
+    const { room } = library;
+    library.u32().set(parts.slice(0, 64), room >>> 2);
+    library.u32().set(likely.slice(-64), (room + 256) >>> 2);
+    this.opened(library.calls.habits_open(this.at, room, Math.min(parts.length, 64), room + 256, Math.min(likely.length, 64)));
+  }
+
+  /** Notes the player's next confirmed word. */
+  note(word) {
+    return this.library.calls.habits_note(this.open, word);
+  }
+
+  /** The best guesses of the next words, best first. */
+  guesses(frames) {
+    const most = 32;
+    const { calls, room } = this.library;
+    const count = calls.habits_guesses(this.open, frames, room, most);
+    return Array.from({ length: count }, (_, at) => {
+      const { count: length, worth, words } = this.library.read(raw.Foreseen, room + at * raw.Foreseen.size);
+      return { words: words.slice(0, length), worth };
+    });
+  }
+}

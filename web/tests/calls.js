@@ -1,0 +1,17 @@
+// The examples, and what a turn costs, in this browser: posts what they print as `name`.
+import { Fazgrond } from "/site/fazgrond/fazgrond.js";
+import * as examples from "./examples.js";
+
+const options = new URLSearchParams(location.search);
+const name = options.get("name");
+
+async function run() {
+  const library = await Fazgrond.load();
+  const printed = Object.fromEntries(["twoPeers", "watch", "guess"].map((one) => [one, examples[one](library)]));
+  const turns = Number(options.get("turns") ?? 0);
+  return { printed, cost: turns > 0 ? examples.turnsOf(library, turns) : null, memory: library.memory.buffer.byteLength };
+}
+
+run()
+  .catch((why) => ({ lacks: String(why.message ?? why) }))
+  .then((found) => fetch(`/result/${name}`, { method: "POST", body: JSON.stringify({ browser: navigator.userAgent, ...found }) }));

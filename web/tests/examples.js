@@ -1,0 +1,211 @@
+// The examples of c/examples once more, by the classes of the package: what they print is known (c/examples/*.stdout). Each gets the
+// library, and gives what it prints. Then what a turn costs, as bench/c_frames.c measures it.
+const FRAMES = 600;
+const TURN = 16;
+const UNDER_WAY = 64;
+
+function must(code, answer = 0) {
+  if (code !== answer) throw new Error(`the answer was ${code}`);
+}
+
+/** 31 times the number (or 10 times), and of each player the number times the word, or 5 if the player has left. */
+class Sum {
+  constructor(times = 31, most = 1000003) {
+    Object.assign(this, { times, most, state: 0, steps: 0 });
+  }
+
+  save() {
+    return this.state;
+  }
+
+  load(state) {
+    this.state = state;
+  }
+
+  step(words, gone) {
+    let sum = this.times * this.state;
+    words.forEach((word, at) => {
+      sum += (gone >> at) & 1 ? 5 : (at + 1) * word;
+    });
+    this.state = sum % this.most;
+    this.steps++;
+  }
+
+  digest(state) {
+    return state;
+  }
+}
+
+const wordOf = (me, frame) => Math.imul(Math.floor(frame / (5 + 2 * me)), 2654435761) >>> 28;
+
+/** Ways on which one datagram in four is lost, and the others come one to four turns later. */
+class Ways {
+  constructor(count) {
+    this.seed = 1;
+    this.all = Array.from({ length: count }, () => []);
+  }
+
+  send(to, from, turn, bytes) {
+    this.seed = (Math.imul(this.seed, 1664525) + 1013904223) >>> 0;
+    if (this.seed >>> 30 === 0 || this.all[to].length === UNDER_WAY || bytes === null) return;
+    this.all[to].push({ due: turn + 1 + ((this.seed >>> 16) % 4), from, bytes });
+  }
+
+  /** What is due, in the order in which the examples in C take it. */
+  due(to, turn, isBackwards) {
+    const way = this.all[to];
+    const found = [];
+    for (let at = isBackwards ? way.length - 1 : 0; at >= 0 && at < way.length; ) {
+      if (way[at].due > turn) {
+        at += isBackwards ? -1 : 1;
+        continue;
+      }
+      found.push(way[at]);
+      const last = way.pop();
+      if (at < way.length) way[at] = last;
+      if (isBackwards) at--;
+    }
+    return found;
+  }
+}
+
+function open(library, me, draw) {
+  const game = new Sum();
+  const session = library.session({ players: 2, local: [me + 1], limit: FRAMES }, game);
+  const peer = library.peer(session, { me, machines: 2, owners: [0, 1], number: 0x5eed5eed5eed5eedn, draw });
+  return { me, game, session, peer, wait: 0, rerun: 0, alone: false, settled: { frame: 0, state: 0 } };
+}
+
+function takeTurn(machine, turn, ways) {
+  const { me, session, peer } = machine;
+  for (const { bytes } of ways.due(me, turn, false)) peer.receive(bytes, turn * TURN);
+  must(peer.poll(turn * TURN));
+  if (peer.isRunning) {
+    const waits = machine.wait > 0;
+    if (waits) machine.wait--;
+    if (session.turn(waits ? null : [wordOf(me, session.frame)]) === 0) machine.rerun += session.reached.rerun;
+  }
+  machine.settled = session.settledState();
+  must(peer.noteSettled());
+  for (let event = peer.event(); event !== null; event = peer.event()) {
+    if (event.code === 1004 + 0) continue;
+    if (event.framesAhead > 0) machine.wait = event.framesAhead;
+    machine.alone ||= event.code === 1101;
+    if (event.code === 1102) throw new Error("another state");
+  }
+}
+
+export function twoPeers(library) {
+  const draw = 0x9e3779b97f4a7c15n;
+  const ways = new Ways(2);
+  const both = [open(library, 0, draw), open(library, 1, BigInt.asUintN(64, 2n * draw))];
+  const printed = [];
+  let turn = 0;
+  for (; both.some((it) => it.settled.frame < FRAMES); turn++)
+    for (const machine of both) {
+      takeTurn(machine, turn, ways);
+      ways.send(1 - machine.me, machine.me, turn, machine.peer.send(1 - machine.me, turn * TURN));
+    }
+  for (const { me, settled, rerun } of both)
+    printed.push(`machine ${me}: settled ${settled.frame} state ${settled.state}${rerun > FRAMES ? ", after rollbacks" : ""}\n`);
+  const bye = both[0].peer.bye(1);
+  for (let time = 0; time < 3; time++) ways.send(1, 0, turn, bye);
+  for (; !both[1].alone; turn++) takeTurn(both[1], turn, ways);
+  printed.push("machine 1 is alone\n");
+  for (const { peer, session } of both) {
+    peer.close();
+    session.close();
+  }
+  return printed.join("");
+}
+
+export function watch(library) {
+  const VIEWER = 2;
+  const ways = new Ways(3);
+  let draws = 0n;
+  const newDraw = () => (draws = BigInt.asUintN(64, draws + 0x9e3779b97f4a7c15n));
+  const both = [open(library, 0, newDraw()), open(library, 1, newDraw())];
+  const settings = () => ({ number: 0x1157e2n, draw: newDraw(), host: 0, machines: 2, owners: [0, 1], silentAfter: 5000 });
+  const line = library.line(both[0].session, settings());
+  const viewer = library.viewer(settings());
+  const seen = new Sum();
+  let rows = 0;
+  for (let turn = 0, hasEnded = 0; hasEnded === 0; turn++) {
+    const now = turn * TURN;
+    for (const { me, session, peer } of both) {
+      for (const { from, bytes } of ways.due(me, turn, true))
+        if (from === VIEWER) line.receive(bytes, now);
+        else peer.receive(bytes, now);
+      must(peer.poll(now));
+      if (peer.isRunning) session.turn([wordOf(me, session.frame)]);
+      ways.send(1 - me, me, turn, peer.send(1 - me, now));
+    }
+    const told = line.send(now);
+    if (told !== null) ways.send(VIEWER, 0, turn, told);
+    for (const { bytes } of ways.due(VIEWER, turn, true)) viewer.receive(bytes, now);
+    for (let row = viewer.row(); row !== null; row = viewer.row(), rows++) seen.step(row.words, row.gone);
+    ways.send(0, VIEWER, turn, rows < FRAMES ? viewer.send(now) : viewer.bye());
+    hasEnded = line.look(now).hasEnded;
+  }
+  viewer.close();
+  line.close();
+  for (const { peer, session } of both) {
+    peer.close();
+    session.close();
+  }
+  return `viewer: rows ${rows} state ${seen.state}\n`;
+}
+
+export function guess(library) {
+  const play = (isGuessed) => {
+    const printed = [];
+    const game = new Sum(10, 1000000);
+    const session = library.session({ players: 2, local: [1] }, game);
+    must(session.limitSlots(64));
+    must(session.turn([1]));
+    must(session.turn([1]));
+    const job = isGuessed ? session.guess(2, [3], 3) : null;
+    must(session.turn([1])); // the game goes on meanwhile
+    if (isGuessed) {
+      job.run(new Sum(10, 1000000));
+      must(session.graft(job));
+      printed.push(`job ${job.number}: ${job.states.length} states\n`);
+    }
+    for (let frame = 0; frame < 3; frame++) must(session.remoteInput(2, frame, 3));
+    game.steps = 0;
+    must(session.synchronizeInput());
+    printed.push(`${isGuessed ? "guessed" : "not guessed"}: ${game.steps} frames run again, state ${game.state}\n`);
+    session.close();
+    return printed.join("");
+  };
+  return play(false) + play(true);
+}
+
+/** Nanoseconds of a turn of one of two machines, with a datagram that comes and one that goes: the least of some runs. */
+export function turnsOf(library, turns = 60000, runs = 3) {
+  let least = Infinity;
+  let told = null;
+  for (let run = 0; run < runs; run++) {
+    const both = [0, 1].map((me) => {
+      const game = new Sum(10, 1000000);
+      const session = library.session({ players: 2, local: [me + 1] }, game);
+      return { me, game, session, peer: library.peer(session, { me, machines: 2, owners: [0, 1], number: 7n, draw: me + 1 }), bytes: null };
+    });
+    const from = performance.now();
+    for (let turn = 0; turn < turns; turn++)
+      for (const { me, session, peer, bytes } of both) {
+        const now = turn * TURN;
+        if (bytes !== null) peer.receive(bytes, now);
+        peer.poll(now);
+        if (peer.isRunning) session.turn([turn]);
+        both[1 - me].bytes = peer.send(1 - me, now);
+      }
+    least = Math.min(least, ((performance.now() - from) * 1e6) / turns / 2);
+    told = { frames: both[0].session.frame, states: both.map((it) => it.session.settledRow(turns - 100) !== null) };
+    for (const { peer, session } of both) {
+      peer.close();
+      session.close();
+    }
+  }
+  return { nanoseconds: Math.round(least), ...told };
+}
