@@ -129,7 +129,7 @@ sessions_app games guesses = with_rules line_app (
 abbrev pub match_app : Choices → Choices → App
 match_app games guesses = with_rules (with_rules (sessions_app games guesses) (
     number_rule (codes "peers") (codes "2") 2 8 ∷ stop_rule ∷
-    free_number_rule (codes "hostile") 0 (2 ^ 64 - 1) ∷ [])) picture_rules
+    free_number_rule (codes "hostile") 0 (2 ^ 64 - 1) ∷ free_number_rule (codes "held") 1 8 ∷ [])) picture_rules
 
 abbrev pub synctest_app : Choices → App
 synctest_app games = with_rules (new_app (codes "synctest")) (file_rule ∷ game_rule games ∷ number_rule (codes "frames") (codes "1") 1 8 ∷ explain_rule ∷ [])

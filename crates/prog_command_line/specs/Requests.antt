@@ -196,6 +196,7 @@ pub record AreAsked (rows : List Row) (options : PeersRequest) : Type 0 where
   pub common : options.common ≡ options_named (λ name. first_of name rows)
   pub stops : map (λ text. text.now) options.stops.items ≡ stop_texts rows
   pub hostile : options.hostile ≡ option_map (number_in 64) (first_of (codes "hostile") rows)
+  pub held : options.held ≡ option_map (number_in 8) (first_of (codes "held") rows)
 
 abbrev pub HasOptions : List Row → Request → Type 0
 HasOptions rows (request.Match options) = AreAsked rows options

@@ -44,6 +44,8 @@ pub const STOP: &str = "stop";
 
 pub const HOSTILE: &str = "hostile";
 
+pub const HELD: &str = "held";
+
 pub const PICTURE: &str = "picture";
 
 pub const FROM: &str = "from";
@@ -165,6 +167,7 @@ fn match_command<'a>(
         Argument::Number(PEERS, "N", "2", 2, 8, help::PEERS),
         Argument::Stop,
         Argument::FreeNumber(HOSTILE, "SEED", 0, u64::MAX, help::HOSTILE),
+        Argument::FreeNumber(HELD, "TURNS", 1, 8, help::HELD),
     ];
     let command = sessions_command(alloc, games, guesses)?;
     let command = with_arguments(alloc, command, &arguments)?;

@@ -196,6 +196,15 @@ changed, sealed for another match, or of machines that are gone, and old real on
 and the line on who agrees are the same as without. Old ones of machines that stay are heard again, so what was
 measured may differ.
 
+With `--held TURNS` each machine holds words of others back, unless it has no frame to run again for them: a
+second game runs those frames before the next tick, and then the machine hears the words. After so many turns it
+hears them in any case. A table more says how long words were held back:
+
+  words held     how many words of others were, for a turn or more
+  turns each     for how many turns, on average
+  at most 2      how many of a hundred of them were for at most two turns
+  jobs           how many jobs were run for them
+
 With `--picture OUT.svg` the match is drawn too, as the first machine that stays saw it: the players' words
 frame by frame, its rollbacks, and the states that were saved at one of them.
 
@@ -208,6 +217,9 @@ pub const STOP: &str =
     "Machine M goes silent for ever at this frame; for several machines it is given several times";
 
 pub const HOSTILE: &str = "Hostile datagrams come too, drawn from this seed";
+
+pub const HELD: &str =
+    "Words of others are held back for at most so many turns, 1 to 8, until a helper has run their frames";
 
 pub const PICTURE: &str =
     "Draws the play as an SVG into this file; one that is there is overwritten only if it is a picture";

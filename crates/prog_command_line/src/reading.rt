@@ -9,8 +9,8 @@ ghost use Rattle.prog_command_line.specs.Commands.{rollduel_app};
 ghost use Rattle.prog_command_line.specs.Requests.{AreAsked, HasOptions, HasWorkers, asked_by, asked_in, asked_named, asked_of, frames_named, game_named, guesses_named, is_named, live_named, number_in, number_named, options_named, path_named, path_of, picture_by, picture_in, picture_of, rows_by, rows_in, stop_texts, task_named, work_named, workers_named};
 
 use crate::commands::{
-    DELAY, EXPLAIN, FILE, FRAMES, GAME, GUESSES, HOLD, HOSTILE, JOBS, LATE, LOST, PEERS, SEED,
-    STOP, THRESHOLD, WORKERS, games, guesses, program_command,
+    DELAY, EXPLAIN, FILE, FRAMES, GAME, GUESSES, HELD, HOLD, HOSTILE, JOBS, LATE, LOST, PEERS,
+    SEED, STOP, THRESHOLD, WORKERS, games, guesses, program_command,
 };
 use crate::picture::{frame_of, option_fault, picture_of};
 use crate::request::{
@@ -140,6 +140,7 @@ fn peers_of<'a>(alloc: Global, found: &ArgMatches<'a>) -> Result<PeersRequest<'a
         common: options_of(found),
         stops,
         hostile: hostile_of(found),
+        held: held_of(found),
     })
 }
 
@@ -157,6 +158,15 @@ fn hostile_of(found: &ArgMatches<'_>) -> Option<u64>
 {
     match found.get_str(HOSTILE) {
         Some(value) => Some(value.parse::<u64>().unwrap_or(0)),
+        None => None,
+    }
+}
+
+fn held_of(found: &ArgMatches<'_>) -> Option<u8>
+    ensures { result ≡ option_map (number_in 8) (first_value (found_of found.now) (codes "held")) }
+{
+    match found.get_str(HELD) {
+        Some(value) => Some(value.parse::<u8>().unwrap_or(0)),
         None => None,
     }
 }

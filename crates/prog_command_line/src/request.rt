@@ -98,4 +98,6 @@ pub struct PeersRequest<'a> {
     pub stops: Vec<&'a str>,
     /// The seed of the hostile datagrams, if there are any.
     pub hostile: Option<u64>,
+    /// For how many turns words are held back at most, if they are.
+    pub held: Option<u8>,
 }

@@ -18,13 +18,21 @@ use Rattle.prog_observer.specs.declared.hearing.Hearing.{Hearing}
 pub record HeardWords : Type 0 where
   pub player : ℕ
   pub words : List Heard
+  -- the turn in which each came, and in which the session was told it, as far as turns were noted
+  pub came : List ℕ
+  pub told : List ℕ
 
 abbrev pub heard_words : Hearing → HeardWords
-heard_words hearing = record { player = hearing.player; words = hearing.words.items }
+heard_words hearing = record {
+  player = hearing.player;
+  words = hearing.words.items;
+  came = hearing.came.items;
+  told = hearing.told.items;
+}
 
 -- of a player nothing was heard
 abbrev pub nothing_heard : ℕ → HeardWords
-nothing_heard player = record { player = player; words = [] }
+nothing_heard player = record { player = player; words = []; came = []; told = [] }
 
 -- a word that comes in a frame
 abbrev pub heard_in : ℕ → ℕ → Heard
@@ -45,14 +53,25 @@ word_shown (Some Gone) = None
 abbrev pub shown_at : Rows → ℕ → ℕ → Option ℕ
 shown_at firsts frame player = word_shown (cell_in firsts frame (player - 1))
 
--- a cell of what was heard and what was shown: where nothing was shown, what was heard, and where nothing was heard, what was
--- shown
-abbrev pub cell_by : Option Heard → Option ℕ → Option Cell
-cell_by (Some heard) shown = Some (record { word = heard.word; shown = unwrap_or shown heard.word; heard = Some heard.at })
-cell_by None shown = option_map (λ word. record { word = word; shown = word; heard = None }) shown
+-- for how many turns a word was held back that came in one turn and was told in another
+abbrev pub turns_between : Option ℕ → Option ℕ → ℕ
+turns_between (Some came) (Some told) = told - came
+turns_between _ _ = 0
+
+-- for how many turns the word of a frame was
+abbrev pub turns_at : HeardWords → ℕ → ℕ
+turns_at heard frame = turns_between (slice_get heard.came frame) (slice_get heard.told frame)
+
+-- a cell of what was heard, and was held back for so many turns, and of what was shown: where nothing was shown, what was heard, and
+-- where nothing was heard, what was shown
+abbrev pub cell_by : Option Heard → ℕ → Option ℕ → Option Cell
+cell_by (Some heard) held shown =
+    Some (record { word = heard.word; shown = unwrap_or shown heard.word; heard = Some heard.at; held = held })
+cell_by None held shown = option_map (λ word. record { word = word; shown = word; heard = None; held = 0 }) shown
 
 abbrev pub cell_at : HeardWords → Rows → ℕ → Option Cell
-cell_at heard firsts frame = cell_by (slice_get heard.words frame) (shown_at firsts frame heard.player)
+cell_at heard firsts frame =
+    cell_by (slice_get heard.words frame) (turns_at heard frame) (shown_at firsts frame heard.player)
 
 -- the cells from frame 0 on, up to the first frame that has none
 abbrev pub cells_of : HeardWords → Rows → List Cell

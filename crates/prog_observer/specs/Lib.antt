@@ -1,4 +1,5 @@
 pub mod Changes
 pub mod Drawing
 pub mod Hearing
+pub mod Holding
 pub mod Observing

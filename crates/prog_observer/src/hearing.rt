@@ -1,12 +1,16 @@
 //! When the words of a player came.
-ghost use Rattle.std.specs.Prelude.{◌≡◌, IfOk, OnOk};
-ghost use Rattle.prog_observer.specs.Hearing.{after_hearing, cell_at, cells_of, heard_words, lane_of, lane_shown, shown_at};
+ghost use Rattle.std.specs.Prelude.{◌≡◌, ◌-◌, ◌++◌, ◌==◌, IfOk, OnOk, count_by, length, replicate};
+ghost use Rattle.prog_observer.specs.Hearing.{after_hearing, cell_at, cells_of, heard_words, lane_of, lane_shown, shown_at, turns_at};
+ghost use Rattle.prog_observer.specs.Holding.{after_turn, held_words_of, soon_words_of, turns_of};
 
 use prog_picture::{Cell, Lane};
 use roll_frame::{Cell as Shown, Row};
 use roll_game::Game;
-use roll_session::Session;
+use roll_session::{RemoteWord, Session};
 use std::alloc::{AllocError, Global};
+
+/// For how many turns a word may be held back so that it still counts as told soon.
+pub const SOON: u32 = 2;
 
 /// A word of a player.
 #[derive(Clone, Copy, Debug, PartialEq, Eq)]
@@ -21,6 +25,9 @@ pub struct Heard {
 pub struct Hearing {
     pub player: u8,
     pub words: Vec<Heard>,
+    /// The turn in which each of the words came, and in which the session was told it, as far as turns were noted.
+    pub came: Vec<u32>,
+    pub told: Vec<u32>,
 }
 
 impl Hearing {
@@ -36,6 +43,62 @@ impl Hearing {
             self.words.push(Heard { word, at })?;
         }
         Ok(())
+    }
+
+    /// Notes that by the end of this turn those words have come that the session was told, and the player's among those that wait.
+    /// If memory runs out, a part of it may have been noted.
+    pub fn note_turn<G: Game>(
+        &mut self,
+        session: &Session<G>,
+        waiting: &[RemoteWord],
+        turn: u32,
+    ) -> Result<(), AllocError>
+        ensures { OnOk result (heard_words self.new
+            ≡ after_turn session.now waiting.now turn (heard_words self.old)) }
+    {
+        let told = session.confirmed(self.player).unwrap_or(0) as usize;
+        let wait = count_of(waiting, self.player);
+        push_until(&mut self.told, told, turn)?;
+        push_until(&mut self.came, told.saturating_add(wait), turn)
+    }
+
+    /// For how many turns the word of a frame was held back.
+    pub fn turns(&self, frame: usize) -> u32
+        ensures { result ≡ turns_at (heard_words self.now) frame }
+    {
+        match (self.told.get(frame), self.came.get(frame)) {
+            (Some(told), Some(came)) => told.saturating_sub(*came),
+            _ => 0,
+        }
+    }
+
+    /// How many words were held back for a turn or more.
+    pub fn held_words(&self) -> usize
+        ensures { result ≡ held_words_of (heard_words self.now) }
+    {
+        (0..self.told.len())
+            .filter(|frame| self.turns(*frame) > 0)
+            .count()
+    }
+
+    /// How many of these were for at most two.
+    pub fn soon_words(&self) -> usize
+        ensures { result ≡ soon_words_of (heard_words self.now) }
+    {
+        (0..self.told.len())
+            .filter(|frame| self.turns(*frame) > 0 && self.turns(*frame) <= SOON)
+            .count()
+    }
+
+    /// For how many turns all of them were, together; 2^64 - 1 if they are more.
+    pub fn held_turns(&self) -> u64
+        ensures { result ≡ turns_of (heard_words self.now) }
+    {
+        let mut all = 0u64;
+        for frame in 0..self.told.len() {
+            all = all.saturating_add(u64::from(self.turns(frame)));
+        }
+        all
     }
 
     /// The player's lane, where these rows were shown as their frames were first run.
@@ -74,6 +137,7 @@ impl Hearing {
                 word: heard.word,
                 shown: shown.unwrap_or(heard.word),
                 heard: Some(heard.at),
+                held: self.turns(frame),
             }),
             None => {
                 let word = shown?;
@@ -81,10 +145,29 @@ impl Hearing {
                     word,
                     shown: word,
                     heard: None,
+                    held: 0,
                 })
             }
         }
     }
+}
+
+/// How many of these words are a player's.
+fn count_of(words: &[RemoteWord], player: u8) -> usize
+    ensures { result ≡ count_by (λ word. word.player == player) words.now }
+{
+    words.iter().filter(|word| word.player == player).count()
+}
+
+/// Notes a turn at the end of a list until it has so many.
+fn push_until(turns: &mut Vec<u32>, count: usize, turn: u32) -> Result<(), AllocError>
+    ensures { OnOk result (turns.new.items
+        ≡ turns.old.items ++ replicate (count - length turns.old.items) turn) }
+{
+    for _ in 0..count.saturating_sub(turns.len()) {
+        turns.push(turn)?;
+    }
+    Ok(())
 }
 
 /// The word that was shown of a player as a frame was first run, if it was run and the player hadn't left.

@@ -1,7 +1,8 @@
 //! A session that is watched while it is played.
-ghost use Rattle.std.specs.Prelude.{◌≡◌, ◌++◌, ◌-◌, ◌∷◌, [], IfOk, IfErr, OnOk, drop, false, map, min, nat_lt, true, is_none, if◌then◌else◌};
+ghost use Rattle.std.specs.Prelude.{◌≡◌, ◌++◌, ◌+◌, ◌-◌, ◌∷◌, [], IfOk, IfErr, OnOk, drop, false, map, min, nat_lt, true, is_none, if◌then◌else◌};
 ghost use Rattle.std.specs.Option.{option_map, option_to_list};
 ghost use Rattle.prog_observer.specs.Hearing.{after_hearing, heard_words, lane_in, lane_shown};
+ghost use Rattle.prog_observer.specs.Holding.{after_turn, capped, held_totals, held_words_of, soon_words_of, turns_of};
 ghost use Rattle.roll_frame.specs.Core.{settled as settled_frame};
 ghost use Rattle.prog_observer.specs.Observing.{has_rolled, is_better, is_deeper, is_rollback, is_wanted};
 
@@ -10,7 +11,7 @@ use crate::hearing::Hearing;
 use prog_picture::{Lane, Roll, Scene, Window};
 use roll_frame::{Claim, Refusal, Row};
 use roll_game::Game;
-use roll_session::{Call, Log, Logged, Session};
+use roll_session::{Call, Log, Logged, RemoteWord, Session};
 use std::alloc::{AllocError, Global};
 
 /// What was seen of a session by now. It is watched from its start on, after each of its calls, or after several of which
@@ -32,6 +33,17 @@ pub struct Observer {
     pub rolls: Vec<Roll>,
     /// The roll whose saved states are to be shown.
     sample: Option<Sample>,
+}
+
+/// What is counted of words that were held back from a session.
+#[derive(Clone, Copy, Debug, Default, PartialEq, Eq)]
+pub struct HeldTotals {
+    /// Words that were held back for a turn or more.
+    pub words: u64,
+    /// For how many turns, all together.
+    pub turns: u64,
+    /// Those of the words that were for at most two.
+    pub soon: u64,
 }
 
 /// A roll and its claim.
@@ -57,6 +69,8 @@ impl Observer {
             hearings.push(Hearing {
                 player: place + 1,
                 words: Vec::new(alloc),
+                came: Vec::new(alloc),
+                told: Vec::new(alloc),
             })?;
         }
         Ok(Observer {
@@ -175,6 +189,31 @@ impl Observer {
         }
     }
 
+    /// A turn of the session's program is over, in which these words wait that were held back from it: notes which words have come
+    /// by now, and which of them the session was told. Turns are counted from 0. Where none is noted, no word was held back.
+    ///
+    /// # Errors
+    ///
+    /// `AllocError` if the allocator has no room. Then a part may have been noted.
+    pub fn note_turn<G: Game>(
+        &mut self,
+        session: &Session<G>,
+        waiting: &[RemoteWord],
+        turn: u32,
+    ) -> Result<(), AllocError>
+        ensures { OnOk result (observed self.new ≡ record (observed self.old)
+            { heard = map (after_turn session.now waiting.now turn) (observed self.old).heard }) }
+    {
+        note_turn_of_all(&mut self.hearings, session, waiting, turn)
+    }
+
+    /// What is counted of the words that were held back.
+    pub fn held(&self) -> HeldTotals
+        ensures { result ≡ held_totals (observed self.now).heard }
+    {
+        held_of(&self.hearings)
+    }
+
     /// What was seen, as a picture shows it. The title is any text.
     ///
     /// # Errors
@@ -206,6 +245,48 @@ impl Observer {
             tree: claim_of(self.sample),
         })
     }
+}
+
+impl HeldTotals {
+    /// The same, and what is counted of a player's words.
+    fn with(&self, hearing: &Hearing) -> HeldTotals
+        ensures words { result.words ≡ capped (self.now.words + held_words_of (heard_words hearing.now)) }
+        ensures turns { result.turns ≡ capped (self.now.turns + turns_of (heard_words hearing.now)) }
+        ensures soon { result.soon ≡ capped (self.now.soon + soon_words_of (heard_words hearing.now)) }
+    {
+        HeldTotals {
+            words: self.words.saturating_add(hearing.held_words() as u64),
+            turns: self.turns.saturating_add(hearing.held_turns()),
+            soon: self.soon.saturating_add(hearing.soon_words() as u64),
+        }
+    }
+}
+
+/// What is counted of all players' words that were held back.
+fn held_of(hearings: &[Hearing]) -> HeldTotals
+    ensures { result ≡ held_totals (map heard_words hearings.now) }
+{
+    let mut all = HeldTotals::default();
+    for hearing in hearings {
+        all = all.with(hearing);
+    }
+    all
+}
+
+/// Notes of all players' words what has come by the end of a turn, and what the session was told.
+fn note_turn_of_all<G: Game>(
+    hearings: &mut [Hearing],
+    session: &Session<G>,
+    waiting: &[RemoteWord],
+    turn: u32,
+) -> Result<(), AllocError>
+    ensures { OnOk result (map heard_words hearings.new
+        ≡ map (after_turn session.now waiting.now turn) (map heard_words hearings.old)) }
+{
+    for hearing in hearings.iter_mut() {
+        hearing.note_turn(session, waiting, turn)?;
+    }
+    Ok(())
 }
 
 /// Notes the words of all players that have come since, in this frame.

@@ -11,10 +11,11 @@ use Rattle.std.proofs.lemmas.List.Elements.{All-map}
 use Rattle.std.specs.List.{All, range_with_len}
 use Rattle.roll_member.specs.Joined.{Joined}
 use Rattle.roll_session.specs.Seen.{Step}
-use Rattle.prog_peers.specs.Agreement.{AreAlike, HasAgreed, HaveAgreed, IfStays, IsOver, Seated}
-use Rattle.prog_peers.specs.Options.{first_staying}
+use Rattle.prog_machine.specs.Over.{IsOver}
+use Rattle.prog_peers.specs.Agreement.{AreAlike, HasAgreed, HaveAgreed, IfStays, Seated}
+use Rattle.prog_machine.specs.Options.{first_staying}
 use Rattle.prog_peers.specs.Sights.{Cost, IsOfFirst, IsPictured, IsPlayed, Watched, asked_picture, cost_by, cost_of, seats, told_cost}
-use Rattle.prog_peers.specs.declared.options.PeersOptions.{PeersOptions}
+use Rattle.prog_machine.specs.declared.options.PeersOptions.{PeersOptions}
 use Rattle.prog_peers.specs.declared.playing.End.{End}
 use Rattle.prog_peers.specs.declared.playing.End.TheVariants.{Over}
 use Rattle.prog_peers.specs.declared.report.Report.{Report}

@@ -1,17 +1,16 @@
 -- What the rollbacks of machines cost, as it is told of one after another.
 use Rattle.std.proofs.Common.{◌≡◌, ◌∙◌, ◌<◌, ◌≤◌, ◌+◌, ◌++◌, ℕ, List, [], ◌∷◌, ap, get_or, length, map, sym, take}
 use Rattle.std.proofs.lemmas.List.{map-append, take_all, take_more}
+use Rattle.prog_observer.specs.Holding.{held_totals}
 use Rattle.prog_observer.specs.Observing.{Observed}
 use Rattle.prog_peers.specs.Sights.{Cost, cost_by, told_cost}
 use Rattle.prog_peers.specs.Totals.{totals_of}
 use Rattle.prog_peers.specs.declared.report.Outcome.{Outcome}
-use Rattle.prog_peers.specs.declared.totals.Totals.{Totals}
 
 pub same_cost : (outcome : Outcome) (me : ℕ) (seen : Observed) → outcome.machine ≡ me → outcome.totals ≡ totals_of seen.rolls
-    → told_cost outcome ≡ cost_by me seen
-same_cost outcome me seen number totals =
-    ap (λ (n : ℕ). let cost : Cost = record { machine = n; totals = outcome.totals } in cost) number
-    ∙ ap (λ (t : Totals). let cost : Cost = record { machine = me; totals = t } in cost) totals
+    → outcome.held ≡ held_totals seen.heard → told_cost outcome ≡ cost_by me seen
+same_cost outcome me seen number totals held =
+    λ i. record { machine = number i; totals = totals i; held = held i }
 
 -- one more of those that are told
 pub told_next : {M : Type 0} (cost : M → Cost) (before after : List Outcome) (machines : List M) (k : ℕ) (machine : M) (outcome : Outcome)

@@ -7,8 +7,9 @@ use Rattle.roll_member.specs.Joined.{Joined}
 use Rattle.roll_mesh.specs.Machines.{left_at}
 use Rattle.roll_mesh.specs.declared.limits.TheConstants.{PLAYER_LIMIT}
 use Rattle.roll_session.specs.Seen.{Seen, Step}
-use Rattle.prog_peers.specs.Options.{stays}
-use Rattle.prog_peers.specs.declared.options.PeersOptions.{PeersOptions}
+use Rattle.prog_machine.specs.Options.{stays}
+use Rattle.prog_machine.specs.Over.{IsOver}
+use Rattle.prog_machine.specs.declared.options.PeersOptions.{PeersOptions}
 
 -- each player left both at the same frame, or neither
 abbrev pub IsLeftAlike : Joined → Joined → Type 0
@@ -19,13 +20,6 @@ IsLeftAlike first second = (player : ℕ) → player < PLAYER_LIMIT
 pub record AreAlike (step : Step) (first second : Joined) : Type 0 where
   pub agree : Agree step first.session second.session
   pub left : IsLeftAlike first second
-
--- a machine's session is that of a match with these options, and it has played the last frame that they ask for, and settled it
-abbrev pub IsOver : PeersOptions → Seen → Type 0
-IsOver options s =
-    (s.settings.limit ≡ options.common.frames) × (s.settings.threshold ≡ options.common.threshold)
-    × (s.settings.players ≡ options.machines)
-    × (options.common.frames ≤ s.core.frame) × (options.common.frames ≤ settled s.core)
 
 -- the number of a machine, and what it plays
 pub record Seated : Type 0 where

@@ -1,9 +1,3 @@
 pub mod Agreement
-pub mod Digests
-pub mod Guessing
 pub mod Totals
-pub mod Waiting
-pub mod Options
-pub mod Pressing
 pub mod Sights
-pub mod Stops

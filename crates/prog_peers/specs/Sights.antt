@@ -1,15 +1,18 @@
 -- What is told and drawn of a match.
-use Rattle.std.specs.Prelude.{◌≡◌, ℕ, List, map, IfSome, IsTrue, Option, Some, slice_get, string_bytes}
+use Rattle.std.specs.Prelude.{◌≡◌, ℕ, List, map, IfSome, IsTrue, Option, None, Some, slice_get, string_bytes}
 use Rattle.std.specs.Option.{option_and_then}
 use Rattle.std.specs.declared.alloc.Global.{Global}
 use Rattle.std.specs.declared.string.String.{String}
+use Rattle.prog_holding.specs.declared.holding.Holding.{Holding}
 use Rattle.prog_observer.specs.Drawing.{IsDrawn}
+use Rattle.prog_observer.specs.Holding.{held_totals}
 use Rattle.prog_observer.specs.Observing.{Observed}
+use Rattle.prog_observer.specs.declared.observer.HeldTotals.{HeldTotals}
 use Rattle.prog_picture.specs.declared.scene.Sight.{Sight}
 use Rattle.prog_peers.specs.Agreement.{HaveAgreed, Seated}
-use Rattle.prog_peers.specs.Options.{first_staying}
+use Rattle.prog_machine.specs.Options.{first_staying}
 use Rattle.prog_peers.specs.Totals.{totals_of}
-use Rattle.prog_peers.specs.declared.options.PeersOptions.{PeersOptions}
+use Rattle.prog_machine.specs.declared.options.PeersOptions.{PeersOptions}
 use Rattle.prog_peers.specs.declared.playing.End.TheVariants.{Over}
 use Rattle.prog_peers.specs.declared.report.Outcome.{Outcome}
 use Rattle.prog_peers.specs.declared.report.Report.{Report}
@@ -31,16 +34,22 @@ pub record IsOfFirst (options : PeersOptions) (machines : List Watched) (picture
   pub there : slice_get machines place ≡ Some machine
   pub drawn : IsDrawn machine.seated.member.session machine.seen picture
 
--- a machine, and what its rollbacks cost
+-- a machine, what its rollbacks cost, and how long words were held back from it
 pub record Cost : Type 0 where
   pub machine : ℕ
   pub totals : Totals
+  pub held : HeldTotals
 
 abbrev pub told_cost : Outcome → Cost
-told_cost outcome = record { machine = outcome.machine; totals = outcome.totals }
+told_cost outcome = record { machine = outcome.machine; totals = outcome.totals; held = outcome.held }
 
 abbrev pub cost_by : ℕ → Observed → Cost
-cost_by me seen = record { machine = me; totals = totals_of seen.rolls }
+cost_by me seen = record { machine = me; totals = totals_of seen.rolls; held = held_totals seen.heard }
+
+-- how many jobs were run at a machine for words that were held back
+abbrev pub jobs_of : Option Holding → ℕ
+jobs_of None = 0
+jobs_of (Some holding) = holding.jobs
 
 abbrev pub cost_of : Watched → Cost
 cost_of machine = cost_by machine.seated.me machine.seen

@@ -4,8 +4,7 @@ ghost use Rattle.std.specs.List.{All};
 ghost use Rattle.prog_peers.specs.Agreement.{AreAlike, IfStays, IsLeftAlike};
 ghost use Rattle.roll_peer.specs.Peered.{beside};
 
-use crate::machine::Machine;
-use crate::options::PeersOptions;
+use prog_machine::{Machine, PeersOptions};
 use prog_sides::{agreed, agrees};
 use roll_game::Shown;
 use roll_mesh::PLAYER_LIMIT;

@@ -3,22 +3,11 @@
 #![tactic(auto)]
 
 mod agreement;
-mod claims;
-mod digest;
-mod enemy;
-mod guessing;
-mod machine;
-mod options;
-mod other;
 mod picture;
 mod playing;
 mod program;
 mod report;
-mod settings;
-mod stops;
 mod table;
 mod totals;
 
-pub use options::{PeersFault, PeersOptions};
 pub use program::run;
-pub use stops::read_stops;

@@ -6,9 +6,9 @@ ghost use Rattle.prog_observer.specs.Drawing.{IsDrawn};
 ghost use Rattle.prog_peers.specs.Sights.{IsOfFirst};
 ghost use Rattle.roll_peer.specs.Peered.{beside};
 
-use crate::machine::Machine;
-use crate::options::PeersOptions;
 use crate::report::first_that_stays;
+use crate::table::push_turns;
+use prog_machine::{Machine, PeersOptions};
 use prog_observer::Observer;
 use prog_picture::{Window, draw};
 use prog_sides::{MatchOptions, game_name};
@@ -111,6 +111,7 @@ fn title_of(alloc: Global, options: &PeersOptions, me: u8) -> Result<String, All
         "Match of {machines} machines, {frames} frames of {game}, seed {seed}"
     )?;
     push_network(&mut title, common)?;
+    push_turns(&mut title, options)?;
     let player = me.saturating_add(1);
     write!(title, "; seen by player {player}")?;
     push_stops(&mut title, options)?;

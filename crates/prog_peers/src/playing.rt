@@ -1,12 +1,12 @@
 //! A match, from its first tick to its last.
 ghost use Rattle.std.specs.Prelude.{◌≡◌, [], IfOk, IsTrue, OnOk, map};
 ghost use Rattle.std.specs.List.{All};
-ghost use Rattle.prog_peers.specs.Agreement.{IfStays, IsOver};
+ghost use Rattle.prog_machine.specs.Over.{IsOver};
+ghost use Rattle.prog_peers.specs.Agreement.{IfStays};
 ghost use Rattle.prog_peers.specs.declared.playing.End.TheVariants.{Over as IsEnded};
 ghost use Rattle.roll_peer.specs.Peered.{beside};
 
-use crate::machine::Machine;
-use crate::options::PeersOptions;
+use prog_machine::{Machine, PeersOptions};
 use roll_frame::Refusal;
 use roll_game::Shown;
 use roll_simnet::{Conditions, Draws, Network};

@@ -2,16 +2,15 @@
 ghost use Rattle.std.specs.Prelude.{◌≡◌, ◌⊎◌, ◌≤◌, ◌++◌, ◌∷◌, [], IfErr, IfOk, IfSome, IsSome, IsTrue, MatchOption, None, OnOk, map};
 ghost use Rattle.prog_parts.specs.declared.fault.PlayFault.TheVariants.{Write as CannotWrite};
 ghost use Rattle.prog_peers.specs.Agreement.{HasAgreed};
-ghost use Rattle.prog_peers.specs.Options.{fault_of};
+ghost use Rattle.prog_machine.specs.Options.{fault_of};
 ghost use Rattle.prog_peers.specs.Sights.{IsPictured, IsPlayed, asked_picture};
 ghost use Rattle.std.specs.List.{range_with_len};
 
-use crate::machine::Machine;
-use crate::options::PeersOptions;
 use crate::picture::{observer_of, picture_of};
 use crate::playing::Table;
 use crate::report::{Report, state_of, sum_up};
 use crate::table::push_report;
+use prog_machine::{Machine, PeersOptions};
 use prog_parts::{Ending, GameName, PlayFault};
 use prog_picture::{Sight, Window};
 use prog_sides::{Engines, duel, push_refused, tally};

@@ -2,22 +2,23 @@
 ghost use Rattle.std.specs.Prelude.{◌≡◌, ◌<◌, ◌-◌, length, map, IfOk, IfSome, IsTrue, Some};
 ghost use Rattle.std.specs.List.{All};
 ghost use Rattle.prog_peers.specs.Agreement.{AreAlike, IfStays};
+ghost use Rattle.prog_observer.specs.Holding.{held_totals};
 ghost use Rattle.prog_observer.specs.Observing.{observed};
-ghost use Rattle.prog_peers.specs.Guessing.{grafts_in, is_graft_at};
-ghost use Rattle.prog_peers.specs.Options.{first_staying};
-ghost use Rattle.prog_peers.specs.Sights.{cost_by, told_cost};
+ghost use Rattle.prog_machine.specs.Guessing.{grafts_in, is_graft_at};
+ghost use Rattle.prog_machine.specs.Options.{first_staying};
+ghost use Rattle.prog_peers.specs.Sights.{cost_by, jobs_of, told_cost};
 ghost use Rattle.prog_peers.specs.Totals.{totals_of};
 ghost use Rattle.prog_peers.specs.declared.playing.End.TheVariants.{Over as IsEnded};
 ghost use Rattle.roll_member.specs.Joined.{Joined};
 ghost use Rattle.roll_peer.specs.Peered.{beside};
 
 use crate::agreement::all_agree;
-use crate::claims::Claims;
-use crate::machine::{Counts, Machine};
-use crate::options::PeersOptions;
 use crate::playing::End;
 use crate::totals::{self, Totals};
 use arrayvec::ArrayVec;
+use prog_holding::Holding;
+use prog_machine::{Claims, Counts, Machine, PeersOptions};
+use prog_observer::HeldTotals;
 use roll_frame::Refusal;
 use roll_game::Shown;
 use roll_mesh::MACHINE_LIMIT;
@@ -46,6 +47,9 @@ pub struct Outcome {
     pub jobs: u64,
     pub taken: u64,
     pub ahead: u64,
+    /// What is counted of the words that it held back, and the jobs that its helper ran for them.
+    pub held: HeldTotals,
+    pub held_jobs: u64,
     /// The frame at which its player left, for the machines that stay.
     pub left: Option<u32>,
     pub counts: Counts,
@@ -164,6 +168,8 @@ fn outcome_of<G: Shown>(machine: &Machine<G>, first: &Machine<G>) -> Result<Outc
     ensures counts { IfOk result (λ outcome. outcome.counts ≡ machine.now.counts) }
     ensures totals { IfOk result (λ outcome. outcome.totals ≡ totals_of (observed machine.now.observer).rolls) }
     ensures claims { IfOk result (λ outcome. outcome.claims ≡ machine.now.claims) }
+    ensures held { IfOk result (λ outcome. outcome.held ≡ held_totals (observed machine.now.observer).heard) }
+    ensures held_jobs { IfOk result (λ outcome. outcome.held_jobs ≡ jobs_of machine.now.holding) }
 {
     let rolls = machine.observer.rolls.as_slice();
     if rolls.len() > u32::MAX as usize {
@@ -178,12 +184,24 @@ fn outcome_of<G: Shown>(machine: &Machine<G>, first: &Machine<G>) -> Result<Outc
         jobs: session.game().counts().copies.saturating_sub(1),
         taken: count_grafts(session.log()) as u64,
         ahead: machine.helper.counts().turns,
+        held: machine.observer.held(),
+        held_jobs: jobs_of(&machine.holding),
         left: first.peer.mesh().left(machine.me),
         counts: machine.counts,
         totals: totals::sum_up(rolls),
         claims: machine.claims,
         measured: measure(machine),
     })
+}
+
+/// How many jobs were run for words that were held back.
+fn jobs_of(holding: &Option<Holding>) -> u64
+    ensures { result ≡ jobs_of holding.now }
+{
+    match holding {
+        Some(holding) => holding.jobs,
+        None => 0,
+    }
 }
 
 /// How many branches were taken in.

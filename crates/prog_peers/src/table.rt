@@ -1,9 +1,10 @@
 //! What is printed of a match.
 
-use crate::options::PeersOptions;
 use crate::playing::End;
 use crate::report::{Outcome, Report};
 use crate::totals::Totals;
+use prog_machine::PeersOptions;
+use prog_observer::HeldTotals;
 use prog_sides::{Guesses, game_name};
 use std::alloc::AllocError;
 use std::fmt::Write;
@@ -21,6 +22,9 @@ pub fn push_report(
     push_heading(out, options)?;
     push_played(out, options, report)?;
     push_rolled(out, options, report)?;
+    if options.held.is_some() {
+        push_held(out, report)?;
+    }
     push_measured(out, report)?;
     if options.hostile.is_some() {
         push_hostile(out, report)?;
@@ -46,9 +50,19 @@ fn push_heading(out: &mut String, options: &PeersOptions) -> Result<(), AllocErr
     )?;
     let (delay, threshold) = (common.delay, common.threshold);
     write!(out, "delay {delay}, threshold {threshold}")?;
-    match common.guesses {
-        Guesses::Off => writeln!(out, "\n"),
-        _ => writeln!(out, ", guesses best, {} jobs a tick\n", common.jobs),
+    if options.makes_guesses() {
+        write!(out, ", guesses best, {} jobs a tick", common.jobs)?;
+    }
+    push_turns(out, options)?;
+    out.push_str("\n\n")
+}
+
+/// For how many turns words are held back, if they are.
+pub fn push_turns(out: &mut String, options: &PeersOptions) -> Result<(), AllocError> {
+    match options.held {
+        Some(1) => out.push_str(", words held back for at most 1 turn"),
+        Some(turns) => write!(out, ", words held back for at most {turns} turns"),
+        None => Ok(()),
     }
 }
 
@@ -135,6 +149,28 @@ fn push_guesses(out: &mut String, outcome: &Outcome) -> Result<(), AllocError> {
         ..
     } = *outcome;
     write!(out, "{jobs:>10}{taken:>10}{ahead:>11}")
+}
+
+/// For how long words were held back, a line for each machine.
+fn push_held(out: &mut String, report: &Report) -> Result<(), AllocError> {
+    writeln!(out, "machine words held  turns each  at most 2      jobs")?;
+    for outcome in &report.outcomes {
+        push_turns_of(out, outcome)?;
+    }
+    out.push('\n')
+}
+
+fn push_turns_of(out: &mut String, outcome: &Outcome) -> Result<(), AllocError> {
+    let HeldTotals { words, turns, soon } = outcome.held;
+    let (machine, jobs) = (outcome.machine, outcome.held_jobs);
+    write!(out, "{machine:<7}{words:>11}")?;
+    if words == 0 {
+        return writeln!(out, "{:>12}{:>11}{jobs:>10}", "-", "-");
+    }
+    let hundredths = turns.saturating_mul(100).saturating_add(words / 2) / words;
+    let (whole, tenths) = (hundredths / 100, hundredths % 100 / 10);
+    let (last, soon) = (hundredths % 10, soon.saturating_mul(100) / words);
+    writeln!(out, "{whole:>9}.{tenths}{last}{soon:>11}{jobs:>10}")
 }
 
 /// A frame, or `-` where there is none.
@@ -245,6 +281,12 @@ fn push_line(
     push_each(out, "ahead", report, |outcome| outcome.ahead)?;
     push_each(out, "claims", report, |outcome| outcome.claims.checked)?;
     push_each(out, "wrong", report, |outcome| outcome.claims.wrong)?;
+    if options.held.is_some() {
+        push_each(out, "held_words", report, |outcome| outcome.held.words)?;
+        push_each(out, "held_turns", report, |outcome| outcome.held.turns)?;
+        push_each(out, "held_soon", report, |outcome| outcome.held.soon)?;
+        push_each(out, "held_jobs", report, |outcome| outcome.held_jobs)?;
+    }
     let agree = if report.is_well() { "yes" } else { "no" };
     write!(out, " settled={} agree={agree} state=", report.settled)?;
     push_text(out, state)
@@ -260,6 +302,9 @@ fn push_options(out: &mut String, options: &PeersOptions) -> Result<(), AllocErr
     match common.guesses {
         Guesses::Off => write!(out, " guesses=none")?,
         Guesses::Best => write!(out, " guesses=best jobs={}", common.jobs)?,
+    }
+    if let Some(turns) = options.held {
+        write!(out, " held={turns}")?;
     }
     write!(out, " game={}", game_name(common.game))
 }

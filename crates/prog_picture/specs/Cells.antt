@@ -23,10 +23,13 @@ abbrev pub is_known : Look → Bool
 is_known Known = true
 is_known look = false
 
--- whether a word goes on with a run: both were known, and are the same
+-- whether a word was known in time, and wasn't held back
+abbrev pub is_plain : CellMark → Bool
+is_plain mark = is_known (look_of mark) && mark.cell.held == 0
+
+-- whether a word goes on with a run: both were known and not held back, and are the same
 abbrev pub goes_on : Run → CellMark → Bool
-goes_on run mark = is_known (look_of run.first)
-    && (is_known (look_of mark) && run.first.cell.word == mark.cell.word)
+goes_on run mark = is_plain run.first && (is_plain mark && run.first.cell.word == mark.cell.word)
 
 -- the word of a frame, unless none is known
 abbrev pub mark_at : List Cell → ℕ → Option CellMark

@@ -1,7 +1,7 @@
 //! The words of a lane.
 ghost use Rattle.std.specs.Prelude.{◌≡◌, ◌≤◌, IfOk, OnOk};
 ghost use Rattle.prog_picture.specs.Bars.{AddsNoBar, LacksBars};
-ghost use Rattle.prog_picture.specs.Cells.{cell_marks, goes_on, look_of, mark_at};
+ghost use Rattle.prog_picture.specs.Cells.{cell_marks, goes_on, is_plain, look_of, mark_at};
 ghost use Rattle.prog_picture.specs.Views.{IsView};
 
 use crate::scene::Cell;
@@ -54,16 +54,21 @@ impl CellMark {
             Some(_) => Look::Wrong,
         }
     }
+
+    /// Whether the word was known in time and wasn't held back.
+    fn is_plain(&self) -> bool
+        ensures { result ≡ is_plain self.now }
+    {
+        self.look() == Look::Known && self.cell.held == 0
+    }
 }
 
 impl Run {
-    /// Whether a word goes on with a run: both were known, and are the same.
+    /// Whether a word goes on with a run: both were known and not held back, and are the same.
     fn goes_on(&self, mark: &CellMark) -> bool
         ensures { result ≡ goes_on self.now mark.now }
     {
-        self.first.look() == Look::Known
-            && mark.look() == Look::Known
-            && self.first.cell.word == mark.cell.word
+        self.first.is_plain() && mark.is_plain() && self.first.cell.word == mark.cell.word
     }
 }
 
@@ -117,6 +122,7 @@ pub fn push_run(out: &mut String, run: &Run, view: &View, colour: usize) -> Resu
     push_late(out, &first, view)?;
     push_word(out, "class=\"n\" y=\"15\"", first.cell.word, x, wide)?;
     push_wrong(out, &first, x, wide)?;
+    push_held(out, first.cell.held, x, wide)?;
     out.push_str("</g>\n")
 }
 
@@ -143,16 +149,36 @@ fn push_told(out: &mut String, run: &Run) -> Result<(), AllocError>
     ensures { OnOk result (AddsNoBar out.old out.new) }
 {
     let CellMark { frame, cell } = run.first;
-    let Cell { word, shown, heard } = cell;
+    let word = cell.word;
     if run.count > 1 {
         let last = frame.saturating_add(run.count - 1);
         return write!(out, "frames {frame} to {last}: word {word}");
     }
     write!(out, "frame {frame}: word {word}")?;
-    match heard {
+    push_heard(out, &run.first)?;
+    push_turns(out, cell.held)
+}
+
+/// Writes when a word came, unless it was known in time.
+fn push_heard(out: &mut String, mark: &CellMark) -> Result<(), AllocError>
+    ensures { OnOk result (AddsNoBar out.old out.new) }
+{
+    let (frame, shown) = (mark.frame, mark.cell.shown);
+    match mark.cell.heard {
         None => out.push_str(", predicted: the true one hasn't come"),
         Some(heard) if frame < heard => write!(out, ", shown {shown}, heard in frame {heard}"),
         Some(_) => Ok(()),
+    }
+}
+
+/// Writes for how many turns a word was held back, if it was.
+fn push_turns(out: &mut String, held: u32) -> Result<(), AllocError>
+    ensures { OnOk result (AddsNoBar out.old out.new) }
+{
+    match held {
+        0 => Ok(()),
+        1 => out.push_str(", held back for 1 turn"),
+        held => write!(out, ", held back for {held} turns"),
     }
 }
 
@@ -208,6 +234,20 @@ fn push_wrong(out: &mut String, mark: &CellMark, x: u32, wide: u32) -> Result<()
     }
     write!(out, "<path class=\"r\" d=\"M{x} 19h{wide}v3h-{wide}z\"/>")?;
     push_word(out, "class=\"z\" y=\"-3\"", mark.cell.shown, x, wide)
+}
+
+/// Marks a word that was held back: a dark corner, a third as wide as the word at most.
+fn push_held(out: &mut String, held: u32, x: u32, wide: u32) -> Result<(), AllocError>
+    ensures { OnOk result (AddsNoBar out.old out.new) }
+{
+    if held == 0 {
+        return Ok(());
+    }
+    let corner = (wide / 3).max(2).min(7);
+    write!(
+        out,
+        "<path class=\"j\" d=\"M{x} 0h{corner}l-{corner} {corner}z\"/>"
+    )
 }
 
 /// Writes a word's number in this style, if there is room for it.

@@ -7,7 +7,7 @@ ghost use Rattle.prog_picture.specs.Views.{IsView};
 
 use crate::cells::{CELL_HEIGHT, HEARD_DEPTH, cell_marks, push_run, runs};
 use crate::heading::{height_of, push_title, push_view, title_lines};
-use crate::legend::{LEGEND_HEIGHT, push_legend};
+use crate::legend::{LEGEND_HEIGHT, push_held_meaning, push_legend};
 use crate::page::{COLOURS, push_axis, push_colours, push_head};
 use crate::rolls::{ROW_HEIGHT, ROWS, RollMark, push_rolls, roll_marks, worst};
 use crate::scene::{Lane, Scene};
@@ -205,6 +205,18 @@ fn tree_top(bottom: u32) -> u32
     bottom + LEGEND_HEIGHT + 54
 }
 
+/// Whether a word was held back.
+fn has_held(scene: &Scene) -> bool {
+    for lane in &scene.lanes {
+        for cell in &lane.cells {
+            if cell.held > 0 {
+                return true;
+            }
+        }
+    }
+    false
+}
+
 /// All that stands after the rollbacks.
 fn end(alloc: Global, scene: &Scene, palette: &[u32], nodes: &[Node]) -> Result<String, AllocError>
     ensures { IfOk result (λ end. LacksBars (string_bytes end)) }
@@ -213,6 +225,9 @@ fn end(alloc: Global, scene: &Scene, palette: &[u32], nodes: &[Node]) -> Result<
     let bottom = rolls_top(lane_count(scene)) + ROWS * ROW_HEIGHT;
     out.push_str("</g>\n")?;
     push_legend(&mut out, bottom + 22)?;
+    if has_held(scene) {
+        push_held_meaning(&mut out, bottom + 22)?;
+    }
     push_colours(&mut out, palette, bottom + LEGEND_HEIGHT + 22)?;
     if let Some(claim) = &scene.tree {
         push_tree(&mut out, claim, nodes, tree_top(bottom))?;

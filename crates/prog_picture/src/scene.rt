@@ -10,6 +10,8 @@ pub struct Cell {
     pub shown: u32,
     /// The session's frame in which the word was heard: a later one than its own if it came late. None if it hasn't come.
     pub heard: Option<u32>,
+    /// For how many turns it was held back from the session; 0 if the session heard it as it came.
+    pub held: u32,
 }
 
 /// The words of a player.

@@ -3,8 +3,8 @@ use Rattle.std.proofs.Common.{◌∙◌, List, ap, subst}
 use Rattle.clap.specs.Walk.{Row, Text}
 use Rattle.prog_command_line.specs.Requests.{AreAsked}
 use Rattle.prog_command_line.specs.declared.request.PeersRequest.{PeersRequest}
-use Rattle.prog_peers.specs.Stops.{no_stops, NamesStops}
-use Rattle.prog_peers.specs.declared.options.PeersOptions.{PeersOptions}
+use Rattle.prog_machine.specs.Stops.{no_stops, NamesStops}
+use Rattle.prog_machine.specs.declared.options.PeersOptions.{PeersOptions}
 use Rattle.rollduel.specs.Requests.{AreNamed, IsOf, options_as}
 
 -- the options of a match are those that the arguments name
@@ -14,5 +14,6 @@ named_by rows asked options are is = record {
   common = is.common ∙ ap options_as are.common;
   stops = subst (λ (texts : List Text). NamesStops no_stops texts options.stops) are.stops is.stops;
   hostile = is.hostile ∙ are.hostile;
+  held = is.held ∙ are.held;
   fine = is.fine;
 }

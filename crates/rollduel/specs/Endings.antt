@@ -8,7 +8,7 @@ use Rattle.prog_parts.specs.declared.fault.PlayFault.TheVariants.{NoMemory, Read
 use Rattle.prog_parts.specs.declared.ending.Ending.{Ending}
 use Rattle.clap.specs.Walk.{Row, Text}
 use Rattle.prog_peers.specs.Agreement.{HasAgreed}
-use Rattle.prog_peers.specs.declared.options.PeersOptions.{PeersOptions}
+use Rattle.prog_machine.specs.declared.options.PeersOptions.{PeersOptions}
 use Rattle.std.specs.declared.alloc.Global.{Global}
 use Rattle.std.specs.declared.string.String.{String}
 use Rattle.prog_explain.specs.Pictured.{IsShown}

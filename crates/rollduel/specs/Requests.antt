@@ -23,9 +23,9 @@ use Rattle.roll_live.specs.declared.program.Live.{Live}
 use Rattle.prog_sides.specs.declared.options.Guesses.{Guesses}
 use Rattle.prog_sides.specs.declared.options.Guesses.TheVariants.{Best, Off}
 use Rattle.prog_sides.specs.declared.options.MatchOptions.{MatchOptions}
-use Rattle.prog_peers.specs.Options.{fault_of}
-use Rattle.prog_peers.specs.Stops.{no_stops, NamesStops}
-use Rattle.prog_peers.specs.declared.options.PeersOptions.{PeersOptions}
+use Rattle.prog_machine.specs.Options.{fault_of}
+use Rattle.prog_machine.specs.Stops.{no_stops, NamesStops}
+use Rattle.prog_machine.specs.declared.options.PeersOptions.{PeersOptions}
 use Rattle.prog_picture.specs.declared.scene.Window.{Window}
 use Rattle.rollduel.specs.declared.command_line.Request.{Request}
 use Rattle.rollduel.specs.declared.command_line.Request.TheVariants as request
@@ -76,6 +76,7 @@ pub record IsOf (asked : PeersRequest) (options : PeersOptions) : Type 0 where
   pub common : options.common ≡ options_as asked.common
   pub stops : NamesStops no_stops (map (λ text. text.now) asked.stops.items) options.stops
   pub hostile : options.hostile ≡ asked.hostile
+  pub held : options.held ≡ asked.held
   pub fine : fault_of options ≡ None
 
 -- what is asked for: something with a text, the path of which is none where it is standard input, and whether that is
@@ -131,6 +132,7 @@ pub record AreNamed (rows : List Row) (options : PeersOptions) : Type 0 where
   pub common : options.common ≡ options_as (options_named (λ name. first_of name rows))
   pub stops : NamesStops no_stops (stop_texts rows) options.stops
   pub hostile : options.hostile ≡ option_map (number_in 64) (first_of (codes "hostile") rows)
+  pub held : options.held ≡ option_map (number_in 8) (first_of (codes "held") rows)
   pub fine : fault_of options ≡ None
 
 abbrev pub HasOptions : List Row → Request → Type 0

@@ -15,8 +15,8 @@ use prog_command_line::{
     PictureRequest as AskedPicture, PictureWindow, Request as Asked, TextRequest as AskedText,
     TextTask,
 };
+use prog_machine::{PeersFault, PeersOptions, read_stops};
 use prog_parts::{GameName, Task};
-use prog_peers::{PeersFault, PeersOptions, read_stops};
 use prog_picture::Window;
 use prog_sides::{Guesses, MatchOptions};
 use roll_live::Live;
@@ -163,6 +163,7 @@ fn peers_of(asked: &PeersRequest<'_>) -> Result<PeersOptions, PeersFault>
         common: options_of(&asked.common),
         stops,
         hostile: asked.hostile,
+        held: asked.held,
     };
     match options.fault() {
         None => Ok(options),

@@ -13,4 +13,5 @@ returns c =
       common = c.options_of.ensures ∙ ap options_named (λ i id. first_value-rows found id i);
       stops = c.in_ok-stops.ensures;
       hostile = c.hostile_of.ensures ∙ ap (option_map (number_in 64)) (first_value-rows found (codes "hostile"));
+      held = c.held_of.ensures ∙ ap (option_map (number_in 8)) (first_value-rows found (codes "held"));
     }

@@ -11,7 +11,8 @@ loop-machine-preserved g c =
     let grown : c.try_push.new.self.items ≡ c.loop-machine.outcomes.items ++ c.in_ok-outcome_of.field-0 ∷ [] = search rules in
     told_next (λ machine. cost_by machine.me (observed machine.observer)) c.loop-machine.outcomes.items c.try_push.new.self.items
     c.args.machines.now c.loop-machine.machine-index machine outcome c.loop-machine-test.true c.machine-item.is grown
-    (same_cost outcome machine.me (observed machine.observer) c.in_ok-outcome_of.ensures.machine c.in_ok-outcome_of.ensures.totals)
+    (same_cost outcome machine.me (observed machine.observer) c.in_ok-outcome_of.ensures.machine c.in_ok-outcome_of.ensures.totals
+    c.in_ok-outcome_of.ensures.held)
     c.loop-machine.invariant
 
 pub returns : goal.returns

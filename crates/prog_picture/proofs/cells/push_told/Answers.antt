@@ -5,11 +5,5 @@ use Rattle.prog_picture.proofs.cells.push_told.Goals as goal
 pub returns-then-run-gt1 : goal.returns-then-run-gt1
 returns-then-run-gt1 c = search (rules, bare)
 
-pub returns-in-None : goal.returns-in-None
-returns-in-None c = search (rules, bare)
-
-pub returns-in-Some : goal.returns-in-Some
-returns-in-Some c = search (rules, bare)
-
-pub returns-in-Some-2 : goal.returns-in-Some-2
-returns-in-Some-2 c = search (rules, bare)
+pub returns : goal.returns
+returns c = search (rules, bare)

@@ -1,5 +1,5 @@
 use Rattle.std.proofs.Common.{◌∙◌, map, refl, subst, sym}
-use Rattle.prog_peers.specs.Stops.{no_stops, NamesStops}
+use Rattle.prog_machine.specs.Stops.{no_stops, NamesStops}
 use Rattle.rollduel.proofs.command_line.peers_of.Goals as goal
 
 pub returns-in-None : goal.returns-in-None
@@ -8,5 +8,6 @@ returns-in-None c = record {
   common = c.options_of.ensures;
   stops = subst (λ texts. NamesStops no_stops (map (λ text. text.now) texts) c.in_ok-stops.stops) c.deref.ensures.value c.in_ok-stops.ensures;
   hostile = refl;
+  held = refl;
   fine = sym c.fault.ensures ∙ c.in-None.is;
 }

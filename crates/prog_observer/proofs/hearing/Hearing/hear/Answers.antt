@@ -23,6 +23,8 @@ loop-frame-preserved g c =
     let heard : List Heard = c.loop-frame.self.words.items in
     record {
       player = c.loop-frame.invariant.player;
+      came = c.loop-frame.invariant.came;
+      told = c.loop-frame.invariant.told;
       words =
           ap (λ ys. ys ++ rest) c.in_ok-push.ensures.items ∙ ap (λ w. (heard ++ heard_in at w ∷ []) ++ rest) word
           ∙ heard_more player at t heard _ known c.loop-frame.invariant.words;
@@ -36,4 +38,9 @@ returns g c =
     c.unwrap_or-known.ensures ∙ ap (λ o. unwrap_or o 0) c.confirmed.ensures in
     let all = heard_all player c.args.at c.loop-frame.frame c.min-first.result c.unwrap_or-known.result old.words.items
     c.loop-frame.self.words.items (omega arith) (omega arith) count c.loop-frame.invariant.words in
-    λ i. record { player = c.loop-frame.invariant.player i; words = all i }
+    λ i. record {
+      player = c.loop-frame.invariant.player i;
+      words = all i;
+      came = c.loop-frame.invariant.came i;
+      told = c.loop-frame.invariant.told i;
+    }

@@ -1,5 +1,6 @@
 use Rattle.std.proofs.Common.{◌≤◌, arith, length, rules}
-use Rattle.prog_peers.specs.Agreement.{IfStays, IsOver}
+use Rattle.prog_machine.specs.Over.{IsOver}
+use Rattle.prog_peers.specs.Agreement.{IfStays}
 use Rattle.prog_peers.proofs.Alls.{all_done, all_next}
 use Rattle.roll_peer.specs.Peered.{beside}
 use Rattle.prog_peers.proofs.playing.Table.is_over.Goals as goal

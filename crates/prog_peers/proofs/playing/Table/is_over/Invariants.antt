@@ -1,6 +1,7 @@
 use Rattle.std.proofs.Common.{take}
 use Rattle.std.specs.List.{All}
-use Rattle.prog_peers.specs.Agreement.{IfStays, IsOver}
+use Rattle.prog_machine.specs.Over.{IsOver}
+use Rattle.prog_peers.specs.Agreement.{IfStays}
 use Rattle.roll_peer.specs.Peered.{beside}
 use Rattle.prog_peers.proofs.playing.Table.is_over.Given as goal
 

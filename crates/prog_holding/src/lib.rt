@@ -1,0 +1,10 @@
+//! A machine of a simulated match that holds words of others back from its session, until a helper has run their frames.
+#![tactic(auto)]
+
+mod branches;
+mod holding;
+mod line;
+
+pub use branches::take_in;
+pub use holding::{Holding, is_turn_count};
+pub use line::{hand_over, hear, note_settled, send, take_turn};

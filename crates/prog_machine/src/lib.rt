@@ -1,0 +1,17 @@
+//! A machine of a match over a bad network in one process: what it hears, plays and sends in a tick, and what is counted of it.
+#![tactic(auto)]
+
+mod claims;
+mod digest;
+mod enemy;
+mod guessing;
+mod machine;
+mod options;
+mod other;
+mod settings;
+mod stops;
+
+pub use claims::Claims;
+pub use machine::{Counts, Machine};
+pub use options::{PeersFault, PeersOptions};
+pub use stops::read_stops;

@@ -1,0 +1,624 @@
+//! One machine of a match, and what it does in a tick.
+ghost use Rattle.std.specs.Prelude.{◌≡◌, ◌↔◌, ◌⊎◌, ◌<◌, ◌+◌, ◌-◌, ◌^◌, [], IfOk, IfSome, IsTrue, MatchOption, OnOk, false, if◌then◌else◌, is_none, is_some, min, not, true};
+ghost use Rattle.std.specs.Int.{is_in_range};
+ghost use Rattle.prog_sides.specs.Options.{IsPlayable};
+ghost use Rattle.prog_machine.specs.Over.{IsOver};
+ghost use Rattle.prog_holding.specs.Branches.{HasMore};
+ghost use Rattle.prog_machine.specs.Options.{makes_guesses};
+ghost use Rattle.prog_machine.specs.Pressing.{pressed};
+ghost use Rattle.prog_machine.specs.Waiting.{after_holding, waited_once};
+ghost use Rattle.prog_observer.specs.Observing.{after_watch, has_rolled, observed};
+ghost use Rattle.roll_frame.specs.declared.refusal.Refusal.TheVariants.{PredictionThreshold as TooFarAhead};
+ghost use Rattle.roll_session.specs.Changes.{after_local, local_refusal};
+
+use crate::claims::Claims;
+use crate::digest::digest_of;
+use crate::enemy::{Enemy, Trick};
+use crate::guessing::guess_best;
+use crate::options::PeersOptions;
+use crate::other::Other;
+use crate::settings::match_settings;
+use prog_holding::{Holding, hand_over, hear, note_settled, send, take_turn};
+use prog_observer::{Observer, has_rolled};
+use prog_sides::{Engines, drawn, word_at};
+use roll_frame::{Refusal, Settings, SettingsFault};
+use roll_game::Shown;
+use roll_mesh::MACHINE_LIMIT;
+use roll_peer::{Ignored, MatchSettings, OpenRefusal, Peer, PeerEvent, Received};
+use roll_session::Session;
+use roll_simnet::{Draws, Letter, Network, Route};
+use std::alloc::Global;
+
+/// The number of the stream from which the words of machine 0 are drawn; the others follow.
+const FIRST_STREAM: u64 = 16;
+/// How many hostile datagrams come before each real one.
+const HOSTILE: u32 = 50;
+/// The most events that wait at a peer.
+const EVENT_LIMIT: u32 = 64;
+/// The most datagrams that are heard in a tick.
+const LETTER_LIMIT: u32 = 4_096;
+
+/// What is counted of a machine.
+#[derive(Clone, Copy, Debug, Default, PartialEq, Eq)]
+pub struct Counts {
+    /// Real datagrams that it sent, and their bytes.
+    pub sent: u64,
+    pub bytes: u64,
+    /// Real datagrams that came and weren't heard.
+    pub ignored: u64,
+    /// Hostile datagrams that came.
+    pub hostile: u64,
+    /// Those of them that were heard, and may be: real ones that were heard before, of machines that aren't gone.
+    pub again: u64,
+    /// Those of them that were heard, and should not have been: all others.
+    pub fooled: u64,
+    /// How often another machine told of another state than this one had.
+    pub desyncs: u64,
+    /// Ticks in which it waited: it was too far ahead of the others' words, or of the others, as its peer advised.
+    pub waited: u64,
+}
+
+/// A machine: a session, and the network beside it.
+#[derive(Drop)]
+pub struct Machine<G: Shown> {
+    pub session: Session<G>,
+    pub peer: Peer,
+    /// A second engine of the game, which tells states as text, and runs guesses ahead.
+    pub helper: G,
+    pub me: u8,
+    /// Its words of all frames.
+    pub words: Vec<u32>,
+    /// Whether it has gone silent.
+    pub is_silent: bool,
+    /// How many ticks more it waits for the others, as its peer advised.
+    wait: u32,
+    pub counts: Counts,
+    /// How many frames are settled whose state was digested last.
+    noted: u32,
+    enemy: Option<Enemy>,
+    /// The words of others that it holds back from its session, if it holds any back.
+    pub holding: Option<Holding>,
+    /// What it saw of the other players, if it guesses their words.
+    others: Vec<Other>,
+    /// What was seen of its session.
+    pub observer: Observer,
+    /// What came of the claims of its session's rolls.
+    pub claims: Claims,
+}
+
+/// What a machine is made of before its session.
+#[derive(Drop)]
+struct Prepared {
+    settings: Settings,
+    words: Vec<u32>,
+    others: Vec<Other>,
+}
+
+impl<G: Shown + Drop> Machine<G> {
+    /// A machine before the first tick.
+    pub fn new(
+        alloc: Global,
+        options: &PeersOptions,
+        me: u8,
+        engines: Engines<G>,
+        observer: Observer,
+    ) -> Result<Machine<G>, Refusal>
+        ensures { IfOk result (λ machine. machine.me ≡ me) }
+    {
+        let Prepared {
+            settings,
+            words,
+            others,
+        } = match prepare(alloc, options, me) {
+            Ok(prepared) => prepared,
+            Err(why) => {
+                drop(engines);
+                drop(observer);
+                return Err(why);
+            }
+        };
+        let Engines {
+            game,
+            opening,
+            helper,
+        } = engines;
+        match start(alloc, options, me, settings, game, opening) {
+            Ok((session, peer)) => Ok(Machine {
+                session,
+                peer,
+                helper,
+                me,
+                words,
+                is_silent: false,
+                wait: 0,
+                counts: Counts::default(),
+                noted: 0,
+                enemy: enemy_of(alloc, options, me),
+                holding: holding_of(options),
+                others,
+                observer,
+                claims: Claims::default(),
+            }),
+            Err(why) => {
+                drop(helper);
+                drop(observer);
+                Err(why)
+            }
+        }
+    }
+
+    /// Whether it has played the last frame of a match with these options, and all words up to it are known.
+    pub fn is_over(&self, options: &PeersOptions) -> bool
+        ensures { IsTrue result ↔ IsOver options.now self.now.session }
+    {
+        let settings = self.session.settings();
+        let last = options.common.frames;
+        settings.limit == last
+            && settings.threshold == options.common.threshold
+            && settings.players == options.machines
+            && last <= self.session.frame()
+            && last <= self.session.settled()
+    }
+
+    /// A tick: it hears what has come, plays on, and sends to each other machine. From the frame at which it stops it does
+    /// nothing.
+    pub fn tick(
+        &mut self,
+        alloc: Global,
+        options: &PeersOptions,
+        network: &mut Network,
+        tick: u32,
+    ) -> Result<(), Refusal>
+        ensures { self.new.me ≡ self.old.me }
+    {
+        if let Some(frame) = options.stop(self.me) {
+            self.is_silent |= frame <= self.session.frame();
+        }
+        if self.is_silent {
+            return Ok(());
+        }
+        let now = clock(tick);
+        let before = self.session.log().len();
+        self.hear_all(alloc, options, network, tick)?;
+        self.play(now)?;
+        self.note_turn(tick)?;
+        self.watch(alloc, before)?;
+        self.note_settled(alloc)?;
+        self.run_held(alloc)?;
+        self.guess(alloc, options)?;
+        self.note_events();
+        self.send_all(options, network, tick)
+    }
+
+    /// Hears the datagrams for it that have come by a tick, and hostile ones before each.
+    fn hear_all(
+        &mut self,
+        alloc: Global,
+        options: &PeersOptions,
+        network: &mut Network,
+        tick: u32,
+    ) -> Result<(), Refusal>
+        ensures { self.new.me ≡ self.old.me }
+    {
+        for _ in 0..LETTER_LIMIT {
+            let Some(letter) = network.receive(self.me, tick) else {
+                return Ok(());
+            };
+            self.hear_hostile(clock(tick))?;
+            self.hear(alloc, options, &letter, clock(tick))?;
+        }
+        Ok(())
+    }
+
+    /// Hears a datagram. If it is taken, its enemy can copy it from then on.
+    fn hear(
+        &mut self,
+        alloc: Global,
+        options: &PeersOptions,
+        letter: &Letter,
+        now: u32,
+    ) -> Result<(), Refusal>
+        ensures { self.new.me ≡ self.old.me }
+    {
+        if !self.receive(&letter.bytes, now)? {
+            self.counts.ignored = self.counts.ignored.saturating_add(1);
+            return Ok(());
+        }
+        if let Some(enemy) = &mut self.enemy {
+            enemy.see(alloc, options, letter)?;
+        }
+        Ok(())
+    }
+
+    /// Receives bytes, and says whether they were heard.
+    fn receive(&mut self, bytes: &[u8], now: u32) -> Result<bool, Refusal>
+        ensures { self.new.me ≡ self.old.me }
+    {
+        match self.take(bytes, now)? {
+            Ok(_) => Ok(true),
+            Err(Ignored::OtherSession) => Err(Refusal::InvalidRequest),
+            Err(_) => Ok(false),
+        }
+    }
+
+    /// Hears bytes, and says what came of them.
+    fn take(&mut self, bytes: &[u8], now: u32) -> Result<Result<Received, Ignored>, Refusal>
+        ensures { self.new.me ≡ self.old.me }
+    {
+        hear(
+            &mut self.holding,
+            &mut self.peer,
+            &mut self.session,
+            bytes,
+            now,
+        )
+    }
+
+    /// Hears what its enemy makes, if it has one.
+    fn hear_hostile(&mut self, now: u32) -> Result<(), Refusal>
+        ensures { self.new.me ≡ self.old.me }
+    {
+        let Some(enemy) = &mut self.enemy else {
+            return Ok(());
+        };
+        let gone = who_is_gone(&self.peer);
+        for _ in 0..HOSTILE {
+            let trick = enemy.make(&gone)?;
+            let heard = hear(
+                &mut self.holding,
+                &mut self.peer,
+                &mut self.session,
+                enemy.bytes(),
+                now,
+            )?;
+            self.counts.note_hostile(trick, heard.is_ok());
+        }
+        Ok(())
+    }
+
+    /// Its session hears the words that it need not wait for; it gives its word, if it is taken, and takes a turn.
+    fn play(&mut self, now: u32) -> Result<(), Refusal>
+        ensures { self.new.me ≡ self.old.me }
+    {
+        hand_over(&mut self.holding, &mut self.session)?;
+        self.press()?;
+        take_turn(&mut self.holding, &mut self.peer, &mut self.session, now)
+    }
+
+    /// Has its observer note which words have come by the end of a tick, and which of them wait, if it holds words back.
+    fn note_turn(&mut self, tick: u32) -> Result<(), Refusal>
+        ensures me { self.new.me ≡ self.old.me }
+        ensures noted { OnOk result (observed self.new.observer
+            ≡ after_holding self.old.holding self.old.session tick (observed self.old.observer)) }
+    {
+        match &self.holding {
+            Some(holding) => {
+                let waiting = holding.held.waiting();
+                Ok(self.observer.note_turn(&self.session, waiting, tick)?)
+            }
+            None => Ok(()),
+        }
+    }
+
+    /// Has its helper run the frames of the words that wait, if any do. They count from the next tick on.
+    fn run_held(&mut self, alloc: Global) -> Result<(), Refusal>
+        ensures me { self.new.me ≡ self.old.me }
+        ensures more { OnOk result (HasMore self.old.session self.new.session) }
+    {
+        match &mut self.holding {
+            Some(holding) => holding.run_ahead(alloc, &mut self.session, &mut self.helper),
+            None => Ok(()),
+        }
+    }
+
+    /// Guesses the others' next words, if it is to: the best are run ahead, and their branches taken in. They count from the next
+    /// tick on.
+    fn guess(&mut self, alloc: Global, options: &PeersOptions) -> Result<(), Refusal>
+        ensures me { self.new.me ≡ self.old.me }
+        ensures more { OnOk result (HasMore self.old.session self.new.session) }
+    {
+        note_all(&mut self.others, &self.session);
+        guess_best(
+            alloc,
+            &mut self.session,
+            &mut self.helper,
+            &self.others,
+            options.common.jobs,
+        )?;
+        Ok(())
+    }
+
+    /// Gives its word once the match has begun, unless it is to wait, or has played its last frame.
+    fn press(&mut self) -> Result<(), Refusal>
+        ensures me { self.new.me ≡ self.old.me }
+        ensures given { OnOk result ((self.new.session ≡ self.old.session)
+            ⊎ (self.new.session ≡ pressed self.old.session self.old.me self.old.words.items)) }
+    {
+        let last = self.session.settings().limit;
+        if !self.peer.is_running() || last <= self.session.frame() || self.is_to_wait() {
+            return Ok(());
+        }
+        let player = self.me.saturating_add(1);
+        let word = word_at(&self.words, self.session.confirmed(player).unwrap_or(0));
+        self.give(player, word)
+    }
+
+    /// Whether it waits for the others to catch up, which is counted.
+    fn is_to_wait(&mut self) -> bool
+        ensures me { self.new.me ≡ self.old.me }
+        ensures waits { IsTrue result ↔ (0 < self.old.wait) }
+        ensures same { (self.new.session ≡ self.old.session) × (self.new.words ≡ self.old.words) }
+        ensures counted { self.new.counts
+            ≡ (if result then waited_once self.old.counts else self.old.counts) }
+    {
+        if self.wait == 0 {
+            return false;
+        }
+        self.wait -= 1;
+        self.counts.note_wait();
+        true
+    }
+
+    /// Gives a word of its player, unless the session is too far ahead: then it waits, which is counted.
+    fn give(&mut self, player: u8, word: u32) -> Result<(), Refusal>
+        ensures me { self.new.me ≡ self.old.me }
+        ensures given { OnOk result (MatchOption (local_refusal self.old.session player)
+            ((self.new.session ≡ after_local self.old.session player word) × (self.new.counts ≡ self.old.counts))
+            (λ why. (why ≡ TooFarAhead) × (self.new.session ≡ self.old.session)
+            × (self.new.counts ≡ waited_once self.old.counts))) }
+    {
+        match self.session.add_local_input(player, word) {
+            Ok(()) => Ok(()),
+            Err(Refusal::PredictionThreshold) => {
+                self.counts.note_wait();
+                Ok(())
+            }
+            Err(why) => Err(why),
+        }
+    }
+
+    /// Has its observer note what became of its session, whose log had so many entries at the beginning of the tick, and checks
+    /// the claim of its roll.
+    fn watch(&mut self, alloc: Global, before: usize) -> Result<(), Refusal>
+        ensures me { self.new.me ≡ self.old.me }
+        ensures seen { let rolled = has_rolled self.old.session.log before in OnOk result
+            (observed self.new.observer ≡ after_watch (observed self.old.observer) self.old.session rolled) }
+        ensures checked { let rolled = has_rolled self.old.session.log before in OnOk result (self.new.claims.checked
+            ≡ (if rolled then min (self.old.claims.checked + 1) (2 ^ 64 - 1) else self.old.claims.checked)) }
+    {
+        let rolled = has_rolled(self.session.log(), before);
+        self.observer.watch(alloc, &self.session, rolled)?;
+        self.claims.check(alloc, &self.session, rolled)
+    }
+
+    /// Notes the digest of its settled state, if more is settled than before.
+    fn note_settled(&mut self, alloc: Global) -> Result<(), Refusal>
+        ensures { self.new.me ≡ self.old.me }
+    {
+        let settled = self.session.settled();
+        if settled == self.noted {
+            return Ok(());
+        }
+        let text = self.settled_text(alloc)?;
+        self.noted = settled;
+        let digest = digest_of(&text);
+        note_settled(&self.holding, &mut self.peer, &self.session, digest)
+    }
+
+    /// The text of its settled state.
+    pub fn settled_text(&mut self, alloc: Global) -> Result<Vec<u8>, Refusal>
+        ensures { self.new.me ≡ self.old.me }
+    {
+        let state = self.helper.load(self.session.settled_state())?;
+        let mut text = Vec::new(alloc);
+        self.helper.text(&state, &mut text)?;
+        Ok(text)
+    }
+
+    /// Takes what its peer tells.
+    fn note_events(&mut self)
+        ensures { self.new.me ≡ self.old.me }
+    {
+        for _ in 0..EVENT_LIMIT {
+            match self.peer.next_event() {
+                None => return,
+                Some(PeerEvent::TimeSync { frames_ahead }) => self.wait = frames_ahead,
+                Some(PeerEvent::Desync { .. }) => {
+                    self.counts.desyncs = self.counts.desyncs.saturating_add(1);
+                }
+                Some(_) => {}
+            }
+        }
+    }
+
+    /// Sends to each other machine.
+    fn send_all(
+        &mut self,
+        options: &PeersOptions,
+        network: &mut Network,
+        tick: u32,
+    ) -> Result<(), Refusal>
+        ensures { self.new.me ≡ self.old.me }
+    {
+        for to in 0..options.machines {
+            self.send(network, to, tick)?;
+        }
+        Ok(())
+    }
+
+    /// Sends to a machine.
+    fn send(&mut self, network: &mut Network, to: u8, tick: u32) -> Result<(), Refusal>
+        ensures { self.new.me ≡ self.old.me }
+    {
+        let sent = send(
+            &mut self.holding,
+            &mut self.peer,
+            &mut self.session,
+            to,
+            clock(tick),
+        )?;
+        if let Some(bytes) = sent {
+            self.counts.note_sent(bytes.len() as u64);
+            let route = Route { from: self.me, to };
+            network.send(route, tick, &bytes)?;
+        }
+        Ok(())
+    }
+}
+
+impl Counts {
+    /// A datagram of so many bytes was sent.
+    fn note_sent(&mut self, bytes: u64) {
+        self.sent = self.sent.saturating_add(1);
+        self.bytes = self.bytes.saturating_add(bytes);
+    }
+
+    /// It waited for a tick.
+    fn note_wait(&mut self)
+        ensures { self.new ≡ waited_once self.old }
+    {
+        self.waited = self.waited.saturating_add(1);
+    }
+
+    /// A hostile datagram came, and was heard or not.
+    fn note_hostile(&mut self, trick: Trick, heard: bool) {
+        self.hostile = self.hostile.saturating_add(1);
+        if heard && trick == Trick::Again {
+            self.again = self.again.saturating_add(1);
+        } else if heard {
+            self.fooled = self.fooled.saturating_add(1);
+        }
+    }
+}
+
+/// The milliseconds from the first tick to another, of which there are 60 a second.
+fn clock(tick: u32) -> u32 {
+    (u64::from(tick) * 50 / 3).min(u64::from(u32::MAX)) as u32
+}
+
+/// Which machines a peer regards as gone.
+fn who_is_gone(peer: &Peer) -> [bool; MACHINE_LIMIT] {
+    let mut gone = [false; MACHINE_LIMIT];
+    for machine in 0..MACHINE_LIMIT {
+        gone[machine] = peer.mesh().is_gone(machine as u8);
+    }
+    gone
+}
+
+/// Notes what was seen of other players since.
+fn note_all<G: Shown>(others: &mut [Other], session: &Session<G>) {
+    for other in others {
+        other.note(session);
+    }
+}
+
+/// What a machine's session is opened with, its words of all frames, and what it guesses by.
+fn prepare(alloc: Global, options: &PeersOptions, me: u8) -> Result<Prepared, Refusal>
+    ensures { OnOk result (IsPlayable options.now.common) }
+{
+    let settings = session_settings(options, me)?;
+    let mut draws = Draws::new(options.common.seed, FIRST_STREAM + u64::from(me));
+    let words = drawn(alloc, &mut draws, &options.common)?;
+    let others = others_of(alloc, options, me)?;
+    Ok(Prepared {
+        settings,
+        words,
+        others,
+    })
+}
+
+/// What is seen of the other players before the first tick: nothing is kept of any where no guesses are made.
+fn others_of(alloc: Global, options: &PeersOptions, me: u8) -> Result<Vec<Other>, Refusal>
+    ensures { makes_guesses options.now.common.guesses ≡ false
+        → IfOk result (λ others. others.items ≡ []) }
+{
+    let mut others = Vec::new(alloc);
+    if !options.makes_guesses() {
+        return Ok(others);
+    }
+    for machine in 0..options.machines {
+        if machine != me {
+            others.push(Other::new(&options.common, machine.saturating_add(1)))?;
+        }
+    }
+    Ok(others)
+}
+
+/// The words that a machine holds back before the first tick: none.
+fn holding_of(options: &PeersOptions) -> Option<Holding>
+    ensures none { MatchOption options.now.held (is_none result ≡ true)
+        (λ turns. is_none result ≡ not (is_in_range 1 8 turns)) }
+    ensures turns { IfSome options.now.held (λ turns. IfSome result (λ holding. holding.held.turns ≡ turns)) }
+{
+    match options.held {
+        Some(turns) => Holding::new(turns),
+        None => None,
+    }
+}
+
+/// Who deceives a machine, if it is to be deceived.
+fn enemy_of(alloc: Global, options: &PeersOptions, me: u8) -> Option<Enemy>
+    ensures { is_some result ≡ is_some options.now.hostile }
+{
+    match options.hostile {
+        Some(seed) => Some(Enemy::new(alloc, seed, options, me)),
+        None => None,
+    }
+}
+
+/// What a machine's session is opened with.
+fn session_settings(options: &PeersOptions, me: u8) -> Result<Settings, Refusal>
+    ensures { OnOk result (IsPlayable options.now.common) }
+{
+    let common = &options.common;
+    if common.lost > 99 || common.hold == 0 || common.frames == 0 {
+        return Err(Refusal::InvalidRequest);
+    }
+    Ok(plain_settings(options, me.saturating_add(1))?)
+}
+
+/// The same, where the network and the words are those of a match.
+fn plain_settings(options: &PeersOptions, player: u8) -> Result<Settings, SettingsFault> {
+    Settings::new(options.machines, &[player])?
+        .with_delay(player, options.common.delay)?
+        .with_threshold(options.common.threshold)?
+        .with_frame_limit(options.common.frames)
+}
+
+/// A session, and beside it the network of the match.
+fn start<G: Shown + Drop>(
+    alloc: Global,
+    options: &PeersOptions,
+    me: u8,
+    settings: Settings,
+    game: G,
+    opening: G::Snapshot,
+) -> Result<(Session<G>, Peer), Refusal> {
+    match Session::start(alloc, game, opening, settings) {
+        Ok(session) => open(alloc, session, match_settings(options, me)),
+        Err(fault) => Err(fault.why),
+    }
+}
+
+/// The network of the match is opened beside a session.
+fn open<G: Shown + Drop>(
+    alloc: Global,
+    session: Session<G>,
+    settings: MatchSettings,
+) -> Result<(Session<G>, Peer), Refusal> {
+    match Peer::open(alloc, &session, settings) {
+        Ok(peer) => Ok((session, peer)),
+        Err(why) => {
+            drop(session);
+            Err(refusal_of(why))
+        }
+    }
+}
+
+/// What refuses a match that can't be opened.
+fn refusal_of(why: OpenRefusal) -> Refusal {
+    match why {
+        OpenRefusal::Join(_) | OpenRefusal::NoDraw => Refusal::InvalidRequest,
+        OpenRefusal::NoMemory => Refusal::NoMemory,
+    }
+}

@@ -1,0 +1,219 @@
+//! What a match of several machines is played with, and why one isn't played.
+ghost use Rattle.std.specs.Prelude.{◌≡◌, count_by};
+ghost use Rattle.std.specs.List.{range_with_len};
+ghost use Rattle.prog_machine.specs.Options.{fault_of, first_staying, has_odd_threshold, has_odd_turns, has_staying, is_odd_stop, lacks_ships, makes_guesses, odd_stop_of, stays, stop_fault_at, stop_of, threshold_for};
+
+use prog_holding::is_turn_count;
+use prog_parts::GameName;
+use prog_sides::{Guesses, MatchOptions};
+use roll_frame::Profile;
+use roll_mesh::MACHINE_LIMIT;
+use thiserror::Error;
+
+/// The most machines that a duel has room for.
+const SHIP_LIMIT: u8 = 4;
+
+/// How a match of several machines is played.
+#[derive(Clone, Copy, Debug, PartialEq, Eq)]
+pub struct PeersOptions {
+    /// How many machines there are, 2 to 8. Machine m, counted from 0, has player m + 1.
+    pub machines: u8,
+    /// What the words are, how the network is, and what the sessions are opened with.
+    pub common: MatchOptions,
+    /// The frame at which a machine goes silent for ever, machine 0 first; none for one that stays.
+    pub stops: [Option<u32>; MACHINE_LIMIT],
+    /// The seed of the hostile datagrams; none where there are no such datagrams.
+    pub hostile: Option<u64>,
+    /// For how many turns at most each machine holds back words of others, 1 to 8; none where it holds none back.
+    pub held: Option<u8>,
+}
+
+/// Why a match of several machines isn't played.
+#[derive(Clone, Copy, Debug, PartialEq, Eq, Error)]
+pub enum PeersFault {
+    /// There are 2 to 8 machines.
+    #[error("--peers takes 2 to 8")]
+    Machines,
+    /// A duel has no ship for a fifth machine.
+    #[error("--game duel has ships for 4 machines at most")]
+    Ships,
+    /// A session of so many players goes so far ahead at most.
+    #[error("--threshold takes 1 to {most} with {machines} machines")]
+    Threshold {
+        /// How far at most.
+        most: u8,
+        /// How many machines there are.
+        machines: u8,
+    },
+    /// Words wait for so many turns.
+    #[error("--held takes 1 to 8")]
+    Held,
+    /// What is to stop has another form.
+    #[error("--stop takes MACHINE:FRAME, as 2:30")]
+    Unreadable,
+    /// There is no such machine.
+    #[error("--stop {machine}: there is no such machine, for they are counted from 0")]
+    NoMachine {
+        /// The machine.
+        machine: u32,
+    },
+    /// A machine stops once.
+    #[error("--stop {machine}: this machine is named twice")]
+    Twice {
+        /// The machine.
+        machine: u8,
+    },
+    /// A machine can't stop before the first frame, or after the last.
+    #[error("--stop {machine}: the frame has to be from 1 to the match's last")]
+    Frame {
+        /// The machine.
+        machine: u8,
+    },
+    /// Some machine has to stay.
+    #[error("--stop: at least one machine has to stay")]
+    NobodyStays,
+}
+
+impl PeersOptions {
+    /// The frame at which a machine goes silent, if it does.
+    pub fn stop(&self, machine: u8) -> Option<u32>
+        ensures { result ≡ stop_of self.now machine }
+    {
+        match self.stops.get(usize::from(machine)) {
+            Some(stop) => *stop,
+            None => None,
+        }
+    }
+
+    /// Whether a machine never goes silent.
+    pub fn stays(&self, machine: u8) -> bool
+        ensures { result ≡ stays self.now machine }
+    {
+        match self.stops.get(usize::from(machine)) {
+            Some(stop) => stop.is_none(),
+            None => false,
+        }
+    }
+
+    /// The first machine that never goes silent.
+    pub fn first_staying(&self) -> Option<u8>
+        ensures { result ≡ first_staying self.now }
+    {
+        (0..self.machines).find(|machine| self.stays(*machine))
+    }
+
+    /// How many machines never go silent.
+    pub fn count_staying(&self) -> usize
+        ensures { result ≡ count_by (stays self.now) (range_with_len 0 self.now.machines) }
+    {
+        (0..self.machines)
+            .filter(|machine| self.stays(*machine))
+            .count()
+    }
+
+    /// Whether some machine never goes silent.
+    fn has_staying(&self) -> bool
+        ensures { result ≡ has_staying self.now }
+    {
+        (0..self.machines).any(|machine| self.stays(machine))
+    }
+
+    /// Why no match is played so, if none is.
+    pub fn fault(&self) -> Option<PeersFault>
+        ensures { result ≡ fault_of self.now }
+    {
+        if self.machines < 2 || usize::from(self.machines) > MACHINE_LIMIT {
+            Some(PeersFault::Machines)
+        } else if lacks_ships(self.common.game, self.machines) {
+            Some(PeersFault::Ships)
+        } else if self.has_odd_threshold() {
+            Some(PeersFault::Threshold {
+                most: most_threshold(self.machines),
+                machines: self.machines,
+            })
+        } else if has_odd_turns(self.held) {
+            Some(PeersFault::Held)
+        } else if !self.has_staying() {
+            Some(PeersFault::NobodyStays)
+        } else {
+            let machine = self.odd_stop()?;
+            Some(self.stop_fault(machine))
+        }
+    }
+
+    /// Whether no session of so many players has this threshold.
+    fn has_odd_threshold(&self) -> bool
+        ensures { result ≡ has_odd_threshold self.now }
+    {
+        let threshold = self.common.threshold;
+        threshold < 1 || u32::from(most_threshold(self.machines)) < threshold
+    }
+
+    /// Whether any guesses are made.
+    pub fn makes_guesses(&self) -> bool
+        ensures { result ≡ makes_guesses self.now.common.guesses }
+    {
+        !matches!(self.common.guesses, Guesses::Off)
+    }
+
+    /// The first machine that is to stop and can't.
+    fn odd_stop(&self) -> Option<u8>
+        ensures { result ≡ odd_stop_of self.now }
+    {
+        (0..MACHINE_LIMIT as u8).find(|machine| self.is_odd_stop(*machine))
+    }
+
+    /// Whether a machine is to stop and can't: there is none, or the match has no such frame.
+    fn is_odd_stop(&self, machine: u8) -> bool
+        ensures { result ≡ is_odd_stop self.now machine }
+    {
+        match self.stop(machine) {
+            Some(frame) => { self.machines <= machine || frame < 1 || self.common.frames < frame }
+            None => false,
+        }
+    }
+
+    /// What is wrong with the stop of such a machine.
+    fn stop_fault(&self, machine: u8) -> PeersFault
+        ensures { result ≡ stop_fault_at self.now machine }
+    {
+        if self.machines <= machine {
+            PeersFault::NoMachine {
+                machine: u32::from(machine),
+            }
+        } else {
+            PeersFault::Frame { machine }
+        }
+    }
+}
+
+/// The greatest threshold of a session of so many players.
+fn most_threshold(machines: u8) -> u8
+    ensures { result ≡ threshold_for machines }
+{
+    if machines > Profile::Ggpo.player_limit() {
+        Profile::Wide.threshold_limit()
+    } else {
+        Profile::Ggpo.threshold_limit()
+    }
+}
+
+/// Whether words are to be held back, and can't be for so many turns.
+fn has_odd_turns(held: Option<u8>) -> bool
+    ensures { result ≡ has_odd_turns held }
+{
+    match held {
+        Some(turns) => !is_turn_count(turns),
+        None => false,
+    }
+}
+
+/// Whether a game hasn't room for so many machines.
+fn lacks_ships(game: GameName, machines: u8) -> bool
+    ensures { result ≡ lacks_ships game machines }
+{
+    match game {
+        GameName::Duel => SHIP_LIMIT < machines,
+        GameName::Tally => false,
+    }
+}

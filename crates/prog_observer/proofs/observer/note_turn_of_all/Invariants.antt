@@ -1,0 +1,11 @@
+use Rattle.std.proofs.Common.{◌≡◌, ◌++◌, drop, map, take}
+use Rattle.prog_observer.specs.Hearing.{heard_words}
+use Rattle.prog_observer.specs.Holding.{after_turn}
+use Rattle.prog_observer.proofs.observer.note_turn_of_all.Given as goal
+
+abbrev pub invariant-loop-hearing : goal.invariant-loop-hearing
+invariant-loop-hearing g l = record {
+  heard : map heard_words l.hearings
+      ≡ map (after_turn l.session l.waiting l.turn) (map heard_words (take l.hearing-index l.initial.hearings))
+      ++ map heard_words (drop l.hearing-index l.initial.hearings);
+}
