@@ -13,7 +13,11 @@
 
 uint64_t ggponet_real_micros(void) {
 #ifdef _WIN32
-    return GetTickCount64() * 1000;
+    LARGE_INTEGER ticks, second;
+    QueryPerformanceFrequency(&second);
+    QueryPerformanceCounter(&ticks);
+    uint64_t now = (uint64_t)ticks.QuadPart, each = (uint64_t)second.QuadPart;
+    return now / each * 1000000 + now % each * 1000000 / each;
 #else
     struct timespec time;
     clock_gettime(CLOCK_MONOTONIC, &time);
