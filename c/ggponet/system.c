@@ -31,7 +31,7 @@ uint32_t ggponet_millis(const GGPOSession *session) { return (uint32_t)(ggponet_
 
 void ggponet_sleep_micros(uint64_t time) {
 #ifdef _WIN32
-    Sleep((DWORD)((time + 999) / 1000));
+    Sleep((DWORD)(time / 1000)); /* 0 lets others run */
 #else
     struct timespec some = { (time_t)(time / 1000000), (long)(time % 1000000) * 1000 };
     nanosleep(&some, NULL);
