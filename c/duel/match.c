@@ -8,6 +8,7 @@
 #include "state.h"
 #include "window.h"
 
+#include <fazgrond.h>
 #include <ggponet.h>
 #include <stdio.h>
 #include <stdlib.h>
@@ -312,6 +313,8 @@ static bool start_casting(int port) {
 int main(int count, char **words) {
     int at = read_options(words, options);
     long port;
+    if (fazgrond_version() >> 8 != FAZGROND_VERSION >> 8) /* the same major and minor number */
+        return fail("this was compiled for another version of the library");
     if (at == 0 || !read_number(words[at], &port) || port > 65535)
         return fail("the options or the port can't be read");
     self.players = (int)self.watch;

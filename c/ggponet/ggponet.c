@@ -4,7 +4,7 @@
 enum {
     MOST_AT_ONCE = 256, /* datagrams that are taken in one go */
     SEND_EVERY = 16667, /* microseconds */
-    WORD = 4,           /* bytes of a word */
+    WORD_BYTES = 4,     /* (WORD is a type on Windows) */
     MOST_BYTES = 16     /* of an input */
 };
 
@@ -22,7 +22,7 @@ static uint64_t hash_of(const char *name, int players, int input_size) {
 
 /* How many words an input has: its last bytes may be none of the game's. */
 static int words_for(int input_size) {
-    return (input_size + WORD - 1) / WORD;
+    return (input_size + WORD_BYTES - 1) / WORD_BYTES;
 }
 
 /* Why no session can be begun for such a game. */
@@ -232,7 +232,7 @@ GGPOErrorCode ggpo_idle(GGPOSession *session, int timeout) {
 static void read_words(const void *values, int size, uint32_t *words) {
     memset(words, 0, MOST_BYTES);
     for (int at = 0; at < size; at++)
-        words[at / WORD] |= (uint32_t)((const uint8_t *)values)[at] << (8 * (at % WORD));
+        words[at / WORD_BYTES] |= (uint32_t)((const uint8_t *)values)[at] << (8 * (at % WORD_BYTES));
 }
 
 int ggponet_all_words(const GGPOSession *session) {
@@ -258,7 +258,7 @@ int ggponet_flags_of(const GGPOSession *session, const fazgrond_row *row) {
 
 static void write_input(const GGPOSession *session, const uint32_t *words, uint8_t *out) {
     for (int at = 0; at < session->input_size; at++)
-        out[at] = (uint8_t)(words[at / WORD] >> (8 * (at % WORD)));
+        out[at] = (uint8_t)(words[at / WORD_BYTES] >> (8 * (at % WORD_BYTES)));
 }
 
 void ggponet_write_row(const GGPOSession *session, const fazgrond_row *row, uint8_t *out) {
@@ -309,7 +309,7 @@ GGPOErrorCode ggpo_add_local_input(GGPOSession *session, GGPOPlayerHandle handle
     if (size != session->input_size)
         return ggponet_refuse(session, GGPO_ERRORCODE_INVALID_REQUEST, "an input of %d bytes; %d were expected", size,
                               session->input_size);
-    uint32_t words[MOST_BYTES / WORD];
+    uint32_t words[MOST_BYTES / WORD_BYTES];
     read_words(values, size, words);
     return session->sync_frames != 0 ? add_to_sync_test(session, handle, words) : add_to_match(session, handle, words);
 }

@@ -2,6 +2,9 @@
 #include "inside.h"
 
 #ifdef _WIN32
+#ifndef SIO_UDP_CONNRESET
+#define SIO_UDP_CONNRESET _WSAIOW(IOC_VENDOR, 12)
+#endif
 typedef WSAPOLLFD pollfd_t;
 #define NO_SOCKET INVALID_SOCKET
 #define close_socket closesocket
@@ -27,9 +30,13 @@ static bool begin_sockets(void) {
 #endif
 }
 
+/* What comes back of a datagram to a machine that isn't there yet is no news: Windows would tell of it in place of a datagram. */
 static bool make_unblocking(socket_t socket) {
 #ifdef _WIN32
     u_long one = 1;
+    BOOL tells = FALSE;
+    DWORD size = 0;
+    WSAIoctl(socket, SIO_UDP_CONNRESET, &tells, sizeof tells, NULL, 0, &size, NULL, NULL);
     return ioctlsocket(socket, FIONBIO, &one) == 0;
 #else
     return fcntl(socket, F_SETFL, O_NONBLOCK) == 0;

@@ -13,7 +13,11 @@
 
 uint64_t ggponet_real_micros(void) {
 #ifdef _WIN32
-    return GetTickCount64() * 1000;
+    LARGE_INTEGER ticks, second;
+    QueryPerformanceFrequency(&second);
+    QueryPerformanceCounter(&ticks);
+    uint64_t now = (uint64_t)ticks.QuadPart, each = (uint64_t)second.QuadPart;
+    return now / each * 1000000 + now % each * 1000000 / each;
 #else
     struct timespec time;
     clock_gettime(CLOCK_MONOTONIC, &time);
@@ -27,7 +31,7 @@ uint32_t ggponet_millis(const GGPOSession *session) { return (uint32_t)(ggponet_
 
 void ggponet_sleep_micros(uint64_t time) {
 #ifdef _WIN32
-    Sleep((DWORD)((time + 999) / 1000));
+    Sleep((DWORD)(time / 1000)); /* 0 lets others run */
 #else
     struct timespec some = { (time_t)(time / 1000000), (long)(time % 1000000) * 1000 };
     nanosleep(&some, NULL);

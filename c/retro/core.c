@@ -1,39 +1,35 @@
 #define _GNU_SOURCE
 #include "core.h"
 
-#include <dlfcn.h>
+#ifdef __GLIBC__
 #include <malloc.h>
+#endif
 #include <stdarg.h>
 #include <stdio.h>
 #include <stdlib.h>
 #include <string.h>
-#include <sys/mman.h>
 #include <time.h>
 #include <unistd.h>
 
 static core *cores[CORES];
 
+#ifndef _WIN32
 /* The clock that cores see stands still, at all machines at the same moment: some make their random numbers of it as they open. The
- * linker has to be told to let them see this one (--export-dynamic-symbol=time). */
+ * linker has to be told to let them see this one (--export-dynamic-symbol=time). Windows' libraries find none but their own. */
 time_t time(time_t *out) {
     enum { NEW_YEAR_2000 = 946684800 };
     if (out != NULL)
         *out = NEW_YEAR_2000;
     return NEW_YEAR_2000;
 }
+#endif
 
 /* What a core asks of its frontend. */
-
-/* Where files go that are of use for a moment. */
-static const char *temporary(void) {
-    const char *folder = getenv("TMPDIR");
-    return folder != NULL ? folder : P_tmpdir;
-}
 
 /* A folder that isn't there, so that nothing that lies in it makes two machines differ. */
 static const char *no_folder(void) {
     static char folder[512];
-    snprintf(folder, sizeof folder, "%.400s/faz-retro-%d", temporary(), (int)getpid());
+    snprintf(folder, sizeof folder, "%.400s/faz-retro-%d", temporary_folder(), (int)getpid());
     return folder;
 }
 
@@ -48,6 +44,11 @@ static void log_line(enum retro_log_level level, const char *format, ...) {
 
 static void log_nothing(enum retro_log_level level, const char *format, ...) { (void)level, (void)format; }
 
+static char *copied(const char *from, size_t length) {
+    char *made = calloc(1, length + 1);
+    return made != NULL ? memcpy(made, from, length) : NULL;
+}
+
 /* The value of an option: what was asked for, if it is one of those that there are ("name; one|two"), else the first of them. */
 static char *choose(core *self, const char *key, const char *values) {
     const char *list = strchr(values, ';');
@@ -59,10 +60,10 @@ static char *choose(core *self, const char *key, const char *values) {
             continue;
         for (const char *one = list; *one != 0; one += one[strcspn(one, "|")] == '|' ? strcspn(one, "|") + 1 : strcspn(one, "|"))
             if (strcspn(one, "|") == strlen(wanted + length + 1) && strncmp(one, wanted + length + 1, strcspn(one, "|")) == 0)
-                return strndup(one, strcspn(one, "|"));
+                return copied(one, strcspn(one, "|"));
         snprintf(self->why, sizeof self->why, "the option %.60s has no such value", key);
     }
-    return strndup(list, strcspn(list, "|"));
+    return copied(list, strcspn(list, "|"));
 }
 
 static void declare_options(core *self, const struct retro_variable *at) {
@@ -208,25 +209,11 @@ static bool refuse(core *self, const char *why) {
     return false;
 }
 
-/* A copy in memory, under a name of its own for as long as it is open: the same file again would be the same instance. */
-static bool load_library(core *self) {
-    const bytes *library = &self->from->library;
-    char name[64];
-    self->file = memfd_create("core", MFD_CLOEXEC);
-    if (self->file < 0 || write(self->file, library->at, library->size) != (ssize_t)library->size)
-        return refuse(self, "there is no room for a copy of the core");
-    snprintf(name, sizeof name, "/proc/self/fd/%d", self->file);
-    self->library = dlopen(name, RTLD_NOW | RTLD_LOCAL);
-    if (self->library == NULL)
-        return refuse(self, "it is no library that can be loaded here");
-    return true;
-}
-
 static bool find_calls(core *self) {
     bool has_all = true;
     void *found;
 #define TAKE(name) \
-    (found = dlsym(self->library, "retro_" #name), memcpy(&self->name, &found, sizeof found), has_all &= found != NULL)
+    (found = library_find(&self->library, "retro_" #name), memcpy(&self->name, &found, sizeof found), has_all &= found != NULL)
     TAKE(init); TAKE(deinit); TAKE(run); TAKE(reset); TAKE(unload_game); TAKE(get_system_info); TAKE(get_system_av_info);
     TAKE(load_game); TAKE(serialize_size); TAKE(serialize); TAKE(unserialize); TAKE(set_controller_port_device);
     TAKE(get_memory_data); TAKE(get_memory_size); TAKE(api_version); TAKE(set_environment); TAKE(set_video_refresh);
@@ -235,16 +222,18 @@ static bool find_calls(core *self) {
 }
 
 bool core_about(core *self, const recipe *from) {
+    const char *why;
     memset(self, 0, sizeof *self);
     self->from = from;
-    self->file = -1;
     self->format = RETRO_PIXEL_FORMAT_0RGB1555;
     while (self->set < CORES && cores[self->set] != NULL)
         self->set++;
     if (self->set == CORES)
         return refuse(self, "there are too many instances");
     cores[self->set] = self;
-    if (!load_library(self) || !find_calls(self))
+    if (!library_open(&self->library, &from->library, &why))
+        return refuse(self, why);
+    if (!find_calls(self))
         return false;
     self->get_system_info(&self->info);
     return true;
@@ -256,7 +245,7 @@ static bool load_game(core *self) {
     struct retro_game_info game = { .path = from->rom_name, .data = from->rom.at, .size = from->rom.size };
     const char *base = strrchr(from->rom_name, '/');
     char name[1024];
-    snprintf(name, sizeof name, "%.400s/faz-retro-%d-%d-%.200s", temporary(), (int)getpid(), self->set,
+    snprintf(name, sizeof name, "%.400s/faz-retro-%d-%d-%.200s", temporary_folder(), (int)getpid(), self->set,
              base != NULL ? base + 1 : from->rom_name);
     if (self->info.need_fullpath) {
         if (!file_write(name, from->rom.at, from->rom.size))
@@ -314,13 +303,22 @@ static bool start(core *self) {
     return true;
 }
 
+/* What the heap gives is set to such bytes, where the C library can do so. */
+static void fill_heap(int with) {
+#ifdef __GLIBC__
+    mallopt(M_PERTURB, with);
+#else
+    (void)with;
+#endif
+}
+
 bool core_open(core *self, const recipe *from) {
     if (!core_about(self, from))
         return false;
     /* What a core takes from the heap and never sets is then mostly 0 in each instance, at each machine. */
-    mallopt(M_PERTURB, 0xff);
+    fill_heap(0xff);
     bool is_open = start(self);
-    mallopt(M_PERTURB, 0);
+    fill_heap(0);
     return is_open;
 }
 
@@ -329,10 +327,7 @@ void core_close(core *self) {
         self->unload_game();
     if (self->is_begun)
         self->deinit();
-    if (self->library != NULL)
-        dlclose(self->library);
-    if (self->file >= 0)
-        close(self->file);
+    library_close(&self->library);
     for (int at = 0; at < self->option_count; at++) {
         free(self->options[at].key);
         free(self->options[at].value);
@@ -342,7 +337,6 @@ void core_close(core *self) {
     if (self->set < CORES && cores[self->set] == self)
         cores[self->set] = NULL;
     memset(self, 0, sizeof *self);
-    self->file = -1;
 }
 
 void core_step(core *self, const uint32_t *words, uint32_t count) {

@@ -2,7 +2,7 @@
 #ifndef RETRO_CORE_H
 #define RETRO_CORE_H
 
-#include "files.h"
+#include "system.h"
 
 #include <libretro.h>
 
@@ -31,8 +31,7 @@ typedef struct core_state {
 
 typedef struct core {
     int set;      /* which set of callbacks it has */
-    int file;     /* its own copy of the library */
-    void *library;
+    library library;
     const recipe *from;
     bool is_begun, has_game;
     bool is_shown;        /* picture and sound of each frame are kept */

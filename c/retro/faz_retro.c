@@ -7,7 +7,6 @@
 
 #include "../duel/options.h"
 
-#include <signal.h>
 #include <stdio.h>
 #include <unistd.h>
 
@@ -84,22 +83,6 @@ static const option options[] = {
 static int fail(const char *why) {
     fprintf(stderr, "faz-retro: %s\n", why);
     return 1;
-}
-
-/* A core that crashes takes this process along: it is said at least. */
-static void on_crash(int number) {
-    static const char text[] = "faz-retro: the core has crashed, or ended the program\n";
-    (void)!write(STDERR_FILENO, text, sizeof text - 1);
-    _exit(128 + number);
-}
-
-static void catch_crashes(void) {
-    static const int signals[] = { SIGSEGV, SIGABRT, SIGBUS, SIGFPE, SIGILL };
-    for (size_t at = 0; at < sizeof signals / sizeof *signals; at++) {
-        struct sigaction old, new = { .sa_handler = on_crash };
-        if (sigaction(signals[at], NULL, &old) == 0 && old.sa_handler == SIG_DFL) /* a sanitizer has its own */
-            sigaction(signals[at], &new, NULL);
-    }
 }
 
 /* What the command line names. */
@@ -391,7 +374,7 @@ static int play_again(void) {
 static int run(void) {
     core_state opening = { 0 };
     int status = 1;
-    catch_crashes();
+    crashes_are_said();
     take_wish();
     if (!open_core(&opening))
         return 1;

@@ -1,9 +1,9 @@
 #define _POSIX_C_SOURCE 200809L
 #include "files.h"
+#include "system.h"
 
 #include "../sha256.h"
 
-#include <errno.h>
 #include <stdio.h>
 #include <stdlib.h>
 #include <string.h>
@@ -39,7 +39,7 @@ bool file_write(const char *path, const void *from, size_t size) {
     if (file == NULL)
         return false;
     bool is_written = fwrite(from, 1, size, file) == size;
-    if (fclose(file) != 0 || !is_written || rename(other, path) != 0) {
+    if (fclose(file) != 0 || !is_written || !file_move(other, path)) {
         remove(other);
         return false;
     }
@@ -130,15 +130,12 @@ bool rom_read(const char *path, const char *extensions, bytes *out, char *name, 
 }
 
 void home_path(const char *name, char *out, size_t room) {
-    const char *home = getenv("FAZ_RETRO_HOME"), *user = getenv("HOME");
-    static const char *const parts[] = { "", "/.local", "/.local/share", "/.local/share/faz-retro" };
+    const char *home = getenv("FAZ_RETRO_HOME");
     char folder[2048];
-    for (int part = 1; home == NULL && part < 4; part++) {
-        snprintf(folder, sizeof folder, "%s%s", user != NULL ? user : ".", parts[part]);
-        mkdir(folder, 0700);
-    }
     if (home != NULL)
         snprintf(folder, sizeof folder, "%s", home);
+    else
+        home_folder(folder, sizeof folder);
     snprintf(out, room, "%s/%s", folder, name);
 }
 

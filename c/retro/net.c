@@ -1,16 +1,24 @@
 #define _DEFAULT_SOURCE
+#define _CRT_RAND_S /* Windows' random bits */
 #include "net.h"
 
 #include "../duel/clock.h"
 
-#include <arpa/inet.h>
-#include <fcntl.h>
-#include <netdb.h>
 #include <stdio.h>
 #include <stdlib.h>
 #include <string.h>
+#ifdef _WIN32
+#include <ws2tcpip.h>
+#ifndef SIO_UDP_CONNRESET
+#define SIO_UDP_CONNRESET _WSAIOW(IOC_VENDOR, 12)
+#endif
+#else
+#include <arpa/inet.h>
+#include <fcntl.h>
+#include <netdb.h>
 #include <sys/random.h>
 #include <unistd.h>
+#endif
 
 typedef struct late {
     struct late *next;
@@ -20,12 +28,37 @@ typedef struct late {
     uint8_t bytes[FAZGROND_DATAGRAM];
 } late;
 
+#ifdef _WIN32
+/* What comes back of a datagram to a machine that isn't there yet is no news: Windows would tell of it in place of a datagram. */
+static bool make_unblocking(socket_t socket) {
+    u_long one = 1;
+    BOOL tells = FALSE;
+    DWORD size = 0;
+    WSAIoctl(socket, SIO_UDP_CONNRESET, &tells, sizeof tells, NULL, 0, &size, NULL, NULL);
+    return ioctlsocket(socket, FIONBIO, &one) == 0;
+}
+
+static void close_socket(socket_t socket) { closesocket(socket); }
+
+/* Sockets have to be begun before a name can be looked up. */
+static bool begin_sockets(void) {
+    WSADATA data;
+    return WSAStartup(MAKEWORD(2, 2), &data) == 0;
+}
+#else
+static bool make_unblocking(socket_t socket) { return fcntl(socket, F_SETFL, O_NONBLOCK) == 0; }
+
+static void close_socket(socket_t socket) { close(socket); }
+
+static bool begin_sockets(void) { return true; }
+#endif
+
 bool net_open(net *self, unsigned short port) {
     address here = { .sin_family = AF_INET, .sin_port = htons(port), .sin_addr.s_addr = htonl(INADDR_ANY) };
-    self->socket = socket(AF_INET, SOCK_DGRAM, 0);
+    self->socket = begin_sockets() ? socket(AF_INET, SOCK_DGRAM, 0) : (socket_t)-1;
+    self->is_open = self->socket != (socket_t)-1;
     self->random = net_draw();
-    return self->socket >= 0 && bind(self->socket, (struct sockaddr *)&here, sizeof here) == 0
-        && fcntl(self->socket, F_SETFL, O_NONBLOCK) == 0;
+    return self->is_open && bind(self->socket, (struct sockaddr *)&here, sizeof here) == 0 && make_unblocking(self->socket);
 }
 
 void net_close(net *self) {
@@ -34,9 +67,9 @@ void net_close(net *self) {
         self->late = one->next;
         free(one);
     }
-    if (self->socket >= 0)
-        close(self->socket);
-    self->socket = -1;
+    if (self->is_open)
+        close_socket(self->socket);
+    self->is_open = false;
 }
 
 uint32_t net_now(const net *self) { return (uint32_t)((uint64_t)clock_micros() * self->speed / 1000); }
@@ -50,7 +83,7 @@ static uint32_t draw_below(net *self, uint32_t below) {
 
 static void send_now(const net *self, const address *to, const uint8_t *bytes, size_t length) {
     /* what can't be sent is lost, as it may be anyway */
-    (void)!sendto(self->socket, bytes, length, 0, (const struct sockaddr *)to, sizeof *to);
+    (void)!sendto(self->socket, (const char *)bytes, length, 0, (const struct sockaddr *)to, sizeof *to);
 }
 
 void net_send(net *self, const address *to, const uint8_t *bytes, size_t length) {
@@ -86,7 +119,7 @@ void net_flush(net *self) {
 long net_next(net *self, address *from, uint8_t *bytes, size_t room) {
     socklen_t size = sizeof *from;
     memset(from, 0, sizeof *from);
-    return (long)recvfrom(self->socket, bytes, room, 0, (struct sockaddr *)from, &size);
+    return (long)recvfrom(self->socket, (char *)bytes, room, 0, (struct sockaddr *)from, &size);
 }
 
 void net_rest(net *self, int64_t micros) {
@@ -109,7 +142,7 @@ bool address_read(const char *text, address *out) {
     const char *colon = strrchr(text, ':');
     struct addrinfo wanted = { .ai_family = AF_INET, .ai_socktype = SOCK_DGRAM }, *found;
     char name[256];
-    if (colon == NULL || colon - text >= (long)sizeof name || strlen(colon + 1) == 0)
+    if (colon == NULL || colon - text >= (long)sizeof name || strlen(colon + 1) == 0 || !begin_sockets())
         return false;
     snprintf(name, sizeof name, "%.*s", (int)(colon - text), text);
     if (getaddrinfo(name, colon + 1, &wanted, &found) != 0)
@@ -123,10 +156,21 @@ bool address_is(const address *one, const address *other) {
     return one->sin_addr.s_addr == other->sin_addr.s_addr && one->sin_port == other->sin_port;
 }
 
+static bool is_drawn(uint64_t *bits) {
+#ifdef _WIN32
+    unsigned int high, low;
+    bool is_there = rand_s(&high) == 0 && rand_s(&low) == 0;
+    *bits = is_there ? (uint64_t)high << 32 | low : 0;
+    return is_there;
+#else
+    return getrandom(bits, sizeof *bits, 0) == (ssize_t)sizeof *bits;
+#endif
+}
+
 uint64_t net_draw(void) {
     uint64_t bits = 0;
     while (bits == 0)
-        if (getrandom(&bits, sizeof bits, 0) != (ssize_t)sizeof bits)
+        if (!is_drawn(&bits))
             bits = 0;
     return bits;
 }

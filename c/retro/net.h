@@ -3,13 +3,22 @@
 #define RETRO_NET_H
 
 #include <fazgrond.h>
-#include <netinet/in.h>
 #include <stdbool.h>
+#ifdef _WIN32
+#define WIN32_LEAN_AND_MEAN
+#include <winsock2.h>
+#undef far /* a word of the compilers of before */
+typedef SOCKET socket_t;
+#else
+#include <netinet/in.h>
+typedef int socket_t;
+#endif
 
 typedef struct sockaddr_in address;
 
 typedef struct net {
-    int socket;
+    socket_t socket;
+    bool is_open;
     uint32_t lag, jitter, loss; /* milliseconds, by how many more or less, and how many of a hundred are lost */
     uint32_t speed;             /* the clock runs so many times as fast */
     uint64_t random;

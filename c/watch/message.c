@@ -1,6 +1,6 @@
 #include "message.h"
 
-#include "sha256.h"
+#include "../sha256.h"
 
 #include <stdio.h>
 #include <string.h>

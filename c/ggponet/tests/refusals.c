@@ -231,6 +231,7 @@ static void late_spectator(void) {
     end();
 }
 
+#ifndef _WIN32 /* whose random source can't be taken away */
 /* In the place of the system's random source, which may have none. */
 static bool has_no_random;
 
@@ -261,6 +262,7 @@ static void nothing_random(void) {
     has_no_random = false;
     end();
 }
+#endif
 
 static void refused_players(void) {
     GGPOPlayer nowhere = { .size = sizeof nowhere, .type = GGPO_PLAYERTYPE_REMOTE, .player_num = 2 };
@@ -343,7 +345,9 @@ int main(void) {
     refused_sessions();
     refused_watchers();
     late_spectator();
+#ifndef _WIN32
     nothing_random();
+#endif
     MUST(ggpo_start_session(&game.session, &calls, name, 2, sizeof(int), 0) == GGPO_OK);
     refused_players();
     refused_spectators();
