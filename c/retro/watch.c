@@ -12,7 +12,7 @@
 enum { FLOOD = 256, CATCH_UP = 8, BEHIND = 6, BYES = 3, LINE = 96 };
 
 static bool begin(playback *self, runner *on, const core_state *opening, bool reloads, const char *digests) {
-    *self = (playback){ .core = &on->core, .reloads = reloads, .digests = digests != NULL ? fopen(digests, "w") : NULL };
+    *self = (playback){ .core = &on->core, .reloads = reloads, .digests = digests != NULL ? fopen(digests, "wb") : NULL };
     if (digests != NULL && self->digests == NULL)
         fprintf(stderr, "%s can't be written\n", digests);
     return (digests == NULL || self->digests != NULL) && playback_begin(self, opening);
