@@ -53,6 +53,8 @@ export interface MatchSettings {
   stalledAfter?: number;
   /** How many words an input has. */
   words?: number;
+  /** For how many turns at most the others' words wait beside the session. */
+  heldTurns?: number;
 }
 
 export interface LineSettings {
@@ -90,6 +92,10 @@ export class Fazgrond {
   line(session: Session<any>, settings: LineSettings): Line;
   viewer(settings: LineSettings): Viewer;
   habits(parts?: number[], likely?: number[]): Habits;
+  giver(which: bigint | number, frame: number, bytes: Uint8Array): Giver;
+  taker(name: raw.StateName, limit: number): Taker;
+  stateSender(bytes: Uint8Array): number | null;
+  stateDigest(name: raw.StateName, digest: bigint): bigint;
 }
 
 declare class Handle {
@@ -144,6 +150,12 @@ export class Peer extends Handle {
   noteSettled(): number;
   event(): raw.Event | null;
   stats(machine: number): raw.Stats | null;
+  waiting(): raw.Entry[];
+  rerun(count: number): number | null;
+  guess(until: number): Job<any> | null;
+  handOver(count: number): number;
+  handOverDue(): number;
+  get isPressed(): boolean;
 }
 
 export class Line extends Handle {
@@ -159,6 +171,20 @@ export class Viewer extends Handle {
   bye(): Uint8Array | null;
   row(): Row | null;
   look(now: number): raw.LineState | null;
+}
+
+export class Giver extends Handle {
+  get name(): raw.StateName;
+  reply(number: bigint, me: number, bytes: Uint8Array, place: number): Uint8Array | null;
+}
+
+export class Taker extends Handle {
+  look(): raw.TakerState | null;
+  send(number: bigint, me: number, most?: number): Uint8Array | null;
+  receive(number: bigint, bytes: Uint8Array): raw.Heard | null;
+  takesOf(machine: number): boolean;
+  takeOf(machine: number): number;
+  bytes(): Uint8Array | null;
 }
 
 export class Habits extends Handle {

@@ -98,6 +98,29 @@ export class Fazgrond {
     return new Habits(this, parts, likely);
   }
 
+  /** Opens who gives a state to others before a match. */
+  giver(which, frame, bytes) {
+    return new Giver(this, which, frame, bytes);
+  }
+
+  /** Opens who takes a state of this name, of so many bytes at most. */
+  taker(name, limit) {
+    return new Taker(this, name, limit);
+  }
+
+  /** Which machine a datagram says that it is of, if it is for a giver or a taker; null if it is for a peer. */
+  stateSender(bytes) {
+    if (bytes.length > raw.DATAGRAM) return null;
+    this.u8().set(bytes, this.bytes);
+    return this.calls.state_sender(this.bytes, bytes.length, this.room) === OK ? this.u8()[this.room] : null;
+  }
+
+  /** A match's digest that has a state in it, beside what another has. */
+  stateDigest(name, digest) {
+    this.write(raw.StateName, this.room, name);
+    return BigInt.asUintN(64, this.calls.state_digest(this.room, BigInt(digest)));
+  }
+
   // ---- Memory. It moves when it grows, so views of it are asked for anew.
 
   refresh() {
@@ -340,8 +363,13 @@ export class Session extends Handle {
   guess(player, words, until) {
     const { calls, room } = this.library;
     this.library.u32().set(words.slice(0, 64), (room + 64) >>> 2);
-    this.answer = calls.guess(this.open, player, room + 64, Math.min(words.length, 64), until, room);
-    if (this.answer !== OK) return null;
+    return this.jobOf(calls.guess(this.open, player, room + 64, Math.min(words.length, 64), until, room));
+  }
+
+  /** The job whose requests a guess has left, or null. */
+  jobOf(answer) {
+    this.answer = answer;
+    if (answer !== OK) return null;
     const job = new Job(this.library.number());
     this.eachRequest((kind, slot, row, memory) => {
       if (kind === raw.JOB_LOAD) job.from = this.states[slot];
@@ -502,8 +530,7 @@ class Sealed extends Handle {
   }
 
   /** A copy of the datagram that a call wrote, or null if there is none. */
-  written(code) {
-    const { bytes } = this.library;
+  written(code, bytes = this.library.bytes) {
     return code === OK ? this.library.u8().slice(bytes, bytes + this.library.number()) : null;
   }
 }
@@ -526,6 +553,7 @@ export class Peer extends Sealed {
       notifyAfter: match.notifyAfter ?? 750,
       stalledAfter: match.stalledAfter ?? 0,
       words: match.words ?? 1,
+      heldTurns: match.heldTurns ?? 0,
     });
     this.opened(library.calls.peer_open(this.at, session.open, library.room));
   }
@@ -580,6 +608,40 @@ export class Peer extends Sealed {
   /** What was counted and measured of a machine. */
   stats(machine) {
     return this.library.calls.peer_stats(this.open, machine, this.library.room) === OK ? this.library.read(raw.Stats) : null;
+  }
+
+  // ---- Words held back, with `heldTurns` in the match.
+
+  /** The words that wait, in the order in which they came. */
+  waiting() {
+    const { calls, room } = this.library;
+    const count = calls.peer_waiting(this.open, room, raw.HELD_WORDS);
+    return Array.from({ length: count }, (_, at) => this.library.read(raw.Entry, room + at * raw.Entry.size));
+  }
+
+  /** How many frames the session would have to run again for the first words that wait, or null. */
+  rerun(count) {
+    return this.ask("peer_rerun", this.session.open, count);
+  }
+
+  /** A guess with all words that wait: a job, or null; the session's `answer` says why. */
+  guess(until) {
+    return this.session.jobOf(this.library.calls.peer_guess(this.open, this.session.open, until, this.library.room));
+  }
+
+  /** Hands the first words that wait over to the session. */
+  handOver(count) {
+    return this.library.calls.peer_hand_over(this.open, this.session.open, count);
+  }
+
+  /** Once a turn: hands over the words that have waited long enough. */
+  handOverDue() {
+    return this.library.calls.peer_hand_over_due(this.open, this.session.open, this.library.room);
+  }
+
+  /** Whether the game would stand without the words that wait. */
+  get isPressed() {
+    return this.ask("peer_is_pressed", this.session.open) === 1;
   }
 }
 
@@ -655,6 +717,78 @@ export class Viewer extends Sealed {
 
   look(now) {
     return this.library.calls.viewer_look(this.open, now >>> 0, this.library.room) === OK ? this.library.read(raw.LineState) : null;
+  }
+}
+
+/** Who gives a state to the other machines before a match. */
+export class Giver extends Sealed {
+  constructor(library, which, frame, bytes) {
+    super(library);
+    const at = library.allocate(Math.max(bytes.length, 1));
+    library.u8().set(bytes, at);
+    const code = library.calls.giver_open(this.at, BigInt(which), frame, at, bytes.length);
+    library.calls.dealloc(at);
+    this.opened(code);
+  }
+
+  /** What the state is called: tell it those who are to take it. */
+  get name() {
+    return this.library.calls.giver_name(this.open, this.library.room) === OK ? this.library.read(raw.StateName) : null;
+  }
+
+  /** The datagram for the piece that bytes ask for at this place of their list, or null. */
+  reply(number, me, bytes, place) {
+    if (!this.given(bytes)) return null;
+    const { calls, room, bytes: asked } = this.library;
+    const to = asked + raw.DATAGRAM;
+    return this.written(calls.giver_reply(this.open, BigInt(number), me, asked, bytes.length, place, to, raw.DATAGRAM, room), to);
+  }
+}
+
+/** Who takes a state before a match. */
+export class Taker extends Sealed {
+  constructor(library, name, limit) {
+    super(library);
+    library.write(raw.StateName, library.room, name);
+    this.length = name.length;
+    this.opened(library.calls.taker_open(this.at, library.room, limit));
+  }
+
+  /** How many pieces the state has, and how many are missing. */
+  look() {
+    return this.library.calls.taker_look(this.open, this.library.room) === OK ? this.library.read(raw.TakerState) : null;
+  }
+
+  /** The datagram that asks for the next missing pieces, or null if none is missing. */
+  send(number, me, most = 4) {
+    const { calls, bytes, room } = this.library;
+    return this.written(calls.taker_send(this.open, BigInt(number), me, most, bytes, raw.DATAGRAM, room));
+  }
+
+  /** What came of a datagram: `what` is `raw.PIECE_TAKEN` or the like. Null if it is refused. */
+  receive(number, bytes) {
+    if (!this.given(bytes)) return null;
+    const { calls, room, bytes: at } = this.library;
+    return calls.taker_receive(this.open, BigInt(number), at, bytes.length, room) === OK ? this.library.read(raw.Heard) : null;
+  }
+
+  /** Whether pieces of a machine are taken for now. */
+  takesOf(machine) {
+    return this.ask("taker_takes_of", machine) === 1;
+  }
+
+  /** From now on pieces of this machine alone are taken, or with `raw.NO_MACHINE` of each that gave no wrong state. */
+  takeOf(machine) {
+    return this.library.calls.taker_take_of(this.open, machine);
+  }
+
+  /** The state's bytes, or null if pieces are missing. */
+  bytes() {
+    const at = this.library.allocate(this.length);
+    const code = this.library.calls.taker_bytes(this.open, at, this.length);
+    const found = this.library.u8().slice(at, at + this.length);
+    this.library.calls.dealloc(at);
+    return code === OK ? found : null;
   }
 }
 
