@@ -80,9 +80,11 @@ class Counted extends Duel {
  * the player of this machine holds down. With `frames` the match is done once that frame is settled here and there.
  */
 export class Match {
-  constructor(library, { number, me, channel, word, taken = () => {}, told = () => {}, delay = 1, frames = 0, lag = 0, loss = 0, timeout = 5000 }) {
+  constructor(library, how) {
+    const { number, me, channel, word, taken = () => {}, told = () => {}, delay = 1, frames = 0, lag = 0, loss = 0, timeout = 5000 } = how;
     this.game = new Counted(2, frames);
-    this.session = library.session({ players: 2, local: [me + 1], delays: [me === 0 ? delay : 0, me === 1 ? delay : 0] }, this.game);
+    const delays = me === 0 ? [delay, 0] : [0, delay];
+    this.session = library.session({ players: 2, local: [me + 1], delays }, this.game);
     this.peer = library.peer(this.session, {
       me, machines: 2, owners: [0, 1], number, digest: digestOf("duel", 2, 4), silentAfter: timeout,
     });

@@ -204,7 +204,8 @@ on("watch", () => {
   const stopTurns = eachTurn(() => watched.turn());
   const look = () => {
     if (watched.isShown) draw(at("canvas"), game.field, 0, [`frame ${watched.frame}, ${watched.known - watched.frame} behind`]);
-    tell(watched.why ?? (watched.desync === null ? "you watch the match" : `the players' states are others from frame ${watched.desync} on`));
+    const isSame = watched.desync === null;
+    tell(watched.why ?? (isSame ? "you watch the match" : `the players have other states from frame ${watched.desync} on`));
     if (!watched.hasEnded) {
       requestAnimationFrame(look);
       return;

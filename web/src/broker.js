@@ -71,7 +71,8 @@ export class Broker {
   }
 
   greet() {
-    const told = { verbose: false, pedantic: false, headers: true, no_responders: true, lang: "js", version: "1", user: this.user, pass: this.password };
+    const told = { verbose: false, pedantic: false, headers: true, no_responders: true, lang: "js", version: "1" };
+    Object.assign(told, { user: this.user, pass: this.password });
     this.say(`CONNECT ${JSON.stringify(told)}\r\nSUB ${this.inbox}.* 1\r\nSUB ${this.subject} 2\r\nPING\r\n`);
   }
 

@@ -4,6 +4,8 @@ const FRAMES = 600;
 const TURN = 16;
 const UNDER_WAY = 64;
 
+const { LEFT, DESYNC, TIME_SYNC } = { LEFT: 1101, DESYNC: 1102, TIME_SYNC: 1005 };
+
 function must(code, answer = 0) {
   if (code !== answer) throw new Error(`the answer was ${code}`);
 }
@@ -88,10 +90,9 @@ function takeTurn(machine, turn, ways) {
   machine.settled = session.settledState();
   must(peer.noteSettled());
   for (let event = peer.event(); event !== null; event = peer.event()) {
-    if (event.code === 1004 + 0) continue;
-    if (event.framesAhead > 0) machine.wait = event.framesAhead;
-    machine.alone ||= event.code === 1101;
-    if (event.code === 1102) throw new Error("another state");
+    if (event.code === TIME_SYNC) machine.wait = event.framesAhead;
+    machine.alone ||= event.code === LEFT;
+    if (event.code === DESYNC) throw new Error("another state");
   }
 }
 
@@ -189,7 +190,8 @@ export function turnsOf(library, turns = 60000, runs = 3) {
     const both = [0, 1].map((me) => {
       const game = new Sum(10, 1000000);
       const session = library.session({ players: 2, local: [me + 1] }, game);
-      return { me, game, session, peer: library.peer(session, { me, machines: 2, owners: [0, 1], number: 7n, draw: me + 1 }), bytes: null };
+      const peer = library.peer(session, { me, machines: 2, owners: [0, 1], number: 7n, draw: me + 1 });
+      return { me, game, session, peer, bytes: null };
     });
     const from = performance.now();
     for (let turn = 0; turn < turns; turn++)
