@@ -360,6 +360,45 @@ static void leave(machine *one, machine *two) {
     end(one, two);
 }
 
+/* What machines tell each other in a turn; machine `from` on, since those before have left. */
+static void exchange(machine *all, uint32_t from) {
+    for (uint32_t me = from; me < 3; me++)
+        for (uint32_t other = from; other < 3; other++)
+            if (other != me)
+                pass(&all[me], &all[other]);
+    for (uint32_t me = from; me < 3; me++)
+        OK(fazgrond_peer_poll(&all[me].peer, &all[me].session, 0));
+}
+
+/* Once a player has left, the words of those who stay are held back as before. */
+static void stay(machine *all) {
+    uint8_t bytes[FAZGROND_DATAGRAM];
+    fazgrond_event event;
+    size_t length;
+    uint32_t has_left = 0;
+    for (uint32_t me = 0; me < 3; me++)
+        open_machine(&all[me], &(terms){ 3, 3, 8, me == 2 ? 8 : 0 }, me);
+    for (int turn = 0; turn < 8; turn++)
+        exchange(all, 0);
+    for (uint32_t other = 1; other < 3; other++) {
+        OK(fazgrond_peer_bye(&all[0].peer, (uint8_t)other, bytes, sizeof bytes, &length));
+        OK(fazgrond_peer_receive(&all[other].peer, &all[other].session, bytes, length, 0));
+    }
+    for (int turn = 0; turn < 8; turn++)
+        exchange(all, 1);
+    while (fazgrond_peer_event(&all[2].peer, &event) == FAZGROND_OK)
+        has_left += event.code == FAZGROND_DISCONNECTED;
+    IS(has_left, 1);
+    give(&all[1], 2, 5);
+    for (int turn = 0; turn < 4; turn++)
+        exchange(all, 1);
+    IS(confirmed(&all[2], 2), 0);
+    is_waiting(&all[2], 0, 2, 0, 5);
+    IS(queued(&all[1], 2), 0);
+    for (uint32_t me = 0; me < 3; me++)
+        close_machine(&all[me]);
+}
+
 static void give_all(machine *self, uint32_t players) {
     fazgrond_reached reached;
     for (uint32_t at = 1; at <= players; at++)
@@ -663,6 +702,7 @@ int main(int count, char **words) {
     guess(&all[0], &all[1]);
     press(&all[0], &all[1]);
     leave(&all[0], &all[1]);
+    stay(all);
     overflow(&all[0], &all[1]);
     tell_past(&all[0], &all[1]);
     hold_nothing(&all[0], &all[1]);
