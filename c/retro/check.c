@@ -243,7 +243,7 @@ static void tell_bytes(core *one, uint32_t frames) {
 static void advise(verdict *out, double turn) {
     double frame = out->step + out->save + (out->safety == SAFE_IF_RELOADED ? out->load : 0);
     out->threshold = frame < turn / 5 ? 8 : frame < turn * 2 / 5 ? 12 : 15;
-    out->helpers = out->load + 9 * frame > turn / 4 && sysconf(_SC_NPROCESSORS_ONLN) > 1;
+    out->helpers = out->load + 9 * frame > turn / 4 && processors() > 1;
     if (frame > turn * 3 / 5) {
         out->safety = NOT_TO_BE_HAD;
         snprintf(out->why, sizeof out->why, "a frame takes %.1f ms of the %.1f that there are", frame, turn);

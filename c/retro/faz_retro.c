@@ -233,7 +233,9 @@ static const char *take_over(int which, bytes *came, core_state *opening) {
         came->at = NULL;
         return open_anew(opening);
     }
-    char *words = strndup((const char *)came->at, came->size);
+    char *words = malloc(came->size + 1);
+    if (words != NULL)
+        snprintf(words, came->size + 1, "%.*s", (int)came->size, (const char *)came->at);
     if (words == NULL || !core_options_take(&self.main.core, words, &self.from)) {
         free(words);
         self.from.override_count = 0;

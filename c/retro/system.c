@@ -48,6 +48,12 @@ void library_close(library *self) {
     self->handle = NULL;
 }
 
+long processors(void) {
+    SYSTEM_INFO found;
+    GetSystemInfo(&found);
+    return (long)found.dwNumberOfProcessors;
+}
+
 const char *temporary_folder(void) {
     static char folder[MAX_PATH + 1];
     if (folder[0] == 0 && GetTempPathA(sizeof folder, folder) == 0)
@@ -104,6 +110,8 @@ void library_close(library *self) {
     }
     self->handle = NULL;
 }
+
+long processors(void) { return sysconf(_SC_NPROCESSORS_ONLN); }
 
 const char *temporary_folder(void) {
     const char *folder = getenv("TMPDIR");

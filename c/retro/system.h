@@ -20,6 +20,9 @@ bool library_open(library *self, const bytes *from, const char **why);
 void *library_find(const library *self, const char *name);
 void library_close(library *self);
 
+/* How many processors there are. */
+long processors(void);
+
 /* Where files go that are of use for a moment. */
 const char *temporary_folder(void);
 
