@@ -160,8 +160,8 @@ The greatest seed is one, and the help's example prints what it says.
   Plays a match over a bad network, and prints what its rollbacks cost
   $ rollduel $(rollduel match --help | sed -n 's/^  rollduel //p') > example
   $ sed '/^$/d;$d' example > want
-  $ rollduel match --help | sed -n '/^It prints/,/^Exit status/s/^  //p' | cmp - want
+  $ rollduel match --help | sed -n '/^It prints/,/^  all /s/^  //p' | cmp - want
   $ wc -l < want
   13
-  $ rollduel match --help | grep -cE '^  (frames|settled|waited|silent at|left at|sent|rollbacks|run again|by GGPO|deepest|claims|wrong|jobs|taken|run ahead)  +[a-z]'
-  15
+  $ rollduel match --help | grep -cE '^  (frames|settled|waited|silent at|left at|sent|rollbacks|run again|by GGPO|deepest|claims|wrong|jobs|taken|run ahead|words held|turns each|at most 2)  +[a-z]'
+  19

@@ -115,10 +115,21 @@ static void draw(void) {
     hear(sound, SAMPLES);
 }
 
+#ifdef _WIN32
+static bool is_helper(void) { return false; }
+static void sleep_for(uint32_t milliseconds) { (void)milliseconds; }
+#else
+static bool is_helper(void) { return gettid() != getpid(); }
+static void sleep_for(uint32_t milliseconds) {
+    nanosleep(&(struct timespec){ milliseconds / 1000, milliseconds % 1000 * 1000000 }, NULL);
+}
+#endif
+
+/* A helper's frames take longer, if that is asked for. On Windows nothing asks for it. */
 static void be_slow(void) {
-    uint32_t wait = gettid() != getpid() ? fault("slow") : 0;
+    uint32_t wait = is_helper() ? fault("slow") : 0;
     if (wait > 0)
-        nanosleep(&(struct timespec){ wait / 1000, wait % 1000 * 1000000 }, NULL);
+        sleep_for(wait);
 }
 
 void retro_run(void) {
