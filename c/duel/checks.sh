@@ -27,7 +27,8 @@ has() {
     return 1
 }
 
-# A machine of a match, by its name, in the background: its words are after it. It ends after a minute at the latest.
+# A machine of a match, by its name, in the background: its words are after it. It ends after a minute at the latest, or
+# after so many seconds as $patience has.
 machine() {
     machine_of duel "$@"
 }
@@ -37,7 +38,7 @@ machine_of() {
     program=$1
     name=$2
     shift 2
-    timeout 60 "$work/$program" --headless --speed 10 "$@" > "$work/$name.out" 2> "$work/$name.err" &
+    timeout "${patience:-60}" "$work/$program" --headless --speed 10 "$@" > "$work/$name.out" 2> "$work/$name.err" &
     pids="$pids $!"
     eval "pid_$name=$!"
 }
