@@ -206,6 +206,30 @@ static const duel *field_of(const unsigned char *buffer, int length) {
     return length == (int)sizeof(duel_state) ? &((const duel_state *)(const void *)buffer)->field : NULL;
 }
 
+/* A state that a helper has come to can be loaded past the frame of --frames, which isn't played here then. So the settled words are
+ * played once more, and have to lead to the state that the session has settled. */
+static bool play_settled(void) {
+    fazgrond_session *match = fazggpo_get_session(self.session);
+    char straight[sizeof self.at_last], shown[sizeof self.at_last];
+    unsigned char *buffer;
+    int settled, length;
+    duel field;
+    if (!GGPO_SUCCEEDED(fazggpo_get_settled_state(self.session, &settled, &buffer, &length)) || field_of(buffer, length) == NULL)
+        return false;
+    duel_open(&field, (uint32_t)self.players);
+    for (int frame = 0; frame < settled; frame++) {
+        fazgrond_row row;
+        if (frame == self.frames)
+            duel_text(&field, self.at_last, sizeof self.at_last);
+        if (fazgrond_settled_row(match, (uint32_t)frame, &row) != FAZGROND_OK)
+            return false;
+        duel_step(&field, row.words);
+    }
+    duel_text(&field, straight, sizeof straight);
+    duel_text(field_of(buffer, length), shown, sizeof shown);
+    return strcmp(straight, shown) == 0;
+}
+
 static int play(void) {
     uint64_t next = micros();
     while (!self.is_over && (self.is_headless || window_goes_on()) && !is_done()) {
@@ -221,6 +245,10 @@ static int play(void) {
         }
         now = micros();
         ggpo_idle(self.session, now < next ? (int)((next - now) / 1000) : 0);
+    }
+    if (self.helpers > 0 && self.frames > 0 && !play_settled()) {
+        fputs("duel: the settled words lead to another state\n", stderr);
+        self.is_over = true;
     }
     if (self.at_last[0] != 0)
         printf("frame %ld state %s\n", self.frames, self.at_last);
