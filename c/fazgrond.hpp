@@ -577,6 +577,22 @@ inline std::optional<std::uint8_t> state_sender(const std::uint8_t *bytes, std::
     return machine;
 }
 
+// A digest that has a state in it, beside what another has.
+inline std::uint64_t state_digest(const StateName &name, std::uint64_t digest) { return fazgrond_state_digest(&name, digest); }
+
+// The datagram that asks for the first piece of a state, if nobody has said what it is called.
+inline Code state_ask(std::uint64_t number, std::uint8_t me, std::uint64_t which, std::uint32_t frame, Datagram &out) {
+    return Code(fazgrond_state_ask(number, me, which, frame, out.bytes.data(), out.bytes.size(), &out.length));
+}
+
+// What the state is called that bytes are a piece of.
+inline Code state_told(std::uint64_t number, const std::uint8_t *bytes, std::size_t length, StateName &name) {
+    return Code(fazgrond_state_told(number, bytes, length, &name));
+}
+
+// Of the library that the program runs with, as FAZGROND_VERSION is of the header.
+inline std::uint32_t version() { return fazgrond_version(); }
+
 } // namespace fazgrond
 
 #endif

@@ -17,6 +17,13 @@ int main() {
         return 1;
     if (taker.open(*giver.name(), 99999) != Code::too_long || taker.open(*giver.name(), 100000) != Code::ok || giver.bytes() != state)
         return 2;
+    StateName told = {};
+    if (state_ask(number, take, 1, 0, ask) != Code::ok || giver.reply(number, give, ask.bytes.data(), ask.length, 0, piece) != Code::ok
+        || state_told(number, piece.bytes.data(), piece.length, told) != Code::ok || told.length != 100000
+        || state_told(number, ask.bytes.data(), ask.length, told) != Code::other_kind
+        || state_digest(told, 7) != fazgrond_state_digest(&told, 7) || state_digest(told, 7) == state_digest(told, 8)
+        || version() != FAZGROND_VERSION)
+        return 8;
     if (taker.take_of(8) != Code::invalid_machine || !taker.takes_of(give) || taker.takes_of(8) || taker.look()->pieces != 98)
         return 3;
     for (int turn = 0, sent = 0; turn < 100 && taker.look()->left > 0; turn++) {
