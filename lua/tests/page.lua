@@ -1,0 +1,118 @@
+-- Plays the game of docs/LUA.md twice in this process, in place of LÖVE and its sockets: two players hold keys, on lines that lose a
+-- fifth, and both come to what the words of their rows come to. page.lua FILE
+local TURNS, LOST = 900, 0.2
+local clock, inbox = 5000, { {}, {} }
+math.randomseed(1)
+
+-- What player 1, or 2, holds down: it goes round, and now and then stands.
+local ROUND = { { "right", "down", "left", "up" }, { "up", "right", "down", "left" } }
+
+local function is_down(player, key)
+    local at = math.floor(clock * 60 / (7 + 4 * player))
+    return at % 5 ~= 4 and ROUND[player][at % 4 + 1] == key
+end
+
+-- A socket of a machine: what it sends comes to the other one in its next turn.
+local function new_socket(player)
+    local udp = {}
+
+    function udp:settimeout() end
+
+    function udp:setsockname() return 1 end
+
+    function udp:setpeername() return 1 end
+
+    function udp:send(bytes)
+        if math.random() >= LOST then
+            table.insert(inbox[3 - player], bytes)
+        end
+    end
+
+    function udp:receive()
+        return table.remove(inbox[player], 1)
+    end
+
+    return udp
+end
+
+-- The value of a local variable that a function, or one that it uses, has.
+local function local_of(call, name, seen)
+    seen = seen or {}
+    seen[call] = true
+    for at = 1, debug.getinfo(call, "u").nups do
+        local its_name, value = debug.getupvalue(call, at)
+        if its_name == name then
+            return value
+        elseif type(value) == "function" and not seen[value] and debug.getinfo(value, "S").what == "Lua" then
+            value = local_of(value, name, seen)
+            if value then
+                return value
+            end
+        end
+    end
+end
+
+local function begin(player)
+    local love = {
+        keyboard = { isDown = function(key) return is_down(player, key) end },
+        timer = { getTime = function() return clock end },
+    }
+    package.loaded.socket = { udp = function() return new_socket(player) end }
+    local program = assert(loadfile(arg[1]))
+    setfenv(program, setmetatable({ love = love, print = function() end }, { __index = _G }))
+    program()
+    love.load { tostring(player - 1), "7000", "127.0.0.1", "7001" }
+    return { love = love, session = local_of(love.update, "session"), game = local_of(love.update, "game"), steps = 0 }
+end
+
+-- Counts the frames that are played.
+local function count_steps(machine)
+    local advance = machine.game.advance
+    function machine.game.advance(...)
+        machine.steps = machine.steps + 1
+        return advance(...)
+    end
+end
+
+-- What the game has to come to by the words of the settled rows.
+local function places_by_rows(session, rows)
+    local places, held = { { 80, 120 }, { 240, 120 } }, { 0, 0 }
+    for frame = 0, rows - 1 do
+        local words = assert(session:settled_row(frame))
+        for player, place in ipairs(places) do
+            local bits = {}
+            for at = 0, 3 do
+                bits[at] = math.floor(words[player] / 2 ^ at) % 2
+            end
+            place[1] = (place[1] + 2 * (bits[1] - bits[0])) % 320
+            place[2] = (place[2] + 2 * (bits[3] - bits[2])) % 240
+            held[player] = held[player] + (words[player] > 0 and 1 or 0)
+        end
+    end
+    assert(held[1] > rows / 2 and held[2] > rows / 2, "no keys were held")
+    return places
+end
+
+local both = { begin(1), begin(2) }
+for _, machine in ipairs(both) do
+    count_steps(machine)
+end
+for _ = 1, TURNS do
+    clock = clock + 1 / 60
+    for _, machine in ipairs(both) do
+        machine.love.update(1 / 60)
+    end
+end
+for _, machine in ipairs(both) do
+    local rows, state = assert(machine.session:settled_state())
+    local due = places_by_rows(machine.session, rows)
+    assert(rows > TURNS - 100, "it stood")
+    for player = 1, 2 do
+        assert(state[player][1] == due[player][1] and state[player][2] == due[player][2], "another state")
+    end
+    assert(machine.steps > machine.session:frame() + 50, "next to nothing was played again")
+end
+local common = math.min(both[1].session:settled(), both[2].session:settled())
+for frame = 0, common - 1 do
+    assert(table.concat(both[1].session:settled_row(frame), " ") == table.concat(both[2].session:settled_row(frame), " "))
+end
