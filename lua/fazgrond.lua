@@ -876,7 +876,7 @@ function Habits:guesses(frames, most)
     return best
 end
 
--- ---- A state in pieces, before a match. What it is called is a table: `which`, `frame`, `length`, `digest` (a string of 32 bytes).
+-- ---- A state in pieces, before a match. It is called by a table: `which`, `frame`, `length`, `digest` (a string of 32 bytes).
 
 local function name_answered(code)
     if code ~= OK then

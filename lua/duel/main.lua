@@ -43,8 +43,8 @@ local function word_of(place)
 end
 
 local SAID = {
-    synchronizing = ": there", synchronized = ": ready", left = " has left", interrupted = " is silent", resumed = " is heard again",
-    restarted = " was begun anew", stalled = " gives no words", missing = " isn't there", refused = " sends what is refused",
+    synchronizing = ": there", synchronized = ": ready", left = " has left", interrupted = " is silent",
+    resumed = " is heard again", restarted = " was begun anew", stalled = " gives no words", missing = " isn't there", refused = " sends what is refused",
 }
 
 local function say(event)

@@ -52,8 +52,8 @@ end
 local Match = {}
 Match.__index = Match
 
--- Opens a match by what the command line says (options.lua). `line` sends a datagram to a machine: line:send(machine, bytes, now).
--- `word_of` says what the local player of a place, from 1 on, holds down; `told` is given what happens.
+-- Opens a match by what the command line says (options.lua). `line` sends a datagram to a machine: line:send(machine, bytes,
+-- now). `word_of` says what the local player of a place, from 1 on, holds down; `told` is given what happens.
 function Match.new(options, line, word_of, told)
     local me, players = options.machines["local"], #options.players
     local game, delays = new_game(players, options.frames), {}

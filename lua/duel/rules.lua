@@ -1,5 +1,5 @@
--- A duel of two to four ships: the rules alone. They are those of the game `duel` of the program rollduel (docs/SCRIPTS.md), and its
--- states lie in memory as those of c/duel/duel.h.
+-- A duel of two to four ships: the rules alone. They are those of the game `duel` of the program rollduel (docs/SCRIPTS.md), and
+-- its states lie in memory as those of c/duel/duel.h.
 local bit = require "bit"
 local ffi = require "ffi"
 

@@ -1,5 +1,5 @@
--- A guess that comes true: the frames that player 2's words would make are run before they come. Here that is done at once; a game has
--- another thread do it.
+-- A guess that comes true: the frames that player 2's words would make are run before they come. Here that is done at once; a
+-- game has another thread do it.
 local fazgrond = require "fazgrond"
 local Sum = require "sum"
 

@@ -1,5 +1,5 @@
--- The game of the examples: a number, which is taken so many times, and of each player the number times the word is added, or 5 if the
--- player has left.
+-- The game of the examples: a number, which is taken so many times, and of each player the number times the word is added, or 5
+-- if the player has left.
 local bit = require "bit"
 local Sum = {}
 Sum.__index = Sum

@@ -1,8 +1,8 @@
--- Two players on a line, each on a machine of their own. Both machines are in this process, and each word reaches the other machine
--- three turns late.
+-- Two players on a line, each on a machine of their own. Both machines are in this process, and each word reaches the other
+-- machine three turns late.
 --
--- A line of the input is a turn. Player 1 goes by `a` and `d` and hits by `s`, player 2 goes by `j` and `l` and hits by `k`. A turn
--- prints what each machine shows.
+-- A line of the input is a turn. Player 1 goes by `a` and `d` and hits by `s`, player 2 goes by `j` and `l` and hits by `k`. A
+-- turn prints what each machine shows.
 local bit = require "bit"
 local fazgrond = require "fazgrond"
 

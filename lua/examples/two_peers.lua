@@ -1,5 +1,5 @@
--- Two machines of a match, in one process, on ways that lose datagrams and bring the others late and out of order. Where the ways are, a
--- game on two machines has its sockets.
+-- Two machines of a match, in one process, on ways that lose datagrams and bring the others late and out of order. Where the ways
+-- are, a game on two machines has its sockets.
 local fazgrond = require "fazgrond"
 local Sum = require "sum"
 local Ways = require "ways"
@@ -11,7 +11,8 @@ local function word_of(me, frame)
     return math.floor(math.floor(frame / (5 + 2 * me)) * 2654435761 % 4294967296 / 2 ^ 28)
 end
 
--- A game leaves `draw` out: then it is drawn anew for each opening. Here it is always the same, so that this always prints the same.
+-- A game leaves `draw` out: then it is drawn anew for each opening. Here it is always the same, so that this always prints the
+-- same.
 local function new_machine(me)
     local game = Sum.new(31, 1000003)
     local session = assert(fazgrond.session({ players = 2, locals = { me + 1 }, limit = FRAMES }, game))
@@ -61,7 +62,8 @@ while both[0].settled < FRAMES or both[1].settled < FRAMES do
 end
 for me = 0, 1 do
     local self = both[me]
-    print(("machine %d: settled %d state %d%s"):format(me, self.settled, self.state, self.rerun > FRAMES and ", after rollbacks" or ""))
+    local how = self.rerun > FRAMES and ", after rollbacks" or ""
+    print(("machine %d: settled %d state %d%s"):format(me, self.settled, self.state, how))
 end
 -- machine 0 leaves, and says so three times
 local bye = assert(both[0].peer:bye(1))

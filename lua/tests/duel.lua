@@ -1,5 +1,5 @@
--- A duel whose machines are all in this process, on ways that lose a fifth and bring the others late: each prints the state at the
--- last frame. duel.lua SEED FRAMES MACHINES
+-- A duel whose machines are all in this process, on ways that lose a fifth and bring the others late: each prints the state at
+-- the last frame. duel.lua SEED FRAMES MACHINES
 local Match = require "match"
 local options = require "options"
 local rules = require "rules"

@@ -1,5 +1,5 @@
--- Plays the game of docs/LUA.md twice in this process, in place of LÖVE and its sockets: two players hold keys, on lines that lose a
--- fifth, and both come to what the words of their rows come to. page.lua FILE
+-- Plays the game of docs/LUA.md twice in this process, in place of LÖVE and its sockets: two players hold keys, on lines that
+-- lose a fifth, and both come to what the words of their rows come to. page.lua FILE
 local TURNS, LOST = 900, 0.2
 local clock, inbox = 5000, { {}, {} }
 math.randomseed(1)
