@@ -304,7 +304,7 @@ function fazgrond.session(settings, game)
         return nil, name, code
     end
     session.game = game
-    session.locals = settings.locals or {}
+    session.locals = { unpack(settings.locals or {}) }
     session.players = settings.players
     session.states = { [0] = game:save(0) }
     session.words = {}

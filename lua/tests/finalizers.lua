@@ -40,18 +40,20 @@ local function collect()
     collectgarbage()
 end
 
-local times = tonumber(arg[1])
-open_all()
-collect()
-local before = taken()
-closed = 0
-for at = 1, times do
-    open_all()
-    if at % 50 == 0 then
-        collect()
+local function open_many(times)
+    closed = 0
+    for at = 1, times do
+        open_all()
+        if at % 50 == 0 then
+            collect()
+        end
     end
+    assert(closed >= 5 * (times - 50), "they are closed only at the end")
+    collect()
+    assert(closed == 5 * times, closed .. " were closed")
 end
-assert(closed >= 5 * (times - 50), "they are closed only at the end")
-collect()
-assert(closed == 5 * times, closed .. " were closed")
-assert(taken() <= before, ("%d bytes are still taken, and there were %d"):format(taken(), before))
+
+open_many(100)
+local before = taken()
+open_many(tonumber(arg[1]))
+assert(taken() < before + 65536, ("%d bytes are still taken, and there were %d"):format(taken(), before))

@@ -24,4 +24,5 @@ is(#habits:guesses(0), 0)
 is(best[1].words[1], 26)
 is(best[2].worth, 4311)
 is(table.concat(best[2].words, " "), "27 26")
-is(#assert(fazgrond.habits()):guesses(4, 8) > 0, true)
+is(#assert(fazgrond.habits()):guesses(4), 0) -- nothing was seen yet
+is(assert(fazgrond.habits({}, { 5 })):guesses(1)[1].words[1], 5)

@@ -1,6 +1,6 @@
 -- Plays the game of docs/LUA.md twice in this process, in place of LÖVE and its sockets: two players hold keys, on lines that
--- lose a fifth, and both come to what the words of their rows come to. page.lua FILE
-local TURNS, LOST = 900, 0.2
+-- lose a fifth and bring the others late, and both come to what the words of their rows come to. page.lua FILE
+local TURNS, LOST, LATE = 900, 0.2, 5
 local clock, inbox = 5000, { {}, {} }
 math.randomseed(1)
 
@@ -12,7 +12,7 @@ local function is_down(player, key)
     return at % 5 ~= 4 and ROUND[player][at % 4 + 1] == key
 end
 
--- A socket of a machine: what it sends comes to the other one in its next turn.
+-- A socket of a machine: what it sends comes to the other one some turns later.
 local function new_socket(player)
     local udp = {}
 
@@ -24,12 +24,17 @@ local function new_socket(player)
 
     function udp:send(bytes)
         if math.random() >= LOST then
-            table.insert(inbox[3 - player], bytes)
+            table.insert(inbox[3 - player], { due = clock + math.random(LATE) / 60, bytes = bytes })
         end
     end
 
     function udp:receive()
-        return table.remove(inbox[player], 1)
+        for at, datagram in ipairs(inbox[player]) do
+            if datagram.due <= clock then
+                return table.remove(inbox[player], at).bytes
+            end
+        end
+        return nil, "timeout"
     end
 
     return udp
@@ -62,7 +67,8 @@ local function begin(player)
     setfenv(program, setmetatable({ love = love, print = function() end }, { __index = _G }))
     program()
     love.load { tostring(player - 1), "7000", "127.0.0.1", "7001" }
-    return { love = love, session = local_of(love.update, "session"), game = local_of(love.update, "game"), steps = 0 }
+    local session = local_of(love.update, "session")
+    return { love = love, session = session, game = session.game, steps = 0 }
 end
 
 -- Counts the frames that are played.

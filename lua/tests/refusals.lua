@@ -66,6 +66,7 @@ fails("the library is loaded already", fazgrond.load, "elsewhere.so")
 is(fazgrond.load(), fazgrond)
 
 -- What a session refuses.
+refused("no_plan", session:claim())
 refused("local_input_missing", session:advance_frame())
 refused("local_input_missing", session:turn(nil))
 is(session:add_local_input(1, 5), true)
@@ -87,7 +88,6 @@ refused("conflict", session:remote_input(2, 0, 3))
 is(session:confirmed_word(2, 0), 0xffffffff) -- as a number without a sign
 refused("nothing", session:confirmed_word(2, 1))
 refused("nothing", session:settled_row(1))
-refused("no_plan", session:claim())
 is(session:has_news(), true)
 local words, gone = assert(session:synchronize_input())
 is(table.concat(words, " "), "5 4294967295") -- (the first of them was given in the frame that was refused)
@@ -104,7 +104,7 @@ assert(session:synchronize_input())
 is(select(2, session:settled_row(5)), 2) -- the bit of player 2, who has left
 
 -- The log has all that was accepted, and a new session comes to the same by it.
-local first, last = session:log_entry(0), session:log_entry(session:log_length() - 1)
+local first, last = session:log_entry(1), session:log_entry(session:log_length() - 1)
 is(first.kind .. first.player .. first.word, "local15")
 is(last.kind, "sync")
 refused("nothing", session:log_entry(session:log_length()))
@@ -132,10 +132,15 @@ refused("invalid_request", guessing:guess(2, { 9 }, 30))
 local job = assert(guessing:guess(2, { 8 }, 1))
 is(guessing:forget(job), true)
 refused("no_job", guessing:forget(job))
-job = assert(guessing:guess(2, { 8 }, 1))
-job:run(Sum.new(10, 1000000))
-assert(guessing:remote_input(2, 0, 3))
-refused("dead", guessing:graft(job))
+assert(guessing:turn(1))
+local jobs = { assert(guessing:guess(2, { 3 }, 2)), assert(guessing:guess(2, { 3 }, 2)) }
+for _, one in ipairs(jobs) do
+    one:run(Sum.new(10, 1000000))
+end
+assert(guessing:remote_input(2, 0, 5))
+is(guessing:graft(jobs[1]), 0)
+assert(guessing:synchronize_input())
+refused("dead", guessing:graft(jobs[2]))
 is(guessing:reserve_log(100), true)
 is(guessing:limit_slots(1), true)
 refused("no_memory", guessing:turn(1))
@@ -164,7 +169,10 @@ is(peer:note_settled(2 ^ 40), true)
 is(peer:event().name, "left")
 is(line:look(0).has_ended, true)
 is(viewer:look(0).is_playing, false)
-refused("other_session", fazgrond.peer(assert(new_session()), MATCH):receive(("x"):rep(60), 0))
+refused("invalid_machine", peer:receive(("x"):rep(60), 0))
+local past = assert(fazgrond.peer(assert(new_session()), MATCH))
+assert(past.session:remote_input(2, 0, 3)) -- which the peer alone may tell it
+refused("other_session", past:poll(0))
 
 -- A game whose function fails: its states aren't known any more.
 local broken = assert(new_session())
