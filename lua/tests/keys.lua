@@ -1,6 +1,7 @@
--- Plays the game of docs/LUA.md in LÖVE, with keys that are held by the clock, and prints where the squares are after each
--- settled frame, of the first 300.
+-- Plays the game of docs/LUA.md in LÖVE, with keys that are held by the clock, and prints the settled rows of the first 300
+-- frames. It fails if the squares aren't where these bring them.
 require "game"
+local are_right = require "squares"
 local begin, update, fazgrond = love.load, love.update, require "fazgrond"
 local FRAMES, PAST_LAST, KEYS = 300, 60, { "right", "down", "left", "up" }
 local me, session, told
@@ -20,16 +21,16 @@ function love.keyboard.isDown(key)
     return KEYS[math.floor(love.timer.getTime() * (3 + me)) % 4 + 1] == key
 end
 
--- (what is settled is told a few frames at a time, so that no settled frame is left out)
 function love.update(...)
     update(...)
     local settled = session:settled()
     while told < math.min(settled, FRAMES) do
         local words = session:settled_row(told)
-        told = told + 1
         print(("frame %d words %d %d"):format(told, words[1], words[2]))
+        told = told + 1
     end
     if settled >= FRAMES + PAST_LAST then
+        print("the squares are right after " .. are_right(session) .. " rows")
         love.event.quit()
     end
 end

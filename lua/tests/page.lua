@@ -1,5 +1,7 @@
 -- Plays the game of docs/LUA.md twice in this process, in place of LÖVE and its sockets: two players hold keys, on lines that
 -- lose a fifth and bring the others late, and both come to what the words of their rows come to. page.lua FILE
+local are_right = require "squares"
+
 local TURNS, LOST, LATE = 900, 0.2, 5
 local clock, inbox = 5000, { {}, {} }
 math.randomseed(1)
@@ -80,25 +82,6 @@ local function count_steps(machine)
     end
 end
 
--- What the game has to come to by the words of the settled rows.
-local function places_by_rows(session, rows)
-    local places, held = { { 80, 120 }, { 240, 120 } }, { 0, 0 }
-    for frame = 0, rows - 1 do
-        local words = assert(session:settled_row(frame))
-        for player, place in ipairs(places) do
-            local bits = {}
-            for at = 0, 3 do
-                bits[at] = math.floor(words[player] / 2 ^ at) % 2
-            end
-            place[1] = (place[1] + 2 * (bits[1] - bits[0])) % 320
-            place[2] = (place[2] + 2 * (bits[3] - bits[2])) % 240
-            held[player] = held[player] + (words[player] > 0 and 1 or 0)
-        end
-    end
-    assert(held[1] > rows / 2 and held[2] > rows / 2, "no keys were held")
-    return places
-end
-
 local both = { begin(1), begin(2) }
 for _, machine in ipairs(both) do
     count_steps(machine)
@@ -110,12 +93,7 @@ for _ = 1, TURNS do
     end
 end
 for _, machine in ipairs(both) do
-    local rows, state = assert(machine.session:settled_state())
-    local due = places_by_rows(machine.session, rows)
-    assert(rows > TURNS - 100, "it stood")
-    for player = 1, 2 do
-        assert(state[player][1] == due[player][1] and state[player][2] == due[player][2], "another state")
-    end
+    assert(are_right(machine.session) > TURNS - 100, "it stood")
     assert(machine.steps > machine.session:frame() + 50, "next to nothing was played again")
 end
 local common = math.min(both[1].session:settled(), both[2].session:settled())
