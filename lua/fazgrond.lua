@@ -310,7 +310,6 @@ function fazgrond.session(settings, game)
     session.words = {}
     session.requests = ffi.new("fazgrond_request[?]", ROOM)
     session.is_whole = true
-    session.noted = -1
     return session
 end
 
@@ -328,7 +327,7 @@ end
 local function free_state(session, slot)
     local game, state = session.game, session.states[slot]
     session.states[slot] = nil
-    if game.free then
+    if game.free and state ~= nil then -- (of a job that was never run there is none)
         game:free(state, slot)
     end
 end
@@ -346,9 +345,6 @@ local function carry_out_one(session, request)
     if kind == STEP then
         step(session, request.row)
     elseif kind == SAVE then
-        if session.states[slot] ~= nil then -- of a job that was grafted only in part
-            free_state(session, slot)
-        end
         session.states[slot] = session.game:save(slot)
     elseif kind == LOAD then
         session.game:load(session.states[slot], slot)
@@ -485,26 +481,30 @@ function Job:run(game)
     self.states = states
 end
 
+-- A job's states lie in its slots, until the session has them freed.
+local function put_states(session, job)
+    for at, slot in ipairs(job.slots) do
+        session.states[slot] = job.states[at]
+    end
+end
+
 -- Takes in the states of a job that was run, and answers how many of them are kept. Afterwards the job is over in any case.
 function Session:graft(job)
     local handle = whole(self)
     if not job.states then
         error("the job wasn't run", 2)
     end
-    local code = lib.fazgrond_graft(handle, job.number, number)
-    for at, slot in ipairs(job.slots) do
-        if code == OK then
-            self.states[slot] = job.states[at]
-        elseif self.game.free then
-            self.game:free(job.states[at], slot)
-        end
-    end
-    return answered(code)
+    put_states(self, job)
+    return answered(lib.fazgrond_graft(handle, job.number, number))
 end
 
 -- Gives a job up. It may not be run any more.
 function Session:forget(job)
-    return done(lib.fazgrond_forget(open(self), job.number))
+    local handle = open(self)
+    if job.states then
+        put_states(self, job)
+    end
+    return done(lib.fazgrond_forget(handle, job.number))
 end
 
 -- From now on no state is saved in a slot from this one on.

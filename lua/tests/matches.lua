@@ -22,11 +22,27 @@ local function new_machine(me, more, players)
     local game = Sum.new(31, 1000003)
     local session = assert(fazgrond.session({ players = players or 2, locals = locals }, game))
     local match = { me = me, machines = 2, owners = { 0, 1 }, number = 7, draw = 70 + me, silent_after = 0, notify_after = 0 }
-    return { me = me, session = session, peer = assert(fazgrond.peer(session, with(match, more))), told = {} }
+    local self = { me = me, session = session, peer = assert(fazgrond.peer(session, with(match, more))), told = {} }
+    self.digests, self.noted = 0, 0
+    game.digest = function(_, state)
+        self.digests = self.digests + 1
+        return state
+    end
+    return self
 end
 
 local function pair(first, second, players)
     return { now = 0, new_machine(0, first, players), new_machine(1, second, players) }
+end
+
+-- Has the digest of the settled state told, more often than there are such states.
+local function note_settled(self)
+    local frame = assert(self.session:settled_state())
+    self.noted = self.noted + (frame ~= self.settled and 1 or 0)
+    self.settled = frame
+    for _ = 1, 2 do
+        assert(self.peer:note_settled())
+    end
 end
 
 local function take_turn(both, self, word)
@@ -34,6 +50,7 @@ local function take_turn(both, self, word)
     if word and self.peer:is_running() then
         self.session:turn(word)
     end
+    note_settled(self)
     for event in self.peer:events() do
         self.told[event.name] = event
     end
@@ -61,6 +78,15 @@ is(plain[1].session:frame() > 40, true)
 is(plain[1].peer:stats(1).round_trip, 0)
 is(plain[1].session:confirmed_word(2, 3), 6)
 is(table.concat(plain[1].session:settled_row(20), " "), "5 6")
+
+-- A settled state's digest is made once, and two machines that have another one are told.
+is(plain[1].digests, plain[1].noted)
+is(plain[1].noted > 40, true)
+is(plain[2].told.desync, nil)
+plain[1].session.game.digest = function(_, state)
+    return state + 1
+end
+is(play(plain, 8, { 5, 6 })[2].told.desync.machine, 0)
 
 -- Numbers: the same one, one for each two machines, or others.
 local shared = 0x1122334455667788ULL

@@ -62,6 +62,7 @@ fails("matches have no `silence`", fazgrond.peer, session, with(MATCH, "silence"
 refused("invalid_machine", fazgrond.line(session, with(LINE, "host", 2)))
 refused("invalid_request", fazgrond.viewer(with(LINE, "draw", 0)))
 fails("lines have no `me`", fazgrond.viewer, with(LINE, "me", 0))
+fails("lines have no `me`", fazgrond.line, session, with(LINE, "me", 0))
 fails("the library is loaded already", fazgrond.load, "elsewhere.so")
 is(fazgrond.load(), fazgrond)
 
@@ -141,6 +142,88 @@ assert(guessing:remote_input(2, 0, 5))
 is(guessing:graft(jobs[1]), 0)
 assert(guessing:synchronize_input())
 refused("dead", guessing:graft(jobs[2]))
+
+-- A guess from a state that isn't the opening comes to what is played without it.
+local function play(is_guessed)
+    local it = assert(new_session())
+    for frame = 0, 3 do
+        assert(it:turn(2))
+        assert(it:remote_input(2, frame, 3))
+    end
+    assert(it:turn(2))
+    assert(it:turn(2))
+    if is_guessed then
+        local guess = assert(it:guess(2, { 7 }, 6))
+        guess:run(Sum.new(10, 1000000))
+        is(it:graft(guess), 2)
+    end
+    assert(it:remote_input(2, 4, 7))
+    assert(it:remote_input(2, 5, 7))
+    it.game.steps = 0
+    assert(it:synchronize_input())
+    return it.game.state, it.game.steps
+end
+
+is(play(true), (play(false)))
+is(select(2, play(true)), 0)
+is(select(2, play(false)), 2)
+
+-- A claim that is longer than a datagram.
+local many = assert(new_session { players = 8 })
+for _ = 1, 15 do
+    assert(many:turn(1))
+end
+is(#many:claim() > 1200, true)
+is(many:claim():match "^rollcert.*%d\n$" ~= nil, true)
+
+-- Each state that was saved is freed once, but for those that are still there: also of jobs, whatever came of them.
+local function are_freed(session, saved)
+    local there, freed = {}, session.game.freed
+    for _, state in pairs(session.states) do
+        there[state] = true
+    end
+    for number = 1, saved do
+        is((freed[number] or 0) + (there[number] and 1 or 0), 1)
+    end
+end
+
+local function counting_game(shared)
+    local game = { freed = shared.freed }
+    function game:save()
+        shared.saved = shared.saved + 1
+        return shared.saved
+    end
+    function game:free(state)
+        self.freed[state] = (self.freed[state] or 0) + 1
+    end
+    function game:load() end
+    function game:advance() end
+    return game
+end
+
+local shared = { saved = 0, freed = {} }
+local counting = assert(fazgrond.session({ players = 2, locals = { 1 } }, counting_game(shared)))
+for frame = 0, 59 do
+    assert(counting:turn(1))
+    if frame >= 4 then
+        local first, second = counting:guess(2, { frame % 3 }, frame + 1), counting:guess(2, { frame % 5 }, frame)
+        for _, one in ipairs { first or second, first and second } do
+            one:run(counting_game(shared))
+        end
+        if first then
+            counting:graft(first)
+        end
+        assert(counting:remote_input(2, frame - 4, frame % 4))
+        if second and frame % 4 == 0 then
+            assert(counting:forget(second))
+        elseif second then
+            counting:graft(second)
+        end
+    end
+end
+are_freed(counting, shared.saved)
+is(shared.saved > 200, true)
+
 is(guessing:reserve_log(100), true)
 is(guessing:limit_slots(1), true)
 refused("no_memory", guessing:turn(1))
