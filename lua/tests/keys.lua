@@ -1,5 +1,9 @@
 -- Plays the game of docs/LUA.md in LÖVE, with keys that are held by the clock, and prints the settled rows of the first 300
 -- frames. It fails if the squares aren't where these bring them.
+local beside = io.open(love.filesystem.getSourceBaseDirectory() .. "/libfazgrond.so")
+if beside then -- (a .love file has the library beside it)
+    require("fazgrond").load(love.filesystem.getSourceBaseDirectory() .. "/libfazgrond.so")
+end
 require "game"
 local are_right = require "squares"
 local begin, update, fazgrond = love.load, love.update, require "fazgrond"
