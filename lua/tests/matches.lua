@@ -92,6 +92,7 @@ is(play(plain, 8, { 5, 6 })[2].told.desync.machine, 0)
 local shared = 0x1122334455667788ULL
 local paired = play(pair({ numbers = { [0] = 1, [1] = shared } }, { numbers = { [0] = shared, [1] = 3 } }), 30, { 5, 6 })
 is(paired[1].told.running ~= nil, true)
+is(next(play(pair({ numbers = { [1] = shared } }, { number = 0 }), 30)[1].told), nil)
 is(next(play(pair({ number = 7 }, { number = 8 }), 30, { 5, 6 })[1].told), nil)
 is(next(play(pair({ number = 7 }, { number = 0x100000007ULL }), 30)[1].told), nil)
 

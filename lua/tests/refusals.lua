@@ -53,6 +53,7 @@ fails("settings: a table was expected", fazgrond.session, 2, Sum.new(10, 10))
 fails("the game has no function `advance`", fazgrond.session, { players = 2 }, { save = print, load = print })
 fails("a profile is `ggpo` or `wide`", new_session, { profile = "large" })
 fails("there is no player 9", new_session, { locals = { 9 } })
+fails("there is no player 0", new_session, { locals = { 0 } })
 local session = assert(new_session())
 refused("invalid_request", fazgrond.peer(session, with(MATCH, "draw", 0)))
 refused("invalid_machine", fazgrond.peer(session, with(MATCH, "me", 2)))
@@ -74,8 +75,11 @@ is(session:add_local_input(1, 5), true)
 refused("input_twice", session:add_local_input(1, 6))
 refused("invalid_player", session:add_local_input(2, 5))
 refused("invalid_player", session:add_local_input(0, 5))
-fails("257 is no number of a player", session.add_local_input, session, 257, 5)
 fails("-1 is no number of a player", session.add_local_input, session, -1, 5)
+for _, name in ipairs { "add_local_input", "remote_input", "disconnect_player", "confirmed", "confirmed_word", "input_frame" } do
+    fails("257 is no number of a player", session[name], session, 257, 0, 0) -- (of whose bits a byte takes 1)
+end
+fails("257 is no number of a player", session.guess, session, 257, { 1 }, 1)
 for _ = 1, 8 do
     assert(session:turn(5))
 end
@@ -246,6 +250,9 @@ refused("nothing", viewer:bye())
 refused("nothing", line:bye())
 refused("invalid_machine", peer:stats(2))
 refused("own_machine", peer:disconnect(0))
+for _, name in ipairs { "send", "bye", "disconnect", "stats" } do
+    fails("257 is no number of a player or machine", peer[name], peer, 257, 0)
+end
 is(peer:disconnect(1), true)
 is(peer:poll(2 ^ 33 + 5.5), true) -- (a clock that goes on for longer)
 is(peer:note_settled(2 ^ 40), true)

@@ -71,4 +71,13 @@ is(fooled:take_of(), true)
 is(fooled:receive(NUMBER, piece), "state_whole")
 is(fazgrond.state_digest(right:name(), 1) == fazgrond.state_digest(wrong:name(), 1), false)
 is(select(2, fazgrond.state_sender("no datagram")), "nothing")
+for _, call in ipairs {
+    function() right:reply(NUMBER, 257, first, 0) end,
+    function() fooled:send(NUMBER, 257, 1) end,
+    function() fooled:takes_of(257) end,
+    function() fooled:take_of(257) end,
+    function() fazgrond.state_ask(NUMBER, 257, 1, 0) end,
+} do
+    is(select(2, pcall(call)):match "257 is no number" ~= nil, true)
+end
 is(select(2, pcall(fazgrond.taker, { which = 1, frame = 0, length = 5, digest = "short" }, 5)):match "32 bytes", "32 bytes")
