@@ -106,6 +106,7 @@ local wide = { words = 2, owners = { 0, 0, 1, 1 } }
 local doubled = play(pair(wide, wide, 4), 60, { { 1, 2 }, { 3, 4 } })
 is(table.concat(doubled[1].session:settled_row(20), " "), "1 2 3 4")
 is(doubled[2].session:confirmed(1), doubled[2].session:confirmed(2))
+is(play(pair(wide, { owners = wide.owners }, 4), 30)[1].told.mismatch.field, 4)
 
 -- A machine that isn't heard any more is told of, and then gone; if nothing is said of times, by five seconds.
 local patient = play(pair({ silent_after = 500, notify_after = 200 }, {}), 30, { 5, 6 })
