@@ -1,4 +1,5 @@
-//! What c/fazgrond.h declares.
+//! What c/fazgrond.h declares. It is written by rust/declare.
+#![allow(dead_code)]
 use crate::habits::Foreseen;
 use crate::handle::Reached;
 use crate::line::LineSettings;
@@ -94,11 +95,85 @@ pub struct TakerState {
     pub left: usize,
 }
 
+pub const VERSION: u32 = 0x000100;
+pub const PLAYERS: usize = 8;
+pub const NO_PLAYER: u32 = 255;
+pub const MACHINES: usize = 8;
+pub const DATAGRAM: usize = 1200;
+pub const HELD_WORDS: usize = 64;
+pub const GUESS_WORDS: usize = 24;
+pub const PIECE: usize = 1024;
+pub const ASKED: usize = 16;
+pub const DIGEST_BYTES: usize = 32;
 pub const NO_MACHINE: u8 = 255;
 
-// c/numbers writes the list.
+pub const GGPO: u32 = 0;
+pub const WIDE: u32 = 1;
+
+pub const LOAD: u32 = 1;
+pub const SAVE: u32 = 2;
+pub const STEP: u32 = 3;
+pub const FREE: u32 = 4;
+pub const JOB_LOAD: u32 = 5;
+pub const JOB_SAVE: u32 = 6;
+pub const JOB_STEP: u32 = 7;
+
+pub const LOCAL: u32 = 1;
+pub const REMOTE: u32 = 2;
+pub const DISCONNECT: u32 = 3;
+pub const SYNC: u32 = 4;
+pub const ADVANCE: u32 = 5;
+pub const GRAFT: u32 = 6;
+
+pub const OK: i32 = 0;
+pub const INVALID_PLAYER: i32 = 2;
+pub const PLAYER_OUT_OF_RANGE: i32 = 3;
+pub const PREDICTION_THRESHOLD: i32 = 4;
+pub const PLAYER_DISCONNECTED: i32 = 9;
+pub const INVALID_REQUEST: i32 = 11;
+pub const LOCAL_INPUT_MISSING: i32 = 101;
+pub const INPUT_TWICE: i32 = 102;
+pub const GAP: i32 = 103;
+pub const CONFLICT: i32 = 104;
+pub const QUEUE_FULL: i32 = 105;
+pub const FRAME_LIMIT: i32 = 106;
+pub const NO_MEMORY: i32 = 107;
+pub const STRANGER: i32 = 108;
+pub const TOO_FAR: i32 = 109;
+pub const LATE: i32 = 110;
+pub const ORPHAN: i32 = 111;
+pub const DEAD: i32 = 112;
+pub const TREE_FULL: i32 = 113;
+pub const LOG_FULL: i32 = 114;
+pub const NO_PLAN: i32 = 117;
+pub const FULL: i32 = 119;
+pub const NO_JOB: i32 = 120;
+pub const IS_CLOSED: i32 = 201;
+pub const PENDING: i32 = 202;
 pub const NOTHING: i32 = 203;
 pub const TOO_SHORT: i32 = 204;
+pub const OTHER_VERSION: i32 = 205;
+pub const NOT_SEALED: i32 = 301;
+pub const NO_DATAGRAM: i32 = 302;
+pub const INVALID_MACHINE: i32 = 303;
+pub const OWN_MACHINE: i32 = 304;
+pub const MACHINE_GONE: i32 = 305;
+pub const MISMATCHED: i32 = 306;
+pub const OVERSTATED: i32 = 307;
+pub const ENDED: i32 = 308;
+pub const OTHER_SENDER: i32 = 309;
+pub const NO_ROWS: i32 = 310;
+pub const ROWS_MISSING: i32 = 311;
+pub const OUTSIDE: i32 = 312;
+pub const OTHER_SESSION: i32 = 313;
+pub const OTHER_KIND: i32 = 314;
+pub const OTHER_STATE: i32 = 315;
+pub const BARRED: i32 = 316;
+pub const NOT_NOW: i32 = 317;
+pub const PAST_THE_END: i32 = 318;
+pub const WRONG_LENGTH: i32 = 319;
+pub const TOO_LONG: i32 = 320;
+
 pub const SYNCHRONIZING: u32 = 1001;
 pub const SYNCHRONIZED: u32 = 1002;
 pub const RUNNING: u32 = 1003;
@@ -115,15 +190,13 @@ pub const STALLED: u32 = 1106;
 pub const REFUSED: u32 = 1107;
 pub const MISSING: u32 = 1108;
 
-pub const LOAD: u32 = 1;
-pub const SAVE: u32 = 2;
-pub const STEP: u32 = 3;
-pub const FREE: u32 = 4;
-pub const JOB_LOAD: u32 = 5;
-pub const JOB_SAVE: u32 = 6;
-pub const JOB_STEP: u32 = 7;
+pub const PIECE_AGAIN: u32 = 1;
+pub const PIECE_TAKEN: u32 = 2;
+pub const STATE_WHOLE: u32 = 3;
+pub const STATE_WRONG: u32 = 4;
 
 unsafe extern "C" {
+    pub fn fazgrond_version() -> u32;
     pub fn fazgrond_text(code: i32, out: *mut u8, room: usize) -> usize;
     pub fn fazgrond_open(session: *mut Session, settings: *const Settings) -> i32;
     pub fn fazgrond_close(session: *mut Session);
@@ -132,6 +205,7 @@ unsafe extern "C" {
     pub fn fazgrond_disconnect_player(session: *mut Session, player: u8) -> i32;
     pub fn fazgrond_synchronize_input(session: *mut Session, row: *mut Row) -> i32;
     pub fn fazgrond_advance_frame(session: *mut Session, reached: *mut Reached) -> i32;
+    pub fn fazgrond_has_news(session: *mut Session, flag: *mut u32) -> i32;
     pub fn fazgrond_take_requests(session: *mut Session, out: *mut Request, room: usize) -> usize;
     pub fn fazgrond_guess(
         session: *mut Session,
@@ -148,16 +222,15 @@ unsafe extern "C" {
     pub fn fazgrond_frame(session: *mut Session, frame: *mut u32) -> i32;
     pub fn fazgrond_settled(session: *mut Session, rows: *mut u32) -> i32;
     pub fn fazgrond_settled_row(session: *mut Session, frame: u32, row: *mut Row) -> i32;
+    pub fn fazgrond_settled_slot(session: *mut Session, frame: *mut u32, slot: *mut u32) -> i32;
     pub fn fazgrond_confirmed(session: *mut Session, player: u8, words: *mut u32) -> i32;
     pub fn fazgrond_confirmed_word(session: *mut Session, player: u8, frame: u32, word: *mut u32) -> i32;
+    pub fn fazgrond_input_frame(session: *mut Session, player: u8, frame: *mut u32) -> i32;
     pub fn fazgrond_log_length(session: *mut Session, entries: *mut usize) -> i32;
     pub fn fazgrond_log_entry(session: *mut Session, place: usize, entry: *mut Entry) -> i32;
     pub fn fazgrond_note_advantages(session: *mut Session, local: i32, remote: i32) -> i32;
     pub fn fazgrond_frames_ahead(session: *mut Session, frames: *mut u32) -> i32;
     pub fn fazgrond_claim(session: *mut Session, out: *mut u8, room: usize, length: *mut usize) -> i32;
-    pub fn fazgrond_input_frame(session: *mut Session, player: u8, frame: *mut u32) -> i32;
-    pub fn fazgrond_settled_slot(session: *mut Session, frame: *mut u32, slot: *mut u32) -> i32;
-    pub fn fazgrond_has_news(session: *mut Session, flag: *mut u32) -> i32;
     pub fn fazgrond_peer_open(peer: *mut Peer, session: *mut Session, of: *const Match) -> i32;
     pub fn fazgrond_peer_receive(
         peer: *mut Peer,

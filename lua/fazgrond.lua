@@ -1,0 +1,1009 @@
+-- fazgrond.lua: rollback sessions for games in LuaJIT and LÖVE, over the shared library of C. docs/LUA.md shows a whole game.
+--
+-- What may be refused while all is well is answered by nil, the name of the refusal and its number: nil, "prediction_threshold",
+-- 4. A call that no right program makes (of what is closed, or with an option that there isn't) is an error. Players are numbered
+-- from 1, frames, machines and slots from 0, as in c/fazgrond.h, whose comments say what each call does. A word is a number from
+-- 0 to 2^32 - 1; if it is below 0, it is taken for one of the bit library's.
+local ffi = require "ffi"
+local bit = require "bit"
+local declared = require(((...) or ""):gsub("fazgrond$", "") .. "fazgrond_cdef")
+local numbers, answers = declared.numbers, declared.answers
+
+local OK, TOO_SHORT = numbers.OK, numbers.TOO_SHORT
+local LOCAL_INPUT_MISSING, INPUT_TWICE = numbers.LOCAL_INPUT_MISSING, numbers.INPUT_TWICE
+local LOAD, SAVE, STEP, FREE = numbers.LOAD, numbers.SAVE, numbers.STEP, numbers.FREE
+local JOB_LOAD, JOB_STEP = numbers.JOB_LOAD, numbers.JOB_STEP
+local PLAYERS, MACHINES, DATAGRAM = numbers.PLAYERS, numbers.MACHINES, numbers.DATAGRAM
+local ROOM = 16 -- requests that are taken at once
+local MOST_GUESSES = 32
+local ENTRIES = {}
+for _, name in ipairs { "LOCAL", "REMOTE", "DISCONNECT", "SYNC", "ADVANCE", "GRAFT" } do
+    ENTRIES[numbers[name]] = name:lower()
+end
+local HEARD = {}
+for _, name in ipairs { "PIECE_AGAIN", "PIECE_TAKEN", "STATE_WHOLE", "STATE_WRONG" } do
+    HEARD[numbers[name]] = name:lower()
+end
+
+local fazgrond = { numbers = numbers, answers = answers, events = declared.events }
+local lib, lib_path
+
+-- What calls write. Whatever is read of it is read at once.
+local number = ffi.new "uint32_t[2]"
+local size = ffi.new "size_t[1]"
+local machine_out = ffi.new "uint8_t[1]"
+local bytes_out = ffi.new("uint8_t[?]", DATAGRAM)
+local row_out = ffi.new "fazgrond_row"
+local reached_out = ffi.new "fazgrond_reached"
+local entry_out = ffi.new("fazgrond_entry[?]", numbers.HELD_WORDS)
+local event_out = ffi.new "fazgrond_event"
+local stats_out = ffi.new "fazgrond_stats"
+local line_out = ffi.new "fazgrond_line_state"
+local name_out = ffi.new "fazgrond_state_name"
+local taker_out = ffi.new "fazgrond_taker_state"
+local heard_out = ffi.new "fazgrond_heard"
+local foreseen_out = ffi.new("fazgrond_foreseen[?]", MOST_GUESSES)
+
+-- ---- The library.
+
+local function version_text(version)
+    return ("%d.%d.%d"):format(bit.rshift(version, 16), bit.band(bit.rshift(version, 8), 255), bit.band(version, 255))
+end
+
+-- Loads the library: from this file, else from the one that the variable FAZGROND_LIBRARY of the environment names, else from
+-- where the system has libraries. Without this call that happens once something is opened.
+function fazgrond.load(path)
+    if lib then
+        if path and path ~= lib_path then
+            error("the library is loaded already, from " .. lib_path, 2)
+        end
+        return fazgrond
+    end
+    path = path or os.getenv "FAZGROND_LIBRARY" or "fazgrond"
+    local found = ffi.load(path)
+    local version = found.fazgrond_version()
+    if bit.rshift(version, 8) ~= bit.rshift(numbers.VERSION, 8) then
+        error(("%s has version %s, and %s was expected"):format(path, version_text(version), version_text(numbers.VERSION)), 2)
+    end
+    lib, lib_path = found, path
+    return fazgrond
+end
+
+local function need_library()
+    if not lib then
+        fazgrond.load()
+    end
+end
+
+-- "0.1.0": the version of the library.
+function fazgrond.version()
+    need_library()
+    return version_text(lib.fazgrond_version())
+end
+
+-- What an answer or the code of an event means, in a sentence; nil if there is no such number.
+function fazgrond.text(code)
+    need_library()
+    local length = tonumber(lib.fazgrond_text(code, bytes_out, DATAGRAM))
+    return length > 0 and ffi.string(bytes_out, length) or nil
+end
+
+-- 64 random bits, which aren't 0.
+function fazgrond.random_number()
+    local file = io.open("/dev/urandom", "rb") or error("there is no /dev/urandom: say the `draw` yourself", 2)
+    local drawn = ffi.new "uint64_t[1]"
+    repeat
+        ffi.copy(drawn, file:read(8), 8)
+    until drawn[0] ~= 0
+    file:close()
+    return drawn[0]
+end
+
+-- ---- Arguments and answers.
+
+local function refused(code)
+    return nil, answers[code], code
+end
+
+local function done(code)
+    if code == OK then
+        return true
+    end
+    return nil, answers[code], code
+end
+
+-- A number that a call wrote, if it was accepted.
+local function answered(code)
+    if code == OK then
+        return number[0]
+    end
+    return nil, answers[code], code
+end
+
+local function flagged(code)
+    if code == OK then
+        return number[0] ~= 0
+    end
+    return nil, answers[code], code
+end
+
+-- The datagram that a call wrote.
+local function written(code)
+    if code == OK then
+        return ffi.string(bytes_out, size[0])
+    end
+    return nil, answers[code], code
+end
+
+-- 32 bits without a sign.
+local function u32(value)
+    return value >= 0 and value or value + 4294967296
+end
+
+-- A number of a player or machine.
+local function u8(value)
+    if value >= 0 and value < 256 then
+        return value
+    end
+    error(("%s is no number of a player or machine"):format(tostring(value)), 3)
+end
+
+-- Milliseconds of a clock that goes on for longer than 32 bits can say.
+local function milliseconds(now)
+    return now % 4294967296
+end
+
+-- Words as C has them, and how many.
+local function array_of(words)
+    local array = ffi.new("uint32_t[?]", math.max(#words, 1))
+    for at, word in ipairs(words) do
+        array[at - 1] = u32(word)
+    end
+    return array, #words
+end
+
+-- A row's words, player 1's first, and the bits of those who have left.
+local function row_of(row)
+    local words = {}
+    for player = 1, row.count do
+        words[player] = row.words[player - 1]
+    end
+    return words, row.gone
+end
+
+local function row_answered(code)
+    if code == OK then
+        return row_of(row_out)
+    end
+    return refused(code)
+end
+
+local function entry_of(entry)
+    return { kind = ENTRIES[entry.kind], player = entry.player, frame = entry.frame, word = entry.word }
+end
+
+-- These members of a struct.
+local function members_of(struct, names)
+    local found = {}
+    for _, name in ipairs(names) do
+        found[name] = struct[name]
+    end
+    return found
+end
+
+-- An error if an option isn't one that there is.
+local function check_options(given, known, what)
+    if type(given) ~= "table" then
+        error(("%s: a table was expected"):format(what), 3)
+    end
+    for name in pairs(given) do
+        if not known[name] then
+            error(("%s have no `%s`"):format(what, tostring(name)), 3)
+        end
+    end
+end
+
+local function set_of(names)
+    local set = {}
+    for name in names:gmatch "%S+" do
+        set[name] = true
+    end
+    return set
+end
+
+-- ---- What is open: a table with a handle, which closes by itself once nobody has it any more.
+
+local function close_handle(handle)
+    lib.fazgrond_close(ffi.cast("fazgrond_session *", handle))
+end
+
+local function class_of(kind)
+    local class = { kind = kind }
+    class.__index = class
+
+    -- Closes it. Nothing happens if it is closed.
+    function class:close()
+        local handle = self.handle
+        if handle then
+            self.handle = nil
+            close_handle(ffi.gc(handle, nil))
+        end
+    end
+
+    return class
+end
+
+local function new_handle(kind)
+    need_library()
+    return ffi.new("fazgrond_" .. kind)
+end
+
+local function opened(class, handle, code)
+    if code ~= OK then
+        return refused(code)
+    end
+    return setmetatable({ handle = ffi.gc(handle, close_handle) }, class)
+end
+
+-- Its handle. Who uses what is closed is told so.
+local function open(object)
+    local handle = object.handle
+    if not handle then
+        error(("the %s is closed"):format(object.kind), 3)
+    end
+    return handle
+end
+
+local Session, Peer, Line, Viewer = class_of "session", class_of "peer", class_of "line", class_of "viewer"
+local Habits, Giver, Taker = class_of "habits", class_of "giver", class_of "taker"
+local Job = {}
+Job.__index = Job
+
+-- ---- A session, which plays a game.
+
+local SETTINGS = set_of "players locals threshold limit log delays masks profile"
+local PROFILES = { ggpo = numbers.GGPO, wide = numbers.WIDE }
+
+-- Settings as fazgrond_settings_for has them, with what the game says.
+local function settings_of(given)
+    local is_wide = given.players > 4
+    local settings = ffi.new "fazgrond_settings"
+    settings.size = ffi.sizeof(settings)
+    settings.profile = PROFILES[given.profile or is_wide and "wide" or "ggpo"] or error("a profile is `ggpo` or `wide`", 3)
+    settings.players = given.players
+    settings.threshold = given.threshold or is_wide and 15 or 8
+    settings.limit = given.limit or 1048576
+    settings.log = given.log or 16777216
+    for _, player in ipairs(given.locals or {}) do
+        if player < 1 or player > PLAYERS then
+            error(("there is no player %d"):format(player), 3)
+        end
+        settings["local"] = bit.bor(settings["local"], bit.lshift(1, player - 1))
+    end
+    for player = 1, PLAYERS do
+        settings.delays[player - 1] = given.delays and given.delays[player] or 0
+        settings.masks[player - 1] = u32(given.masks and given.masks[player] or -1)
+    end
+    return settings
+end
+
+-- Opens a session of a game, which is at its opening now: a table with the functions `save`, `load` and `advance`. The settings
+-- are `players`, `locals` (a list of the players of this machine), and those of fazgrond_settings if they are to be others:
+-- `delays` and `masks` by players, `threshold`, `limit`, `log`, `profile`.
+function fazgrond.session(settings, game)
+    check_options(settings, SETTINGS, "settings")
+    for _, name in ipairs { "save", "load", "advance" } do
+        if not game[name] then
+            error(("the game has no function `%s`"):format(name), 2)
+        end
+    end
+    local told = settings_of(settings)
+    local handle = new_handle "session"
+    local session, name, code = opened(Session, handle, lib.fazgrond_open(handle, told))
+    if not session then
+        return nil, name, code
+    end
+    session.game = game
+    session.locals = { unpack(settings.locals or {}) }
+    session.players = settings.players
+    session.states = { [0] = game:save(0) }
+    session.words = {}
+    session.requests = ffi.new("fazgrond_request[?]", ROOM)
+    session.is_whole = true
+    return session
+end
+
+-- Its handle, if the game's states are those that the session takes them for.
+local function whole(session)
+    if not session.handle then
+        error("the session is closed", 3)
+    end
+    if not session.is_whole then
+        error("a function of the game has failed, so its states aren't those of the session", 3)
+    end
+    return session.handle
+end
+
+local function free_state(session, slot)
+    local game, state = session.game, session.states[slot]
+    session.states[slot] = nil
+    if game.free and state ~= nil then -- (of a job that was never run there is none)
+        game:free(state, slot)
+    end
+end
+
+local function step(session, row)
+    local words = session.words
+    for player = 1, session.players do
+        words[player] = row.words[player - 1]
+    end
+    session.game:advance(words, row.gone)
+end
+
+local function carry_out_one(session, request)
+    local kind, slot = request.kind, request.slot
+    if kind == STEP then
+        step(session, request.row)
+    elseif kind == SAVE then
+        session.states[slot] = session.game:save(slot)
+    elseif kind == LOAD then
+        session.game:load(session.states[slot], slot)
+    elseif kind == FREE then
+        free_state(session, slot)
+    end
+end
+
+-- Carries out what a call asked for.
+local function carry_out(session)
+    local handle, requests = session.handle, session.requests
+    session.is_whole = false -- unless no function of the game fails
+    local count = tonumber(lib.fazgrond_take_requests(handle, requests, ROOM))
+    while count > 0 do
+        for at = 0, count - 1 do
+            carry_out_one(session, requests[at])
+        end
+        count = tonumber(lib.fazgrond_take_requests(handle, requests, ROOM))
+    end
+    session.is_whole = true
+end
+
+-- A local player's word of this frame.
+function Session:add_local_input(player, word)
+    return done(lib.fazgrond_add_local_input(open(self), u8(player), u32(word)))
+end
+
+-- A remote player's next word, for a game with a network of its own: true, and whether it was taken before.
+function Session:remote_input(player, frame, word)
+    local code = lib.fazgrond_remote_input(open(self), u8(player), frame, u32(word), number)
+    if code == OK then
+        return true, number[0] ~= 0
+    end
+    return refused(code)
+end
+
+-- A remote player leaves, for a game with a network of its own.
+function Session:disconnect_player(player)
+    return done(lib.fazgrond_disconnect_player(open(self), u8(player)))
+end
+
+-- The row of this frame, after a rollback if a prediction was wrong: its words, and the bits of those who have left.
+function Session:synchronize_input()
+    local code = lib.fazgrond_synchronize_input(whole(self), row_out)
+    local words, gone, number_of = row_answered(code)
+    carry_out(self)
+    return words, gone, number_of
+end
+
+-- Goes on to the next frame, after a rollback if a prediction was wrong: the new frame, the one that it started from, and how
+-- many frames were run.
+function Session:advance_frame()
+    local code = lib.fazgrond_advance_frame(whole(self), reached_out)
+    local frame, from, rerun = reached_out.frame, reached_out.from, reached_out.rerun
+    carry_out(self)
+    if code == OK then
+        return frame, from, rerun
+    end
+    return refused(code)
+end
+
+-- Gives the words of the local players. One that was given already, since another's was refused after it, counts as it was.
+local function give(session, handle, words)
+    local code = OK
+    for at, player in ipairs(session.locals) do
+        local word = type(words) == "table" and words[at] or words
+        code = code == OK and lib.fazgrond_add_local_input(handle, player, u32(word)) or code
+        code = code == INPUT_TWICE and OK or code
+    end
+    return code
+end
+
+-- A turn: the words of the local players in their order, or one word if there is one player, and a frame, as `advance_frame`. If
+-- that is refused, or there is no word since the game is to wait, what came too late is played again.
+function Session:turn(words)
+    local handle = whole(self)
+    local code = words and give(self, handle, words) or LOCAL_INPUT_MISSING
+    if code == OK then
+        return self:advance_frame()
+    end
+    if self:has_news() then
+        self:synchronize_input()
+    end
+    return refused(code)
+end
+
+-- Whether the state that is shown may be out of date.
+function Session:has_news()
+    return flagged(lib.fazgrond_has_news(open(self), number))
+end
+
+-- The job whose requests a guess has left.
+local function job_of(session, code)
+    if code ~= OK then
+        return refused(code)
+    end
+    local job = setmetatable({ number = number[0], steps = {}, slots = {} }, Job)
+    local requests = session.requests
+    local count = tonumber(lib.fazgrond_take_requests(session.handle, requests, ROOM))
+    while count > 0 do
+        for at = 0, count - 1 do
+            local kind, slot = requests[at].kind, requests[at].slot
+            if kind == JOB_LOAD then
+                job.from, job.from_slot = session.states[slot], slot
+            elseif kind == JOB_STEP then
+                local words, gone = row_of(requests[at].row)
+                table.insert(job.steps, { words = words, gone = gone })
+            else
+                table.insert(job.slots, slot)
+            end
+        end
+        count = tonumber(lib.fazgrond_take_requests(session.handle, requests, ROOM))
+    end
+    return job
+end
+
+-- A guess: if this player gave these words next, up to the frame `last`. Answers its job, which can be run anywhere; or nil and
+-- "nothing" if all is kept already.
+function Session:guess(player, words, last)
+    local handle = whole(self)
+    local array, count = array_of(words)
+    return job_of(self, lib.fazgrond_guess(handle, u8(player), array, count, last, number))
+end
+
+-- Runs a job by a game that isn't the session's: its state is another one afterwards. (What has no game, another thread say, is
+-- given `from` and `steps`, and what it saved after each step becomes `states`.)
+function Job:run(game)
+    local states = {}
+    game:load(self.from, self.from_slot)
+    for at, one in ipairs(self.steps) do
+        game:advance(one.words, one.gone)
+        states[at] = game:save(self.slots[at])
+    end
+    self.states = states
+end
+
+-- A job's states lie in its slots, until the session has them freed.
+local function put_states(session, job)
+    for at, slot in ipairs(job.slots) do
+        session.states[slot] = job.states[at]
+    end
+end
+
+-- Takes in the states of a job that was run, and answers how many of them are kept. Afterwards the job is over in any case.
+function Session:graft(job)
+    local handle = whole(self)
+    if not job.states then
+        error("the job wasn't run", 2)
+    end
+    put_states(self, job)
+    return answered(lib.fazgrond_graft(handle, job.number, number))
+end
+
+-- Gives a job up. It may not be run any more.
+function Session:forget(job)
+    local handle = open(self)
+    if job.states then
+        put_states(self, job)
+    end
+    return done(lib.fazgrond_forget(handle, job.number))
+end
+
+-- From now on no state is saved in a slot from this one on.
+function Session:limit_slots(slots)
+    return done(lib.fazgrond_limit_slots(open(self), slots))
+end
+
+-- Makes room for so many more events of the log.
+function Session:reserve_log(events)
+    return done(lib.fazgrond_reserve_log(open(self), events))
+end
+
+-- The current frame.
+function Session:frame()
+    return answered(lib.fazgrond_frame(open(self), number))
+end
+
+-- How many rows are settled: they never change.
+function Session:settled()
+    return answered(lib.fazgrond_settled(open(self), number))
+end
+
+-- A settled row: its words, and the bits of those who have left.
+function Session:settled_row(frame)
+    return row_answered(lib.fazgrond_settled_row(open(self), frame, row_out))
+end
+
+-- The settled frame, the state after all settled rows, and its slot.
+function Session:settled_state()
+    local code = lib.fazgrond_settled_slot(whole(self), number, number + 1)
+    if code == OK then
+        return number[0], self.states[number[1]], number[1]
+    end
+    return refused(code)
+end
+
+-- How many words of a player are confirmed.
+function Session:confirmed(player)
+    return answered(lib.fazgrond_confirmed(open(self), u8(player), number))
+end
+
+-- The confirmed word of a player at a frame.
+function Session:confirmed_word(player, frame)
+    return answered(lib.fazgrond_confirmed_word(open(self), u8(player), frame, number))
+end
+
+-- The frame in which a local player's next word counts.
+function Session:input_frame(player)
+    return answered(lib.fazgrond_input_frame(open(self), u8(player), number))
+end
+
+-- How many entries the log has.
+function Session:log_length()
+    local code = lib.fazgrond_log_length(open(self), size)
+    if code == OK then
+        return tonumber(size[0])
+    end
+    return refused(code)
+end
+
+-- The entry at a place of the log, from 0: a table with `kind` ("local", "remote", "disconnect", "sync", "advance" or "graft"),
+-- `player`, `frame` and `word`.
+function Session:log_entry(place)
+    local code = lib.fazgrond_log_entry(open(self), place, entry_out)
+    if code == OK then
+        return entry_of(entry_out[0])
+    end
+    return refused(code)
+end
+
+-- By how many frames this machine is behind the other one, and the other behind this one, if there is no peer.
+function Session:note_advantages(here, there)
+    return done(lib.fazgrond_note_advantages(open(self), here, there))
+end
+
+-- How many frames this machine should wait.
+function Session:frames_ahead()
+    return answered(lib.fazgrond_frames_ahead(open(self), number))
+end
+
+-- The text of the last rollback's claim.
+function Session:claim()
+    local handle = open(self)
+    local code, out = lib.fazgrond_claim(handle, bytes_out, DATAGRAM, size), bytes_out
+    if code == TOO_SHORT then
+        out = ffi.new("uint8_t[?]", size[0])
+        code = lib.fazgrond_claim(handle, out, size[0], size)
+    end
+    if code == OK then
+        return ffi.string(out, size[0])
+    end
+    return refused(code)
+end
+
+-- ---- The network of a match at one of its machines, beside a session. `now` is this machine's clock in milliseconds.
+
+local MATCH = set_of [[me machines owners number numbers draw digest silent_after notify_after stalled_after words held_turns]]
+
+local function set_owners(owners, given)
+    for player = 1, PLAYERS do
+        owners[player - 1] = given[player] or numbers.NO_PLAYER
+    end
+end
+
+-- A match as fazgrond_match_for has it, with what the game says.
+local function match_of(given)
+    local match = ffi.new "fazgrond_match"
+    match.size = ffi.sizeof(match)
+    match.me, match.machines = given.me, given.machines
+    for machine = 0, MACHINES - 1 do
+        match.numbers[machine] = given.numbers and given.numbers[machine] or given.number or 0
+    end
+    set_owners(match.owners, given.owners)
+    match.draw = given.draw or fazgrond.random_number()
+    match.digest = given.digest or 0
+    match.silent_after = given.silent_after or 5000
+    match.notify_after = given.notify_after or 750
+    match.stalled_after = given.stalled_after or 0
+    match.words = given.words or 1
+    match.held_turns = given.held_turns or 0
+    return match
+end
+
+-- Opens the network of a match: `me`, `machines` and `owners` (the machine of each player, player 1's first), `number` (or
+-- `numbers`, by machines from 0), and if they are to be others `digest`, `silent_after` (5000), `notify_after` (750),
+-- `stalled_after` (0), `words` (1), `held_turns` (0) and `draw` (random bits).
+function fazgrond.peer(session, match)
+    check_options(match, MATCH, "matches")
+    local handle = new_handle "peer"
+    local peer, name, code = opened(Peer, handle, lib.fazgrond_peer_open(handle, open(session), match_of(match)))
+    if not peer then
+        return nil, name, code
+    end
+    peer.session = session
+    return peer
+end
+
+-- Takes a datagram that came.
+function Peer:receive(bytes, now)
+    return done(lib.fazgrond_peer_receive(open(self), open(self.session), bytes, #bytes, milliseconds(now)))
+end
+
+-- Once a turn, before the session's own calls.
+function Peer:poll(now)
+    return done(lib.fazgrond_peer_poll(open(self), open(self.session), milliseconds(now)))
+end
+
+-- Whether the match has begun: give the session no words before.
+function Peer:is_running()
+    return flagged(lib.fazgrond_peer_is_running(open(self), number))
+end
+
+-- The datagram to send to a machine in this turn; nil and "nothing" if there is none.
+function Peer:send(machine, now)
+    local session = open(self.session)
+    return written(lib.fazgrond_peer_send(open(self), session, u8(machine), milliseconds(now), bytes_out, DATAGRAM, size))
+end
+
+-- The datagram that says to a machine that this one leaves. Send it a few times.
+function Peer:bye(machine)
+    return written(lib.fazgrond_peer_bye(open(self), u8(machine), bytes_out, DATAGRAM, size))
+end
+
+-- Regards a machine as gone, for good.
+function Peer:disconnect(machine)
+    return done(lib.fazgrond_peer_disconnect(open(self), u8(machine)))
+end
+
+-- Tells the others a digest of the settled state: this one, or what the game's function `digest` makes of that state.
+function Peer:note_settled(digest)
+    local session = self.session
+    local handle, beside = open(self), whole(session)
+    if digest == nil then
+        local frame, state, slot = session:settled_state()
+        if frame == session.noted or not session.game.digest then
+            return true
+        end
+        session.noted = frame
+        digest = session.game:digest(state, slot)
+    end
+    return done(lib.fazgrond_peer_note_settled(handle, beside, digest))
+end
+
+local OF_EVENT = { "code", "machine", "player", "count", "total", "frames_ahead", "disconnect_in", "frame", "field" }
+
+-- What happened, the oldest first: a table with its `name` ("time_sync", say) and all that fazgrond_event has; nil if nothing
+-- did.
+function Peer:event()
+    local code = lib.fazgrond_peer_event(open(self), event_out)
+    if code ~= OK then
+        return refused(code)
+    end
+    local event = members_of(event_out, OF_EVENT)
+    event.name = declared.events[event.code]
+    return event
+end
+
+-- All that has happened, for a loop: `for event in peer:events() do`.
+function Peer:events()
+    return self.event, self
+end
+
+local OF_STATS = { "sent", "received", "lost", "words_queued", "frames_behind", "their_frames_behind", "refused" }
+
+-- What was counted and measured of a machine. `round_trip` is there once it was measured.
+function Peer:stats(machine)
+    local code = lib.fazgrond_peer_stats(open(self), u8(machine), stats_out)
+    if code ~= OK then
+        return refused(code)
+    end
+    local stats = members_of(stats_out, OF_STATS)
+    stats.round_trip = stats_out.is_measured ~= 0 and stats_out.round_trip or nil
+    return stats
+end
+
+-- The words that wait, in the order in which they came, as entries of a log, if the match holds words back.
+function Peer:waiting()
+    local words = {}
+    for at = 1, tonumber(lib.fazgrond_peer_waiting(open(self), entry_out, numbers.HELD_WORDS)) do
+        words[at] = entry_of(entry_out[at - 1])
+    end
+    return words
+end
+
+-- How many frames the session would have to run again, if the first so many words that wait were handed over.
+function Peer:rerun(count)
+    return answered(lib.fazgrond_peer_rerun(open(self), open(self.session), count, number))
+end
+
+-- A guess with all words that wait, up to the frame `last`: its job, as that of a session's guess.
+function Peer:guess(last)
+    return job_of(self.session, lib.fazgrond_peer_guess(open(self), whole(self.session), last, number))
+end
+
+-- Hands the first so many words that wait over to the session, or all of them.
+function Peer:hand_over(count)
+    return done(lib.fazgrond_peer_hand_over(open(self), open(self.session), count or numbers.HELD_WORDS))
+end
+
+-- Once a turn: hands over the words that have waited for their turns, and answers how many they were.
+function Peer:hand_over_due()
+    return answered(lib.fazgrond_peer_hand_over_due(open(self), open(self.session), number))
+end
+
+-- Whether words wait without which the session would stand at its next frame.
+function Peer:is_pressed()
+    return flagged(lib.fazgrond_peer_is_pressed(open(self), open(self.session), number))
+end
+
+-- ---- Spectators: a host's end of a viewer's line, and the viewer's.
+
+local LINE = set_of [[number draw digest host machines owners silent_after]]
+
+local function line_settings_of(given)
+    local settings = ffi.new "fazgrond_line_settings"
+    settings.number = given.number
+    settings.draw = given.draw or fazgrond.random_number()
+    settings.digest = given.digest or 0
+    settings.host, settings.machines = given.host, given.machines
+    set_owners(settings.owners, given.owners)
+    settings.silent_after = given.silent_after or 0
+    return settings
+end
+
+local OF_LINE = { "rows", "settled", "silence" }
+
+local function look_answered(code)
+    if code ~= OK then
+        return refused(code)
+    end
+    local state = members_of(line_out, OF_LINE)
+    state.is_playing, state.has_ended = line_out.is_playing ~= 0, line_out.has_ended ~= 0
+    state.is_silent = line_out.is_silent ~= 0
+    return state
+end
+
+-- Opens a host's end of a viewer's line, beside the session of its match.
+function fazgrond.line(session, settings)
+    check_options(settings, LINE, "lines")
+    local handle = new_handle "line"
+    local line, name, code = opened(Line, handle, lib.fazgrond_line_open(handle, line_settings_of(settings)))
+    if not line then
+        return nil, name, code
+    end
+    line.session = session
+    return line
+end
+
+function Line:receive(bytes, now)
+    return done(lib.fazgrond_line_receive(open(self), bytes, #bytes, milliseconds(now)))
+end
+
+-- The datagram to send to the viewer in this turn; nil and "nothing" once the line has ended.
+function Line:send(now)
+    return written(lib.fazgrond_line_send(open(self), open(self.session), milliseconds(now), bytes_out, DATAGRAM, size))
+end
+
+-- The line ends: the datagram that says so, or nil and "nothing" if nobody is to be told.
+function Line:bye()
+    return written(lib.fazgrond_line_bye(open(self), bytes_out, DATAGRAM, size))
+end
+
+-- How far the two ends are.
+function Line:look(now)
+    return look_answered(lib.fazgrond_line_look(open(self), milliseconds(now), line_out))
+end
+
+-- Opens a viewer's end of a line.
+function fazgrond.viewer(settings)
+    check_options(settings, LINE, "lines")
+    local handle = new_handle "viewer"
+    return opened(Viewer, handle, lib.fazgrond_viewer_open(handle, line_settings_of(settings)))
+end
+
+-- Takes a datagram that came of the host, and answers how many rows were taken from it.
+function Viewer:receive(bytes, now)
+    return answered(lib.fazgrond_viewer_receive(open(self), bytes, #bytes, milliseconds(now), number))
+end
+
+function Viewer:send(now)
+    return written(lib.fazgrond_viewer_send(open(self), milliseconds(now), bytes_out, DATAGRAM, size))
+end
+
+function Viewer:bye()
+    return written(lib.fazgrond_viewer_bye(open(self), bytes_out, DATAGRAM, size))
+end
+
+-- The next row to play, from frame 0 on: its words, and the bits of those who have left.
+function Viewer:row()
+    return row_answered(lib.fazgrond_viewer_row(open(self), row_out))
+end
+
+-- All rows that are there, for a loop: `for words, gone in viewer:rows() do`.
+function Viewer:rows()
+    return self.row, self
+end
+
+function Viewer:look(now)
+    return look_answered(lib.fazgrond_viewer_look(open(self), milliseconds(now), line_out))
+end
+
+-- ---- What a player may press next.
+
+-- Opens the habits of a player. Each of `parts` has those bits of a word that belong together; `likely` are words that the player
+-- will probably give.
+function fazgrond.habits(parts, likely)
+    local handle = new_handle "habits"
+    local masks, count = array_of(parts or {})
+    local words, more = array_of(likely or {})
+    return opened(Habits, handle, lib.fazgrond_habits_open(handle, masks, count, words, more))
+end
+
+-- Notes the player's next confirmed word, each once.
+function Habits:note(word)
+    return done(lib.fazgrond_habits_note(open(self), u32(word)))
+end
+
+-- The best guesses, best first, if so many frames have no word of the player yet: tables with `words` and their `worth`.
+function Habits:guesses(frames, most)
+    local best = {}
+    local count = lib.fazgrond_habits_guesses(open(self), frames, foreseen_out, math.min(most or MOST_GUESSES, MOST_GUESSES))
+    for at = 1, tonumber(count) do
+        local foreseen, words = foreseen_out[at - 1], {}
+        for place = 1, foreseen.count do
+            words[place] = foreseen.words[place - 1]
+        end
+        best[at] = { words = words, worth = foreseen.worth }
+    end
+    return best
+end
+
+-- ---- A state in pieces, before a match. It is called by a table: `which`, `frame`, `length`, `digest` (a string of 32 bytes).
+
+local function name_answered(code)
+    if code ~= OK then
+        return refused(code)
+    end
+    local name = members_of(name_out, { "which", "frame", "length" })
+    name.digest = ffi.string(name_out.digest, numbers.DIGEST_BYTES)
+    return name
+end
+
+local function state_name_of(given)
+    local name = ffi.new "fazgrond_state_name"
+    if #given.digest ~= numbers.DIGEST_BYTES then
+        error("the digest of a state has 32 bytes", 3)
+    end
+    name.which, name.frame, name.length = given.which, given.frame, given.length
+    ffi.copy(name.digest, given.digest, numbers.DIGEST_BYTES)
+    return name
+end
+
+local function bytes_answered(code, out, length)
+    if code == OK then
+        return ffi.string(out, length)
+    end
+    return refused(code)
+end
+
+-- Opens who gives a state: a string, which is the state of a number of yours, and of a frame.
+function fazgrond.giver(which, frame, bytes)
+    local handle = new_handle "giver"
+    return opened(Giver, handle, lib.fazgrond_giver_open(handle, which, frame, bytes, #bytes))
+end
+
+-- What its state is called: tell it those who are to take it.
+function Giver:name()
+    return name_answered(lib.fazgrond_giver_name(open(self), name_out))
+end
+
+-- The state's bytes.
+function Giver:bytes()
+    local handle, length = open(self), self:name().length
+    local out = ffi.new("uint8_t[?]", length)
+    return bytes_answered(lib.fazgrond_giver_bytes(handle, out, length), out, length)
+end
+
+-- The datagram to send for the piece that bytes ask for at this place of their list, from 0; nil and "nothing" if there is none.
+function Giver:reply(match_number, me, bytes, place)
+    local handle = open(self)
+    return written(lib.fazgrond_giver_reply(handle, match_number, u8(me), bytes, #bytes, place, bytes_out, DATAGRAM, size))
+end
+
+-- Opens who takes the state of this name, if it has no more bytes than `limit`.
+function fazgrond.taker(name, limit)
+    local handle = new_handle "taker"
+    return opened(Taker, handle, lib.fazgrond_taker_open(handle, state_name_of(name), limit))
+end
+
+-- What its state is called.
+function Taker:name()
+    return name_answered(lib.fazgrond_taker_name(open(self), name_out))
+end
+
+-- How many pieces the state has, and how many of them are missing.
+function Taker:look()
+    local code = lib.fazgrond_taker_look(open(self), taker_out)
+    if code == OK then
+        return tonumber(taker_out.pieces), tonumber(taker_out.left)
+    end
+    return refused(code)
+end
+
+-- The datagram that asks for the next missing pieces, so many at most; nil and "nothing" if none is missing.
+function Taker:send(match_number, me, most)
+    return written(lib.fazgrond_taker_send(open(self), match_number, u8(me), most, bytes_out, DATAGRAM, size))
+end
+
+-- What came of a piece: "piece_taken", "piece_again", "state_whole" or "state_wrong", and the machine if one is named.
+function Taker:receive(match_number, bytes)
+    local code = lib.fazgrond_taker_receive(open(self), match_number, bytes, #bytes, heard_out)
+    if code == OK then
+        return HEARD[heard_out.what], heard_out.machine ~= numbers.NO_MACHINE and heard_out.machine or nil
+    end
+    return refused(code)
+end
+
+-- Whether pieces of a machine are taken for now.
+function Taker:takes_of(machine)
+    return flagged(lib.fazgrond_taker_takes_of(open(self), u8(machine), number))
+end
+
+-- From now on pieces of this machine alone are taken, or without one of each that gave no wrong state.
+function Taker:take_of(machine)
+    return done(lib.fazgrond_taker_take_of(open(self), u8(machine or numbers.NO_MACHINE)))
+end
+
+-- The state's bytes, once it is whole; nil and "nothing" before.
+function Taker:bytes()
+    local handle, length = open(self), self:name().length
+    local out = ffi.new("uint8_t[?]", length)
+    return bytes_answered(lib.fazgrond_taker_bytes(handle, out, length), out, length)
+end
+
+-- Which machine sent a piece of a state or asks for some; nil and "nothing" if the datagram is for a peer.
+function fazgrond.state_sender(bytes)
+    need_library()
+    local code = lib.fazgrond_state_sender(bytes, #bytes, machine_out)
+    if code == OK then
+        return machine_out[0]
+    end
+    return refused(code)
+end
+
+-- A match's digest that has a state in it, beside what another has.
+function fazgrond.state_digest(name, digest)
+    need_library()
+    return lib.fazgrond_state_digest(state_name_of(name), digest)
+end
+
+-- The datagram that asks what a state is called, and what the piece says that comes for it.
+function fazgrond.state_ask(match_number, me, which, frame)
+    need_library()
+    return written(lib.fazgrond_state_ask(match_number, u8(me), which, frame, bytes_out, DATAGRAM, size))
+end
+
+function fazgrond.state_told(match_number, bytes)
+    need_library()
+    return name_answered(lib.fazgrond_state_told(match_number, bytes, #bytes, name_out))
+end
+
+return fazgrond
