@@ -45,9 +45,9 @@ def measure(what, late, changes):
     for _ in range(RUNS):
         game = Sum()
         with Session(Settings(2, [1]), game) as session:
-            start = time.perf_counter()
+            start = time.process_time()
             play(session, late, changes)
-            least = min(least, (time.perf_counter() - start) / FRAMES)
+            least = min(least, (time.process_time() - start) / FRAMES)
     print(f"{what:38} {least * 1e9:7.0f} ns a frame, {game.steps / FRAMES:4.2f} steps")
 
 
@@ -68,11 +68,11 @@ def measure_peers():
         sessions = [Session(Settings(2, [me + 1]), Sum()) for me in range(2)]
         machines = [(session, Peer(session, Match(me, 2, [0, 1], 7, draw=me + 1))) for me, session in enumerate(sessions)]
         sent = [None, None]
-        start = time.perf_counter()
+        start = time.process_time()
         for turn in range(FRAMES):
             for me in range(2):
                 sent[1 - me] = take_turn(me, machines[me], sent[me], turn)
-        least = min(least, (time.perf_counter() - start) / FRAMES / 2)
+        least = min(least, (time.process_time() - start) / FRAMES / 2)
         steps, frames = sessions[0].game.steps, sessions[0].frame
         for session, peer in machines:
             peer.close()

@@ -91,7 +91,7 @@ class Play:
                                              options.match or digest, digest, silent_after=options.timeout))
         self.wait = self.again = 0
         self.noted = -1
-        self.told: dict[int, str] = {}
+        self.told: dict[str, str] = {}
         self.is_over = False  # the match can't go on
 
     def turn(self, words: list[int], now: float) -> None:
@@ -128,11 +128,13 @@ class Play:
         if event.code == Happened.TIME_SYNC:
             self.wait = event.frames_ahead
             return
-        who = f"player {event.player}" if event.player else f"machine {event.machine}"
-        said = text(event.code) if event.code == Happened.RUNNING else f"{who}: {text(event.code)}"
-        if event.code != Happened.SYNCHRONIZING:
-            self.told[event.player or event.machine + 100] = said
-            print("the match begins" if event.code == Happened.RUNNING else said, file=sys.stderr)
+        if event.code == Happened.RUNNING:
+            self.told.clear()
+            print("the match begins", file=sys.stderr)
+        elif event.code != Happened.SYNCHRONIZING:
+            who = f"player {event.player}" if event.player else f"machine {event.machine}"
+            self.told[who] = f"{who}: {text(event.code)}"
+            print(self.told[who], file=sys.stderr)
         self.is_over |= event.code in (Happened.DESYNC, Happened.MISMATCH, Happened.DROPPED)
 
     @property
@@ -165,7 +167,8 @@ class Window:
         import pygame
 
         self.pygame = pygame
-        pygame.init()
+        pygame.display.init()
+        pygame.font.init()
         pygame.display.set_caption(f"Duel: player {player}")
         self.screen = pygame.display.set_mode(self.SIZE)
         self.font = pygame.font.Font(None, 20)

@@ -166,9 +166,10 @@ class Plays(Owned):
 
     def _take(self) -> Iterator[Any]:
         """The requests that are left, as the library has them."""
-        while count := lib.fazgrond_take_requests(self._at(), self._batch, _BATCH):
+        batch = self._batch
+        while count := lib.fazgrond_take_requests(self._at(), batch, _BATCH):
             for at in range(count):
-                yield self._batch[at]
+                yield batch[at]
 
     def _guessed(self, player: int, words: Sequence[int], until: int) -> int | None:
         given = ffi.new("uint32_t[]", list(words) or [0])

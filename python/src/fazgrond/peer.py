@@ -117,6 +117,7 @@ class Peer(Owned):
         self.session = session
         self._word = ffi.new("uint32_t *")
         self._event = ffi.new("fazgrond_event *")
+        self._has_begun = False  # that never ends
         with self._lock:
             said(lib.fazgrond_peer_open(self._at(), session._at(), match._raw()))
 
@@ -158,8 +159,10 @@ class Peer(Owned):
     def is_running(self) -> bool:
         """Whether the match has begun. Before that give the session no words."""
         with self._lock:
-            said(lib.fazgrond_peer_is_running(self._at(), self._word))
-            return bool(self._word[0])
+            if not self._has_begun or self._raw is None:
+                said(lib.fazgrond_peer_is_running(self._at(), self._word))
+                self._has_begun = bool(self._word[0])
+            return self._has_begun
 
     def send(self, machine: int, now: int) -> bytes | None:
         """The datagram to send to a machine in this turn. None if it is gone, or this one, or there is no such machine."""

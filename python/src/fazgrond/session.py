@@ -136,21 +136,19 @@ class Session(Plays, Generic[S]):
         self._forget_dropped()
         code = call(self._at(), out)
         self._is_whole = False
+        game = self.game
         for request in self._take():
-            self._carry_out(request)
+            kind = request.kind
+            if kind == _STEP:
+                game.advance(row_of(request.row))
+            elif kind == _SAVE:
+                self._put(request.slot, game.save())
+            elif kind == _LOAD:
+                game.load(self._slots[request.slot])
+            else:
+                self._slots[request.slot] = None
         self._is_whole = True
         return code
-
-    def _carry_out(self, request: Any) -> None:
-        kind = request.kind
-        if kind == _STEP:
-            self.game.advance(row_of(request.row))
-        elif kind == _SAVE:
-            self._put(request.slot, self.game.save())
-        elif kind == _LOAD:
-            self.game.load(self._slots[request.slot])
-        else:
-            self._slots[request.slot] = None
 
     def _put(self, slot: int, state: S | None) -> None:
         """The least free slots are always taken, so the next one is at most one more."""
@@ -182,6 +180,8 @@ class Session(Plays, Generic[S]):
     def _forget_dropped(self) -> None:
         """Gives up the jobs that nobody has any more."""
         self._must_be_whole()
+        if not self._jobs:
+            return
         for number in [number for number, (_, job) in self._jobs.items() if job() is None]:
             del self._jobs[number]
             said(lib.fazgrond_forget(self._at(), number))
