@@ -1,5 +1,7 @@
 """What each class answers: calls.py PACKAGE. The last line is `N passed, M failed`."""
+import copy
 import gc
+import pickle
 import re
 import sys
 import threading
@@ -227,9 +229,12 @@ def all_kinds():
 def what_is_closed_takes_no_calls():
     for it, calls in all_kinds().items():
         assert not it.is_closed
+        for copies in [copy.copy, copy.deepcopy, pickle.dumps]:
+            raises(TypeError, copies, it)
+        before, held = recorder.closed.total(), it._raw
         it.close()
         it.close()
-        assert it.is_closed
+        assert it.is_closed and recorder.closed.total() == before + 1 and not held.full
         for call in calls:
             raises(Closed, call)
         raises(Closed, it.__class__._at, it)
@@ -295,7 +300,24 @@ def a_game_can_not_roll_itself():
 
 
 @test
-def calls_from_two_threads_wait_for_each_other():
+def a_call_waits_for_another_thread():
+    class Waits(Sum):
+        def advance(self, row):
+            super().advance(row)
+            thread.start()
+            thread.join(0.1)
+            assert thread.is_alive() and seen == []
+
+    seen = []
+    with Session(Settings(2, [1]), Waits()) as session:
+        thread = threading.Thread(target=lambda: seen.append(session.frame))
+        give(session, 1, 4)
+        thread.join(10)
+        assert seen == [1]
+
+
+@test
+def two_threads_ask_while_one_plays():
     with session_of() as session:
         seen = []
 
@@ -342,6 +364,11 @@ def a_job_that_nobody_has_is_given_up():
         give(other, 1, 1)
         foreign = other.guess(2, [7], 1)
         refused(Answer.NO_JOB, session.graft, foreign.run(Sum()))
+        own = session.guess(2, [7], 1)
+        assert own.number == foreign.number
+        refused(Answer.NO_JOB, session.graft, foreign)
+        refused(Answer.NO_JOB, session.forget, foreign)
+        session.forget(own)
         other.forget(foreign)
         refused(Answer.NO_JOB, other.forget, foreign)
         before = recorder.called["fazgrond_forget"]
@@ -481,6 +508,17 @@ def events_of_a_match():
 
 
 @test
+def two_machines_share_a_number():
+    for theirs, is_running in [(7, True), (8, False)]:
+        sessions = session_of(1), session_of(2)
+        both = [(session, Peer(session, Match(me, 2, [0, 1], numbers)))
+                for me, (session, numbers) in enumerate(zip(sessions, [[0, 7], [theirs, 0]]))]
+        meet(*both)
+        assert both[0][1].is_running == both[1][1].is_running == is_running
+        close(*both)
+
+
+@test
 def machines_that_do_not_fit():
     one, two = machine(0, digest=1), machine(1, digest=2)
     meet(one, two)
@@ -578,8 +616,8 @@ def a_state_goes_over():
             kept = [piece for at, piece in enumerate(pieces) if (sent + at) % 3 != 2]
             sent += len(pieces)
             for piece in [*reversed(kept), *kept[-1:]]:
-                came.append(taker.receive(NUMBER, piece).what)
-        assert set(came) == {Piece.PIECE_AGAIN, Piece.PIECE_TAKEN, Piece.STATE_WHOLE}
+                came.append(taker.receive(NUMBER, piece))
+        assert set(came) == {(what, None) for what in [Piece.PIECE_AGAIN, Piece.PIECE_TAKEN, Piece.STATE_WHOLE]}
         assert taker.state() == state == giver.state() and taker.name == giver.name and taker.look().left == 0
 
 
@@ -599,7 +637,7 @@ def who_gives_a_wrong_state_is_named():
             taker.take_of(1)
             assert not taker.takes_of(0)
             taker.take_of(None)
-            assert taker.takes_of(0)
+            assert taker.takes_of(0) and taker.takes_of(1)
         assert StateName(1, 0, 5, bytes([7] * 32)).digest_with(1) != name.digest_with(1)
         assert liar.name.digest != name.digest
 

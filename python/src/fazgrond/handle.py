@@ -1,7 +1,7 @@
 """A session without a game: what it leaves is carried out by its caller. `Session` carries it out."""
 from __future__ import annotations
 
-from collections.abc import Iterable, Iterator, Mapping, Sequence
+from collections.abc import Collection, Iterator, Mapping, Sequence
 from dataclasses import dataclass, field
 from typing import TYPE_CHECKING, Any
 
@@ -22,7 +22,7 @@ class Settings:
     """How a session is opened: so many players, of whom some are on this machine. What isn't said is at its most."""
 
     players: int
-    local: Iterable[int]
+    local: Collection[int]
     threshold: int | None = None  # how many frames the session may run ahead of the confirmed words
     limit: int | None = None  # the last frame
     log: int | None = None  # the most accepted calls

@@ -45,6 +45,9 @@ class Owned:
                 ffi.release(self._raw)
                 self._raw = None
 
+    def __reduce_ex__(self, protocol: Any) -> Any:
+        raise TypeError(f"a {self._kind} can't be copied")
+
     def __enter__(self: _Self) -> _Self:
         return self
 
