@@ -1,8 +1,8 @@
 #!/usr/bin/python3
 """What a frame costs through Python: bench/python_frames.py, after `make -C c` and python/build
 
-The first five lines of `make -C c bench` (bench/c_frames.c), by the classes: a frame is all calls and requests of a turn, each line the
-least of five runs. `make -C c out/c_frames && c/out/c_frames 0` measures the same in C.
+The first five lines of `make -C c bench` (bench/c_frames.c), by the classes: a frame is all calls and requests of a turn, each
+line the least of five runs. `make -C c out/c_frames && c/out/c_frames 0` measures the same in C.
 """
 import sys
 import time
@@ -77,7 +77,8 @@ def measure_peers():
         for session, peer in machines:
             peer.close()
             session.close()
-    print(f"{'two peers, a turn of one':38} {least * 1e9:7.0f} ns a turn, {steps / FRAMES:4.2f} steps, {frames / FRAMES:.2f} frames")
+    told = f"{least * 1e9:7.0f} ns a turn, {steps / FRAMES:4.2f} steps, {frames / FRAMES:.2f} frames"
+    print(f"{'two peers, a turn of one':38} {told}")
 
 
 measure("each word in time, no rollback", 0, True)

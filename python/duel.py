@@ -1,8 +1,8 @@
 #!/usr/bin/python3
 """A duel of ships for two to four, on as many machines: python/duel.py [OPTIONS] PORT PLAYER PLAYER [PLAYER [PLAYER]]
 
-It plays with c/out/duel too, whose command line it has. A PLAYER is `local`, or the address of a machine, as 10.0.0.7:7001; the same
-order at all machines. Arrows and space fly the first ship of this machine, W A D and F the second.
+It plays with c/out/duel too, whose command line it has. A PLAYER is `local`, or the address of a machine, as 10.0.0.7:7001; the
+same order at all machines. Arrows and space fly the first ship of this machine, W A D and F the second.
 """
 from __future__ import annotations
 
@@ -173,7 +173,8 @@ class Window:
         self.screen = pygame.display.set_mode(self.SIZE)
         self.font = pygame.font.Font(None, 20)
         self.player = player
-        self.keys = [[pygame.K_UP, pygame.K_LEFT, pygame.K_RIGHT, pygame.K_SPACE], [pygame.K_w, pygame.K_a, pygame.K_d, pygame.K_f]]
+        self.keys = [[pygame.K_UP, pygame.K_LEFT, pygame.K_RIGHT, pygame.K_SPACE],
+                     [pygame.K_w, pygame.K_a, pygame.K_d, pygame.K_f]]
 
     def goes_on(self) -> bool:
         ends = [it for it in self.pygame.event.get()
@@ -229,16 +230,18 @@ def run(play: Play, window: Window | None, speed: int) -> None:
         play.turn(window.words() if window else [0, 0, 0, 0], time.monotonic() * 1000 * speed)
         if window:
             window.draw(play.game.field, shown(play))
-        due = max(due + TURN / 1000 / speed, time.monotonic() - 20 * TURN / 1000 / speed)  # who is late makes up for up to 20 turns
+        turn = TURN / 1000 / speed
+        due = max(due + turn, time.monotonic() - 20 * turn)  # who is late makes up for up to 20 turns
         time.sleep(max(0.0, due - time.monotonic()))
 
 
 def options_of() -> argparse.Namespace:
     reader = argparse.ArgumentParser(usage=(__doc__ or "").partition(": ")[2].partition("\n")[0])
     told = {"bot": "plays by itself, by this seed", "frames": "ends once this frame is settled, and prints its state",
-            "delay": "local inputs count so many frames later", "timeout": "a machine that is silent so long is gone, in milliseconds",
+            "delay": "local inputs count so many frames later", "timeout": "milliseconds after which a silent machine is gone",
             "match": "the number that the machines of this match know", "lag": "milliseconds by which what is sent comes late",
-            "loss": "percent of it that are lost", "junk": "percent of it that come changed too", "speed": "how many times as fast"}
+            "loss": "percent of it that are lost", "junk": "percent of it that come changed too",
+            "speed": "how many times as fast"}
     defaults = {"delay": 1, "timeout": 5000, "speed": 1}
     for name, said in told.items():
         reader.add_argument(f"--{name}", type=int, default=defaults.get(name, 0), help=said)

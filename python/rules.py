@@ -1,5 +1,5 @@
-"""A duel of two to four ships: the rules alone. They are those of the game `duel` of the program rollduel (docs/SCRIPTS.md), and so of
-c/duel/duel.c."""
+"""A duel of two to four ships: the rules alone. They are those of the game `duel` of the program rollduel (docs/SCRIPTS.md), and
+so of c/duel/duel.c."""
 from __future__ import annotations
 
 import struct
@@ -100,7 +100,8 @@ def step(field: Field, words: Sequence[int]) -> Field:
 
 
 def checksum(field: Field) -> int:
-    """A number that is another for most other states: that of duel_checksum in c/duel/duel.c, of the state as it lies in memory there."""
+    """A number that is another for most other states: that of duel_checksum in c/duel/duel.c, of the state as it lies in memory
+    there."""
     words = [len(field.ships), len(field.bullets)]
     for group, size in [(field.ships, 7 * SHIPS), (field.bullets, 6 * BULLETS)]:
         told = [word for it in group for word in it]

@@ -1,4 +1,5 @@
-"""A guess that comes true: a thread runs the frames that player 2's words would make, before they come. c/examples/guess.c in Python."""
+"""A guess that comes true: a thread runs the frames that player 2's words would make, before they come. c/examples/guess.c in
+Python."""
 from threading import Thread
 
 from fazgrond import Row, Session, Settings

@@ -7,7 +7,8 @@ from digest import FRAMES, NUMBER, Digest, word_of
 
 from fazgrond import Happened, Match, Peer, Refused, Session, Settings
 
-PAST_LAST, SPEED = 32, 10  # turns that are given past the end, so that the other has all of it too; how many times as fast it goes
+PAST_LAST = 32  # turns past the end, so that the other has all of it too
+SPEED = 10  # how many times as fast it goes
 
 
 def milliseconds() -> int:

@@ -1,5 +1,5 @@
-"""Two players on a line, each on a machine of their own: c/examples/two_keyboards.c in Python. Both machines are in this process, and
-each word reaches the other machine three turns late. A line of the input is a turn."""
+"""Two players on a line, each on a machine of their own: c/examples/two_keyboards.c in Python. Both machines are in this process,
+and each word reaches the other machine three turns late. A line of the input is a turn."""
 import sys
 from dataclasses import dataclass, field, replace
 

@@ -1,5 +1,5 @@
-"""Two machines of a match, in one process, on a line that loses datagrams: c/examples/two_peers.c in Python. Where `Way` stands, a game
-on two machines has its sockets."""
+"""Two machines of a match, in one process, on a line that loses datagrams: c/examples/two_peers.c in Python. Where `Way` stands,
+a game on two machines has its sockets."""
 from digest import FRAMES, NUMBER, TURN, Digest, Way, word_of
 
 from fazgrond import Answer, Happened, Match, Peer, Refused, Session, Settings

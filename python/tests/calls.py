@@ -9,8 +9,10 @@ import traceback
 from pathlib import Path
 
 import recorder
-from fazgrond import (Answer, Call, Closed, Giver, Habits, Handle, Happened, Kind, Line, LineSettings, Match, Peer, Piece, Refused,
-                      RemoteWord, Row, Session, Settings, StateName, Taker, Viewer, state_ask, state_sender, state_told, text, version)
+from fazgrond import (
+    Answer, Call, Closed, Giver, Habits, Handle, Happened, Kind, Line, LineSettings, Match, Peer, Piece, Refused, RemoteWord,
+    Row, Session, Settings, StateName, Taker, Viewer, state_ask, state_sender, state_told, text, version,
+)
 from fazgrond.numbers import VERSION
 
 ROOT = Path(__file__).resolve().parent.parent.parent
@@ -211,17 +213,19 @@ def all_kinds():
         line: [lambda: line.receive(b"", 0), lambda: line.send(0), line.bye, lambda: line.look(0)],
         viewer: [lambda: viewer.receive(b"", 0), lambda: viewer.send(0), viewer.bye, viewer.row, lambda: viewer.look(0)],
         habits: [lambda: habits.note(1), lambda: habits.guesses(1)],
-        taker: [lambda: taker.name, taker.look, lambda: taker.send(1, 1), lambda: taker.receive(1, b""), lambda: taker.takes_of(0),
-                lambda: taker.take_of(0), taker.state],
+        taker: [lambda: taker.name, taker.look, lambda: taker.send(1, 1), lambda: taker.receive(1, b""), taker.state,
+                lambda: taker.takes_of(0), lambda: taker.take_of(0)],
         giver: [lambda: giver.name, giver.state, lambda: giver.reply(1, 0, b"", 0)],
         handle: [lambda: handle.add_local_input(1, 0), handle.synchronize_input, handle.advance_frame, handle.requests,
                  lambda: handle.guess(2, [1], 1), lambda: handle.graft(0), lambda: handle.forget(0)],
-        session: [lambda: session.add_local_input(1, 0), lambda: session.remote_input(2, 0, 0), lambda: session.disconnect_player(2),
-                  session.synchronize_input, session.advance_frame, lambda: session.guess(2, [1], 1), lambda: session.limit_slots(9),
-                  lambda: session.reserve_log(9), lambda: session.frame, lambda: session.settled, lambda: session.has_news,
+        session: [lambda: session.add_local_input(1, 0), lambda: session.remote_input(2, 0, 0),
+                  lambda: session.disconnect_player(2), session.synchronize_input, session.advance_frame,
+                  lambda: session.guess(2, [1], 1), lambda: session.limit_slots(9), lambda: session.reserve_log(9),
+                  lambda: session.frame, lambda: session.settled, lambda: session.has_news,
                   lambda: session.settled_row(0), session.settled_slot, session.settled_state, lambda: session.confirmed(1),
                   lambda: session.confirmed_word(1, 0), lambda: session.input_frame(1), session.log_length,
-                  lambda: session.log_entry(0), lambda: session.note_advantages(0, 0), lambda: session.frames_ahead, session.claim],
+                  lambda: session.log_entry(0), lambda: session.note_advantages(0, 0), lambda: session.frames_ahead,
+                  session.claim],
     }
 
 
@@ -453,6 +457,7 @@ def words_are_held_back():
     assert peer.waiting() == [RemoteWord(1, 0, 7)] and session.confirmed(1) == 0
     assert peer.rerun(1) == 2 and not peer.is_pressed
     refused(Answer.INVALID_REQUEST, peer.rerun, 0)
+    refused(Answer.OTHER_SESSION, one[0].guess_waiting, peer, 1)
     job = session.guess_waiting(peer, 2)
     helper = Sum()
     assert session.graft(job.run(helper)) == 2 and helper.steps == 2
@@ -557,7 +562,8 @@ def pressed(machine, frame):
 
 @test
 def inputs_of_two_words_and_a_viewer():
-    """Two machines, whose inputs are two words, and a viewer, come to what the game comes to without a network: as c/csharp/peers.cs."""
+    """Two machines, whose inputs are two words, and a viewer, come to what the game comes to without a network: as
+    c/csharp/peers.cs."""
     owners, both = [0, 0, 1, 1], []
     for me in range(2):
         session = Session(Settings(4, [2 * me + 1, 2 * me + 2]), Sum())

@@ -1,7 +1,7 @@
 """Plays the game of docs/PYTHON.md without a screen: play_page.py PACKAGE GAME FRAMES ME PORT ADDRESS PORT
 
-The keys are held by a list of their own. At its end it prints the words of each settled frame of this machine, and the last settled
-state: JSON.
+The keys are held by a list of their own. At its end it prints the words of each settled frame of this machine, and the last
+settled state: JSON.
 """
 import json
 import os

@@ -4,19 +4,21 @@ from .errors import Closed, Refused, text
 from .habits import Foreseen, Habits
 from .handle import Handle, Plays, Settings
 from .line import Line, LineSettings, LineState, Viewer
-from .numbers import (ASKED, DATAGRAM, DIGEST_BYTES, GUESS_WORDS, HELD_WORDS, MACHINES, NO_MACHINE, NO_PLAYER, PIECE, PLAYERS, VERSION,
-                      Answer, Call, Happened, Kind, Piece, Profile)
+from .numbers import (
+    ASKED, DATAGRAM, DIGEST_BYTES, GUESS_WORDS, HELD_WORDS, MACHINES, NO_MACHINE, NO_PLAYER, PIECE, PLAYERS, VERSION, Answer,
+    Call, Happened, Kind, Piece, Profile,
+)
 from .peer import Event, Match, Peer, RemoteWord, Stats
 from .rows import Entry, Reached, Request, Row
 from .session import Game, Job, Session
 from .state import Giver, Heard, StateName, Taker, TakerState, state_ask, state_sender, state_told
 
 __all__ = [
-    "ASKED", "DATAGRAM", "DIGEST_BYTES", "GUESS_WORDS", "HELD_WORDS", "MACHINES", "NO_MACHINE", "NO_PLAYER", "PIECE", "PLAYERS",
-    "VERSION", "Answer", "Call", "Closed", "Entry", "Event", "Foreseen", "Game", "Giver", "Habits", "Handle", "Happened", "Heard",
-    "Job", "Kind", "Line", "LineSettings", "LineState", "Match", "Peer", "Piece", "Plays", "Profile", "Reached", "Refused",
-    "RemoteWord", "Request", "Row", "Session", "Settings", "StateName", "Stats", "Taker", "TakerState", "Viewer", "state_ask", "state_sender",
-    "state_told", "text", "version",
+    "ASKED", "DATAGRAM", "DIGEST_BYTES", "GUESS_WORDS", "HELD_WORDS", "MACHINES", "NO_MACHINE", "NO_PLAYER", "PIECE",
+    "PLAYERS", "VERSION", "Answer", "Call", "Closed", "Entry", "Event", "Foreseen", "Game", "Giver", "Habits", "Handle",
+    "Happened", "Heard", "Job", "Kind", "Line", "LineSettings", "LineState", "Match", "Peer", "Piece", "Plays", "Profile",
+    "Reached", "Refused", "RemoteWord", "Request", "Row", "Session", "Settings", "StateName", "Stats", "Taker", "TakerState",
+    "Viewer", "state_ask", "state_sender", "state_told", "text", "version",
 ]
 
 

@@ -21,8 +21,8 @@ class Foreseen(NamedTuple):
 class Habits(Owned):
     """What was seen of a player.
 
-    Each of `parts` has those bits of a word that belong together: the four of a cross, one for each button. `likely` are words that
-    the player will probably give.
+    Each of `parts` has those bits of a word that belong together: the four of a cross, one for each button. `likely` are words
+    that the player will probably give.
     """
 
     def __init__(self, parts: Sequence[int] = (), likely: Sequence[int] = ()) -> None:

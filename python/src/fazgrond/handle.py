@@ -6,7 +6,7 @@ from dataclasses import dataclass, field
 from typing import TYPE_CHECKING, Any
 
 from ._raw import ffi, lib
-from .errors import said, said_or_nothing
+from .errors import Refused, said, said_or_nothing
 from .numbers import PLAYERS, Answer, Profile
 from .owned import Owned, whole
 from .rows import Entry, Reached, Request, Row, entry_of, request_of, row_of
@@ -146,7 +146,8 @@ class Plays(Owned):
             return entry_of(entry) if said_or_nothing(lib.fazgrond_log_entry(self._at(), place, entry)) else None
 
     def note_advantages(self, local: int, remote: int) -> None:
-        """Notes by how many frames this machine is behind the other one, and the other behind this one. Beside a peer it isn't needed."""
+        """Notes by how many frames this machine is behind the other one, and the other behind this one. Beside a peer it isn't
+        needed."""
         with self._lock:
             said(lib.fazgrond_note_advantages(self._at(), local, remote))
 
@@ -176,6 +177,8 @@ class Plays(Owned):
         return self._asked_or_nothing(lib.fazgrond_guess, player, given, len(words), until)
 
     def _guessed_waiting(self, peer: Peer, until: int) -> int | None:
+        if peer.session is not self:  # it has another lock
+            raise Refused(Answer.OTHER_SESSION)
         with self._lock:
             return int(self._word[0]) if said_or_nothing(peer._guess(self, until, self._word)) else None
 
@@ -183,8 +186,9 @@ class Plays(Owned):
 class Handle(Plays):
     """A session that leaves its requests to its caller.
 
-    Before the first request the game has its opening state as the current one and in slot 0. Whatever a call that rolls or a guess
-    answers, take all `requests` after it, and carry them out in their order: those of a job in their own time, on any thread.
+    Before the first request the game has its opening state as the current one and in slot 0. Whatever a call that rolls or a
+    guess answers, take all `requests` after it, and carry them out in their order: those of a job in their own time, on any
+    thread.
     """
 
     def synchronize_input(self) -> Row:
@@ -205,7 +209,8 @@ class Handle(Plays):
             return [request_of(it) for it in self._take()]
 
     def guess(self, player: int, words: Sequence[int], until: int) -> int | None:
-        """A guess: if this player gave these words next. It asks for a job, and answers its number; None if there is nothing to run."""
+        """A guess: if this player gave these words next. It asks for a job, and answers its number; None if there is nothing to
+        run."""
         return self._guessed(player, words, until)
 
     def guess_waiting(self, peer: Peer, until: int) -> int | None:

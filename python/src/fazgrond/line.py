@@ -18,7 +18,8 @@ from .rows import Row, row_of
 class LineSettings:
     """How an end of a viewer's line is opened: the same at both ends, but for the draw and the time.
 
-    `number` is the line's own: 64 random bits that only its two ends know. `draw` is drawn for this opening, if nothing else is said.
+    `number` is the line's own: 64 random bits that only its two ends know. `draw` is drawn for this opening, if nothing else is
+    said.
     """
 
     number: int

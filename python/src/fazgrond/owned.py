@@ -18,8 +18,8 @@ _room = threading.local()
 class Owned:
     """Something open. It is closed once: by `close`, at the end of a `with`, or with the last reference to it.
 
-    The library may be called from any thread, but for one handle not from two at once: `lock` sees to that. What lends its session
-    to the library has the lock of that.
+    The library may be called from any thread, but for one handle not from two at once: `lock` sees to that. What lends its
+    session to the library has the lock of that.
     """
 
     def __init__(self, kind: str, lock: Any = None) -> None:
@@ -56,7 +56,8 @@ class Owned:
 
 
 def written(call: Callable[[Any, int, Any], Any]) -> bytes | None:
-    """The datagram that a call writes: it is given a buffer, its room, and where the length goes. None if there is nothing to send."""
+    """The datagram that a call writes: it is given a buffer, its room, and where the length goes. None if there is nothing to
+    send."""
     try:
         out, length = _room.out, _room.length
     except AttributeError:

@@ -33,8 +33,8 @@ def put_owners(to: Any, owners: Sequence[int]) -> None:
 class Match:
     """How a match is opened at one machine. Machines are numbered from 0.
 
-    `owners` are the machines of the players, player 1's first. `number` is 64 random bits that all machines of the match know; with a
-    list, those that this machine shares with each. `draw` is drawn for this opening, if nothing else is said.
+    `owners` are the machines of the players, player 1's first. `number` is 64 random bits that all machines of the match know;
+    with a list, those that this machine shares with each. `draw` is drawn for this opening, if nothing else is said.
     """
 
     me: int
@@ -103,13 +103,13 @@ class RemoteWord(NamedTuple):
 
 
 class Peer(Owned):
-    """The network of a match at one machine: who has which words, who is gone, what to send. It has no socket and no clock, and stands
-    beside the session that plays, which stays the program's: close each when you need it no more.
+    """The network of a match at one machine: who has which words, who is gone, what to send. It has no socket and no clock, and
+    stands beside the session that plays, which stays the program's: close each when you need it no more.
 
     `now` is this machine's clock in milliseconds, from a moment of its own choice; it may wrap, and it may jump.
 
-    In each turn hear what came by `receive`, give the session its own players' words once `is_running` says that the match has begun,
-    make a `turn`, and `send` to each other machine.
+    In each turn hear what came by `receive`, give the session its own players' words once `is_running` says that the match has
+    begun, make a `turn`, and `send` to each other machine.
     """
 
     def __init__(self, session: Plays, match: Match) -> None:
@@ -122,8 +122,8 @@ class Peer(Owned):
             said(lib.fazgrond_peer_open(self._at(), session._at(), match._raw()))
 
     def receive(self, datagram: bytes, now: int) -> None:
-        """Takes a datagram that came, and gives the session the words in it. What is refused has changed nothing but what is counted
-        and told of its sender."""
+        """Takes a datagram that came, and gives the session the words in it. What is refused has changed nothing but what is
+        counted and told of its sender."""
         with self._lock:
             said(lib.fazgrond_peer_receive(self._at(), self.session._at(), datagram, len(datagram), now & CLOCK))
 
@@ -133,14 +133,15 @@ class Peer(Owned):
             return not lib.fazgrond_peer_receive(self._at(), self.session._at(), datagram, len(datagram), now & CLOCK)
 
     def poll(self, now: int) -> None:
-        """What a turn does before it plays: machines that were silent too long are gone, players of who is gone leave the session, and
-        the match begins once all machines are there. If the session refuses a player's leaving, the next poll tries again."""
+        """What a turn does before it plays: machines that were silent too long are gone, players of who is gone leave the
+        session, and the match begins once all machines are there. If the session refuses a player's leaving, the next poll tries
+        again."""
         with self._lock:
             said(lib.fazgrond_peer_poll(self._at(), self.session._at(), now & CLOCK))
 
     def turn(self, now: int) -> Reached | None:
-        """A turn of the main loop: a `poll`, and once the match has begun, the session goes on to its next frame if its local words are
-        there, and says so; else it rolls back, if anything was accepted since it last did."""
+        """A turn of the main loop: a `poll`, and once the match has begun, the session goes on to its next frame if its local
+        words are there, and says so; else it rolls back, if anything was accepted since it last did."""
         self.poll(now)
         if not self.is_running:
             return None
@@ -167,11 +168,12 @@ class Peer(Owned):
     def send(self, machine: int, now: int) -> bytes | None:
         """The datagram to send to a machine in this turn. None if it is gone, or this one, or there is no such machine."""
         with self._lock:
-            peer, session = self._at(), self.session._at()
-            return written(lambda out, room, length: lib.fazgrond_peer_send(peer, session, machine, now & CLOCK, out, room, length))
+            peer, session, now = self._at(), self.session._at(), now & CLOCK
+            return written(lambda out, room, length: lib.fazgrond_peer_send(peer, session, machine, now, out, room, length))
 
     def bye(self, machine: int) -> bytes | None:
-        """The datagram that says to a machine that this one leaves the match. Send each a few times. None if there is nobody to tell."""
+        """The datagram that says to a machine that this one leaves the match. Send each a few times. None if there is nobody to
+        tell."""
         with self._lock:
             peer = self._at()
             return written(lambda out, room, length: lib.fazgrond_peer_bye(peer, machine, out, room, length))

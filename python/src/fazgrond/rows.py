@@ -11,7 +11,8 @@ _STEPS = (int(Kind.STEP), int(Kind.JOB_STEP))
 
 
 class Row(NamedTuple):
-    """The words of all players for a frame, player 1's first. Bit p - 1 of `gone` is set for a player p who has left; its word is 0."""
+    """The words of all players for a frame, player 1's first. Bit p - 1 of `gone` is set for a player p who has left; its word is
+    0."""
 
     words: tuple[int, ...]
     gone: int = 0

@@ -24,8 +24,8 @@ _JOB_LOAD, _JOB_STEP = int(Kind.JOB_LOAD), int(Kind.JOB_STEP)
 class Game(Protocol[S]):
     """A game whose states can be saved, loaded, and advanced by a frame.
 
-    It has to be deterministic: what a frame makes of a state depends on nothing but the state and the row. What `save` gives is kept,
-    and `load` gets it again, perhaps several times: so `save` makes a copy, and `load` takes from it without changing it.
+    It has to be deterministic: what a frame makes of a state depends on nothing but the state and the row. What `save` gives is
+    kept, and `load` gets it again, perhaps several times: so `save` makes a copy, and `load` takes from it without changing it.
     """
 
     def save(self) -> S: ...
@@ -93,8 +93,9 @@ class Session(Plays, Generic[S]):
             return frame, self._slots[slot]
 
     def guess(self, player: int, words: Sequence[int], until: int) -> Job[S] | None:
-        """A guess: if this player gave these 1 to 24 words next, and held the last of them. The job of running the frames that this
-        would make up to the frame `until`; None if there is nothing to run. Run it, at best on another thread, and `graft` it."""
+        """A guess: if this player gave these 1 to 24 words next, and held the last of them. The job of running the frames that
+        this would make up to the frame `until`; None if there is nothing to run. Run it, at best on another thread, and `graft`
+        it."""
         return self._job_of(lambda: self._guessed(player, words, until))
 
     def guess_waiting(self, peer: Peer, until: int) -> Job[S] | None:

@@ -24,8 +24,8 @@ class StateName:
         return ffi.new("fazgrond_state_name *", [self.which, self.frame, self.length, list(self.digest)])
 
     def digest_with(self, digest: int) -> int:
-        """A digest that has this state in it, beside what another has: by one call for each state, in the same order at all machines,
-        that of the match has all of them."""
+        """A digest that has this state in it, beside what another has: by one call for each state, in the same order at all
+        machines, that of the match has all of them."""
         return int(lib.fazgrond_state_digest(self._raw(), digest))
 
 
@@ -40,8 +40,8 @@ def state_sender(datagram: bytes) -> int | None:
 
 
 def state_ask(number: int, me: int, which: int, frame: int) -> bytes:
-    """The datagram that asks for the first piece of the state of this number and frame, if nobody has said what it is called. `number`
-    is the one that this machine, `me`, shares with who is asked."""
+    """The datagram that asks for the first piece of the state of this number and frame, if nobody has said what it is called.
+    `number` is the one that this machine, `me`, shares with who is asked."""
     made = written(lambda out, room, length: lib.fazgrond_state_ask(number, me, which, frame, out, room, length))
     assert made is not None
     return made
@@ -82,11 +82,11 @@ class Giver(Owned):
             return whole(lambda out, room: lib.fazgrond_giver_bytes(self._at(), out, room), self.name.length)
 
     def reply(self, number: int, me: int, ask: bytes, place: int) -> bytes | None:
-        """The datagram for the piece that bytes ask for at a place of their list, from 0. None if they ask for fewer, or for one that
-        the state hasn't. Send it to where the machine that `state_sender` names has its address."""
+        """The datagram for the piece that bytes ask for at a place of their list, from 0. None if they ask for fewer, or for one
+        that the state hasn't. Send it to where the machine that `state_sender` names has its address."""
         with self._lock:
-            giver = self._at()
-            return written(lambda out, room, length: lib.fazgrond_giver_reply(giver, number, me, ask, len(ask), place, out, room, length))
+            asked = self._at(), number, me, ask, len(ask), place
+            return written(lambda out, room, length: lib.fazgrond_giver_reply(*asked, out, room, length))
 
 
 class TakerState(NamedTuple):
@@ -97,7 +97,8 @@ class TakerState(NamedTuple):
 
 
 class Taker(Owned):
-    """Who takes the state of a name in pieces, of several machines if need be. All memory is taken now, for `limit` bytes at most."""
+    """Who takes the state of a name in pieces, of several machines if need be. All memory is taken now, for `limit` bytes at
+    most."""
 
     def __init__(self, name: StateName, limit: int) -> None:
         super().__init__("taker")
