@@ -21,7 +21,7 @@ def main(me: int, port: int, address: str, other_port: int) -> None:
     line.setblocking(False)
     other, wait, past = 1 - me, 0, 0
     with Session(Settings(players=2, local=[me + 1], limit=FRAMES), Digest()) as session, \
-            Peer(session, Match(me, machines=2, owners=[0, 1], number=NUMBER)) as peer:
+            Peer(session, Match(me, machines=2, owners=[0, 1], number=NUMBER, silent_after=30000)) as peer:
         while past < PAST_LAST:
             now = milliseconds()
             try:
