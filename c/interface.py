@@ -2,8 +2,8 @@
 """What the library's interface is, for whoever declares it in another language: c/interface.py [--cffi|--lua|TABLE HEADER]
 
 It reads c/interface.txt, which says how it is written, and says the first line in which that and c/fazgrond.h differ. With
-`--cffi` or `--lua` it prints what cffi, or LuaJIT's ffi, takes as declarations instead. c/csharp/declare, rust/declare, web/declare
-and python/build make theirs by this module.
+`--cffi` or `--lua` it prints what cffi, or LuaJIT's ffi, takes as declarations instead. c/csharp/declare, rust/declare,
+web/declare and python/build make theirs by this module.
 """
 import re
 import sys
@@ -321,7 +321,7 @@ def difference(interface, header):
 # ---- declarations for those who read C
 
 def cdef(interface, is_lua):
-    """What cffi, or LuaJIT's ffi, takes: this knows no #define, and has no code of the header's own."""
+    """What cffi takes, or LuaJIT's ffi, for which there is no #define, and no function that stands in the header alone."""
     numbers = interface.numbers()
     lines = []
     for it in interface.things:

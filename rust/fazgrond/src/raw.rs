@@ -9,8 +9,8 @@ use crate::settings::Settings;
 use crate::state::StateName;
 use std::ffi::c_void;
 
-/// What is open: a session, a peer, a line, a viewer, a player's habits, or who gives or takes a state. To another kind's calls it is
-/// closed.
+/// What is open: a session, a peer, a line, a viewer, a player's habits, or who gives or takes a state. To another kind's calls
+/// it is closed.
 #[repr(C)]
 pub struct Object {
     pub full: u8,

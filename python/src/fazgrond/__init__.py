@@ -1,0 +1,28 @@
+"""Rollback sessions for lockstep games: the calls of fazgrond.h as classes. docs/PYTHON.md has a whole game."""
+from ._raw import lib
+from .errors import Closed, Refused, text
+from .habits import Foreseen, Habits
+from .handle import Handle, Plays, Settings
+from .line import Line, LineSettings, LineState, Viewer
+from .numbers import (
+    ASKED, DATAGRAM, DIGEST_BYTES, GUESS_WORDS, HELD_WORDS, MACHINES, NO_MACHINE, NO_PLAYER, PIECE, PLAYERS, VERSION, Answer,
+    Call, Happened, Kind, Piece, Profile,
+)
+from .peer import Event, Match, Peer, RemoteWord, Stats
+from .rows import Entry, Reached, Request, Row
+from .session import Game, Job, Session
+from .state import Giver, Heard, StateName, Taker, TakerState, state_ask, state_sender, state_told
+
+__all__ = [
+    "ASKED", "DATAGRAM", "DIGEST_BYTES", "GUESS_WORDS", "HELD_WORDS", "MACHINES", "NO_MACHINE", "NO_PLAYER", "PIECE",
+    "PLAYERS", "VERSION", "Answer", "Call", "Closed", "Entry", "Event", "Foreseen", "Game", "Giver", "Habits", "Handle",
+    "Happened", "Heard", "Job", "Kind", "Line", "LineSettings", "LineState", "Match", "Peer", "Piece", "Plays", "Profile",
+    "Reached", "Refused", "RemoteWord", "Request", "Row", "Session", "Settings", "StateName", "Stats", "Taker", "TakerState",
+    "Viewer", "state_ask", "state_sender", "state_told", "text", "version",
+]
+
+
+def version() -> tuple[int, int, int]:
+    """The version of the library."""
+    number = lib.fazgrond_version()
+    return number >> 16, number >> 8 & 255, number & 255

@@ -1,0 +1,251 @@
+"""The network of a match at one machine."""
+from __future__ import annotations
+
+import secrets
+from collections.abc import Iterator, Sequence
+from dataclasses import dataclass, fields
+from typing import Any, NamedTuple
+
+from ._raw import ffi, lib
+from .errors import Refused, said, said_or_nothing
+from .handle import Plays
+from .numbers import HELD_WORDS, MACHINES, PLAYERS, Answer, Happened
+from .owned import Owned, written
+from .rows import Reached
+from .session import Session
+
+CLOCK = 0xFFFFFFFF  # a clock's milliseconds wrap
+
+
+def drawn() -> int:
+    """64 bits of the system's random source, and never 0."""
+    return secrets.randbelow((1 << 64) - 1) + 1
+
+
+def put_owners(to: Any, owners: Sequence[int]) -> None:
+    if len(owners) > PLAYERS:
+        raise ValueError(f"{len(owners)} players have an owner")
+    for at, owner in enumerate(owners):
+        to[at] = owner
+
+
+@dataclass
+class Match:
+    """How a match is opened at one machine. Machines are numbered from 0.
+
+    `owners` are the machines of the players, player 1's first. `number` is 64 random bits that all machines of the match know;
+    with a list, those that this machine shares with each. `draw` is drawn for this opening, if nothing else is said.
+    """
+
+    me: int
+    machines: int
+    owners: Sequence[int]
+    number: int | Sequence[int]
+    digest: int = 0  # of all else that has to be alike at all machines
+    silent_after: int = 5000  # milliseconds after which a machine is gone that answers nothing; 0: it never is
+    notify_after: int = 750  # after which INTERRUPTED and STALLED tell of one; 0: neither is told
+    stalled_after: int = 0  # after which a machine is gone that gives no words; 0: it never is
+    words: int = 1  # of how many words a player's input is, 1 to 4
+    held_turns: int = 0  # for how many turns others' words wait beside the session, 1 to 8; 0: they don't
+    draw: int | None = None
+
+    def _raw(self) -> Any:
+        raw = ffi.new("fazgrond_match *", lib.fazgrond_match_for(self.machines, self.me))
+        if isinstance(self.number, int):
+            lib.fazgrond_one_number(raw, self.number)
+        elif len(self.number) > MACHINES:
+            raise ValueError(f"numbers of {len(self.number)} machines")
+        else:
+            for at, number in enumerate(self.number):
+                raw.numbers[at] = number
+        put_owners(raw.owners, self.owners)
+        raw.draw = drawn() if self.draw is None else self.draw
+        for name in ["digest", "silent_after", "notify_after", "stalled_after", "words", "held_turns"]:
+            setattr(raw, name, getattr(self, name))
+        return raw
+
+
+@dataclass(frozen=True)
+class Event:
+    """Something that a peer tells its program. What it doesn't say is 0."""
+
+    code: Happened
+    machine: int
+    player: int
+    count: int
+    total: int
+    frames_ahead: int
+    disconnect_in: int
+    frame: int
+    field: int
+
+
+class Stats(NamedTuple):
+    """What was counted and measured of the datagrams between this machine and another."""
+
+    is_measured: bool  # whether the round trip was
+    round_trip: int  # in milliseconds
+    sent: int
+    received: int
+    lost: int  # or late
+    words_queued: int  # words that it hasn't said that it has
+    frames_behind: int  # by how many frames this machine is behind the other: negative if it is ahead
+    their_frames_behind: int  # and the other, as it says, behind this one
+    refused: int  # datagrams that it sealed and that were refused, or had words that were
+
+
+class RemoteWord(NamedTuple):
+    """A word of another machine's player."""
+
+    player: int
+    frame: int
+    word: int
+
+
+class Peer(Owned):
+    """The network of a match at one machine: who has which words, who is gone, what to send. It has no socket and no clock, and
+    stands beside the session that plays, which stays the program's: close each when you need it no more.
+
+    `now` is this machine's clock in milliseconds, from a moment of its own choice; it may wrap, and it may jump.
+
+    In each turn hear what came by `receive`, give the session its own players' words once `is_running` says that the match has
+    begun, make a `turn`, and `send` to each other machine.
+    """
+
+    def __init__(self, session: Plays, match: Match) -> None:
+        super().__init__("peer", session._lock)
+        self.session = session
+        self._word = ffi.new("uint32_t *")
+        self._event = ffi.new("fazgrond_event *")
+        self._has_begun = False  # that never ends
+        with self._lock:
+            said(lib.fazgrond_peer_open(self._at(), session._at(), match._raw()))
+
+    def receive(self, datagram: bytes, now: int) -> None:
+        """Takes a datagram that came, and gives the session the words in it. What is refused has changed nothing but what is
+        counted and told of its sender."""
+        with self._lock:
+            said(lib.fazgrond_peer_receive(self._at(), self.session._at(), datagram, len(datagram), now & CLOCK))
+
+    def hear(self, datagram: bytes, now: int) -> bool:
+        """As `receive`, for what may come of anybody: whether it was taken."""
+        with self._lock:
+            return not lib.fazgrond_peer_receive(self._at(), self.session._at(), datagram, len(datagram), now & CLOCK)
+
+    def poll(self, now: int) -> None:
+        """What a turn does before it plays: machines that were silent too long are gone, players of who is gone leave the
+        session, and the match begins once all machines are there. If the session refuses a player's leaving, the next poll tries
+        again."""
+        with self._lock:
+            said(lib.fazgrond_peer_poll(self._at(), self.session._at(), now & CLOCK))
+
+    def turn(self, now: int) -> Reached | None:
+        """A turn of the main loop: a `poll`, and once the match has begun, the session goes on to its next frame if its local
+        words are there, and says so; else it rolls back, if anything was accepted since it last did."""
+        self.poll(now)
+        if not self.is_running:
+            return None
+        if not isinstance(self.session, Session):
+            raise TypeError("a handle's requests are its caller's: poll, and roll it yourself")
+        try:
+            return self.session.advance_frame()
+        except Refused as why:
+            if why.answer != Answer.LOCAL_INPUT_MISSING:
+                raise
+        if self.session.has_news:
+            self.session.synchronize_input()
+        return None
+
+    @property
+    def is_running(self) -> bool:
+        """Whether the match has begun. Before that give the session no words."""
+        with self._lock:
+            if not self._has_begun or self._raw is None:
+                said(lib.fazgrond_peer_is_running(self._at(), self._word))
+                self._has_begun = bool(self._word[0])
+            return self._has_begun
+
+    def send(self, machine: int, now: int) -> bytes | None:
+        """The datagram to send to a machine in this turn. None if it is gone, or this one, or there is no such machine."""
+        with self._lock:
+            peer, session, now = self._at(), self.session._at(), now & CLOCK
+            return written(lambda out, room, length: lib.fazgrond_peer_send(peer, session, machine, now, out, room, length))
+
+    def bye(self, machine: int) -> bytes | None:
+        """The datagram that says to a machine that this one leaves the match. Send each a few times. None if there is nobody to
+        tell."""
+        with self._lock:
+            peer = self._at()
+            return written(lambda out, room, length: lib.fazgrond_peer_bye(peer, machine, out, room, length))
+
+    def disconnect(self, machine: int) -> None:
+        """Regards a machine as gone, for good. Its players leave the session at a later `poll`."""
+        with self._lock:
+            said(lib.fazgrond_peer_disconnect(self._at(), machine))
+
+    def note_settled(self, digest: int) -> None:
+        """Notes the game's own digest of the session's settled state, by which the machines see that they play alike."""
+        with self._lock:
+            said(lib.fazgrond_peer_note_settled(self._at(), self.session._at(), digest))
+
+    def event(self) -> Event | None:
+        """What happened, the oldest first. The oldest is dropped if more than 64 wait."""
+        with self._lock:
+            if not said_or_nothing(lib.fazgrond_peer_event(self._at(), self._event)):
+                return None
+            told = self._event
+            return Event(Happened(told.code), *[getattr(told, it.name) for it in fields(Event)[1:]])
+
+    def events(self) -> Iterator[Event]:
+        """All that happened."""
+        while (event := self.event()) is not None:
+            yield event
+
+    def stats(self, machine: int) -> Stats | None:
+        """What was counted and measured of a machine. None if there is no such machine."""
+        seen = ffi.new("fazgrond_stats *")
+        with self._lock:
+            code = lib.fazgrond_peer_stats(self._at(), machine, seen)
+        if code == Answer.INVALID_MACHINE or not said_or_nothing(code):
+            return None
+        return Stats(bool(seen.is_measured), *[getattr(seen, name) for name in Stats._fields[1:]])
+
+    def waiting(self) -> list[RemoteWord]:
+        """The words that wait, in the order in which they came. None do if the match has no `held_turns`.
+
+        In each turn, before the session is given its own players' words: graft the jobs that are done, `hand_over` the words that
+        would make no frame run again (`rerun`), and all of them if the session `is_pressed`; then call `hand_over_due`. After the
+        `turn`, make a guess with those that still wait (`Session.guess_waiting`), and have its job run on another thread.
+        """
+        entries = ffi.new("fazgrond_entry[]", HELD_WORDS)
+        with self._lock:
+            count = lib.fazgrond_peer_waiting(self._at(), entries, HELD_WORDS)
+        return [RemoteWord(it.player, it.frame, it.word) for it in entries[0:count]]
+
+    def _counted(self, call: Any, *of: Any) -> int:
+        with self._lock:
+            said(call(self._at(), self.session._at(), *of, self._word))
+            return int(self._word[0])
+
+    def rerun(self, count: int = HELD_WORDS) -> int:
+        """How many frames the session would have to run again, if the first so many words that wait were handed over."""
+        return self._counted(lib.fazgrond_peer_rerun, count)
+
+    def _guess(self, session: Plays, until: int, job: Any) -> int:
+        """The answer to a guess with all words that wait, of which a session or handle makes a job."""
+        code: int = lib.fazgrond_peer_guess(self._at(), session._at(), until, job)
+        return code
+
+    def hand_over(self, count: int = HELD_WORDS) -> None:
+        """Hands the first so many words that wait over to the session, or all if there are fewer."""
+        with self._lock:
+            said(lib.fazgrond_peer_hand_over(self._at(), self.session._at(), count))
+
+    def hand_over_due(self) -> int:
+        """Once a turn: hands over the words that have waited for their turns, and says how many they were."""
+        return self._counted(lib.fazgrond_peer_hand_over_due)
+
+    @property
+    def is_pressed(self) -> bool:
+        """Whether the session would stand at its next frame without the words that wait."""
+        return self._counted(lib.fazgrond_peer_is_pressed) != 0

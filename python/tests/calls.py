@@ -1,0 +1,679 @@
+"""What each class answers: calls.py PACKAGE. The last line is `N passed, M failed`."""
+import copy
+import gc
+import pickle
+import re
+import sys
+import threading
+import traceback
+from pathlib import Path
+
+import recorder
+from fazgrond import (
+    Answer, Call, Closed, Giver, Habits, Handle, Happened, Kind, Line, LineSettings, Match, Peer, Piece, Refused, RemoteWord,
+    Row, Session, Settings, StateName, Taker, Viewer, state_ask, state_sender, state_told, text, version,
+)
+from fazgrond.numbers import VERSION
+
+ROOT = Path(__file__).resolve().parent.parent.parent
+NUMBER = 0x1122334455667788
+TESTS = []
+
+
+def test(function):
+    TESTS.append(function)
+    return function
+
+
+def refused(answer, call, *words):
+    """Has to be refused with an answer."""
+    try:
+        call(*words)
+    except Refused as why:
+        assert why.answer == answer, why.answer
+        assert str(why) == text(answer)
+        return
+    raise AssertionError(f"{answer.name} was expected")
+
+
+def raises(kind, call, *words):
+    try:
+        call(*words)
+    except kind:
+        return
+    raise AssertionError(f"{kind.__name__} was expected")
+
+
+class Sum:
+    """31 times the number and the words, or 5 for a player who has left. It counts its steps."""
+
+    def __init__(self):
+        self.state = self.steps = 0
+
+    def save(self):
+        return self.state
+
+    def load(self, state):
+        self.state = state
+
+    def advance(self, row):
+        self.state = (31 * self.state + sum(5 if word is None else at * word for at, word in enumerate(row.cells(), 1))) % 1000003
+        self.steps += 1
+
+
+def session_of(local=1, players=2, **more):
+    return Session(Settings(players, [local], **more), Sum())
+
+
+def give(session, player, word):
+    """A local word, and the next frame; how many frames were run."""
+    session.add_local_input(player, word)
+    return session.advance_frame().rerun
+
+
+# ---- texts and refusals
+
+@test
+def texts_are_those_of_the_table():
+    number = int(re.search(r"^#define FAZGROND_VERSION (\w+)", (ROOT / "c/fazgrond.h").read_text(), re.M)[1], 0)
+    assert VERSION == number and version() == (number >> 16, number >> 8 & 255, number & 255)
+    rows = re.findall(r"^(-?\d+) (\w+): (.+)", (ROOT / "c/numbers.txt").read_text(), re.M)
+    assert len(rows) > 60
+    for told, name, sentence in rows:
+        assert text(int(told)) == sentence
+        assert int(told) == (Happened if int(told) > 1000 else Answer)[name]
+    assert text(9999) == ""
+
+
+@test
+def settings_that_are_refused():
+    refused(Answer.PLAYER_OUT_OF_RANGE, Session, Settings(0, []), Sum())
+    refused(Answer.INVALID_REQUEST, Session, Settings(2, []), Sum())
+    refused(Answer.INVALID_REQUEST, Session, Settings(2, [1], threshold=9), Sum())
+    refused(Answer.INVALID_REQUEST, Session, Settings(2, [1], limit=1048577), Sum())
+    raises(ValueError, Session, Settings(2, [9]), Sum())
+    raises(ValueError, Session, Settings(2, [1], delays={0: 1}), Sum())
+    raises(OverflowError, Session, Settings(2, [1], limit=-1), Sum())
+    with session_of(players=8) as wide:
+        for word in range(15):
+            give(wide, 1, word)
+        refused(Answer.PREDICTION_THRESHOLD, wide.add_local_input, 1, 0)
+
+
+@test
+def words_that_are_refused():
+    with session_of() as session:
+        session.add_local_input(1, 7)
+        refused(Answer.INPUT_TWICE, session.add_local_input, 1, 8)
+        refused(Answer.INVALID_PLAYER, session.add_local_input, 2, 7)
+        refused(Answer.INVALID_PLAYER, session.remote_input, 1, 0, 7)
+        refused(Answer.GAP, session.remote_input, 2, 1, 7)
+        assert session.remote_input(2, 0, 7) and not session.remote_input(2, 0, 7)
+        refused(Answer.CONFLICT, session.remote_input, 2, 0, 8)
+        for player, word in [(-1, 0), (256, 0), (1, -1), (1, 1 << 32)]:
+            raises(OverflowError, session.add_local_input, player, word)
+        raises(TypeError, session.add_local_input, 1, "7")
+        raises(TypeError, session.add_local_input, 1, 1.5)
+
+
+@test
+def a_row_without_who_has_left():
+    with session_of() as session:
+        assert give(session, 1, 3) == 1
+        session.disconnect_player(2)
+        refused(Answer.PLAYER_DISCONNECTED, session.remote_input, 2, 0, 1)
+        assert session.has_news and session.synchronize_input() == Row((3, 0), 2)  # 3 is held on, as predicted
+        assert not session.has_news
+        row = session.settled_row(0)
+        assert row == Row((3, 0), 2) and row.word(1) == 3 and row.word(2) is None and row.word(3) is None and row.word(0) is None
+        assert session.settled_row(1) is None and session.game.state == 3 + 5
+        refused(Answer.PLAYER_DISCONNECTED, session.disconnect_player, 2)
+
+
+@test
+def what_a_session_is_asked():
+    with session_of(delays={1: 2}) as session:
+        assert (session.frame, session.settled, session.input_frame(1), session.confirmed(2)) == (0, 0, 2, 0)
+        assert session.confirmed_word(2, 0) is None and session.settled_slot() == (0, 0)
+        session.remote_input(2, 0, 9)
+        assert session.confirmed(2) == 1 and session.confirmed_word(2, 0) == 9
+        refused(Answer.NO_PLAN, session.claim)
+        session.reserve_log(10)
+        refused(Answer.NOTHING, session.confirmed, 3)
+        refused(Answer.NOTHING, session.input_frame, 2)
+        assert session.log_entry(session.log_length()) is None
+        assert session.frames_ahead == 0
+        for _ in range(40):
+            session.note_advantages(-8, 8)  # GGPO's advice: half the difference, if that is at least 3
+        assert session.frames_ahead == 8
+
+
+@test
+def a_log_is_a_replay():
+    one, two = session_of(), session_of()
+    with one, two:
+        for frame in range(12):
+            give(one, 1, frame)
+            if frame >= 3:
+                one.remote_input(2, frame - 3, frame % 5)
+        one.synchronize_input()
+        one.disconnect_player(2)
+        one.synchronize_input()
+        for place in range(one.log_length()):
+            entry = one.log_entry(place)
+            if entry.kind == Call.LOCAL:
+                two.add_local_input(entry.player, entry.word)
+            elif entry.kind == Call.REMOTE:
+                two.remote_input(entry.player, entry.frame, entry.word)
+            elif entry.kind == Call.DISCONNECT:
+                two.disconnect_player(entry.player)
+            else:
+                (two.synchronize_input if entry.kind == Call.SYNC else two.advance_frame)()
+        assert two.log_length() == one.log_length() and (two.frame, two.game.state) == (one.frame, one.game.state)
+
+
+@test
+def a_claim_is_a_certificate():
+    with session_of() as session:
+        give(session, 1, 1)
+        give(session, 1, 2)
+        session.remote_input(2, 0, 7)
+        session.synchronize_input()
+        assert session.claim().startswith("rollcert 1\nplayers 2\nbase 0\n")
+        sys.stderr.write(session.claim())  # for rollduel, which the caller has
+
+
+@test
+def slots_have_a_limit():
+    with session_of() as session:
+        session.limit_slots(3)
+        assert give(session, 1, 1) == give(session, 1, 1) == 1
+        session.add_local_input(1, 1)
+        refused(Answer.NO_MEMORY, session.advance_frame)
+        session.remote_input(2, 0, 1)
+        session.limit_slots(10)
+        assert session.advance_frame().frame == 3
+
+
+# ---- handles that are closed, and games that raise
+
+def all_kinds():
+    """A handle of each kind, and calls of it that have to be open."""
+    session = session_of()
+    handle = Handle(Settings(2, [1]))
+    peer = Peer(session, Match(0, 2, [0, 1], 7))
+    settings = LineSettings(9, 0, 2, [0, 1])
+    line, viewer, habits, giver = Line(session, settings), Viewer(settings), Habits(), Giver(1, 0, b"bytes")
+    taker = Taker(giver.name, 9)
+    return {
+        peer: [lambda: peer.receive(b"", 0), lambda: peer.hear(b"", 0), lambda: peer.poll(0), lambda: peer.turn(0),
+               lambda: peer.is_running, lambda: peer.send(1, 0), lambda: peer.bye(1), lambda: peer.disconnect(1), peer.event,
+               lambda: peer.note_settled(0), lambda: peer.stats(1), peer.waiting, peer.rerun, peer.hand_over, peer.hand_over_due,
+               lambda: peer.is_pressed, lambda: session.guess_waiting(peer, 1)],
+        line: [lambda: line.receive(b"", 0), lambda: line.send(0), line.bye, lambda: line.look(0)],
+        viewer: [lambda: viewer.receive(b"", 0), lambda: viewer.send(0), viewer.bye, viewer.row, lambda: viewer.look(0)],
+        habits: [lambda: habits.note(1), lambda: habits.guesses(1)],
+        taker: [lambda: taker.name, taker.look, lambda: taker.send(1, 1), lambda: taker.receive(1, b""), taker.state,
+                lambda: taker.takes_of(0), lambda: taker.take_of(0)],
+        giver: [lambda: giver.name, giver.state, lambda: giver.reply(1, 0, b"", 0)],
+        handle: [lambda: handle.add_local_input(1, 0), handle.synchronize_input, handle.advance_frame, handle.requests,
+                 lambda: handle.guess(2, [1], 1), lambda: handle.graft(0), lambda: handle.forget(0)],
+        session: [lambda: session.add_local_input(1, 0), lambda: session.remote_input(2, 0, 0),
+                  lambda: session.disconnect_player(2), session.synchronize_input, session.advance_frame,
+                  lambda: session.guess(2, [1], 1), lambda: session.limit_slots(9), lambda: session.reserve_log(9),
+                  lambda: session.frame, lambda: session.settled, lambda: session.has_news,
+                  lambda: session.settled_row(0), session.settled_slot, session.settled_state, lambda: session.confirmed(1),
+                  lambda: session.confirmed_word(1, 0), lambda: session.input_frame(1), session.log_length,
+                  lambda: session.log_entry(0), lambda: session.note_advantages(0, 0), lambda: session.frames_ahead,
+                  session.claim],
+    }
+
+
+@test
+def what_is_closed_takes_no_calls():
+    for it, calls in all_kinds().items():
+        assert not it.is_closed
+        for copies in [copy.copy, copy.deepcopy, pickle.dumps]:
+            raises(TypeError, copies, it)
+        before, held = recorder.closed.total(), it._raw
+        it.close()
+        it.close()
+        assert it.is_closed and recorder.closed.total() == before + 1 and not held.full
+        for call in calls:
+            raises(Closed, call)
+        raises(Closed, it.__class__._at, it)
+
+
+@test
+def a_peer_of_a_closed_session_takes_no_calls():
+    session = session_of()
+    with Peer(session, Match(0, 2, [0, 1], 7)) as peer, Line(session, LineSettings(9, 0, 2, [0, 1])) as line:
+        session.close()
+        raises(Closed, peer.poll, 0)
+        raises(Closed, peer.receive, b"", 0)
+        raises(Closed, peer.send, 1, 0)
+        raises(Closed, line.send, 0)
+
+
+@test
+def what_nobody_has_any_more_is_closed():
+    gc.collect()
+    before = recorder.opened - recorder.closed
+    kinds = all_kinds()
+    assert (recorder.opened - recorder.closed).total() == before.total() + 8
+    del kinds
+    gc.collect()
+    assert recorder.opened - recorder.closed == before
+    with session_of() as session:
+        refused(Answer.INVALID_REQUEST, Peer, session, Match(0, 2, [0, 1], 7, draw=0))
+        refused(Answer.INVALID_MACHINE, Peer, session, Match(2, 2, [0, 1], 7))
+        raises(ValueError, Peer, session, Match(0, 2, [0] * 9, 7))
+        raises(ValueError, Peer, session, Match(0, 2, [0, 1], [7] * 9))
+    gc.collect()
+    assert recorder.opened - recorder.closed == before
+
+
+class Raises(Sum):
+    def advance(self, row):
+        if row.words[0] == 13:
+            raise ZeroDivisionError
+        super().advance(row)
+
+
+@test
+def a_game_that_raises_is_left():
+    with Session(Settings(2, [1]), Raises()) as session:
+        give(session, 1, 1)
+        session.add_local_input(1, 13)
+        raises(ZeroDivisionError, session.advance_frame)
+        for call in [session.advance_frame, session.synchronize_input, session.settled_state, lambda: session.guess(2, [1], 1)]:
+            refused(Answer.PENDING, call)
+        assert session.settled == 0
+
+
+@test
+def a_game_can_not_roll_itself():
+    class Calls(Sum):
+        def advance(self, row):
+            refused(Answer.PENDING, session.advance_frame)
+            refused(Answer.PENDING, session.synchronize_input)
+            super().advance(row)
+
+    with Session(Settings(2, [1]), Calls()) as session:
+        assert give(session, 1, 4) == 1 and session.game.state == 4
+
+
+@test
+def a_call_waits_for_another_thread():
+    class Waits(Sum):
+        def advance(self, row):
+            super().advance(row)
+            thread.start()
+            thread.join(0.1)
+            assert thread.is_alive() and seen == []
+
+    seen = []
+    with Session(Settings(2, [1]), Waits()) as session:
+        thread = threading.Thread(target=lambda: seen.append(session.frame))
+        give(session, 1, 4)
+        thread.join(10)
+        assert seen == [1]
+
+
+@test
+def two_threads_ask_while_one_plays():
+    with session_of() as session:
+        seen = []
+
+        def ask():
+            while not seen or seen[-1] < 500:
+                seen.append(session.settled)
+
+        threads = [threading.Thread(target=ask) for _ in range(2)]
+        for thread in threads:
+            thread.start()
+        for frame in range(500):
+            give(session, 1, frame)
+            session.remote_input(2, frame, 1)
+        session.synchronize_input()
+        for thread in threads:
+            thread.join(10)
+        assert session.settled == 500 and sorted(set(seen))[-1] == 500
+
+
+# ---- guesses
+
+@test
+def a_guess_that_comes_true():
+    with session_of() as session:
+        give(session, 1, 1)
+        give(session, 1, 1)
+        job = session.guess(2, [7], 2)
+        assert (job.start, len(job.rows), job.rows[0]) == (0, 2, Row((1, 7)))
+        refused(Answer.PENDING, session.graft, job)
+        assert session.graft(job.run(Sum())) == 2 and job.states == [15, 31 * 15 + 15]
+        refused(Answer.NO_JOB, session.graft, job)
+        assert session.guess(2, [7], 2) is None
+        session.remote_input(2, 0, 7)
+        session.remote_input(2, 1, 7)
+        session.add_local_input(1, 1)
+        reached = session.advance_frame()
+        assert (reached.start, reached.rerun) == (2, 1)
+
+
+@test
+def a_job_that_nobody_has_is_given_up():
+    with session_of() as session, session_of() as other:
+        give(session, 1, 1)
+        give(other, 1, 1)
+        foreign = other.guess(2, [7], 1)
+        refused(Answer.NO_JOB, session.graft, foreign.run(Sum()))
+        own = session.guess(2, [7], 1)
+        assert own.number == foreign.number
+        refused(Answer.NO_JOB, session.graft, foreign)
+        refused(Answer.NO_JOB, session.forget, foreign)
+        session.forget(own)
+        other.forget(foreign)
+        refused(Answer.NO_JOB, other.forget, foreign)
+        before = recorder.called["fazgrond_forget"]
+        numbers = set()
+        for _ in range(200):  # 64 jobs may be out
+            numbers.add(session.guess(2, [7], 1).number)
+        session.synchronize_input()
+        assert recorder.called["fazgrond_forget"] == before + 200 and len(numbers) == 1
+        jobs = [session.guess(2, [word], 1) for word in range(1, 65)]
+        refused(Answer.FULL, session.guess, 2, [99], 1)
+        assert len({job.number for job in jobs}) == 64
+        session.forget(jobs[0])
+        refused(Answer.INVALID_REQUEST, session.guess, 2, [], 1)
+        refused(Answer.INVALID_REQUEST, session.guess, 2, [1] * 25, 1)
+
+
+@test
+def a_handle_leaves_its_jobs_to_its_caller():
+    with Handle(Settings(2, [1])) as handle:
+        handle.add_local_input(1, 1)
+        handle.advance_frame()
+        assert [(it.kind, it.slot) for it in handle.requests()] == [(Kind.STEP, 0), (Kind.SAVE, 1)]
+        job = handle.guess(2, [3], 1)
+        refused(Answer.PENDING, handle.advance_frame)
+        asked = handle.requests()
+        assert [it.kind for it in asked] == [Kind.JOB_LOAD, Kind.JOB_STEP, Kind.JOB_SAVE] and asked[1].row == Row((1, 3))
+        assert handle.graft(job) == 1 and handle.guess(2, [3], 1) is None
+        job = handle.guess(2, [4], 1)
+        handle.requests()
+        handle.forget(job)
+        refused(Answer.NO_JOB, handle.forget, job)
+
+
+@test
+def words_are_foreseen_by_their_parts():
+    """The guesses were worked out by bench/choices.py: rust/fazgrond/tests/habits.rs has them too."""
+    for parts in [[240, 256, 16], [240, 0], [1] * 33]:
+        refused(Answer.INVALID_REQUEST, Habits, parts)
+    with Habits([1, 2, 4, 8, 16]) as habits, Habits(likely=[3]) as whole:
+        for frame in range(120):
+            word = sum((frame // held % 2) << at for at, held in enumerate([6, 10, 14, 9, 22]))
+            habits.note(word)
+            whole.note(word)
+        best = habits.guesses(4)
+        assert len(best) == 32 and best[0] == ((26,), 12680) and best[1] == ((27, 26), 4311) and best[4] == ((27, 19), 1728)
+        assert habits.guesses(4, 2) == best[:2] and habits.guesses(0) == [] == habits.guesses(4, 0)
+        assert whole.guesses(4)[0] != best[0]
+
+
+# ---- peers
+
+def machine(me, held_turns=0, **more):
+    session = session_of(me + 1)
+    return session, Peer(session, Match(me, 2, [0, 1], 7, draw=70 + me, held_turns=held_turns, **more))
+
+
+def meet(one, two, turns=8):
+    """What one sends, the other hears; it may be sealed with what the other doesn't know yet."""
+    for turn in range(turns):
+        two[1].hear(one[1].send(1, 16 * turn), 16 * turn)
+        one[1].hear(two[1].send(0, 16 * turn), 16 * turn)
+        one[1].poll(16 * turn)
+        two[1].poll(16 * turn)
+
+
+def close(*machines):
+    for session, peer in machines:
+        peer.close()
+        session.close()
+
+
+@test
+def words_are_held_back():
+    """As c/held.cpp has it."""
+    one, two = machine(0), machine(1, held_turns=2)
+    with session_of() as session:
+        refused(Answer.INVALID_REQUEST, Peer, session, Match(0, 2, [0, 1], 7, held_turns=9))
+    meet(one, two)
+    session, peer = two
+    assert give(one[0], 1, 7) == give(session, 2, 5) == give(session, 2, 5) == 1
+    peer.receive(one[1].send(1, 200), 200)
+    assert peer.waiting() == [RemoteWord(1, 0, 7)] and session.confirmed(1) == 0
+    assert peer.rerun(1) == 2 and not peer.is_pressed
+    refused(Answer.INVALID_REQUEST, peer.rerun, 0)
+    refused(Answer.OTHER_SESSION, one[0].guess_waiting, peer, 1)
+    job = session.guess_waiting(peer, 2)
+    helper = Sum()
+    assert session.graft(job.run(helper)) == 2 and helper.steps == 2
+    assert peer.rerun(1) == 0 and session.guess_waiting(peer, 2) is None
+    assert peer.hand_over_due() == 0
+    peer.hand_over()
+    assert peer.waiting() == [] and session.confirmed(1) == 1 and give(session, 2, 5) == 1 and session.game.steps == 3
+    assert peer.hand_over_due() == 0
+    close(one, two)
+
+
+@test
+def a_handle_guesses_with_words_that_wait():
+    handle = Handle(Settings(2, [2]))
+    peer, one = Peer(handle, Match(1, 2, [0, 1], 7, held_turns=2)), machine(0)
+    meet(one, (handle, peer))
+    handle.add_local_input(2, 5)
+    handle.advance_frame()
+    handle.requests()
+    give(one[0], 1, 7)
+    peer.receive(one[1].send(1, 200), 200)
+    assert handle.guess_waiting(peer, 1) is not None and handle.requests()[1].row == Row((7, 5))
+    raises(TypeError, peer.turn, 216)
+    close(one, (handle, peer))
+
+
+@test
+def events_of_a_match():
+    one, two = machine(0), machine(1)
+    assert not one[1].is_running and one[1].stats(1).sent == 0 and one[1].stats(2) is None
+    meet(one, two)
+    told = [event.code for event in one[1].events()]
+    assert told == [Happened.SYNCHRONIZED, Happened.RUNNING] and one[1].is_running
+    give(one[0], 1, 3)
+    two[1].receive(one[1].send(1, 200), 200)
+    assert two[0].confirmed_word(1, 0) == 3
+    assert one[1].send(0, 200) is None and one[1].send(5, 200) is None and one[1].bye(0) is None
+    refused(Answer.NOT_SEALED, two[1].receive, b"junk", 200)
+    assert not two[1].hear(b"junk", 200)
+    raises(TypeError, two[1].receive, "junk", 200)
+    raises(TypeError, two[1].receive, None, 200)
+    assert one[1].stats(1).sent == 9 and one[1].stats(1).refused == 0
+    two[1].hear(one[1].bye(1), 216)
+    for turn in range(20):
+        two[1].turn(216 + 16 * turn)
+    told = [(event.code, event.machine or event.player) for event in two[1].events()]
+    assert (Happened.LEFT, 0) in told and (Happened.DISCONNECTED, 1) in told
+    refused(Answer.OWN_MACHINE, one[1].disconnect, 0)
+    one[1].disconnect(1)
+    one[1].poll(600)
+    assert Happened.LEFT in [event.code for event in one[1].events()]
+    close(one, two)
+
+
+@test
+def two_machines_share_a_number():
+    for theirs, is_running in [(7, True), (8, False)]:
+        sessions = session_of(1), session_of(2)
+        both = [(session, Peer(session, Match(me, 2, [0, 1], numbers)))
+                for me, (session, numbers) in enumerate(zip(sessions, [[0, 7], [theirs, 0]]))]
+        meet(*both)
+        assert both[0][1].is_running == both[1][1].is_running == is_running
+        close(*both)
+
+
+@test
+def machines_that_do_not_fit():
+    one, two = machine(0, digest=1), machine(1, digest=2)
+    meet(one, two)
+    told = [(event.code, event.machine, event.field) for event in one[1].events()]
+    assert (Happened.MISMATCH, 1, 3) in told and not one[1].is_running
+    close(one, two)
+    one, two = machine(0), machine(1)
+    meet(one, two)
+    one[0].remote_input(2, 0, 5)  # past the peer
+    refused(Answer.OTHER_SESSION, one[1].poll, 500)
+    close(one, two)
+
+
+@test
+def another_state_is_told():
+    one, two = machine(0), machine(1)
+    meet(one, two)
+    for frame in range(80):
+        for me, (session, peer) in enumerate([one, two]):
+            try:
+                session.add_local_input(me + 1, frame)
+            except Refused:
+                pass
+            peer.turn(200 + 16 * frame)
+            peer.note_settled(session.settled_state()[1] + (me if frame > 40 else 0))
+        two[1].hear(one[1].send(1, 200 + 16 * frame), 200 + 16 * frame)
+        one[1].hear(two[1].send(0, 200 + 16 * frame), 200 + 16 * frame)
+    told = {event.code: event for event in one[1].events()}
+    assert told[Happened.DESYNC].machine == 1 and told[Happened.DESYNC].frame > 30
+    close(one, two)
+
+
+def pressed(machine, frame):
+    return frame * (machine + 3) // 7 % 4
+
+
+@test
+def inputs_of_two_words_and_a_viewer():
+    """Two machines, whose inputs are two words, and a viewer, come to what the game comes to without a network: as
+    c/csharp/peers.cs."""
+    owners, both = [0, 0, 1, 1], []
+    for me in range(2):
+        session = Session(Settings(4, [2 * me + 1, 2 * me + 2]), Sum())
+        numbers = [0] * 8
+        numbers[1 - me] = NUMBER
+        both.append((session, Peer(session, Match(me, 2, owners, numbers, digest=5, words=2))))
+    settings = LineSettings(0x8877665544332211, 0, 2, owners, digest=5)
+    line, viewer, seen = Line(both[0][0], settings), Viewer(settings), Sum()
+    assert viewer.bye() is None and viewer.look(0).has_ended
+    viewer.close()
+    viewer = Viewer(settings)
+    for turn in range(200):
+        now = 16 * turn
+        for me, (session, peer) in enumerate(both):
+            if peer.is_running and session.frame < 100:
+                for word in range(2):
+                    session.add_local_input(2 * me + 1 + word, pressed(me, session.frame) + word)
+            peer.turn(now)
+            peer.note_settled(session.settled_state()[1])
+        both[1][1].hear(both[0][1].send(1, now), now)
+        both[0][1].hear(both[1][1].send(0, now), now)
+        for end, bytes_ in [(viewer, line.send(now)), (line, viewer.send(now))]:
+            try:
+                end.receive(bytes_, now)
+            except Refused as why:
+                assert why.answer == Answer.NOT_SEALED
+        for row in viewer.rows():
+            seen.advance(row)
+    due = Sum()
+    for frame in range(100):
+        due.advance(Row(tuple(pressed(at // 2, frame) + at % 2 for at in range(4))))
+    assert both[0][0].game.state == both[1][0].game.state == seen.state == due.state
+    stats = both[0][1].stats(1)
+    assert (stats.sent, stats.refused) == (200, 0) and viewer.look(3200).rows == 100 and line.look(3200).is_playing
+    viewer.receive(line.bye(), 3200)
+    assert viewer.look(3200).has_ended and viewer.send(3216) is None
+    line.close()
+    viewer.close()
+    close(*both)
+
+
+# ---- states in pieces
+
+@test
+def a_state_goes_over():
+    """As rust/fazgrond/tests/states.rs has it: a line that loses, doubles and turns round."""
+    state = bytes((place * place >> 7) & 255 for place in range(100_000))
+    came, sent = [], 0
+    with Giver(1, 7, state) as giver, Taker(giver.name, 100_000) as taker:
+        assert taker.look() == (98, 98) and taker.takes_of(0) and taker.state() is None and giver.name.length == 100_000
+        while (ask := taker.send(NUMBER, 1, 5)) is not None:
+            assert state_sender(ask) == 1
+            pieces = []
+            while (piece := giver.reply(NUMBER, 0, ask, len(pieces))) is not None:
+                pieces.append(piece)
+            kept = [piece for at, piece in enumerate(pieces) if (sent + at) % 3 != 2]
+            sent += len(pieces)
+            for piece in [*reversed(kept), *kept[-1:]]:
+                came.append(taker.receive(NUMBER, piece))
+        assert set(came) == {(what, None) for what in [Piece.PIECE_AGAIN, Piece.PIECE_TAKEN, Piece.STATE_WHOLE]}
+        assert taker.state() == state == giver.state() and taker.name == giver.name and taker.look().left == 0
+
+
+@test
+def who_gives_a_wrong_state_is_named():
+    refused(Answer.INVALID_REQUEST, Giver, 1, 0, b"")
+    with Giver(1, 0, b"right") as giver, Giver(1, 0, b"wrong") as liar:
+        refused(Answer.TOO_LONG, Taker, giver.name, 4)
+        name = giver.name
+        first = state_ask(NUMBER, 1, 1, 0)
+        piece = giver.reply(NUMBER, 0, first, 0)
+        assert state_told(NUMBER, piece) == name and state_sender(b"peer") is None
+        refused(Answer.NOT_SEALED, state_told, NUMBER + 1, piece)
+        with Taker(StateName(1, 0, 5, bytes([7] * 32)), 5) as taker:
+            refused(Answer.OTHER_STATE, taker.receive, NUMBER, piece)
+            refused(Answer.INVALID_MACHINE, taker.takes_of, 8)
+            taker.take_of(1)
+            assert not taker.takes_of(0)
+            taker.take_of(None)
+            assert taker.takes_of(0) and taker.takes_of(1)
+        assert StateName(1, 0, 5, bytes([7] * 32)).digest_with(1) != name.digest_with(1)
+        assert liar.name.digest != name.digest
+
+
+# ---- all of the header
+
+@test
+def no_call_of_the_header_is_left_out():
+    sys.dont_write_bytecode = True
+    sys.path.insert(0, str(ROOT / "c"))
+    import interface
+
+    of = interface.read()
+    due = {f"fazgrond_{it.name}" for it in of.calls()}
+    assert len(due) > 70 and due <= set(recorder.called), due - set(recorder.called)
+    gc.collect()
+    assert {it.name for it in of.handles()} == set(recorder.opened)
+    assert recorder.opened == recorder.closed, (recorder.opened, recorder.closed)
+
+
+def main():
+    failed = 0
+    for it in TESTS:
+        try:
+            it()
+        except Exception:
+            failed += 1
+            print(f"failed: {it.__name__}\n{traceback.format_exc()}", end="")
+    print(f"{len(TESTS) - failed} passed, {failed} failed")
+    sys.exit(failed > 0)
+
+
+main()
