@@ -12,7 +12,7 @@ use Rattle.std.specs.List.{All, range_with_len}
 use Rattle.roll_member.specs.Joined.{Joined}
 use Rattle.roll_session.specs.Seen.{Step}
 use Rattle.prog_machine.specs.Over.{IsOver}
-use Rattle.prog_peers.specs.Agreement.{AreAlike, HasAgreed, HaveAgreed, IfStays, Seated}
+use Rattle.prog_peers.specs.Agreement.{AreAlike, HasAgreed, HaveAgreed, IfStays, Seated, step_of}
 use Rattle.prog_machine.specs.Options.{first_staying}
 use Rattle.prog_peers.specs.Sights.{Cost, IsOfFirst, IsPictured, IsPlayed, Watched, asked_picture, cost_by, cost_of, seats, told_cost}
 use Rattle.prog_machine.specs.declared.options.PeersOptions.{PeersOptions}
@@ -55,10 +55,9 @@ module _ {M : Type 0} (me : M → ℕ) (member : M → Joined) (seen : M → Obs
 
   have_agreed : (options : PeersOptions) (step : Step) (machines : List M)
       → map me machines ≡ range_with_len 0 options.machines → AreOver options machines
-      → HaveAlike options step machines → HaveAgreed options (map seated machines)
+      → HaveAlike options step machines → HaveAgreed options step (map seated machines)
   have_agreed options step machines numbers over alike = record {
     numbers = numbers_of machines ∙ numbers;
-    step = step;
     first = alike.0;
     over = All-map (IfStays options (λ member. IsOver options member.session)) seated machines over;
     alike = All-map (IfStays options (AreAlike step alike.0)) seated machines alike.1;
@@ -71,13 +70,13 @@ module _ {M : Type 0} (me : M → ℕ) (member : M → Joined) (seen : M → Obs
       → map told_cost report.outcomes.items ≡ map (λ machine. cost_by (me machine) (seen machine)) machines
       → (IsTrue report.agree → HaveAlike options step machines)
       → IfSome picture (λ text. IsOfFirst options (map watched machines) (string_bytes text))
-      → IsPlayed options report picture
+      → IsPlayed options step report picture
   finish options step machines end report picture numbers over same told alike drawn = record {
     machines = map watched machines;
     told = told ∙ costs_of machines;
     drawn = drawn;
     agreed = λ ended yes.
-        subst (HaveAgreed options) (seats_of machines) (have_agreed options step machines numbers (over (sym same ∙ ended)) (alike yes));
+        subst (HaveAgreed options step) (seats_of machines) (have_agreed options step machines numbers (over (sym same ∙ ended)) (alike yes));
   }
 
   -- a picture of what was seen of the first machine that stays
@@ -95,12 +94,12 @@ module _ {M : Type 0} (me : M → ℕ) (member : M → Joined) (seen : M → Obs
   }
 
 -- the machines of a match that was played have agreed, where it is told so
-pub agreed_of : (options : PeersOptions) (report : Report) (picture : Option (String Global)) → IsPlayed options report picture
+pub agreed_of : (options : PeersOptions) (report : Report) (picture : Option (String Global)) → IsPlayed options (step_of options.common.game) report picture
     → report.end ≡ Over → IsTrue report.agree → HasAgreed options
 agreed_of options report picture was ended alike = (seats was.machines, was.agreed ended alike)
 
 -- and the picture that is there is of them: the one that was made, where one is asked for
-pub pictured_of : (options : PeersOptions) (report : Report) (picture : Option (String Global)) (before after : Sight) → IsPlayed options report picture
+pub pictured_of : (options : PeersOptions) (report : Report) (picture : Option (String Global)) (before after : Sight) → IsPlayed options (step_of options.common.game) report picture
     → report.end ≡ Over → IsTrue report.agree → after.window ≡ before.window
     → (before.window ≡ None → picture ≡ None) → (IsSome before.window → IsSome picture) → (IsSome picture → after.picture ≡ picture)
     → IsPictured options (asked_picture after)

@@ -9,7 +9,7 @@ use Rattle.prog_observer.specs.Holding.{held_totals}
 use Rattle.prog_observer.specs.Observing.{Observed}
 use Rattle.prog_observer.specs.declared.observer.HeldTotals.{HeldTotals}
 use Rattle.prog_picture.specs.declared.scene.Sight.{Sight}
-use Rattle.prog_peers.specs.Agreement.{HaveAgreed, Seated}
+use Rattle.prog_peers.specs.Agreement.{HaveAgreed, Seated, step_of}
 use Rattle.prog_machine.specs.Options.{first_staying}
 use Rattle.prog_peers.specs.Totals.{totals_of}
 use Rattle.prog_machine.specs.declared.options.PeersOptions.{PeersOptions}
@@ -17,6 +17,7 @@ use Rattle.prog_peers.specs.declared.playing.End.TheVariants.{Over}
 use Rattle.prog_peers.specs.declared.report.Outcome.{Outcome}
 use Rattle.prog_peers.specs.declared.report.Report.{Report}
 use Rattle.prog_peers.specs.declared.totals.Totals.{Totals}
+use Rattle.roll_session.specs.Seen.{Step}
 
 -- a machine, and what was seen of its session
 pub record Watched : Type 0 where
@@ -54,18 +55,18 @@ jobs_of (Some holding) = holding.jobs
 abbrev pub cost_of : Watched → Cost
 cost_of machine = cost_by machine.seated.me machine.seen
 
--- a match with these options was played: what is told of it, and drawn if a picture is asked for, is of the same machines, and
--- these have agreed where it is told that they did
-pub record IsPlayed (options : PeersOptions) (report : Report) (picture : Option (String Global)) : Type 0 where
+-- a match with these options, of a game by its step, was played: what is told of it, and drawn if a picture is asked for, is of the
+-- same machines, and these have agreed where it is told that they did
+pub record IsPlayed (options : PeersOptions) (step : Step) (report : Report) (picture : Option (String Global)) : Type 0 where
   pub machines : List Watched
   pub told : map told_cost report.outcomes.items ≡ map cost_of machines
   pub drawn : IfSome picture (λ text. IsOfFirst options machines (string_bytes text))
-  pub agreed : report.end ≡ Over → IsTrue report.agree → HaveAgreed options (seats machines)
+  pub agreed : report.end ≡ Over → IsTrue report.agree → HaveAgreed options step (seats machines)
 
 -- machines of a match with these options have agreed, and the picture, if there is one, is of them
 pub record IsPictured (options : PeersOptions) (picture : Option (String Global)) : Type 0 where
   pub machines : List Watched
-  pub agreed : HaveAgreed options (seats machines)
+  pub agreed : HaveAgreed options (step_of options.common.game) (seats machines)
   pub drawn : IfSome picture (λ text. IsOfFirst options machines (string_bytes text))
 
 -- the picture that was made, where one was asked for

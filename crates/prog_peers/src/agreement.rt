@@ -16,6 +16,8 @@ fn are_alike<G: Shown>(first: &Machine<G>, second: &Machine<G>) -> bool
         (beside second.now.session second.now.peer) }
 {
     let (one, other) = (&first.session, &second.session);
+    one.laws();
+    other.laws();
     let count = agreed(one, other);
     agrees(one, other, count) && is_left_alike(first, second)
 }

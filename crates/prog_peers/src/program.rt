@@ -1,8 +1,10 @@
 //! A match from its options to what is written of it.
 ghost use Rattle.std.specs.Prelude.{◌≡◌, ◌⊎◌, ◌≤◌, ◌++◌, ◌∷◌, [], IfErr, IfOk, IfSome, IsSome, IsTrue, MatchOption, None, OnOk, map};
 ghost use Rattle.prog_parts.specs.declared.fault.PlayFault.TheVariants.{Write as CannotWrite};
-ghost use Rattle.prog_peers.specs.Agreement.{HasAgreed};
+ghost use Rattle.prog_peers.specs.Agreement.{HasAgreed, step_of};
 ghost use Rattle.prog_machine.specs.Options.{fault_of};
+ghost use Rattle.roll_duel.specs.Bytes.{step as duel_step};
+ghost use Rattle.roll_game.specs.Tally.{tally_step};
 ghost use Rattle.prog_peers.specs.Sights.{IsPictured, IsPlayed, asked_picture};
 ghost use Rattle.std.specs.List.{range_with_len};
 
@@ -128,7 +130,7 @@ fn keep(sight: &mut Sight, picture: Option<String>)
 /// Plays a match, and answers how it came out.
 fn play(alloc: Global, options: &PeersOptions, window: Option<Window>) -> Result<Played, Refusal>
     ensures played { OnOk result (fault_of options.now ≡ None) }
-    ensures was { IfOk result (λ p. IsPlayed options.now p.report p.picture) }
+    ensures was { IfOk result (λ p. IsPlayed options.now (step_of options.now.common.game) p.report p.picture) }
     ensures none { IfOk result (λ p. window ≡ None → p.picture ≡ None) }
     ensures made { IfOk result (λ p. IsSome window → IsSome p.picture) }
 {
@@ -146,7 +148,7 @@ fn play_tally(
     options: &PeersOptions,
     window: Option<Window>,
 ) -> Result<Played, Refusal>
-    ensures was { IfOk result (λ p. IsPlayed options.now p.report p.picture) }
+    ensures was { IfOk result (λ p. IsPlayed options.now tally_step p.report p.picture) }
     ensures none { IfOk result (λ p. window ≡ None → p.picture ≡ None) }
     ensures made { IfOk result (λ p. IsSome window → IsSome p.picture) }
 {
@@ -162,7 +164,7 @@ fn play_duel(
     options: &PeersOptions,
     window: Option<Window>,
 ) -> Result<Played, Refusal>
-    ensures was { IfOk result (λ p. IsPlayed options.now p.report p.picture) }
+    ensures was { IfOk result (λ p. IsPlayed options.now duel_step p.report p.picture) }
     ensures none { IfOk result (λ p. window ≡ None → p.picture ≡ None) }
     ensures made { IfOk result (λ p. IsSome window → IsSome p.picture) }
 {
@@ -201,7 +203,7 @@ fn play_and_show<G: Shown + Drop>(
 ) -> Result<Played, Refusal>
     requires { map (λ m. m.me) table.old.machines.items
         ≡ range_with_len 0 options.now.machines }
-    ensures was { IfOk result (λ p. IsPlayed options.now p.report p.picture) }
+    ensures was { IfOk result (λ p. IsPlayed options.now G.step p.report p.picture) }
     ensures none { IfOk result (λ p. window ≡ None → p.picture ≡ None) }
     ensures made { IfOk result (λ p. IsSome window → IsSome p.picture) }
 {
