@@ -121,27 +121,27 @@ export class Fazgrond {
     return BigInt.asUintN(64, this.calls.state_digest(this.room, BigInt(digest)));
   }
 
-  // ---- Memory. It moves when it grows, so views of it are asked for anew.
+  // ---- Memory. It moves when it grows: views of it are empty then, and asked for anew.
 
   refresh() {
-    this.buffer = this.memory.buffer;
-    this.view8 = new Uint8Array(this.buffer);
-    this.view32 = new Uint32Array(this.buffer);
-    this.view = new DataView(this.buffer);
+    const { buffer } = this.memory;
+    this.view8 = new Uint8Array(buffer);
+    this.view32 = new Uint32Array(buffer);
+    this.view = new DataView(buffer);
   }
 
   u8() {
-    if (this.buffer !== this.memory.buffer) this.refresh();
+    if (this.view8.length === 0) this.refresh();
     return this.view8;
   }
 
   u32() {
-    if (this.buffer !== this.memory.buffer) this.refresh();
+    if (this.view32.length === 0) this.refresh();
     return this.view32;
   }
 
   data() {
-    if (this.buffer !== this.memory.buffer) this.refresh();
+    if (this.view8.length === 0) this.refresh();
     return this.view;
   }
 
@@ -230,9 +230,8 @@ class Handle {
     return this.at;
   }
 
-  /** A number that the library says of this, or null if it answers that it can't. */
-  ask(call, ...words) {
-    const code = this.library.calls[call](this.open, ...words, this.library.room);
+  /** A number that a call wrote, or null if it answers that there is none. */
+  told(code) {
     return code === OK ? this.library.number() : null;
   }
 }
@@ -282,32 +281,32 @@ export class Session extends Handle {
 
   get open() {
     if (this.isBroken) throw new Error("a function of the game has thrown, so its states aren't those of the session");
-    return super.open;
+    return this.at !== 0 ? this.at : super.open;
   }
 
   /** The current frame. */
   get frame() {
-    return this.ask("frame");
+    return this.told(this.library.calls.frame(this.open, this.library.room));
   }
 
   /** How many rows are settled: they never change. */
   get settled() {
-    return this.ask("settled");
+    return this.told(this.library.calls.settled(this.open, this.library.room));
   }
 
   /** Whether the state that is shown may be out of date. */
   get hasNews() {
-    return this.ask("has_news") === 1;
+    return this.told(this.library.calls.has_news(this.open, this.library.room)) === 1;
   }
 
   /** How many frames this machine should wait, if there is no peer. */
   get framesAhead() {
-    return this.ask("frames_ahead");
+    return this.told(this.library.calls.frames_ahead(this.open, this.library.room));
   }
 
   /** How many entries the log has. */
   get logLength() {
-    return this.ask("log_length");
+    return this.told(this.library.calls.log_length(this.open, this.library.room));
   }
 
   /** A local player's word of this frame. */
@@ -371,12 +370,19 @@ export class Session extends Handle {
     this.answer = answer;
     if (answer !== OK) return null;
     const job = new Job(this.library.number());
-    this.eachRequest((kind, slot, row, memory) => {
-      if (kind === raw.JOB_LOAD) job.from = this.states[slot];
-      else if (kind === raw.JOB_STEP) job.steps.push({ words: memory.slice(row + 2, row + 2 + memory[row]), gone: memory[row + 1] });
-      else job.slots.push(slot);
-    });
+    let count;
+    do {
+      count = this.take();
+      for (let at = 0; at < count; at++) this.addToJob(job, this.library.u32(), placeOf(this.library, at));
+    } while (count === ROOM);
     return job;
+  }
+
+  addToJob(job, memory, place) {
+    const [kind, slot] = [memory[place], memory[place + 1]];
+    if (kind === raw.JOB_LOAD) job.from = this.states[slot];
+    else if (kind === raw.JOB_STEP) job.steps.push(rowAt(this.library, (place + ROW) << 2));
+    else job.slots.push(slot);
   }
 
   /** Takes a job's states in. The answer says whether they are of use; afterwards the job is over in any case. */
@@ -410,17 +416,17 @@ export class Session extends Handle {
 
   /** How many words of a player are confirmed. */
   confirmed(player) {
-    return this.ask("confirmed", player);
+    return this.told(this.library.calls.confirmed(this.open, player, this.library.room));
   }
 
   /** The confirmed word of a player at a frame, or null. */
   confirmedWord(player, frame) {
-    return this.ask("confirmed_word", player, frame);
+    return this.told(this.library.calls.confirmed_word(this.open, player, frame, this.library.room));
   }
 
   /** The frame in which a local player's next word counts. */
   inputFrame(player) {
-    return this.ask("input_frame", player);
+    return this.told(this.library.calls.input_frame(this.open, player, this.library.room));
   }
 
   /** The entry at a place of the log, or null. */
@@ -454,42 +460,52 @@ export class Session extends Handle {
 
   // ---- Requests.
 
-  /** Takes all requests: each is told by its kind, its slot, and where in the memory's words its row is. */
-  eachRequest(take) {
-    const { calls, requests } = this.library;
-    for (let count = calls.take_requests(this.at, requests, ROOM); count > 0; count = calls.take_requests(this.at, requests, ROOM))
-      for (let at = 0; at < count; at++) {
-        const memory = this.library.u32();
-        const place = (requests + at * raw.Request.size) >>> 2;
-        take(memory[place], memory[place + 1], place + (raw.Request.members.row.at >>> 2), memory);
-      }
+  /** Takes requests, and says how many: fewer than `ROOM` if there are no more. */
+  take() {
+    return this.library.calls.take_requests(this.at, this.library.requests, ROOM);
   }
 
   carryOut() {
     this.isBroken = true; // unless no function of the game throws
-    const { game, states, words } = this;
-    this.eachRequest((kind, slot, row, memory) => {
-      switch (kind) {
-        case raw.STEP:
-          for (let player = 0; player < words.length; player++) words[player] = memory[row + 2 + player];
-          game.step(words, memory[row + 1]);
-          break;
-        case raw.SAVE:
-          if (states[slot] !== undefined) game.free?.(states[slot]); // of a job that was grafted only in part
-          states[slot] = game.save();
-          break;
-        case raw.LOAD:
-          game.load(states[slot]);
-          break;
-        case raw.FREE:
-          game.free?.(states[slot]);
-          states[slot] = undefined;
-          break;
-      }
-    });
+    const { library } = this;
+    let count;
+    do {
+      count = this.take();
+      for (let at = 0; at < count; at++) this.carryOutOne(library.u32(), placeOf(library, at));
+    } while (count === ROOM);
     this.isBroken = false;
   }
+
+  /** Carries out the request at a place of the memory's words. */
+  carryOutOne(memory, place) {
+    const { game, states, words } = this;
+    const slot = memory[place + 1];
+    switch (memory[place]) {
+      case raw.STEP:
+        for (let player = 0; player < words.length; player++) words[player] = memory[place + ROW + 2 + player];
+        game.step(words, memory[place + ROW + 1]);
+        break;
+      case raw.SAVE:
+        if (states[slot] !== undefined) game.free?.(states[slot]); // of a job that was grafted only in part
+        states[slot] = game.save();
+        break;
+      case raw.LOAD:
+        game.load(states[slot]);
+        break;
+      case raw.FREE:
+        game.free?.(states[slot]);
+        states[slot] = undefined;
+        break;
+    }
+  }
 }
+
+/** Where in the memory's words a request is that was taken. */
+function placeOf(library, at) {
+  return (library.requests + at * raw.Request.size) >>> 2;
+}
+
+const ROW = raw.Request.members.row.at >>> 2; // where a request's row is in it
 
 function rowAt(library, at = library.room) {
   const memory = library.u32();
@@ -571,7 +587,7 @@ export class Peer extends Sealed {
 
   /** Whether the match has begun: give the session no words before. */
   get isRunning() {
-    return this.ask("peer_is_running") === 1;
+    return this.told(this.library.calls.peer_is_running(this.open, this.library.room)) === 1;
   }
 
   /** The datagram to send to a machine in this turn, or null. */
@@ -621,7 +637,7 @@ export class Peer extends Sealed {
 
   /** How many frames the session would have to run again for the first words that wait, or null. */
   rerun(count) {
-    return this.ask("peer_rerun", this.session.open, count);
+    return this.told(this.library.calls.peer_rerun(this.open, this.session.open, count, this.library.room));
   }
 
   /** A guess with all words that wait: a job, or null; the session's `answer` says why. */
@@ -641,7 +657,7 @@ export class Peer extends Sealed {
 
   /** Whether the game would stand without the words that wait. */
   get isPressed() {
-    return this.ask("peer_is_pressed", this.session.open) === 1;
+    return this.told(this.library.calls.peer_is_pressed(this.open, this.session.open, this.library.room)) === 1;
   }
 }
 
@@ -774,7 +790,7 @@ export class Taker extends Sealed {
 
   /** Whether pieces of a machine are taken for now. */
   takesOf(machine) {
-    return this.ask("taker_takes_of", machine) === 1;
+    return this.told(this.library.calls.taker_takes_of(this.open, machine, this.library.room)) === 1;
   }
 
   /** From now on pieces of this machine alone are taken, or with `raw.NO_MACHINE` of each that gave no wrong state. */

@@ -1,4 +1,5 @@
 """The browsers that tests start: without a window, each with a profile of its own."""
+import contextlib
 import os
 import re
 import shutil
@@ -24,34 +25,37 @@ PREFERENCES = {
     "browser.safebrowsing.provider.google4.updateURL": "",
     "toolkit.telemetry.enabled": False,
     "fission.autostart": False,
+    "marionette.port": 0,  # (a free one)
 }
 
 
 class Browser:
-    """A browser that is started at a page."""
+    """A browser that is started at a page. A Firefox can be driven (driver.py)."""
 
-    def __init__(self, kind, url):
+    def __init__(self, kind, url, is_driven=False):
         self.kind, self.profile = kind, tempfile.mkdtemp(prefix=f"{kind}-")
-        words = self.words(url)
+        words = [*self.words(), *(["--marionette"] if is_driven else []), url]
         self.process = subprocess.Popen(words, stdin=subprocess.DEVNULL, stdout=subprocess.DEVNULL, stderr=subprocess.DEVNULL,
                                         start_new_session=True, env={**os.environ, "HOME": self.profile})
 
-    def words(self, url):
+    def words(self):
         if self.kind == "chromium":
-            return ["chromium", *CHROMIUM, f"--user-data-dir={self.profile}", url]
+            return ["chromium", *CHROMIUM, f"--user-data-dir={self.profile}"]
         told = "".join(f'user_pref("{name}", {str(it).lower() if isinstance(it, bool) else repr(it)});\n'
                        for name, it in PREFERENCES.items())
         Path(self.profile, "user.js").write_text(told.replace("'", '"'))
-        return ["firefox-esr", "--headless", "--no-remote", "--profile", self.profile, url]
+        return ["firefox-esr", "--headless", "--no-remote", "--profile", self.profile]
 
     def close(self):
-        """Ends it, with all its processes, which are a group of their own."""
-        try:
-            os.killpg(self.process.pid, signal.SIGKILL)
-        except ProcessLookupError:
-            pass
-        self.process.wait()
+        end(self.process)
         shutil.rmtree(self.profile, ignore_errors=True)
+
+
+def end(process):
+    """Ends a program with all that it began, which are a group of their own."""
+    with contextlib.suppress(ProcessLookupError):
+        os.killpg(process.pid, signal.SIGKILL)
+    process.wait()
 
 
 def version(kind):
