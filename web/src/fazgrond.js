@@ -388,18 +388,21 @@ export class Session extends Handle {
   /** Takes a job's states in. The answer says whether they are of use; afterwards the job is over in any case. */
   graft(job) {
     if (job.states.length !== job.slots.length) throw new Error("the job has not been carried out");
-    const code = this.library.calls.graft(this.open, job.number, this.library.room);
-    if (code === Answer.PENDING) return code;
-    job.slots.forEach((slot, at) => {
-      if (code === OK) this.states[slot] = job.states[at];
-      else this.game.free?.(job.states[at]);
-    });
-    return code;
+    this.putStates(job);
+    return this.library.calls.graft(this.open, job.number, this.library.room);
   }
 
-  /** Gives a job up. */
+  /** Gives a job up. It may not be carried out any more. */
   forget(job) {
+    this.putStates(job);
     return this.library.calls.forget(this.open, job.number);
+  }
+
+  /** A job's states lie in its slots, until the session has them freed. */
+  putStates(job) {
+    job.states.forEach((state, at) => {
+      this.states[job.slots[at]] = state;
+    });
   }
 
   /** The settled frame, and the state after all settled rows. */
@@ -486,14 +489,13 @@ export class Session extends Handle {
         game.step(words, memory[place + ROW + 1]);
         break;
       case raw.SAVE:
-        if (states[slot] !== undefined) game.free?.(states[slot]); // of a job that was grafted only in part
         states[slot] = game.save();
         break;
       case raw.LOAD:
         game.load(states[slot]);
         break;
       case raw.FREE:
-        game.free?.(states[slot]);
+        if (states[slot] !== undefined) game.free?.(states[slot]); // of a job that was never run there is none
         states[slot] = undefined;
         break;
     }

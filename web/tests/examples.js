@@ -182,6 +182,49 @@ export function guess(library) {
   return play(false) + play(true);
 }
 
+/** A game whose states have to be given back once each. */
+class Counted {
+  constructor() {
+    this.frame = 0;
+  }
+
+  save() {
+    return { frame: this.frame, isFreed: false };
+  }
+
+  load(state) {
+    if (state.isFreed) throw new Error("a state is loaded that was given back");
+    this.frame = state.frame;
+  }
+
+  step() {
+    this.frame++;
+  }
+
+  free(state) {
+    if (state.isFreed) throw new Error("a state is given back twice");
+    state.isFreed = true;
+  }
+}
+
+/** Jobs that are of no use in the end: their states are given back. */
+export function refused(library) {
+  const session = library.session({ players: 2, local: [1] }, new Counted());
+  for (let frame = 0; frame < 3; frame++) must(session.turn([1]));
+  const [late, forgotten, idle] = [3, 4, 5].map((word) => session.guess(2, [word], 3));
+  late.run(new Counted());
+  forgotten.run(new Counted());
+  for (let frame = 0; frame < 3; frame++) must(session.remoteInput(2, frame, 6));
+  must(session.synchronizeInput());
+  const code = session.graft(late);
+  must(session.forget(forgotten));
+  must(session.forget(idle));
+  for (let frame = 0; frame < 8; frame++) session.turn([1]);
+  session.close();
+  const kept = [...late.states, ...forgotten.states].filter((state) => !state.isFreed).length;
+  return `graft ${code}, ${late.states.length} and ${forgotten.states.length} states, ${kept} not given back\n`;
+}
+
 /** Nanoseconds of a turn of one of two machines, with a datagram that comes and one that goes: the least of some runs. */
 export function turnsOf(library, turns = 60000, runs = 3) {
   let least = Infinity;

@@ -118,3 +118,9 @@ pub use row::{Row, PLAYERS};
 pub use session::{Game, Session};
 pub use settings::Settings;
 pub use state::{Giver, Piece, StateName, Taker};
+
+/// The version of the library that the program runs with: `major << 16 | minor << 8 | patch`.
+pub fn version() -> u32 {
+    // SAFETY: it takes nothing.
+    unsafe { raw::fazgrond_version() }
+}

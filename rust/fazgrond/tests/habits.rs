@@ -33,3 +33,10 @@ fn words_are_foreseen_whole_without_parts() {
     assert_ne!(whole[0].worth, parts[0].worth);
     assert!(five_buttons(&[]).guesses(0).is_empty());
 }
+
+#[test]
+fn the_library_is_of_the_headers_version() {
+    let header = include_str!("../../../c/fazgrond.h");
+    let line = header.lines().find_map(|it| it.strip_prefix("#define FAZGROND_VERSION 0x")).unwrap();
+    assert_eq!(fazgrond::version(), u32::from_str_radix(line.trim(), 16).unwrap());
+}
