@@ -1,7 +1,7 @@
 //! What a frame costs through Rust: cargo run --release --example frames, after `make -C c`
 //!
-//! The first five lines of `make -C c bench` (bench/c_frames.c), by the types: a frame is all calls and requests of a turn, each line
-//! the least of nine runs. `make -C c out/c_frames && c/out/c_frames 0` measures the same in C.
+//! The first five lines of `make -C c bench` (bench/c_frames.c), by the types: a frame is all calls and requests of a turn, each
+//! line the least of nine runs. `make -C c out/c_frames && c/out/c_frames 0` measures the same in C.
 use fazgrond::{Datagram, Error, Game, Match, Peer, Row, Session, Settings};
 use std::time::{Duration, Instant};
 
