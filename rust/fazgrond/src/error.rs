@@ -167,10 +167,16 @@ impl fmt::Display for Error {
 impl std::error::Error for Error {}
 
 /// What a code says, of those that what is open answers.
+#[inline]
 pub(crate) fn said(code: i32) -> Result<(), Error> {
     if code == 0 {
-        return Ok(());
+        Ok(())
+    } else {
+        refused(code)
     }
+}
+
+fn refused(code: i32) -> Result<(), Error> {
     match ALL.iter().find(|error| error.code() == code) {
         Some(error) => Err(*error),
         None => unreachable!("a call answered {code}"),

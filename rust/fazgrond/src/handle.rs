@@ -4,6 +4,7 @@ use crate::peer::Peer;
 use crate::raw;
 use crate::row::Row;
 use crate::settings::Settings;
+use std::mem::MaybeUninit;
 
 /// Whether a remote word is new.
 #[derive(Clone, Copy, PartialEq, Eq, Debug)]
@@ -76,6 +77,9 @@ pub enum Request {
     /// Advance the job's state by a frame with this row.
     JobStep(Row),
 }
+
+/// How many requests are taken at once.
+const ROOM: usize = 16;
 
 /// An open session that leaves its requests to be carried out by the caller. [`Session`](crate::Session) carries them out.
 ///
@@ -174,6 +178,21 @@ impl Handle {
     /// The requests of the last roll, and of guesses, that weren't taken yet.
     pub fn requests(&mut self) -> Requests<'_> {
         Requests { handle: self }
+    }
+
+    /// Takes all requests, many at once, and has them carried out in their order. If that panics, those that were taken are lost.
+    pub(crate) fn carry_out_all(&mut self, mut carry_out: impl FnMut(&raw::Request)) {
+        let mut room = [(); ROOM].map(|()| MaybeUninit::<raw::Request>::uninit());
+        loop {
+            let count = unsafe { raw::fazgrond_take_requests(self.raw(), room.as_mut_ptr().cast(), ROOM) };
+            for taken in &room[..count] {
+                // SAFETY: the library wrote so many.
+                carry_out(unsafe { taken.assume_init_ref() });
+            }
+            if count < ROOM {
+                return; // none is left
+            }
+        }
     }
 
     /// Makes room for so many more events: none of them is then refused for want of memory by the log.

@@ -87,6 +87,11 @@ struct Out {
 pub(crate) struct Jobs(Vec<Out>);
 
 impl Jobs {
+    #[inline]
+    pub(crate) fn is_empty(&self) -> bool {
+        self.0.is_empty()
+    }
+
     /// Notes a job and the slots of its states.
     pub(crate) fn add(&mut self, number: u32, slots: Vec<usize>) -> Ticket {
         let life = Arc::new(());

@@ -17,11 +17,13 @@ impl Row {
     }
 
     /// A player's word. None if the player has left, or there is no such player.
+    #[inline]
     pub fn word(&self, player: u8) -> Option<u32> {
         self.cells().nth(usize::from(player).checked_sub(1)?)?
     }
 
     /// Each player's word, player 1's first; None in place of that of a player who has left.
+    #[inline]
     pub fn cells(&self) -> impl Iterator<Item = Option<u32>> + '_ {
         let words = &self.words[..self.count as usize];
         words.iter().enumerate().map(|(at, word)| (self.gone >> at & 1 == 0).then_some(*word))

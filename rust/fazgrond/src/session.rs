@@ -2,6 +2,7 @@ use crate::error::Error;
 use crate::handle::{Entry, Handle, Heard, Reached, Request};
 use crate::job::{Done, Job, Jobs};
 use crate::peer::Peer;
+use crate::raw;
 use crate::row::Row;
 use crate::settings::Settings;
 
@@ -272,18 +273,17 @@ impl<G: Game> Session<G> {
         self.forget_dropped()?;
         self.is_whole = false;
         let answer = call(&mut self.handle);
-        for request in self.handle.requests() {
-            match request {
-                Request::Load(slot) => {
-                    let state = self.slots[slot].as_ref().expect("a slot that is loaded is taken");
-                    self.game.load(state);
-                }
-                Request::Save(slot) => *place(&mut self.slots, slot) = Some(self.game.save()),
-                Request::Step(row) => self.game.advance(&row),
-                Request::Free(slot) => self.slots[slot] = None,
-                other => unreachable!("a roll asks for {other:?}"),
+        let Session { handle, game, slots, .. } = self;
+        handle.carry_out_all(|request| {
+            let slot = request.slot as usize;
+            match request.kind {
+                raw::LOAD => game.load(slots[slot].as_ref().expect("a slot that is loaded is taken")),
+                raw::SAVE => *place(slots, slot) = Some(game.save()),
+                raw::STEP => game.advance(&request.row),
+                raw::FREE => slots[slot] = None,
+                kind => unreachable!("a roll asks for the kind {kind}"),
             }
-        }
+        });
         self.is_whole = true;
         answer
     }
@@ -292,6 +292,9 @@ impl<G: Game> Session<G> {
     fn forget_dropped(&mut self) -> Result<(), Error> {
         if !self.is_whole {
             return Err(Error::Pending);
+        }
+        if self.jobs.is_empty() {
+            return Ok(());
         }
         self.jobs.dropped().into_iter().try_for_each(|number| self.handle.forget(number))
     }
