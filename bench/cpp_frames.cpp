@@ -28,7 +28,7 @@ static double now() {
 struct Game {
     std::uint64_t state = 0, steps = 0, saved[257] = {};
 
-    void operator()(const fazgrond::Request &request) {
+    void operator()(const fazgrond::Request &request) noexcept {
         switch (request.kind) {
         case FAZGROND_LOAD: state = saved[request.slot]; break;
         case FAZGROND_SAVE: saved[request.slot] = state; break;

@@ -37,7 +37,7 @@ static sockaddr_in address_of(const char *host, const char *port) {
 struct Game {
     std::uint64_t state = 0, saved[257] = {};
 
-    void operator()(const fazgrond::Request &request) {
+    void operator()(const fazgrond::Request &request) noexcept {
         switch (request.kind) {
         case FAZGROND_LOAD: state = saved[request.slot]; break;
         case FAZGROND_SAVE: saved[request.slot] = state; break;
