@@ -1,4 +1,4 @@
-// What a turn costs in C#: mcs -unsafe -optimize+ -out:cs_frames.exe c/fazgrond.cs bench/cs_frames.cs, after `make -C c bench`, and
+// What a turn costs in C#: mcs -unsafe -optimize+ -out:cs_frames.exe c/fazgrond.cs bench/cs_frames.cs, after `make -C c`, and
 // LD_LIBRARY_PATH=c/out mono cs_frames.exe.
 //
 // The games are those of bench/c_frames.c: a frame is all calls and requests of a turn, and each line is the least of nine runs.
