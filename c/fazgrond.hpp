@@ -10,6 +10,7 @@
 #include <memory>
 #include <optional>
 #include <string>
+#include <type_traits>
 #include <vector>
 
 namespace fazgrond {
@@ -206,12 +207,15 @@ public:
         return flag ? std::optional<bool>(*flag != 0) : std::nullopt;
     }
 
-    // Gives each request that is left to `carry_out`. Some are left only if `carry_out` threw.
+    // Gives each request that is left to `carry_out`. Some are left only if `carry_out` threw. So they are taken one by one, or many
+    // at once if it is `noexcept`, which is faster.
     template <class CarryOut>
     void take_requests(CarryOut &&carry_out) {
-        Request request;
-        while (fazgrond_take_requests(handle.get(), &request, 1) == 1)
-            carry_out(static_cast<const Request &>(request));
+        constexpr std::size_t room = std::is_nothrow_invocable_v<CarryOut &, const Request &> ? 32 : 1;
+        Request requests[room];
+        while (std::size_t count = fazgrond_take_requests(handle.get(), requests, room))
+            for (std::size_t at = 0; at < count; at++)
+                carry_out(static_cast<const Request &>(requests[at]));
     }
 
     // A guess: if this player gave these words next, up to the frame `until`. Gives each request of its job to `carry_out`, which
