@@ -1,0 +1,17 @@
+//! The limits of what is carried, each named once.
+use roll_wire::DATAGRAM_LIMIT;
+
+/// How many bytes of a datagram stand before its own fields.
+pub(crate) const HEAD: usize = 14;
+/// The kind of maps.
+pub(crate) const MAP: u8 = 3;
+/// The kind of what is carried.
+pub(crate) const CARRIED: u8 = 4;
+/// The most bytes of parcels in one datagram.
+pub const AREA_LIMIT: usize = DATAGRAM_LIMIT - HEAD;
+/// How many bytes a parcel has beside those of its datagram.
+pub(crate) const LABEL: usize = 4;
+/// The most bytes of a datagram that is carried.
+pub const CARRIED_LIMIT: usize = AREA_LIMIT - LABEL;
+/// How many steps a parcel has left at first: so many machines hand it on at most.
+pub const STEP_LIMIT: u8 = 7;
