@@ -2,6 +2,9 @@
 #![tactic(auto)]
 
 mod datagram;
+mod laws;
 mod limits;
+mod ways;
 
 pub use datagram::{Hearing, Parcel};
+pub use laws::ways_are_found;

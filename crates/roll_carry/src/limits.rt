@@ -15,3 +15,5 @@ pub(crate) const LABEL: usize = 4;
 pub const CARRIED_LIMIT: usize = AREA_LIMIT - LABEL;
 /// How many steps a parcel has left at first: so many machines hand it on at most.
 pub const STEP_LIMIT: u8 = 7;
+/// How many machines a way has at most between the one that carries first and the one that it leads to.
+pub(crate) const BETWEEN: usize = 6;

@@ -1,0 +1,7 @@
+//! Laws of what is carried: each is the contract of a function that makes no call.
+ghost use Rattle.roll_carry.specs.Ways.{WaysAreFound};
+
+/// The machines that are found to have a way to another, by so many others at most, are those from which the map shows one.
+pub fn ways_are_found()
+    ensures { WaysAreFound }
+{}
