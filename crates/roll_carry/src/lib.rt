@@ -4,7 +4,9 @@
 mod datagram;
 mod laws;
 mod limits;
+mod map;
 mod ways;
 
 pub use datagram::{Hearing, Parcel};
 pub use laws::ways_are_found;
+pub use map::LineMap;

@@ -17,3 +17,7 @@ pub const CARRIED_LIMIT: usize = AREA_LIMIT - LABEL;
 pub const STEP_LIMIT: u8 = 7;
 /// How many machines a way has at most between the one that carries first and the one that it leads to.
 pub(crate) const BETWEEN: usize = 6;
+/// A machine that wasn't heard straight for more than so many milliseconds isn't heard straight.
+pub const CARRY_AFTER: u32 = 150;
+/// In how many turns a map is told in each, after something of it changed.
+pub(crate) const TELL_TURNS: u8 = 16;
