@@ -3,5 +3,6 @@
 
 mod datagram;
 mod limits;
+mod writing;
 
 pub use datagram::{Hearing, Parcel};
