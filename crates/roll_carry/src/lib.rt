@@ -6,6 +6,7 @@ mod laws;
 mod limits;
 mod map;
 mod ways;
+mod writing;
 
 pub use datagram::{Hearing, Parcel};
 pub use laws::ways_are_found;

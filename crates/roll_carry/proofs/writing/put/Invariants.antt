@@ -1,0 +1,8 @@
+use Rattle.std.proofs.Common.{◌≡◌, ◌+◌, ◌++◌, length, take}
+use Rattle.roll_carry.proofs.writing.put.Given as goal
+
+abbrev pub invariant-loop-byte : goal.invariant-loop-byte
+invariant-loop-byte g l = record {
+  items : l.out.items ≡ l.fn.out.items ++ take l.byte-index l.bytes;
+  len : length l.out.items ≡ length l.fn.out.items + l.byte-index;
+}

@@ -1,0 +1,89 @@
+-- Reading maps and parcels from left to right, with the first fault that is met.
+use Rattle.std.specs.Prelude.{◌≡◌, ℕ, zero, suc, ◌/◌, List, [], ◌∷◌, length, take, drop, min, Option, None, Some, Result, Ok, Err, nat_lt, ◌||◌, ◌==◌, if◌then◌else◌}
+use Rattle.std.specs.Int.{w16, w32}
+use Rattle.roll_mesh.specs.declared.limits.TheConstants.{MACHINE_LIMIT}
+use Rattle.roll_wire.specs.Reading.{◌>>=◌, byte_at, envelope_at, magic_at, mask_at, number_at, repeated}
+use Rattle.roll_wire.specs.declared.datagram.Envelope.{Envelope}
+use Rattle.roll_wire.specs.declared.fault.WireFault.{WireFault}
+use Rattle.roll_wire.specs.declared.fault.WireFault.TheVariants.{Short, Kind, Trailing}
+use Rattle.roll_carry.specs.Spelling.{Fits, Maps, Carries, ParcelValue, area_text, spelling}
+use Rattle.roll_carry.specs.declared.datagram.Hearing.{Hearing}
+use Rattle.roll_carry.specs.declared.limits.TheConstants.{AREA_LIMIT, CARRIED, HEAD, MAP}
+
+-- what a datagram of a kind begins with
+unfoldable pub head_at : (kind : ℕ) → List ℕ → Result (Envelope × List ℕ) WireFault
+head_at kind bytes = do
+  magic ← magic_at bytes
+  envelope ← envelope_at magic.1
+  found ← byte_at envelope.1
+  if found.0 == kind then Ok (envelope.0, found.1) else Err Kind
+
+unfoldable pub hearing_at : List ℕ → Result (Hearing × List ℕ) WireFault
+hearing_at bytes = do
+  hears ← mask_at bytes
+  number ← number_at w32 hears.1
+  Ok (record { hears = hears.0; number = number.0 }, number.1)
+
+-- a map has as many machines as are left, up to the most that a match can have
+abbrev pub machine_count : List ℕ → ℕ
+machine_count bytes = min (length bytes / 5) MACHINE_LIMIT
+
+-- the map that the whole of the bytes says
+unfoldable pub map_of : List ℕ → Result (List Hearing) WireFault
+map_of bytes = do
+  head ← head_at MAP bytes
+  map ← repeated hearing_at (machine_count head.1) head.1
+  if length map.1 == 0 then Ok map.0 else Err Trailing
+
+-- so many bytes, which are a datagram's
+abbrev pub datagram_at : ℕ → List ℕ → Result (List ℕ × List ℕ) WireFault
+datagram_at n bytes =
+    if nat_lt n HEAD || nat_lt (length bytes) n then Err Short else Ok (take n bytes, drop n bytes)
+
+unfoldable pub parcel_at : List ℕ → Result (ParcelValue × List ℕ) WireFault
+parcel_at bytes = do
+  to ← byte_at bytes
+  steps ← byte_at to.1
+  size ← number_at w16 steps.1
+  datagram ← datagram_at size.0 size.1
+  Ok (record { to = to.0; steps = steps.0; bytes = datagram.0 }, datagram.1)
+
+-- parcels to the end, no more than so many
+unfoldable pub parcels_within : (most : ℕ) → List ℕ → Result (List ParcelValue) WireFault
+parcels_within most [] = Ok []
+parcels_within zero (b ∷ bytes) = Err Short
+parcels_within (suc most) (b ∷ bytes) = do
+  parcel ← parcel_at (b ∷ bytes)
+  others ← parcels_within most parcel.1
+  Ok (parcel.0 ∷ others)
+
+-- parcels to the end: each has bytes, so there are no more of them than of these
+abbrev pub parcels_at : List ℕ → Result (List ParcelValue) WireFault
+parcels_at bytes = parcels_within (length bytes) bytes
+
+-- the parcels that the whole of the bytes says: they have no more room than a datagram has
+unfoldable pub parcels_of : List ℕ → Result (List ParcelValue) WireFault
+parcels_of bytes = do
+  head ← head_at CARRIED bytes
+  parcels ← parcels_at (take AREA_LIMIT head.1)
+  if length (drop AREA_LIMIT head.1) == 0 then Ok parcels else Err Trailing
+
+-- their text
+abbrev pub area_of : List ℕ → Result (List ℕ) WireFault
+area_of bytes = do
+  parcels ← parcels_of bytes
+  Ok (area_text parcels)
+
+-- the first of some parcels, and the text of the others
+abbrev pub first_of : List ParcelValue → Option (ParcelValue × List ℕ)
+first_of [] = None
+first_of (p ∷ parcels) = Some (p, area_text parcels)
+
+-- the text of a map is read as that map, and the text of parcels as these
+pub record ReadAgain : Type 0 where
+  pub maps : (e : Envelope) (map : List Hearing)
+      → Fits (record { envelope = e; content = Maps map })
+      → map_of (spelling (record { envelope = e; content = Maps map })) ≡ Ok map
+  pub parcels : (e : Envelope) (parcels : List ParcelValue)
+      → Fits (record { envelope = e; content = Carries parcels })
+      → parcels_of (spelling (record { envelope = e; content = Carries parcels })) ≡ Ok parcels

@@ -1,0 +1,120 @@
+//! Maps and parcels to bytes.
+ghost use Rattle.std.specs.Prelude.{◌≡◌, ◌+◌, ◌*◌, ◌≤◌, ◌^◌, ◌<◌, ◌++◌, length, List};
+ghost use Rattle.std.specs.List.{AllByRecursion};
+ghost use Rattle.roll_wire.specs.Spelling.{IsByte, IsEnvelope, IsNumber, byte, envelope, long, mask, number};
+ghost use Rattle.roll_wire.specs.declared.datagram.Envelope.{Envelope};
+ghost use Rattle.roll_wire.specs.declared.limits.TheConstants.{DATAGRAM_LIMIT};
+ghost use Rattle.roll_mesh.specs.declared.limits.TheConstants.{MACHINE_LIMIT};
+ghost use Rattle.roll_carry.specs.Spelling.{AreParcels, Carries, Fits, IsHearing, IsMap, IsParcel, Maps, ParcelValue, area_text, head, hearing_text, map_text, message_by, pair, parcel_text, said_by};
+ghost use Rattle.roll_carry.specs.declared.limits.TheConstants.{AREA_LIMIT, HEAD, LABEL};
+
+use crate::datagram::Hearing;
+use crate::limits::{AREA_LIMIT, CARRIED, MAP};
+use arrayvec::ArrayVec;
+use roll_contact::Key;
+use roll_contact::seal::seal;
+use roll_mesh::MACHINE_LIMIT;
+use roll_wire::{DATAGRAM_LIMIT, MAGIC};
+
+type Bytes = ArrayVec<u8, DATAGRAM_LIMIT>;
+
+fn put<const N: usize>(out: &mut ArrayVec<u8, N>, bytes: &[u8])
+    requires { length out.old.items + length bytes.now ≤ N }
+    ensures items { out.new.items ≡ out.old.items ++ bytes.now }
+    ensures len { length out.new.items ≡ length out.old.items + length bytes.now }
+{
+    for byte in bytes {
+        out.push(*byte);
+    }
+}
+
+/// A bit for each place, the lowest for place 0.
+#[tactic(auto, unfolding(roll_wire::specs::Spelling::mask))]
+fn mask_of(places: &[bool]) -> u8
+    requires { length places.now ≤ 8 }
+    ensures mask { result ≡ mask places.now }
+    ensures below { result < 2 ^ length places.now }
+{
+    match places {
+        [] => 0,
+        [is_set, others @ ..] => u8::from(*is_set) + 2 * mask_of(others),
+    }
+}
+
+/// What a datagram of a kind begins with, by who shares the key's number.
+fn begin(key: &Key, sender: u8, kind: u8) -> Bytes
+    ensures items { result.items
+        ≡ head kind (record { match_number = key.now.number; sender = sender }) }
+    ensures len { length result.items ≡ HEAD }
+    ensures fits { IsEnvelope (record { match_number = key.now.number; sender = sender }) }
+{
+    let mut out = ArrayVec::new();
+    put(&mut out, &MAGIC.to_be_bytes());
+    put(&mut out, &key.number.to_be_bytes());
+    out.push(sender);
+    out.push(kind);
+    out
+}
+
+fn put_hearing(out: &mut Bytes, hearing: &Hearing)
+    requires { length out.old.items + 5 ≤ DATAGRAM_LIMIT }
+    ensures items { out.new.items ≡ out.old.items ++ hearing_text hearing.now }
+    ensures len { length out.new.items ≡ length out.old.items + 5 }
+    ensures fits { IsHearing hearing.now }
+{
+    out.push(mask_of(hearing.hears.as_slice()));
+    put(out, &hearing.number.to_be_bytes());
+}
+
+fn put_map(out: &mut Bytes, map: &[Hearing])
+    requires { length out.old.items + 5 * length map.now ≤ DATAGRAM_LIMIT }
+    ensures items { out.new.items ≡ out.old.items ++ map_text map.now }
+    ensures len { length out.new.items ≡ length out.old.items + 5 * length map.now }
+    ensures fits { AllByRecursion IsHearing map.now }
+{
+    for hearing in map {
+        put_hearing(out, hearing);
+    }
+}
+
+/// The bytes by which a sender tells who has the key whom each machine hears straight, machine 0 first.
+pub(crate) fn say_map(key: &Key, sender: u8, map: &[Hearing]) -> ArrayVec<u8, DATAGRAM_LIMIT>
+    requires { length map.now ≤ MACHINE_LIMIT }
+    ensures said { result.items ≡ said_by key.now sender (Maps map.now) }
+    ensures fits { Fits (message_by key.now sender (Maps map.now)) }
+{
+    let mut bytes = begin(key, sender, MAP);
+    put_map(&mut bytes, map);
+    seal(&mut bytes, key);
+    bytes
+}
+
+/// Puts a parcel behind others.
+pub(crate) fn push_parcel(area: &mut ArrayVec<u8, AREA_LIMIT>, to: u8, steps: u8, bytes: &[u8])
+    requires least { HEAD ≤ length bytes.now }
+    requires room { length area.old.items + (LABEL + length bytes.now) ≤ AREA_LIMIT }
+    ensures items { area.new.items ≡ area.old.items
+        ++ parcel_text (record { to = to; steps = steps; bytes = bytes.now }) }
+    ensures len { length area.new.items ≡ length area.old.items + (LABEL + length bytes.now) }
+    ensures fits { IsParcel (record { to = to; steps = steps; bytes = bytes.now }) }
+{
+    let size = bytes.len() as u16;
+    area.push(to);
+    area.push(steps);
+    put(area, &size.to_be_bytes());
+    put(area, bytes);
+}
+
+/// The bytes by which a sender gives parcels, one behind the other, to who has the key.
+pub(crate) fn say_parcels(key: &Key, sender: u8, area: &[u8]) -> ArrayVec<u8, DATAGRAM_LIMIT>
+    requires { length area.now ≤ AREA_LIMIT }
+    ensures said { (parcels : List ParcelValue) → area.now ≡ area_text parcels
+        → result.items ≡ said_by key.now sender (Carries parcels) }
+    ensures fits { (parcels : List ParcelValue) → area.now ≡ area_text parcels
+        → AllByRecursion IsParcel parcels → Fits (message_by key.now sender (Carries parcels)) }
+{
+    let mut bytes = begin(key, sender, CARRIED);
+    put(&mut bytes, area);
+    seal(&mut bytes, key);
+    bytes
+}
