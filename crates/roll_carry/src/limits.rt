@@ -21,3 +21,11 @@ pub(crate) const BETWEEN: usize = 6;
 pub const CARRY_AFTER: u32 = 150;
 /// In how many turns a map is told in each, after something of it changed.
 pub(crate) const TELL_TURNS: u8 = 16;
+/// The most datagrams that wait for one machine.
+pub(crate) const WAITING_LIMIT: usize = 4;
+/// In one turn of so many a map is told in any case, and a datagram goes straight by a line that is broken.
+pub(crate) const TELL_EVERY: u32 = 16;
+/// The most parcels of one machine that are handed on in a turn.
+pub(crate) const HANDED_LIMIT: u8 = 64;
+/// Where the maker of a datagram stands in it.
+pub(crate) const MADE_AT: usize = 12;

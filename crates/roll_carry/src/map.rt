@@ -53,17 +53,18 @@ impl LineMap {
     }
 
     /// Whether the map says that one machine hears another.
-    pub(crate) fn shows(&self, machine: u8, other: u8) -> bool
+    pub(crate) fn shows(&self, machine: usize, other: usize) -> bool
         ensures { result ≡ shows self.now machine other }
     {
-        hears(&self.lines, usize::from(machine), usize::from(other))
+        hears(&self.lines, machine, other)
     }
 
     /// Whether this machine and another hear each other straight.
-    pub(crate) fn is_whole_line(&self, other: u8) -> bool
+    pub(crate) fn is_whole_line(&self, other: usize) -> bool
         ensures { result ≡ is_whole_line self.now other }
     {
-        self.shows(self.me, other) && self.shows(other, self.me)
+        let me = usize::from(self.me);
+        self.shows(me, other) && self.shows(other, me)
     }
 
     /// A machine was heard straight.

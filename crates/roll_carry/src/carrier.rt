@@ -1,0 +1,110 @@
+//! What a machine carries for others, and has carried by others.
+ghost use Rattle.std.specs.Prelude.{◌≡◌, ◌<◌, ◌≤◌, [], replicate, IfOk};
+ghost use Rattle.roll_carry.specs.Carrying.{lane_count, opened_carrying, turned};
+ghost use Rattle.roll_carry.specs.Mapping.{after_map, heard_straight};
+ghost use Rattle.roll_mesh.specs.declared.limits.TheConstants.{MACHINE_LIMIT};
+
+use crate::datagram::Hearing;
+use crate::map::LineMap;
+use crate::outbox::Lane;
+use roll_mesh::MACHINE_LIMIT;
+use std::alloc::{AllocError, Global};
+use std::marker::Model;
+
+/// What a machine carries for others, and has carried by others. It knows neither sessions nor keys: whoever has it says which
+/// machines are shut, since they are gone or don't play yet, and seals what goes out.
+///
+/// It takes memory when it is made, for a match of three machines or more, and none after that.
+#[derive(Debug, Drop)]
+pub struct Carrier {
+    pub(crate) map: LineMap,
+    pub(crate) turns: u32,
+    pub(crate) last: [u8; MACHINE_LIMIT],
+    pub(crate) handed: [u8; MACHINE_LIMIT],
+    pub(crate) lanes: Vec<Lane>,
+}
+
+/// A clause sees all of it.
+impl Model for Carrier {
+    ghost use Rattle.std.specs.Prelude.{◌≡◌, ◌<◌, ◌≤◌, All, length};
+    ghost use Rattle.roll_carry.specs.Carrying.{lane_count, Carrying};
+    ghost use Rattle.roll_mesh.specs.declared.limits.TheConstants.{MACHINE_LIMIT};
+
+    ghost Value = { Carrying };
+
+    ghost view = { λ c. record {
+      map = c.map;
+      turns = c.turns;
+      last = c.last;
+      handed = c.handed;
+      lanes = c.lanes.items;
+    } };
+
+    ghost invariant = { λ c. (c.map.me < MACHINE_LIMIT) × (c.map.machines ≤ MACHINE_LIMIT)
+        × (length c.lanes.items ≡ lane_count c.map.machines) × All (λ m. m < MACHINE_LIMIT) c.last };
+}
+
+impl Carrier {
+    /// Nothing is known but who this machine is, and that all hear all.
+    ///
+    /// # Errors
+    ///
+    /// If there is no memory.
+    pub fn new(alloc: Global, me: u8, machines: u8, now: u32) -> Result<Carrier, AllocError>
+        requires me { me < MACHINE_LIMIT }
+        requires machines { machines ≤ MACHINE_LIMIT }
+        ensures { IfOk result (λ carrier. carrier ≡ opened_carrying me machines now) }
+    {
+        let lanes = lanes_for(alloc, machines)?;
+        Ok(Carrier {
+            map: LineMap::new(me, machines, now),
+            turns: 0,
+            last: [0; MACHINE_LIMIT],
+            handed: [0; MACHINE_LIMIT],
+            lanes,
+        })
+    }
+
+    /// What is known of who hears whom.
+    pub fn map(&self) -> &LineMap
+        ensures { result.now ≡ self.now.map }
+    {
+        &self.map
+    }
+
+    /// Something came straight of a machine.
+    pub fn heard_straight(&mut self, machine: u8, now: u32)
+        requires { machine < MACHINE_LIMIT }
+        ensures { self.new ≡ record self.old { map = heard_straight machine now self.old.map } }
+    {
+        self.map.heard_straight(machine, now);
+    }
+
+    /// A machine told whom each hears, machine 0 first.
+    pub fn take_map(&mut self, sender: u8, told: &[Hearing])
+        ensures { self.new ≡ record self.old { map = after_map sender told.now self.old.map } }
+    {
+        self.map.take(sender, told);
+    }
+
+    /// A turn begins, at a moment.
+    pub fn turn(&mut self, now: u32)
+        ensures { self.new ≡ turned now self.old }
+    {
+        self.map.look(now);
+        self.turns = self.turns.wrapping_add(1);
+        self.handed = [0; MACHINE_LIMIT];
+    }
+}
+
+/// A lane for each machine, if others than the two ends are there.
+fn lanes_for(alloc: Global, machines: u8) -> Result<Vec<Lane>, AllocError>
+    ensures { IfOk result (λ lanes. lanes.items ≡ replicate (lane_count machines) []) }
+{
+    let count = if machines > 2 { MACHINE_LIMIT } else { 0 };
+    let mut lanes = Vec::with_capacity(alloc, count)?;
+    for _ in 0..count {
+        lanes.push(Lane::new())?;
+    }
+    Ok(lanes)
+}
