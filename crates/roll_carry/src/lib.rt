@@ -3,6 +3,7 @@
 
 mod datagram;
 mod limits;
+mod reading;
 mod writing;
 
 pub use datagram::{Hearing, Parcel};
