@@ -1,12 +1,12 @@
 -- Reading maps and parcels from left to right, with the first fault that is met.
-use Rattle.std.specs.Prelude.{◌≡◌, ℕ, zero, suc, ◌/◌, List, [], ◌∷◌, length, take, drop, min, Option, None, Some, Result, Ok, Err, nat_lt, ◌||◌, ◌==◌, if◌then◌else◌}
+use Rattle.std.specs.Prelude.{ℕ, zero, suc, ◌/◌, List, [], ◌∷◌, length, take, drop, min, Option, None, Some, Result, Ok, Err, nat_lt, ◌||◌, ◌==◌, if◌then◌else◌}
 use Rattle.std.specs.Int.{w16, w32}
 use Rattle.roll_mesh.specs.declared.limits.TheConstants.{MACHINE_LIMIT}
 use Rattle.roll_wire.specs.Reading.{◌>>=◌, byte_at, envelope_at, magic_at, mask_at, number_at, repeated}
 use Rattle.roll_wire.specs.declared.datagram.Envelope.{Envelope}
 use Rattle.roll_wire.specs.declared.fault.WireFault.{WireFault}
 use Rattle.roll_wire.specs.declared.fault.WireFault.TheVariants.{Short, Kind, Trailing}
-use Rattle.roll_carry.specs.Spelling.{Fits, Maps, Carries, ParcelValue, area_text, spelling}
+use Rattle.roll_carry.specs.Spelling.{ParcelValue, area_text}
 use Rattle.roll_carry.specs.declared.datagram.Hearing.{Hearing}
 use Rattle.roll_carry.specs.declared.limits.TheConstants.{AREA_LIMIT, CARRIED, HEAD, MAP}
 
@@ -78,12 +78,3 @@ area_of bytes = do
 abbrev pub first_of : List ParcelValue → Option (ParcelValue × List ℕ)
 first_of [] = None
 first_of (p ∷ parcels) = Some (p, area_text parcels)
-
--- the text of a map is read as that map, and the text of parcels as these
-pub record ReadAgain : Type 0 where
-  pub maps : (e : Envelope) (map : List Hearing)
-      → Fits (record { envelope = e; content = Maps map })
-      → map_of (spelling (record { envelope = e; content = Maps map })) ≡ Ok map
-  pub parcels : (e : Envelope) (parcels : List ParcelValue)
-      → Fits (record { envelope = e; content = Carries parcels })
-      → parcels_of (spelling (record { envelope = e; content = Carries parcels })) ≡ Ok parcels

@@ -91,16 +91,23 @@ pub record Fits (m : Message) : Type 0 where
   pub envelope : IsEnvelope m.envelope
   pub content : IsContent m.content
 
+-- what a sender of a match says
+abbrev pub message : Envelope → Content → Message
+message e what = record { envelope = e; content = what }
+
+-- the text of a datagram that says this, whoever sent it
+pub record Says (bytes : List ℕ) (what : Content) : Type 0 where
+  pub envelope : Envelope
+  pub fits : Fits (message envelope what)
+  pub text : bytes ≡ spelling (message envelope what)
+
 -- no two datagrams have one text
 abbrev pub OneText : Type 0
 OneText = (m n : Message) → Fits m → Fits n → spelling m ≡ spelling n → m ≡ n
 
 -- what a sender says to who has the key
 abbrev pub message_by : Key → (sender : ℕ) → Content → Message
-message_by key sender what = record {
-  envelope = record { match_number = key.number; sender = sender };
-  content = what;
-}
+message_by key sender what = message (record { match_number = key.number; sender = sender }) what
 
 -- the bytes by which it says so
 unfoldable pub said_by : Key → (sender : ℕ) → Content → List ℕ

@@ -2,7 +2,7 @@
 use roll_mesh::MACHINE_LIMIT;
 
 /// Whom a machine hears straight, as it said: what it hears of another's own sending, and not by others.
-#[derive(Clone, Copy, Debug, PartialEq, Eq)]
+#[derive(Clone, Copy, Debug, Default, PartialEq, Eq)]
 pub struct Hearing {
     /// Whether it hears each machine, machine 0 first. It hears itself.
     pub hears: [bool; MACHINE_LIMIT],

@@ -10,6 +10,7 @@ mod limits;
 mod map;
 mod outbox;
 mod ways;
+mod reading;
 mod writing;
 
 pub use carrier::Carrier;

@@ -41,7 +41,7 @@ fn mask_of(places: &[bool]) -> u8
     }
 }
 
-/// What a datagram of a kind begins with, by who shares the key's number.
+/// The 14 bytes that a datagram of a kind begins with, before it is sealed.
 fn begin(key: &Key, sender: u8, kind: u8) -> Bytes
     ensures items { result.items
         ≡ head kind (record { match_number = key.now.number; sender = sender }) }

@@ -1,0 +1,256 @@
+//! Bytes to maps and parcels.
+ghost use Rattle.std.specs.Prelude.{◌≡◌, ◌+◌, ◌≤◌, ◌++◌, List, length, Ok, IfOk, IfSome, option_map};
+ghost use Rattle.std.specs.Result.{result_err, result_ok};
+ghost use Rattle.std.specs.Int.{w16, w32, w64};
+ghost use Rattle.std.specs.List.{AllByRecursion};
+ghost use Rattle.roll_wire.specs.Reading.{Gives, bits, byte_at, envelope_at, magic_at, mask_at, number_at, repeated};
+ghost use Rattle.roll_wire.specs.declared.datagram.Envelope.{Envelope};
+ghost use Rattle.roll_mesh.specs.declared.limits.TheConstants.{MACHINE_LIMIT};
+ghost use Rattle.roll_carry.specs.Spelling.{Carries, Fits, IsParcel, Maps, ParcelValue, Says, area_text, parcel_text, parcel_value};
+ghost use Rattle.roll_carry.specs.Reading.{area_of, datagram_at, first_of, head_at, hearing_at, map_of, parcel_at, parcels_at};
+ghost use Rattle.roll_carry.specs.declared.datagram.Hearing.{Hearing};
+ghost use Rattle.roll_carry.specs.declared.limits.TheConstants.{AREA_LIMIT, LABEL};
+
+use crate::datagram::{Hearing, Parcel};
+use crate::limits::{AREA_LIMIT, CARRIED, HEAD, MAP};
+use arrayvec::ArrayVec;
+use roll_mesh::MACHINE_LIMIT;
+use roll_wire::{Envelope, MAGIC, WireFault};
+
+#[tactic(auto, unfolding(roll_wire::specs::Reading::byte_at))]
+fn byte_of(bytes: &[u8]) -> Result<(u8, &[u8]), WireFault>
+    ensures { Gives (λ x. (x.0, x.1.now)) result (byte_at bytes.now) }
+{
+    match bytes {
+        [] => Err(WireFault::Short),
+        [byte, rest @ ..] => Ok((*byte, rest)),
+    }
+}
+
+fn u16_at(bytes: &[u8]) -> Result<(u16, &[u8]), WireFault>
+    ensures { Gives (λ x. (x.0, x.1.now)) result (number_at w16 bytes.now) }
+{
+    if bytes.len() < 2 {
+        return Err(WireFault::Short);
+    }
+    let (front, rest) = bytes.split_at(2);
+    Ok((u16::from_be_bytes([front[0], front[1]]), rest))
+}
+
+fn u32_at(bytes: &[u8]) -> Result<(u32, &[u8]), WireFault>
+    ensures { Gives (λ x. (x.0, x.1.now)) result (number_at w32 bytes.now) }
+{
+    if bytes.len() < 4 {
+        return Err(WireFault::Short);
+    }
+    let (front, rest) = bytes.split_at(4);
+    let number = u32::from_be_bytes([front[0], front[1], front[2], front[3]]);
+    Ok((number, rest))
+}
+
+fn u64_at(bytes: &[u8]) -> Result<(u64, &[u8]), WireFault>
+    ensures { Gives (λ x. (x.0, x.1.now)) result (number_at w64 bytes.now) }
+{
+    if bytes.len() < 8 {
+        return Err(WireFault::Short);
+    }
+    let (front, rest) = bytes.split_at(8);
+    let number = u64::from_be_bytes([
+        front[0], front[1], front[2], front[3], front[4], front[5], front[6], front[7],
+    ]);
+    Ok((number, rest))
+}
+
+#[tactic(auto, unfolding(roll_wire::specs::Reading::magic_at))]
+fn magic_of(bytes: &[u8]) -> Result<(u32, &[u8]), WireFault>
+    ensures { Gives (λ x. (x.0, x.1.now)) result (magic_at bytes.now) }
+{
+    let (magic, rest) = u32_at(bytes)?;
+    if magic != MAGIC {
+        return Err(WireFault::Magic);
+    }
+    Ok((magic, rest))
+}
+
+#[tactic(auto, unfolding(roll_wire::specs::Reading::envelope_at))]
+fn envelope_of(bytes: &[u8]) -> Result<(Envelope, &[u8]), WireFault>
+    ensures { Gives (λ x. (x.0, x.1.now)) result (envelope_at bytes.now) }
+{
+    let (match_number, rest) = u64_at(bytes)?;
+    let (sender, rest) = byte_of(rest)?;
+    let envelope = Envelope {
+        match_number,
+        sender,
+    };
+    Ok((envelope, rest))
+}
+
+/// What a datagram of a kind begins with.
+#[tactic(auto, unfolding(crate::specs::Reading::head_at))]
+fn head_of(kind: u8, bytes: &[u8]) -> Result<(Envelope, &[u8]), WireFault>
+    ensures { Gives (λ x. (x.0, x.1.now)) result (head_at kind bytes.now) }
+{
+    let (_magic, rest) = magic_of(bytes)?;
+    let (envelope, rest) = envelope_of(rest)?;
+    let (found, rest) = byte_of(rest)?;
+    if found != kind {
+        return Err(WireFault::Kind);
+    }
+    Ok((envelope, rest))
+}
+
+/// Whether each bit of a mask is set, the lowest first.
+fn bits_of(mask: u8) -> [bool; MACHINE_LIMIT]
+    ensures { result ≡ bits 8 mask }
+{
+    let mut bits = [false; MACHINE_LIMIT];
+    let mut left = mask;
+    for machine in 0..MACHINE_LIMIT {
+        bits[machine] = left % 2 == 1;
+        left /= 2;
+    }
+    bits
+}
+
+#[tactic(auto, unfolding(roll_wire::specs::Reading::mask_at, crate::specs::Reading::hearing_at))]
+fn hearing_of(bytes: &[u8]) -> Result<(Hearing, &[u8]), WireFault>
+    ensures { Gives (λ x. (x.0, x.1.now)) result (hearing_at bytes.now) }
+{
+    let (mask, rest) = byte_of(bytes)?;
+    let (number, rest) = u32_at(rest)?;
+    let hearing = Hearing {
+        hears: bits_of(mask),
+        number,
+    };
+    Ok((hearing, rest))
+}
+
+fn hearings_of(
+    count: usize,
+    bytes: &[u8],
+) -> Result<(ArrayVec<Hearing, MACHINE_LIMIT>, &[u8]), WireFault>
+    requires { count ≤ MACHINE_LIMIT }
+    ensures { Gives (λ x. (x.0.items, x.1.now)) result (repeated hearing_at count bytes.now) }
+{
+    let mut map = ArrayVec::new();
+    let mut rest = bytes;
+    for _ in 0..count {
+        let (hearing, after) = hearing_of(rest)?;
+        map.push(hearing);
+        rest = after;
+    }
+    Ok((map, rest))
+}
+
+/// So many bytes, if they can be a datagram.
+fn datagram_of(size: usize, bytes: &[u8]) -> Result<(&[u8], &[u8]), WireFault>
+    ensures { Gives (λ x. (x.0.now, x.1.now)) result (datagram_at size bytes.now) }
+{
+    if size < HEAD || bytes.len() < size {
+        return Err(WireFault::Short);
+    }
+    Ok(bytes.split_at(size))
+}
+
+#[tactic(auto, unfolding(crate::specs::Reading::parcel_at))]
+fn parcel_of(bytes: &[u8]) -> Result<(Parcel<'_>, &[u8]), WireFault>
+    ensures { Gives (λ x. (parcel_value x.0, x.1.now)) result (parcel_at bytes.now) }
+{
+    let (to, rest) = byte_of(bytes)?;
+    let (steps, rest) = byte_of(rest)?;
+    let (size, rest) = u16_at(rest)?;
+    let (bytes, rest) = datagram_of(usize::from(size), rest)?;
+    Ok((Parcel { to, steps, bytes }, rest))
+}
+
+#[tactic(auto, unfolding(crate::specs::Reading::map_of))]
+fn map_in(text: &[u8]) -> Result<ArrayVec<Hearing, MACHINE_LIMIT>, WireFault>
+    ensures { Gives (λ map. map.items) result (map_of text.now) }
+{
+    let (_envelope, rest) = head_of(MAP, text)?;
+    let (map, rest) = hearings_of((rest.len() / 5).min(MACHINE_LIMIT), rest)?;
+    if !rest.is_empty() {
+        return Err(WireFault::Trailing);
+    }
+    Ok(map)
+}
+
+/// Whether the bytes are parcels to the end, and else the first fault.
+fn check_parcels(area: &[u8]) -> Result<(), WireFault>
+    ensures { result_err result ≡ result_err (parcels_at area.now) }
+{
+    let mut rest = area;
+    while !rest.is_empty() {
+        let (_parcel, after) = parcel_of(rest)?;
+        rest = after;
+    }
+    Ok(())
+}
+
+#[tactic(auto, unfolding(crate::specs::Reading::parcels_of))]
+fn area_in(text: &[u8]) -> Result<&[u8], WireFault>
+    ensures { Gives (λ area. area.now) result (area_of text.now) }
+{
+    let (_envelope, rest) = head_of(CARRIED, text)?;
+    let (area, rest) = rest.split_at(AREA_LIMIT.min(rest.len()));
+    check_parcels(area)?;
+    if !rest.is_empty() {
+        return Err(WireFault::Trailing);
+    }
+    Ok(area)
+}
+
+/// The map that the bytes spell, all of them: a datagram as it was before it was sealed.
+///
+/// # Errors
+///
+/// The first fault from left to right, if they spell none: `Short`, `Magic`, `Kind` or `Trailing`.
+pub fn read_map(text: &[u8]) -> Result<ArrayVec<Hearing, MACHINE_LIMIT>, WireFault>
+    // What is read is spelled so.
+    ensures found { IfOk result (λ map. Says text.now (Maps map.items)) }
+    // What is spelled so is read.
+    ensures only { (map : List Hearing) → Says text.now (Maps map)
+        → Gives (λ read. read.items) result (Ok map) }
+    // Which fault it is.
+    ensures exact { Gives (λ map. map.items) result (map_of text.now) }
+{
+    map_in(text)
+}
+
+/// The bytes of the parcels that the bytes spell, all of them: a datagram as it was before it was sealed. `first_parcel` takes one
+/// parcel after the other from them.
+///
+/// # Errors
+///
+/// The first fault from left to right, if they spell none: `Short`, `Magic`, `Kind` or `Trailing`. A parcel whose datagram has
+/// fewer than 14 bytes is `Short`.
+pub fn read_parcels(text: &[u8]) -> Result<&[u8], WireFault>
+    // What is read is spelled so.
+    ensures found { IfOk result (λ area. (parcels : List ParcelValue)
+        × (Says text.now (Carries parcels) × (area.now ≡ area_text parcels))) }
+    ensures few { IfOk result (λ area. length area.now ≤ AREA_LIMIT) }
+    // What is spelled so is read.
+    ensures only { (parcels : List ParcelValue) → Says text.now (Carries parcels)
+        → Gives (λ area. area.now) result (Ok (area_text parcels)) }
+    // Which fault it is.
+    ensures exact { Gives (λ area. area.now) result (area_of text.now) }
+{
+    area_in(text)
+}
+
+/// The first parcel of those that were read, and the bytes of the others. None if there is none.
+pub fn first_parcel(area: &[u8]) -> Option<(Parcel<'_>, &[u8])>
+    requires { length area.now ≤ AREA_LIMIT }
+    ensures found { IfSome result (λ x. IsParcel (parcel_value x.0)
+        × (area.now ≡ parcel_text (parcel_value x.0) ++ x.1.now)) }
+    ensures len { IfSome result (λ x. length area.now
+        ≡ LABEL + length x.0.bytes.now + length x.1.now) }
+    // So one after the other is taken.
+    ensures only { (parcels : List ParcelValue) → AllByRecursion IsParcel parcels
+        → area.now ≡ area_text parcels
+        → option_map (λ x. (parcel_value x.0, x.1.now)) result ≡ first_of parcels }
+    ensures exact { option_map (λ x. (parcel_value x.0, x.1.now)) result
+        ≡ result_ok (parcel_at area.now) }
+{
+    parcel_of(area).ok()
+}
