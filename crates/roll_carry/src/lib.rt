@@ -2,8 +2,10 @@
 #![tactic(auto)]
 
 mod datagram;
+mod laws;
 mod limits;
 mod reading;
 mod writing;
 
 pub use datagram::{Hearing, Parcel};
+pub use laws::one_text;
