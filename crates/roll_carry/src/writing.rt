@@ -1,11 +1,10 @@
 //! Maps and parcels to bytes.
 ghost use Rattle.std.specs.Prelude.{◌≡◌, ◌+◌, ◌*◌, ◌≤◌, ◌^◌, ◌<◌, ◌++◌, length, List};
 ghost use Rattle.std.specs.List.{AllByRecursion};
-ghost use Rattle.roll_wire.specs.Spelling.{IsByte, IsEnvelope, IsNumber, byte, envelope, long, mask, number};
-ghost use Rattle.roll_wire.specs.declared.datagram.Envelope.{Envelope};
+ghost use Rattle.roll_wire.specs.Spelling.{IsEnvelope, mask};
 ghost use Rattle.roll_wire.specs.declared.limits.TheConstants.{DATAGRAM_LIMIT};
 ghost use Rattle.roll_mesh.specs.declared.limits.TheConstants.{MACHINE_LIMIT};
-ghost use Rattle.roll_carry.specs.Spelling.{AreParcels, Carries, Fits, IsHearing, IsMap, IsParcel, Maps, ParcelValue, area_text, head, hearing_text, map_text, message_by, pair, parcel_text, said_by};
+ghost use Rattle.roll_carry.specs.Spelling.{Carries, Fits, IsHearing, IsParcel, Maps, ParcelValue, area_text, head, hearing_text, map_text, message_by, parcel_text, said_by};
 ghost use Rattle.roll_carry.specs.declared.limits.TheConstants.{AREA_LIMIT, HEAD, LABEL};
 
 use crate::datagram::Hearing;
