@@ -1,4 +1,4 @@
--- Parcels one behind the other: what is read is spelled so, and what is spelled so is read.
+-- Parcels that are read are those that were written, and what was written is read again.
 use Rattle.std.proofs.Common.{◌≡◌, ℕ, zero, suc, ◌+◌, ◌≤◌, Bool, true, false, cond, eqb, List, [], ◌∷◌, ◌++◌, length, take, drop, min, Option, None, Some, Result, Ok, Err, refl, sym, ap, subst, ◌∙◌, arith}
 use Rattle.std.specs.Prelude.{IfOk, IfSome, option_map}
 use Rattle.std.specs.List.{AllByRecursion}
@@ -16,6 +16,8 @@ use Rattle.roll_carry.specs.declared.limits.TheConstants.{AREA_LIMIT, CARRIED, L
 use Rattle.roll_carry.specs.Spelling.{AreParcels, Carries, IsParcel, ParcelValue, Says, area_text, head, parcel_text}
 use Rattle.roll_carry.specs.Reading.{area_of, first_of, head_at, parcel_at, parcels_at, parcels_of, parcels_within}
 use Rattle.roll_carry.proofs.Texts.{IsSized, head_again, head_takes, parcel_again, parcel_takes}
+
+-- ---- parcels one behind the other
 
 pub shorter : (bytes : List ℕ) (p : ParcelValue) (rest : List ℕ) → IsBytes bytes
     → parcel_at bytes ≡ Ok (p, rest) → length bytes ≡ LABEL + length p.bytes + length rest

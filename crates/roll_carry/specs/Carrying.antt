@@ -10,11 +10,12 @@ use Rattle.roll_carry.specs.Ways.{next_in, with_way}
 use Rattle.roll_carry.specs.declared.limits.TheConstants.{BETWEEN, HANDED_LIMIT, MADE_AT, STEP_LIMIT, TELL_EVERY}
 use Rattle.roll_carry.specs.declared.map.LineMap.{LineMap}
 
--- the map; how many turns there were; who carried last for each machine; how many parcels of each were handed on in this turn; and what
--- waits to be sent
+-- the map; how many turns there were; the machines to which the map goes in this turn; who carried last for each; how many parcels of
+-- each were handed on in this turn; and what waits to be sent
 pub record Carrying : Type 0 where
   pub map : LineMap
   pub turns : ℕ
+  pub owed : List Bool
   pub last : List ℕ
   pub handed : List ℕ
   pub lanes : List Lane
@@ -27,18 +28,37 @@ abbrev pub opened_carrying : (me machines now : ℕ) → Carrying
 opened_carrying me machines now = record {
   map = first_map me machines now;
   turns = 0;
+  owed = replicate MACHINE_LIMIT false;
   last = replicate MACHINE_LIMIT 0;
   handed = replicate MACHINE_LIMIT 0;
   lanes = replicate (lane_count machines) [];
 }
+
+-- whether the map goes to a machine in a turn: in each after something changed, and in one of so many; where others can carry
+abbrev pub is_owed : LineMap → (turns machine : ℕ) → Bool
+is_owed lines turns machine =
+    nat_lt 2 lines.machines
+    && (nat_lt machine lines.machines
+    && (not (machine == lines.me) && (nat_lt 0 lines.telling || (turns % TELL_EVERY == machine))))
 
 -- one turn later
 abbrev pub turned : (now : ℕ) → Carrying → Carrying
 turned now here = record here {
   map = looked now here.map;
   turns = (here.turns + 1) % 2 ^ 32;
+  owed = at_places (is_owed (looked now here.map) ((here.turns + 1) % 2 ^ 32)) here.owed;
   handed = replicate MACHINE_LIMIT 0;
 }
+
+-- the first machine of these to which the map is still to go
+abbrev pub first_owed : Carrying → (ready : List Bool) → Option ℕ
+first_owed here ready =
+    slice_get (filter (λ machine. is_in ready machine && is_in here.owed machine) (range_with_len 0 MACHINE_LIMIT)) 0
+
+-- it went there
+abbrev pub after_told : Carrying → Option ℕ → Carrying
+after_told here None = here
+after_told here (Some machine) = record here { owed = slice_set here.owed machine false }
 
 -- ---- by whom something is carried
 
@@ -102,11 +122,6 @@ is_straight_due here shut to =
     shows here.map to here.map.me
     || (nat_lt 0 here.map.telling
     || ((here.turns % TELL_EVERY == to) || not (is_some (carrier_for here shut to))))
-
--- whether its map goes to a machine in this turn
-abbrev pub is_map_due : Carrying → (to : ℕ) → Bool
-is_map_due here to =
-    nat_lt 2 here.map.machines && (nat_lt 0 here.map.telling || (here.turns % TELL_EVERY == to))
 
 -- its own datagram is carried too where a line is broken
 abbrev pub after_sent : Carrying → (shut : List Bool) → (to : ℕ) → (bytes : List ℕ) → Carrying

@@ -1,12 +1,15 @@
 //! What a machine carries for others, and has carried by others.
-ghost use Rattle.std.specs.Prelude.{◌≡◌, ◌<◌, ◌≤◌, [], replicate, IfOk};
-ghost use Rattle.roll_carry.specs.Carrying.{lane_count, opened_carrying, turned};
+ghost use Rattle.std.specs.Prelude.{◌≡◌, ◌<◌, ◌≤◌, [], replicate, IfOk, IfSome};
+ghost use Rattle.roll_carry.specs.Carrying.{after_told, first_owed, is_owed, lane_count, opened_carrying, turned};
 ghost use Rattle.roll_carry.specs.Mapping.{after_map, heard_straight};
+ghost use Rattle.roll_mesh.specs.Machines.{at_places};
 ghost use Rattle.roll_mesh.specs.declared.limits.TheConstants.{MACHINE_LIMIT};
 
 use crate::datagram::Hearing;
+use crate::limits::TELL_EVERY;
 use crate::map::LineMap;
 use crate::outbox::Lane;
+use crate::ways::Machines;
 use roll_mesh::MACHINE_LIMIT;
 use std::alloc::{AllocError, Global};
 use std::marker::Model;
@@ -19,6 +22,7 @@ use std::marker::Model;
 pub struct Carrier {
     pub(crate) map: LineMap,
     pub(crate) turns: u32,
+    pub(crate) owed: [bool; MACHINE_LIMIT],
     pub(crate) last: [u8; MACHINE_LIMIT],
     pub(crate) handed: [u8; MACHINE_LIMIT],
     pub(crate) lanes: Vec<Lane>,
@@ -35,6 +39,7 @@ impl Model for Carrier {
     ghost view = { λ c. record {
       map = c.map;
       turns = c.turns;
+      owed = c.owed;
       last = c.last;
       handed = c.handed;
       lanes = c.lanes.items;
@@ -59,6 +64,7 @@ impl Carrier {
         Ok(Carrier {
             map: LineMap::new(me, machines, now),
             turns: 0,
+            owed: [false; MACHINE_LIMIT],
             last: [0; MACHINE_LIMIT],
             handed: [0; MACHINE_LIMIT],
             lanes,
@@ -87,12 +93,58 @@ impl Carrier {
         self.map.take(sender, told);
     }
 
+    /// Whether the map goes to a machine in this turn.
+    fn is_owed(&self, machine: usize) -> bool
+        ensures { result ≡ is_owed self.now.map self.now.turns machine }
+    {
+        self.map.machines > 2
+            && machine < usize::from(self.map.machines)
+            && machine != usize::from(self.map.me)
+            && (self.map.telling > 0 || self.turns as usize % TELL_EVERY == machine)
+    }
+
+    /// To which machines the map goes in this turn.
+    fn all_owed(&self) -> Machines
+        ensures { result ≡ at_places (is_owed self.now.map self.now.turns) self.now.owed }
+    {
+        let mut owed = self.owed;
+        for machine in 0..MACHINE_LIMIT {
+            owed[machine] = self.is_owed(machine);
+        }
+        owed
+    }
+
+    /// The first machine of these to which the map is still to go in this turn.
+    fn first_owed(&self, ready: &Machines) -> Option<usize>
+        ensures first { result ≡ first_owed self.now ready.now }
+        ensures place { IfSome result (λ machine. machine < MACHINE_LIMIT) }
+    {
+        for machine in 0..MACHINE_LIMIT {
+            if ready[machine] && self.owed[machine] {
+                return Some(machine);
+            }
+        }
+        None
+    }
+
+    /// To which of these machines the map is to be told next in this turn. None if to none of them.
+    pub fn next_to_tell(&mut self, ready: &[bool; MACHINE_LIMIT]) -> Option<u8>
+        ensures to { result ≡ first_owed self.old ready.now }
+        ensures told { self.new ≡ after_told self.old (first_owed self.old ready.now) }
+        ensures place { IfSome result (λ machine. machine < MACHINE_LIMIT) }
+    {
+        let machine = self.first_owed(ready)?;
+        self.owed[machine] = false;
+        Some(machine as u8)
+    }
+
     /// A turn begins, at a moment.
     pub fn turn(&mut self, now: u32)
         ensures { self.new ≡ turned now self.old }
     {
         self.map.look(now);
         self.turns = self.turns.wrapping_add(1);
+        self.owed = self.all_owed();
         self.handed = [0; MACHINE_LIMIT];
     }
 }

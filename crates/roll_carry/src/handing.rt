@@ -1,6 +1,6 @@
 //! What is sent and handed on by others, and what goes out.
 ghost use Rattle.std.specs.Prelude.{◌≡◌, ◌<◌, ◌≤◌, length, is_some, None, Some, IfSome};
-ghost use Rattle.roll_carry.specs.Carrying.{after_handed, after_sent, after_taken, counted, first_waited_for, handed_of, hop_of, is_for_another, is_map_due, is_straight_due, is_waited_for, maker_of, one_step_on, waiting_for};
+ghost use Rattle.roll_carry.specs.Carrying.{after_handed, after_sent, after_taken, counted, first_waited_for, handed_of, hop_of, is_for_another, is_straight_due, is_waited_for, maker_of, one_step_on, waiting_for};
 ghost use Rattle.roll_carry.specs.Spelling.{parcel_value};
 ghost use Rattle.roll_carry.specs.Waiting.{lane_of, waiting_with};
 ghost use Rattle.roll_carry.specs.declared.limits.TheConstants.{CARRIED_LIMIT, HEAD};
@@ -22,15 +22,8 @@ impl Carrier {
     {
         self.map.shows(usize::from(to), usize::from(self.map.me))
             || self.map.telling > 0
-            || self.turns % TELL_EVERY == u32::from(to)
+            || self.turns as usize % TELL_EVERY == usize::from(to)
             || self.carrier_for(shut, usize::from(to)).is_none()
-    }
-
-    /// Whether the map goes to a machine in this turn.
-    pub fn is_map_due(&self, to: u8) -> bool
-        ensures { result ≡ is_map_due self.now to }
-    {
-        self.map.machines > 2 && (self.map.telling > 0 || self.turns % TELL_EVERY == u32::from(to))
     }
 
     /// A parcel waits for who gets it next.

@@ -1,5 +1,11 @@
 //! Laws of what is carried: each is the contract of a function that makes no call.
+ghost use Rattle.roll_carry.specs.Spelling.{OneText};
 ghost use Rattle.roll_carry.specs.Ways.{WaysAreFound};
+
+/// No two datagrams have one text.
+pub fn one_text()
+    ensures { OneText }
+{}
 
 /// The machines that are found to have a way to another, by so many others at most, are those from which the map shows one.
 pub fn ways_are_found()

@@ -4,9 +4,9 @@ use roll_wire::DATAGRAM_LIMIT;
 /// How many bytes of a datagram stand before its own fields.
 pub(crate) const HEAD: usize = 14;
 /// The kind of maps.
-pub(crate) const MAP: u8 = 3;
+pub const MAP: u8 = 3;
 /// The kind of what is carried.
-pub(crate) const CARRIED: u8 = 4;
+pub const CARRIED: u8 = 4;
 /// The most bytes of parcels in one datagram.
 pub const AREA_LIMIT: usize = DATAGRAM_LIMIT - HEAD;
 /// How many bytes a parcel has beside those of its datagram.
@@ -24,7 +24,7 @@ pub(crate) const TELL_TURNS: u8 = 16;
 /// The most datagrams that wait for one machine.
 pub(crate) const WAITING_LIMIT: usize = 4;
 /// In one turn of so many a map is told in any case, and a datagram goes straight by a line that is broken.
-pub(crate) const TELL_EVERY: u32 = 16;
+pub(crate) const TELL_EVERY: usize = 16;
 /// The most parcels of one machine that are handed on in a turn.
 pub(crate) const HANDED_LIMIT: u8 = 64;
 /// Where the maker of a datagram stands in it.

@@ -3,10 +3,9 @@ ghost use Rattle.std.specs.Prelude.{◌≡◌, ◌+◌, ◌≤◌, ◌++◌, Lis
 ghost use Rattle.std.specs.Result.{result_err, result_ok};
 ghost use Rattle.std.specs.Int.{w16, w32, w64};
 ghost use Rattle.std.specs.List.{AllByRecursion};
-ghost use Rattle.roll_wire.specs.Reading.{Gives, bits, byte_at, envelope_at, magic_at, mask_at, number_at, repeated};
-ghost use Rattle.roll_wire.specs.declared.datagram.Envelope.{Envelope};
+ghost use Rattle.roll_wire.specs.Reading.{Gives, bits, byte_at, envelope_at, magic_at, number_at, repeated};
 ghost use Rattle.roll_mesh.specs.declared.limits.TheConstants.{MACHINE_LIMIT};
-ghost use Rattle.roll_carry.specs.Spelling.{Carries, Fits, IsParcel, Maps, ParcelValue, Says, area_text, parcel_text, parcel_value};
+ghost use Rattle.roll_carry.specs.Spelling.{Carries, IsParcel, Maps, ParcelValue, Says, area_text, parcel_text, parcel_value};
 ghost use Rattle.roll_carry.specs.Reading.{area_of, datagram_at, first_of, head_at, hearing_at, map_of, parcel_at, parcels_at};
 ghost use Rattle.roll_carry.specs.declared.datagram.Hearing.{Hearing};
 ghost use Rattle.roll_carry.specs.declared.limits.TheConstants.{AREA_LIMIT, LABEL};

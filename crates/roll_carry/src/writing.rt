@@ -1,11 +1,10 @@
 //! Maps and parcels to bytes.
 ghost use Rattle.std.specs.Prelude.{◌≡◌, ◌+◌, ◌*◌, ◌≤◌, ◌^◌, ◌<◌, ◌++◌, length, List};
 ghost use Rattle.std.specs.List.{AllByRecursion};
-ghost use Rattle.roll_wire.specs.Spelling.{IsByte, IsEnvelope, IsNumber, byte, envelope, long, mask, number};
-ghost use Rattle.roll_wire.specs.declared.datagram.Envelope.{Envelope};
+ghost use Rattle.roll_wire.specs.Spelling.{IsEnvelope, mask};
 ghost use Rattle.roll_wire.specs.declared.limits.TheConstants.{DATAGRAM_LIMIT};
 ghost use Rattle.roll_mesh.specs.declared.limits.TheConstants.{MACHINE_LIMIT};
-ghost use Rattle.roll_carry.specs.Spelling.{AreParcels, Carries, Fits, IsHearing, IsMap, IsParcel, Maps, ParcelValue, area_text, head, hearing_text, map_text, message_by, pair, parcel_text, said_by};
+ghost use Rattle.roll_carry.specs.Spelling.{Carries, Fits, IsHearing, IsParcel, Maps, ParcelValue, area_text, head, hearing_text, map_text, message_by, parcel_text, said_by};
 ghost use Rattle.roll_carry.specs.declared.limits.TheConstants.{AREA_LIMIT, HEAD, LABEL};
 
 use crate::datagram::Hearing;
@@ -78,7 +77,7 @@ fn put_map(out: &mut Bytes, map: &[Hearing])
 }
 
 /// The bytes by which a sender tells who has the key whom each machine hears straight, machine 0 first.
-pub(crate) fn say_map(key: &Key, sender: u8, map: &[Hearing]) -> ArrayVec<u8, DATAGRAM_LIMIT>
+pub fn say_map(key: &Key, sender: u8, map: &[Hearing]) -> ArrayVec<u8, DATAGRAM_LIMIT>
     requires { length map.now ≤ MACHINE_LIMIT }
     ensures said { result.items ≡ said_by key.now sender (Maps map.now) }
     ensures fits { Fits (message_by key.now sender (Maps map.now)) }
@@ -106,7 +105,7 @@ pub(crate) fn push_parcel(area: &mut ArrayVec<u8, AREA_LIMIT>, to: u8, steps: u8
 }
 
 /// The bytes by which a sender gives parcels, one behind the other, to who has the key.
-pub(crate) fn say_parcels(key: &Key, sender: u8, area: &[u8]) -> ArrayVec<u8, DATAGRAM_LIMIT>
+pub fn say_parcels(key: &Key, sender: u8, area: &[u8]) -> ArrayVec<u8, DATAGRAM_LIMIT>
     requires { length area.now ≤ AREA_LIMIT }
     ensures said { (parcels : List ParcelValue) → area.now ≡ area_text parcels
         → result.items ≡ said_by key.now sender (Carries parcels) }

@@ -11,6 +11,7 @@ use Rattle.roll_contact.specs.declared.contact.Stage.TheVariants.{Silent, Greete
 use Rattle.roll_contact.specs.declared.contact.TheirClocks.{TheirClocks}
 use Rattle.roll_contact.specs.declared.contact.TheConstants.{BEHIND_LIMIT, CLOCKS_EVERY, CLOCKS_IN_PATIENCE, HALF, HELLO_AT, HELLO_EVERY, ROUND_TRIP_LIMIT, UNANSWERED}
 use Rattle.roll_contact.specs.declared.terms.Field.{Field}
+use Rattle.roll_contact.specs.declared.terms.TheConstants.{CARRIES}
 use Rattle.roll_contact.specs.Clocks.{difference, one_more, since}
 
 -- nothing was heard, and nothing was sent
@@ -24,6 +25,7 @@ opened_contact = record {
   restarted = 0;
   differs = None;
   patience = 0;
+  carries = false;
   heard_at = 0;
   interrupted = false;
   answered = 0;
@@ -84,6 +86,7 @@ believing own hello now contact = record contact {
   stage = Playing;
   draw = hello.draw;
   patience = least_patience own.silent_after hello.patience;
+  carries = own.carries && ((hello.abilities % 2) == CARRIES);
   answered = difference now 1;
   answered_at = now;
   unanswered = 0;

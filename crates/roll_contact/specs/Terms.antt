@@ -6,6 +6,7 @@ use Rattle.roll_contact.specs.declared.contact.Opening.{Opening}
 use Rattle.roll_contact.specs.declared.terms.Field.{Field}
 use Rattle.roll_contact.specs.declared.terms.Field.TheVariants.{Machines, Owners, Settings, Words}
 use Rattle.roll_contact.specs.declared.terms.Terms.{Terms}
+use Rattle.roll_contact.specs.declared.terms.TheConstants.{CARRIES}
 
 abbrev pub hello_of : Terms → Opening → ℕ → Hello
 hello_of terms opening echo = record {
@@ -16,7 +17,7 @@ hello_of terms opening echo = record {
   draw = opening.draw;
   echo = echo;
   patience = opening.silent_after;
-  abilities = 0;
+  abilities = if opening.carries then CARRIES else 0;
 }
 
 -- a hello says these terms

@@ -4,7 +4,7 @@ ghost use Rattle.roll_contact.specs.Clocks.{difference};
 ghost use Rattle.roll_contact.specs.Contacts.{after_clocks, after_hello, after_play, are_newer, behind_of, believing, clocks_for, confirming, counted, frame_after, greeted, heard, hello_echo, hello_sent, hushed, is_before, is_fresh, is_hushed, is_playing, is_silent, is_unanswered, least_patience, measured, meeting, opened_contact, other_opening, play_sent, refused, says_hello, silence, told, unanswered_for, wants_clocks};
 
 use crate::clock::since;
-use crate::terms::Field;
+use crate::terms::{CARRIES, Field};
 use roll_wire::{Clocks, Hello};
 
 /// The most frames that one machine is said to be behind another.
@@ -31,6 +31,8 @@ pub struct Opening {
     pub draw: u64,
     /// After how many milliseconds of silence the other end is regarded as gone; 0: never.
     pub silent_after: u32,
+    /// Whether it hands on datagrams of others, and has its own handed on.
+    pub carries: bool,
 }
 
 /// How far this end and another have come to play with each other.
@@ -78,6 +80,8 @@ pub struct Contact {
     pub differs: Option<Field>,
     /// The time of silence that either end waits for, the lesser one; 0: neither waits.
     pub patience: u32,
+    /// Whether both ends hand on datagrams of others.
+    pub carries: bool,
     /// When it was heard last.
     pub heard_at: u32,
     /// Whether its silence was told, and it wasn't heard since.
@@ -126,6 +130,7 @@ impl Contact {
             restarted: 0,
             differs: None,
             patience: 0,
+            carries: false,
             heard_at: 0,
             interrupted: false,
             answered: 0,
@@ -208,6 +213,7 @@ impl Contact {
         self.stage = Stage::Playing;
         self.draw = hello.draw;
         self.patience = least_patience(own.silent_after, hello.patience);
+        self.carries = own.carries && hello.abilities % 2 == CARRIES;
         self.answered = now.wrapping_sub(1);
         self.answered_at = now;
         self.unanswered = 0;

@@ -6,6 +6,9 @@ use crate::contact::Opening;
 use roll_mesh::PLAYER_LIMIT;
 use roll_wire::Hello;
 
+/// What an end can that hands on datagrams of others: the lowest bit of a hello's abilities.
+pub(crate) const CARRIES: u8 = 1;
+
 /// What two ends compare before they believe each other: the same at all machines of a match, and at both ends of a viewer's line.
 #[derive(Clone, Copy, Debug)]
 pub struct Terms {
@@ -45,7 +48,7 @@ impl Terms {
             draw: opening.draw,
             echo,
             patience: opening.silent_after,
-            abilities: 0,
+            abilities: if opening.carries { CARRIES } else { 0 },
         }
     }
 

@@ -37,7 +37,7 @@ terms_of settings = record {
 
 -- what an end says of itself
 abbrev pub opening_of : LineSettings → Opening
-opening_of settings = record { draw = settings.draw; silent_after = settings.silent_after }
+opening_of settings = record { draw = settings.draw; silent_after = settings.silent_after; carries = false }
 
 -- how many players machines of the match own
 abbrev pub players_of : LineSettings → ℕ

@@ -61,6 +61,7 @@ impl LineSettings {
         Opening {
             draw: self.draw,
             silent_after: self.silent_after,
+            carries: false,
         }
     }
 
