@@ -1,5 +1,5 @@
 -- What a machine carries for others, and has carried by others.
-use Rattle.std.specs.Prelude.{ℕ, ◌+◌, ◌-◌, ◌%◌, ◌^◌, List, [], length, replicate, Bool, not, ◌&&◌, ◌||◌, ◌==◌, nat_le, nat_lt, is_some, Option, Some, None, if◌then◌else◌, slice_index_or, slice_set}
+use Rattle.std.specs.Prelude.{ℕ, ◌+◌, ◌-◌, ◌%◌, ◌^◌, List, [], length, replicate, Bool, false, not, ◌&&◌, ◌||◌, ◌==◌, nat_le, nat_lt, is_some, Option, Some, None, if◌then◌else◌, slice_index_or, slice_set}
 use Rattle.std.specs.List.{filter, range_with_len, slice_get}
 use Rattle.roll_mesh.specs.Machines.{at_places, is_in}
 use Rattle.roll_mesh.specs.declared.limits.TheConstants.{MACHINE_LIMIT}
@@ -41,12 +41,15 @@ is_owed lines turns machine =
     && (nat_lt machine lines.machines
     && (not (machine == lines.me) && (nat_lt 0 lines.telling || (turns % TELL_EVERY == machine))))
 
+abbrev pub all_owed : LineMap → (turns : ℕ) → List Bool
+all_owed lines turns = at_places (is_owed lines turns) (replicate MACHINE_LIMIT false)
+
 -- one turn later
 abbrev pub turned : (now : ℕ) → Carrying → Carrying
 turned now here = record here {
   map = looked now here.map;
   turns = (here.turns + 1) % 2 ^ 32;
-  owed = at_places (is_owed (looked now here.map) ((here.turns + 1) % 2 ^ 32)) here.owed;
+  owed = all_owed (looked now here.map) ((here.turns + 1) % 2 ^ 32);
   handed = replicate MACHINE_LIMIT 0;
 }
 

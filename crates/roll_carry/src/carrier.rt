@@ -1,8 +1,7 @@
 //! What a machine carries for others, and has carried by others.
 ghost use Rattle.std.specs.Prelude.{◌≡◌, ◌<◌, ◌≤◌, [], replicate, IfOk, IfSome};
-ghost use Rattle.roll_carry.specs.Carrying.{after_told, first_owed, is_owed, lane_count, opened_carrying, turned};
+ghost use Rattle.roll_carry.specs.Carrying.{after_told, all_owed, first_owed, is_owed, lane_count, opened_carrying, turned};
 ghost use Rattle.roll_carry.specs.Mapping.{after_map, heard_straight};
-ghost use Rattle.roll_mesh.specs.Machines.{at_places};
 ghost use Rattle.roll_mesh.specs.declared.limits.TheConstants.{MACHINE_LIMIT};
 
 use crate::datagram::Hearing;
@@ -105,9 +104,9 @@ impl Carrier {
 
     /// To which machines the map goes in this turn.
     fn all_owed(&self) -> Machines
-        ensures { result ≡ at_places (is_owed self.now.map self.now.turns) self.now.owed }
+        ensures { result ≡ all_owed self.now.map self.now.turns }
     {
-        let mut owed = self.owed;
+        let mut owed = [false; MACHINE_LIMIT];
         for machine in 0..MACHINE_LIMIT {
             owed[machine] = self.is_owed(machine);
         }
