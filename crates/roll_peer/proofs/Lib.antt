@@ -10,6 +10,7 @@ pub mod Ties
 pub mod Rolls
 pub mod Running
 pub mod Coming
+pub mod Counts
 pub mod Parcels
 pub mod Genuine
 pub mod Standing

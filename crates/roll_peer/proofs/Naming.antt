@@ -24,6 +24,7 @@ use Rattle.roll_peer.specs.Digests.{digest_at}
 use Rattle.roll_peer.specs.Paces.{wait_of}
 use Rattle.roll_peer.specs.Peered.{contact_at, Peered}
 use Rattle.roll_peer.specs.Receiving.{after_ignored, ignored, ignored_sized, is_refusal, is_sized, refused_of, sender_of, Hears}
+use Rattle.roll_peer.specs.CutOffs.{cut_off_since, hears_most, most_noted}
 use Rattle.roll_peer.specs.Turning.{farewell_until, hushed_until, lead_in, looked_after, missed_until, moved_to, over, silenced_until, stall_ended, stall_told, timed, watched_until, Polls}
 use Rattle.roll_peer.specs.Waiting.{Waiting}
 use Rattle.roll_peer.specs.declared.digests.Digests.{Digests}
@@ -255,12 +256,20 @@ module _ (n : ℕ) where
       told_named (told_of (player_left players) k waiting) (player_left players k)
       (parted_named players k waiting h) (only_named _ _ tt)
 
+  most_named : (now : ℕ) (peer : Peered) → AreNamed n peer.waiting → AreNamed n (most_noted now peer).waiting
+  most_named now peer h = either _ _ _ (since_named peer.cut_off.since) h
+    where
+      since_named : (at : Option ℕ) → AreNamed n (cut_off_since now at
+          (record peer { cut_off = record peer.cut_off { hears_most = hears_most peer now } })).waiting
+      since_named None = push_named peer.waiting _ h tt
+      since_named (Some at) = either _ _ _ (push_named peer.waiting _ h tt) h
+
   looked_named : (peer : Peered) (now : ℕ) → AreNamed n peer.waiting
       → AreNamed n (looked_after now n peer).waiting
   looked_named peer now h =
       let all : n ≤ n = omega arith in
       farewell_named n _ all (missed_named now n _ all (hushed_named now n _ all (watched_named now n _ all
-      (silenced_named now n peer h))))
+      (silenced_named now n (most_noted now peer) (most_named now peer h)))))
 
   time_named : (frames : Option ℕ) → IfSome (option_map TimeSync frames) (IsNamed n)
   time_named None = tt

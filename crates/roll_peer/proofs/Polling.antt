@@ -1,5 +1,5 @@
 -- A poll: machines are regarded as gone, and their players leave, by steps of the laws over words.
-use Rattle.std.proofs.Common.{◌≡◌, ◌∙◌, ℕ, zero, suc, ◌<◌, refl, ap, sym, subst, Bool, true, false, Option, Result, Ok, Err}
+use Rattle.std.proofs.Common.{◌≡◌, ◌∙◌, ℕ, zero, suc, ◌<◌, refl, ap, sym, subst, Bool, true, false, Option, None, Some, Result, Ok, Err}
 use Rattle.std.specs.Prelude.{if◌then◌else◌}
 use Rattle.roll_frame.specs.declared.refusal.Refusal.{Refusal}
 use Rattle.roll_mesh.specs.Words.{WordWorld}
@@ -7,6 +7,7 @@ use Rattle.roll_mesh.specs.Worlds.{Match}
 use Rattle.roll_session.specs.Seen.{Seen}
 use Rattle.roll_peer.specs.Peered.{Peered}
 use Rattle.roll_peer.specs.Receiving.{meeting, moment_of}
+use Rattle.roll_peer.specs.CutOffs.{cut_off_since, hears_most, most_noted}
 use Rattle.roll_peer.specs.Turning.{begun, farewell_at, farewell_until, hushed_at, hushed_until, looked_after, missed_at, missed_until, moved_to, over, silenced_until, stall_told, timed, watched_until, without, IsPolled, Polls}
 use Rattle.roll_peer.specs.declared.refusal.PeerRefusal.{PeerRefusal}
 use Rattle.roll_peer.specs.declared.refusal.PeerRefusal.TheVariants.{OtherSession, Session}
@@ -26,6 +27,14 @@ either_like false old p q h k = k
 
 over_like : (peer : Peered) → AreLike peer (over peer)
 over_like peer = (ap (λ (p : Peered). p.member.mesh) (over_is peer), ap (λ (p : Peered). p.settings) (over_is peer))
+
+most_like : (now : ℕ) (peer : Peered) → AreLike peer (most_noted now peer)
+most_like now peer = either_like _ peer _ _ (since_like peer.cut_off.since) (like peer)
+  where
+    since_like : (at : Option ℕ) → AreLike peer (cut_off_since now at
+        (record peer { cut_off = record peer.cut_off { hears_most = hears_most peer now } }))
+    since_like None = like peer
+    since_like (Some at) = either_like _ peer _ _ (like peer) (like peer)
 
 begun_like : (peer : Peered) → AreLike peer (begun peer)
 begun_like peer =
@@ -81,7 +90,7 @@ module _ (match : Match) (world : WordWorld) (i : ℕ) (from : IsFrom match worl
 
   looked_stands : (now k : ℕ) (peer : Peered) → At peer → At (looked_after now k peer)
   looked_stands now k peer at =
-      farewell_stands k _ (missed_stands now k _ (hushed_stands now k _ (watched_stands now k _ (silenced_stands now k peer at))))
+      farewell_stands k _ (missed_stands now k _ (hushed_stands now k _ (watched_stands now k _ (silenced_stands now k (most_noted now peer) (as_like peer (most_noted now peer) (most_like now peer) at)))))
 
   moved_stands : (frame : ℕ) (peer : Peered) → At peer → At (moved_to frame peer)
   moved_stands frame peer at =

@@ -1,5 +1,5 @@
 -- A session stays tied to what is known of the others, whoever is regarded as gone.
-use Rattle.std.proofs.Common.{ℕ, zero, suc, sym, subst, Bool, true, false}
+use Rattle.std.proofs.Common.{ℕ, zero, suc, sym, subst, Bool, true, false, Option, None, Some}
 use Rattle.std.specs.Prelude.{is_none, if◌then◌else◌}
 use Rattle.roll_member.proofs.Tied.{leave_tied}
 use Rattle.roll_member.specs.Joined.{IsTied}
@@ -7,6 +7,7 @@ use Rattle.roll_mesh.specs.Meshes.{leave_refusal, stepped, Seated}
 use Rattle.roll_mesh.specs.Machines.{leave}
 use Rattle.roll_session.specs.Seen.{Seen}
 use Rattle.roll_peer.specs.Peered.{Peered}
+use Rattle.roll_peer.specs.CutOffs.{cut_off_since, most_noted}
 use Rattle.roll_peer.specs.Turning.{begun, farewell_until, hushed_until, looked_after, missed_until, moved_to, silenced_until, stall_told, timed, watched_until, without}
 use Rattle.roll_peer.proofs.Said.{begun_is, over_is}
 
@@ -58,6 +59,13 @@ module _ (s : Seen) where
   farewell_tied (suc m) peer h =
       let before = farewell_tied m peer h in either _ _ _ before before
 
+  most_tied : (now : ℕ) (peer : Peered) → IsTiedTo peer → IsTiedTo (most_noted now peer)
+  most_tied now peer h = either _ _ _ (since_tied now peer.cut_off.since _ h) h
+    where
+      since_tied : (now : ℕ) (at : Option ℕ) (p : Peered) → IsTiedTo p → IsTiedTo (cut_off_since now at p)
+      since_tied now None p h = h
+      since_tied now (Some at) p h = either _ _ _ h h
+
   moved_tied : (frame : ℕ) (peer : Peered) → IsTiedTo peer → IsTiedTo (moved_to frame peer)
   moved_tied frame peer h =
       either _ _ _ h (subst (λ (p : Peered). IsTiedTo p) (sym (over_is (record peer { frame = frame }))) h)
@@ -66,7 +74,7 @@ module _ (s : Seen) where
       → IsTiedTo (looked_after now k (moved_to frame peer))
   looked_tied now k frame peer h =
       farewell_tied k _ (missed_tied now k _ (hushed_tied now k _ (watched_tied now k _
-      (silenced_tied now k _ (moved_tied frame peer h)))))
+      (silenced_tied now k (most_noted now (moved_to frame peer)) (most_tied now (moved_to frame peer) (moved_tied frame peer h))))))
 
   pub begun_tied : (peer : Peered) → IsTiedTo peer → IsTiedTo (begun peer)
   begun_tied peer h = subst (λ (p : Peered). IsTiedTo p) (sym (begun_is peer)) (either _ _ _ h h)

@@ -1,7 +1,7 @@
 -- The numbers of a peer's events.
 use Rattle.std.specs.Prelude.{ℕ}
 use Rattle.roll_peer.specs.declared.event.PeerEvent.{PeerEvent}
-use Rattle.roll_peer.specs.declared.event.PeerEvent.TheVariants.{Synchronizing, Synchronized, Running, DisconnectedFromPeer, TimeSync, Interrupted, Resumed, Desync, Mismatch, Dropped, Left, Restarted, Stalled, Refused, Missing}
+use Rattle.roll_peer.specs.declared.event.PeerEvent.TheVariants.{Synchronizing, Synchronized, Running, DisconnectedFromPeer, TimeSync, Interrupted, Resumed, Desync, Mismatch, Dropped, Left, Restarted, Stalled, Refused, Missing, CutOff}
 
 -- those of ggponet.h, and the peer's own above 1100
 abbrev pub code_of : PeerEvent → ℕ
@@ -20,3 +20,4 @@ code_of (Restarted machine) = 1105
 code_of (Stalled machine disconnect_in) = 1106
 code_of (Refused machine) = 1107
 code_of (Missing machine) = 1108
+code_of (CutOff over_in) = 1109

@@ -12,7 +12,7 @@ use Rattle.roll_peer.specs.Settings.{number_for}
 use Rattle.roll_peer.specs.Turning.{Polls}
 use Rattle.roll_peer.specs.Waiting.{Waiting}
 use Rattle.roll_peer.specs.declared.event.PeerEvent.{PeerEvent}
-use Rattle.roll_peer.specs.declared.event.PeerEvent.TheVariants.{Synchronizing, Synchronized, Running, DisconnectedFromPeer, TimeSync, Interrupted, Resumed, Desync, Mismatch, Dropped, Left, Restarted, Stalled, Refused, Missing}
+use Rattle.roll_peer.specs.declared.event.PeerEvent.TheVariants.{Synchronizing, Synchronized, Running, DisconnectedFromPeer, TimeSync, Interrupted, Resumed, Desync, Mismatch, Dropped, Left, Restarted, Stalled, Refused, Missing, CutOff}
 use Rattle.roll_peer.specs.declared.received.Ignored.{Ignored}
 use Rattle.roll_peer.specs.declared.received.Received.{Received}
 
@@ -61,6 +61,7 @@ machine_in (Restarted machine) = Some machine
 machine_in (Stalled machine disconnect_in) = Some machine
 machine_in (Refused machine) = Some machine
 machine_in (Missing machine) = Some machine
+machine_in (CutOff over_in) = None
 
 -- it names none, or one of so many
 abbrev pub IsNamed : ℕ → PeerEvent → Type 0

@@ -1,4 +1,5 @@
 pub mod Codes
+pub mod CutOffs
 pub mod Digests
 pub mod Events
 pub mod Notices

@@ -1,8 +1,8 @@
 -- The network of a match at one machine, as its callers see it: what it knows of who has what and who is gone, and of which session;
 -- its clock, what it knows of each machine and for how long each has held up the match, whether the match has begun, the events that
--- wait, the machines that were told to be gone, the digests of settled states, how far the machines are from one another, and the
--- session's frame when it was polled last. The session stands beside it.
-use Rattle.std.specs.Prelude.{◌≡◌, ℕ, List, [], Bool, false, Some, replicate, slice_index_or, ⊤}
+-- wait, the machines that were told to be gone, the digests of settled states, how far the machines are from one another, the
+-- session's frame when it was polled last; and whether it hears most of them. The session stands beside it.
+use Rattle.std.specs.Prelude.{◌≡◌, ℕ, List, [], Bool, false, true, Some, None, replicate, slice_index_or, ⊤}
 use Rattle.roll_member.specs.Beside.{Membership}
 use Rattle.roll_member.specs.Joined.{join_refusal, IsJoinedAs, Joined}
 use Rattle.roll_mesh.specs.declared.limits.TheConstants.{MACHINE_LIMIT}
@@ -16,6 +16,7 @@ use Rattle.roll_peer.specs.Paces.{no_pace}
 use Rattle.roll_peer.specs.Settings.{first_moment, seat_of}
 use Rattle.roll_peer.specs.Stalls.{first_stall}
 use Rattle.roll_peer.specs.Waiting.{Waiting}
+use Rattle.roll_peer.specs.declared.cut_off.CutOff.{CutOff}
 use Rattle.roll_peer.specs.declared.digests.Digests.{Digests}
 use Rattle.roll_peer.specs.declared.pace.Pace.{Pace}
 use Rattle.roll_peer.specs.declared.refusal.OpenRefusal.{OpenRefusal}
@@ -35,6 +36,7 @@ pub record Peered : Type 0 where
   pub digests : Digests
   pub pace : Pace
   pub frame : ℕ
+  pub cut_off : CutOff
 
 -- the session beside what is known of the others
 abbrev pub beside : Seen → Peered → Joined
@@ -47,6 +49,10 @@ contact_at peer m = known_of peer.contacts m
 -- for how long a machine has held up the match
 abbrev pub stall_at : Peered → ℕ → Stall
 stall_at peer m = slice_index_or peer.stalls m first_stall
+
+-- it isn't known yet that this machine hears few of the others
+abbrev pub first_cut_off : CutOff
+first_cut_off = record { hears_most = true; since = None; is_over = false }
 
 -- a network that was just opened beside a session: nothing was heard
 pub record IsOpenedAs (s : Seen) (settings : MatchSettings) (peer : Peered) : Type 0 where
@@ -62,6 +68,7 @@ pub record IsOpenedAs (s : Seen) (settings : MatchSettings) (peer : Peered) : Ty
   pub digests : peer.digests ≡ no_digests
   pub pace : peer.pace ≡ no_pace
   pub frame : peer.frame ≡ s.core.frame
+  pub cut_off : peer.cut_off ≡ first_cut_off
 
 -- why it can't be opened
 abbrev pub IsWhyNot : Seen → MatchSettings → OpenRefusal → Type 0

@@ -1,6 +1,6 @@
 -- What is sent.
-use Rattle.std.specs.Prelude.{◌≡◌, ℕ, List, ◌-◌, ◌%◌, Bool, true, false, ◌||◌, ◌==◌, nat_le, Option, Some, None, if◌then◌else◌, slice_set}
-use Rattle.roll_contact.specs.Contacts.{clocks_for, hello_echo, hello_sent, play_sent, says_hello, wants_clocks}
+use Rattle.std.specs.Prelude.{◌≡◌, ℕ, List, ◌-◌, ◌%◌, length, Bool, true, false, not, ◌&&◌, ◌||◌, ◌==◌, nat_le, nat_lt, Option, Some, None, if◌then◌else◌, slice_set}
+use Rattle.roll_contact.specs.Contacts.{clocks_for, hello_echo, hello_sent, is_playing, play_sent, says_hello, wants_clocks}
 use Rattle.roll_contact.specs.Keys.{greeting_key}
 use Rattle.roll_contact.specs.Seals.{message_by, said_by}
 use Rattle.roll_contact.specs.Terms.{hello_of}
@@ -76,6 +76,25 @@ pub record IsSent (s : Seen) (peer : Peered) (m : ℕ) (bytes : List ℕ) : Type
   pub fits : IsContentFor s peer m content
   pub spelled : Fits (message_by (key_for peer m content) peer.settings.me content)
   pub text : bytes ≡ text_for peer m content
+
+-- whether a machine and this one hand on datagrams for each other
+abbrev pub can_carry : Peered → ℕ → Bool
+can_carry peer m =
+    not (is_lost peer m)
+    && (nat_lt m (length peer.contacts)
+    && (is_playing (contact_at peer m).stage && (contact_at peer m).carries))
+
+-- by what it is sealed that this machine hands a machine, and what that one hands this
+abbrev pub carrier_key : Peered → ℕ → Option Key
+carrier_key peer m = if can_carry peer m then Some (with_draws peer m) else None
+
+abbrev pub carried_key : Peered → ℕ → Option Key
+carried_key peer m =
+    if can_carry peer m then Some (record {
+      number = number_for peer.settings m;
+      from = (contact_at peer m).draw;
+      to = peer.settings.draw;
+    }) else None
 
 -- what was counted and measured of a machine
 unfoldable pub stats_of : Peered → ℕ → Stats

@@ -22,7 +22,7 @@ terms_of settings = record {
 }
 
 abbrev pub opening_of : MatchSettings → Opening
-opening_of settings = record { draw = settings.draw; silent_after = settings.silent_after }
+opening_of settings = record { draw = settings.draw; silent_after = settings.silent_after; carries = settings.carries }
 
 -- the number that it shares with a machine
 abbrev pub number_for : MatchSettings → ℕ → ℕ

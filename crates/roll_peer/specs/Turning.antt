@@ -19,6 +19,7 @@ use Rattle.roll_session.specs.Seen.{Seen}
 use Rattle.roll_contact.specs.Clocks.{since}
 use Rattle.roll_contact.specs.Contacts.{hushed, is_silent}
 use Rattle.roll_mesh.specs.HoldingUp.{holds_up}
+use Rattle.roll_peer.specs.CutOffs.{most_noted}
 use Rattle.roll_peer.specs.Events.{pushed}
 use Rattle.roll_peer.specs.Notices.{interrupted, player_left, told, told_of}
 use Rattle.roll_peer.specs.Paces.{paced, slowest, wait_of}
@@ -44,10 +45,10 @@ is_ready_at peer mesh m =
 abbrev pub are_ready : Peered → Seated → Bool
 are_ready peer mesh = list_all (is_ready_at peer mesh) (range_with_len 0 mesh.seat.machines)
 
--- a machine that was silent for too long is gone
+-- a machine that was silent for too long is gone, for one that hears most
 abbrev pub silenced_at : ℕ → ℕ → Peered → Peered
 silenced_at now m peer =
-    if is_silent (contact_at peer m) now peer.settings.silent_after
+    if peer.cut_off.hears_most && is_silent (contact_at peer m) now peer.settings.silent_after
     then record peer { member = record peer.member { mesh = without m peer.member.mesh } }
     else peer
 
@@ -73,10 +74,10 @@ stall_told now m peer =
     }
     else peer
 
--- a machine that has done so for too long is gone
+-- a machine that has done so for too long is gone, for one that hears most
 abbrev pub stall_ended : ℕ → ℕ → Peered → Peered
 stall_ended now m peer =
-    if is_overdue (stall_at peer m) now peer.settings.stalled_after
+    if peer.cut_off.hears_most && is_overdue (stall_at peer m) now peer.settings.stalled_after
     then record peer { member = record peer.member { mesh = without m peer.member.mesh } }
     else peer
 
@@ -180,11 +181,11 @@ over peer = record peer {
 abbrev pub moved_to : ℕ → Peered → Peered
 moved_to frame peer = if frame == peer.frame then peer else over (record peer { frame = frame })
 
--- machine by machine: who was silent for too long is gone, and so is who held up the match for too long; what is due is told
+-- it is looked at whether this machine hears most; machine by machine: who was silent for too long is gone, and so is who held up the match for too long; what is due is told
 abbrev pub looked_after : ℕ → ℕ → Peered → Peered
 looked_after now machines peer =
     farewell_until machines (missed_until now machines (hushed_until now machines
-    (watched_until now machines (silenced_until now machines peer))))
+    (watched_until now machines (silenced_until now machines (most_noted now peer)))))
 
 -- a poll of a session that was met, and why a player who is to leave is still there
 pub record Polls (before after : Seen) (old new : Peered) (refusal : Option Refusal) : Type 0 where

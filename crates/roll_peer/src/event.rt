@@ -62,8 +62,14 @@ pub enum PeerEvent {
         /// The first field that it has otherwise.
         field: Field,
     },
-    /// Another machine regards this one as gone: the match is over here.
+    /// Another machine regards this one as gone, or this one was cut off for too long: the match is over here.
     Dropped,
+    /// This machine hears too few of the others, and so calls nobody gone: either the network is split, and they are the larger part,
+    /// or it hears nobody.
+    CutOff {
+        /// After how many milliseconds more the match is over here, which `Dropped` tells.
+        over_in: u32,
+    },
     /// A machine is regarded as gone from now on: it said bye, or was silent or gave no words for too long, or others regard it as
     /// gone.
     Left {
@@ -115,6 +121,7 @@ impl PeerEvent {
             PeerEvent::Stalled { .. } => 1106,
             PeerEvent::Refused { .. } => 1107,
             PeerEvent::Missing { .. } => 1108,
+            PeerEvent::CutOff { .. } => 1109,
         }
     }
 }

@@ -1,9 +1,11 @@
 //! The network of a match at one machine, beside its session.
 #![tactic(auto)]
 
+mod cut_off;
 mod digests;
 mod event;
 mod judging;
+mod keys;
 mod laws;
 mod notices;
 mod pace;
@@ -19,6 +21,7 @@ mod stall;
 mod stats;
 mod turning;
 
+pub use cut_off::CutOff;
 pub use event::PeerEvent;
 pub use laws::{events_name_machines, nothing_else_is_heard, two_peers_one_match};
 pub use peer::Peer;

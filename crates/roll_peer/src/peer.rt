@@ -12,6 +12,7 @@ ghost use Rattle.roll_peer.specs.Peered.{contact_at, IsOpenedAs, IsWhyNot};
 ghost use Rattle.roll_peer.specs.Receiving.{meeting, IsOther};
 ghost use Rattle.roll_peer.specs.Settings.{seat_of};
 
+use crate::cut_off::CutOff;
 use crate::digests::Digests;
 use crate::event::{Events, PeerEvent};
 use crate::pace::Pace;
@@ -46,6 +47,7 @@ pub struct Peer {
     pub(crate) digests: Digests,
     pub(crate) pace: Pace,
     pub(crate) frame: u32,
+    pub(crate) cut_off: CutOff,
 }
 
 /// A clause sees all of it.
@@ -69,6 +71,7 @@ impl Model for Peer {
       digests = p.digests;
       pace = p.pace;
       frame = p.frame;
+      cut_off = p.cut_off;
     } };
 
     ghost invariant = { λ p. (p.member.mesh.seat ≡ seat_of p.settings)
@@ -112,6 +115,7 @@ impl Peer {
                 digests: Digests::new(),
                 pace,
                 frame: session.frame(),
+                cut_off: CutOff::new(),
             }),
             Err(why) => Err(OpenRefusal::Join(why)),
         }

@@ -120,7 +120,7 @@ impl Peer {
     }
 
     /// Whether nothing is sent to a machine.
-    fn is_lost(&self, machine: u8) -> bool
+    pub(crate) fn is_lost(&self, machine: u8) -> bool
         ensures { result ≡ is_lost self.now machine }
     {
         let seat = self.member.mesh().seat();

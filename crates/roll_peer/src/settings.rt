@@ -30,6 +30,9 @@ pub struct MatchSettings {
     pub notify_after: u32,
     /// After how many milliseconds a machine that others wait for, and that could give its next word, is regarded as gone; 0: never.
     pub stalled_after: u32,
+    /// Whether this machine hands on datagrams of others where a line is broken, and has its own handed on. It does so only with those
+    /// that say so too.
+    pub carries: bool,
     /// How many words an input has, 1 to 4: so many of the session's players in a row are one player of the match, with one owner. They
     /// leave together, and of no frame are some of their words taken and others not.
     pub words: u8,
@@ -67,6 +70,7 @@ impl MatchSettings {
         Opening {
             draw: self.draw,
             silent_after: self.silent_after,
+            carries: self.carries,
         }
     }
 

@@ -88,6 +88,7 @@ impl Peer {
         let now = self.clock.moment;
         let machines = self.settings.machines;
         self.move_to(frame);
+        self.note_most(now);
         self.silence(machines, now);
         self.watch(machines, now);
         self.hush(machines, now);
@@ -116,12 +117,14 @@ impl Peer {
         }
     }
 
-    /// A machine is gone if it was silent for too long.
+    /// A machine is gone if it was silent for too long, unless this machine hears too few.
     fn silence_one(&mut self, machine: u8, now: u32)
         requires { machine < MACHINE_LIMIT }
         ensures { self.new ≡ silenced_at now machine self.old }
     {
-        if self.contacts[usize::from(machine)].is_silent(now, self.settings.silent_after) {
+        if self.cut_off.hears_most
+            && self.contacts[usize::from(machine)].is_silent(now, self.settings.silent_after)
+        {
             let _ = self.member.leave(machine);
         }
     }
@@ -145,7 +148,9 @@ impl Peer {
         let place = usize::from(machine);
         self.stalls[place].watch(held, now);
         self.tell_stall(machine, now);
-        if self.stalls[place].is_overdue(now, self.settings.stalled_after) {
+        if self.cut_off.hears_most
+            && self.stalls[place].is_overdue(now, self.settings.stalled_after)
+        {
             let _ = self.member.leave(machine);
         }
     }

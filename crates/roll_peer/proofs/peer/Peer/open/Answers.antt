@@ -16,6 +16,7 @@ returns-in-Ok-join-clause-opened g c = record {
   running = refl;
   waiting = c.new-in-Ok-join-4.ensures;
   known_gone = refl;
+  cut_off = c.new-in-Ok-join-6.ensures;
   digests = c.new-in-Ok-join-5.ensures;
   pace = c.in-Ok.ensures;
   frame = c.frame.ensures;

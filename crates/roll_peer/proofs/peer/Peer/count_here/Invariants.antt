@@ -1,0 +1,6 @@
+use Rattle.std.proofs.Common.{◌≡◌, ◌≤◌}
+use Rattle.roll_peer.specs.CutOffs.{count_of, is_here}
+use Rattle.roll_peer.proofs.peer.Peer.count_here.Given as goal
+
+abbrev pub invariant-loop-machine : goal.invariant-loop-machine
+invariant-loop-machine l = (l.count ≡ count_of (is_here l.self) l.machine) × (l.count ≤ l.machine)

@@ -1,0 +1,64 @@
+//! By what is sealed that machines carry for one another.
+ghost use Rattle.std.specs.Prelude.{◌≡◌};
+ghost use Rattle.roll_peer.specs.Sending.{can_carry, carried_key, carrier_key};
+
+use crate::peer::Peer;
+use crate::settings::MatchSettings;
+use roll_contact::Key;
+
+impl Peer {
+    /// What the match was opened with.
+    pub fn settings(&self) -> &MatchSettings
+        ensures { result.now ≡ self.now.settings }
+    {
+        &self.settings
+    }
+
+    /// The moment that its own clock shows, in milliseconds since a moment of its own choice. It begins anew after 2^32.
+    pub fn moment(&self) -> u32
+        ensures { result ≡ self.now.clock.moment }
+    {
+        self.clock.moment
+    }
+
+    /// Whether a machine and this one hand on datagrams for each other: it plays with this one, isn't gone, and both say that they carry.
+    pub fn can_carry(&self, machine: u8) -> bool
+        ensures { result ≡ can_carry self.now machine }
+    {
+        let place = usize::from(machine);
+        !self.is_lost(machine)
+            && place < self.contacts.len()
+            && self.contacts[place].is_playing()
+            && self.contacts[place].carries
+    }
+
+    /// By what this machine seals a map, or what it hands on, for another. None unless they hand on datagrams for each other.
+    pub fn carrier_key(&self, machine: u8) -> Option<Key>
+        ensures { result ≡ carrier_key self.now machine }
+    {
+        if !self.can_carry(machine) {
+            return None;
+        }
+        let place = usize::from(machine);
+        Some(Key {
+            number: self.settings.numbers[place],
+            from: self.settings.draw,
+            to: self.contacts[place].draw,
+        })
+    }
+
+    /// By what such a datagram of another is sealed for this one. None unless they hand on datagrams for each other.
+    pub fn carried_key(&self, machine: u8) -> Option<Key>
+        ensures { result ≡ carried_key self.now machine }
+    {
+        if !self.can_carry(machine) {
+            return None;
+        }
+        let place = usize::from(machine);
+        Some(Key {
+            number: self.settings.numbers[place],
+            from: self.contacts[place].draw,
+            to: self.settings.draw,
+        })
+    }
+}
