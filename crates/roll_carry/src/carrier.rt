@@ -1,5 +1,6 @@
 //! What a machine carries for others, and has carried by others.
-ghost use Rattle.std.specs.Prelude.{◌≡◌, ◌<◌, ◌≤◌, [], replicate, IfOk, IfSome};
+ghost use Rattle.std.specs.Prelude.{◌≡◌, ◌<◌, ◌≤◌, [], replicate, true, IfOk, IfSome};
+ghost use Rattle.roll_mesh.specs.Machines.{is_in};
 ghost use Rattle.roll_carry.specs.Carrying.{after_told, all_owed, first_owed, is_owed, lane_count, opened_carrying, turned};
 ghost use Rattle.roll_carry.specs.Mapping.{after_map, heard_straight};
 ghost use Rattle.roll_mesh.specs.declared.limits.TheConstants.{MACHINE_LIMIT};
@@ -79,7 +80,6 @@ impl Carrier {
 
     /// Something came straight of a machine.
     pub fn heard_straight(&mut self, machine: u8, now: u32)
-        requires { machine < MACHINE_LIMIT }
         ensures { self.new ≡ record self.old { map = heard_straight machine now self.old.map } }
     {
         self.map.heard_straight(machine, now);
@@ -117,6 +117,7 @@ impl Carrier {
     fn first_owed(&self, ready: &Machines) -> Option<usize>
         ensures first { result ≡ first_owed self.now ready.now }
         ensures place { IfSome result (λ machine. machine < MACHINE_LIMIT) }
+        ensures ready { IfSome result (λ machine. is_in ready.now machine ≡ true) }
     {
         for machine in 0..MACHINE_LIMIT {
             if ready[machine] && self.owed[machine] {
@@ -131,6 +132,7 @@ impl Carrier {
         ensures to { result ≡ first_owed self.old ready.now }
         ensures told { self.new ≡ after_told self.old (first_owed self.old ready.now) }
         ensures place { IfSome result (λ machine. machine < MACHINE_LIMIT) }
+        ensures ready { IfSome result (λ machine. is_in ready.now machine ≡ true) }
     {
         let machine = self.first_owed(ready)?;
         self.owed[machine] = false;

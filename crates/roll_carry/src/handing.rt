@@ -1,5 +1,5 @@
 //! What is sent and handed on by others, and what goes out.
-ghost use Rattle.std.specs.Prelude.{◌≡◌, ◌<◌, ◌≤◌, length, is_some, None, Some, IfSome};
+ghost use Rattle.std.specs.Prelude.{◌≡◌, ◌<◌, ◌≤◌, ◌+◌, length, slice_set, true, is_some, None, Some, IfSome};
 ghost use Rattle.roll_carry.specs.Carrying.{after_handed, after_sent, after_taken, counted, first_waited_for, handed_of, hop_of, is_for_another, is_straight_due, is_waited_for, maker_of, one_step_on, waiting_for};
 ghost use Rattle.roll_carry.specs.Spelling.{parcel_value};
 ghost use Rattle.roll_carry.specs.Waiting.{lane_of, waiting_with};
@@ -61,6 +61,7 @@ impl Carrier {
     fn is_for_another(&self, parcel: &Parcel) -> bool
         requires { HEAD ≤ length parcel.now.bytes.now }
         ensures for_another { result ≡ is_for_another self.now (parcel_value parcel.now) }
+        ensures place { result ≡ true → parcel.now.to < MACHINE_LIMIT }
     {
         let maker = parcel.bytes[MADE_AT];
         0 < parcel.steps
@@ -72,16 +73,25 @@ impl Carrier {
             && maker != parcel.to
     }
 
+    /// How many parcels of a machine were handed on in this turn.
+    fn handed_of(&self, from: u8) -> u8
+        ensures { result ≡ handed_of self.now from }
+    {
+        match self.handed.get(usize::from(from)) {
+            Some(handed) => *handed,
+            None => 0,
+        }
+    }
+
     /// Who gets a parcel next that a machine gave this one.
     fn hop_of(&self, from: u8, shut: &Machines, parcel: &Parcel) -> Option<usize>
-        requires from { from < MACHINE_LIMIT }
-        requires least { HEAD ≤ length parcel.now.bytes.now }
+        requires { HEAD ≤ length parcel.now.bytes.now }
         ensures hop { result ≡ hop_of self.now from shut.now (parcel_value parcel.now) }
         ensures places { IfSome result (λ hop. (hop < MACHINE_LIMIT) × (parcel.now.to < MACHINE_LIMIT)) }
         ensures steps { IfSome result (λ hop. 0 < parcel.now.steps) }
         ensures few { IfSome result (λ hop. handed_of self.now from < 64) }
     {
-        if self.is_for_another(parcel) && self.handed[usize::from(from)] < HANDED_LIMIT {
+        if self.is_for_another(parcel) && self.handed_of(from) < HANDED_LIMIT {
             let maker = usize::from(parcel.bytes[MADE_AT]);
             self.next_for(maker, shut, usize::from(parcel.to))
         } else {
@@ -89,9 +99,21 @@ impl Carrier {
         }
     }
 
+    /// One more parcel of a machine was handed on.
+    fn count_handed(&mut self, from: u8)
+        requires { handed_of self.old from < 255 }
+        ensures { self.new ≡ record self.old {
+          handed = slice_set self.old.handed from (handed_of self.old from + 1);
+        } }
+    {
+        let place = usize::from(from);
+        if place < MACHINE_LIMIT {
+            self.handed[place] += 1;
+        }
+    }
+
     /// A parcel that a machine gave this one is handed on with a step less, if somebody gets it next. Says whether.
     pub fn hand_on(&mut self, from: u8, shut: &[bool; MACHINE_LIMIT], parcel: &Parcel) -> bool
-        requires from { from < MACHINE_LIMIT }
         requires least { HEAD ≤ length parcel.now.bytes.now }
         requires most { length parcel.now.bytes.now ≤ CARRIED_LIMIT }
         ensures handed { self.new ≡ after_handed self.old from shut.now (parcel_value parcel.now) }
@@ -100,7 +122,7 @@ impl Carrier {
         let Some(hop) = self.hop_of(from, shut, parcel) else {
             return false;
         };
-        self.handed[usize::from(from)] += 1;
+        self.count_handed(from);
         let next = Parcel {
             to: parcel.to,
             steps: parcel.steps - 1,
@@ -122,6 +144,7 @@ impl Carrier {
         ensures first { result ≡ first_waited_for self.now ready.now }
         ensures place { IfSome result (λ hop. hop < length self.now.lanes) }
         ensures some { IfSome result (λ hop. 0 < length (lane_of self.now.lanes hop)) }
+        ensures ready { IfSome result (λ hop. is_in ready.now hop ≡ true) }
     {
         for hop in 0..MACHINE_LIMIT {
             if self.is_waited_for(ready, hop) {
@@ -137,6 +160,7 @@ impl Carrier {
         ensures none { is_some result ≡ is_some (first_waited_for self.old ready.now) }
         ensures first { IfSome result (λ taken. (Some taken.0 ≡ first_waited_for self.old ready.now)
             × (slice_get (lane_of self.old.lanes taken.0) 0 ≡ Some taken.1.items)) }
+        ensures ready { IfSome result (λ taken. is_in ready.now taken.0 ≡ true) }
     {
         let hop = self.first_waited_for(ready)?;
         let area = self.lanes[hop].pop()?;

@@ -69,10 +69,12 @@ impl LineMap {
 
     /// A machine was heard straight.
     pub(crate) fn heard_straight(&mut self, machine: u8, now: u32)
-        requires { machine < MACHINE_LIMIT }
         ensures { self.new ≡ heard_straight machine now self.old }
     {
-        self.heard_at[usize::from(machine)] = Some(now);
+        let place = usize::from(machine);
+        if place < MACHINE_LIMIT {
+            self.heard_at[place] = Some(now);
+        }
     }
 
     /// When a machine was heard straight, if that isn't too long ago.

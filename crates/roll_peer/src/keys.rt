@@ -1,5 +1,6 @@
 //! By what is sealed that machines carry for one another.
-ghost use Rattle.std.specs.Prelude.{◌≡◌};
+ghost use Rattle.std.specs.Prelude.{◌≡◌, ◌<◌, ◌≤◌};
+ghost use Rattle.roll_mesh.specs.declared.limits.TheConstants.{MACHINE_LIMIT};
 ghost use Rattle.roll_peer.specs.Sending.{can_carry, carried_key, carrier_key};
 
 use crate::peer::Peer;
@@ -9,7 +10,9 @@ use roll_contact::Key;
 impl Peer {
     /// What the match was opened with.
     pub fn settings(&self) -> &MatchSettings
-        ensures { result.now ≡ self.now.settings }
+        ensures settings { result.now ≡ self.now.settings }
+        ensures machines { result.now.machines ≤ MACHINE_LIMIT }
+        ensures me { result.now.me < result.now.machines }
     {
         &self.settings
     }

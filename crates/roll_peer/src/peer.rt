@@ -52,7 +52,7 @@ pub struct Peer {
 
 /// A clause sees all of it.
 impl Model for Peer {
-    ghost use Rattle.std.specs.Prelude.{◌≡◌, ◌≤◌};
+    ghost use Rattle.std.specs.Prelude.{◌≡◌, ◌<◌, ◌≤◌};
     ghost use Rattle.roll_mesh.specs.declared.limits.TheConstants.{MACHINE_LIMIT};
     ghost use Rattle.roll_peer.specs.Peered.{Peered};
     ghost use Rattle.roll_peer.specs.Settings.{seat_of};
@@ -75,7 +75,7 @@ impl Model for Peer {
     } };
 
     ghost invariant = { λ p. (p.member.mesh.seat ≡ seat_of p.settings)
-        × (p.settings.machines ≤ MACHINE_LIMIT) };
+        × (p.settings.machines ≤ MACHINE_LIMIT) × (p.settings.me < p.settings.machines) };
 }
 
 impl Peer {

@@ -1,4 +1,4 @@
-use Rattle.std.proofs.Common.{◌<◌, length, false, arith, sym, ◌∙◌}
+use Rattle.std.proofs.Common.{false, arith, sym, ◌∙◌}
 use Rattle.std.proofs.lemmas.List.{length-replicate}
 use Rattle.std.specs.Prelude.{replicate}
 use Rattle.roll_mesh.specs.declared.limits.TheConstants.{MACHINE_LIMIT}
