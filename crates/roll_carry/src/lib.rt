@@ -16,7 +16,7 @@ mod writing;
 pub use carrier::Carrier;
 pub use datagram::{Hearing, Parcel};
 pub use laws::{one_text, ways_are_found};
-pub use limits::{AREA_LIMIT, CARRIED, CARRIED_LIMIT, CARRY_AFTER, MAP, STEP_LIMIT};
+pub use limits::{AREA_LIMIT, CARRIED, CARRIED_LIMIT, CARRY_AFTER, HEAD, MAP, STEP_LIMIT};
 pub use map::LineMap;
 pub use reading::{first_parcel, read_map, read_parcels};
 pub use writing::{say_map, say_parcels};

@@ -2,7 +2,7 @@
 use roll_wire::DATAGRAM_LIMIT;
 
 /// How many bytes of a datagram stand before its own fields.
-pub(crate) const HEAD: usize = 14;
+pub const HEAD: usize = 14;
 /// The kind of maps.
 pub const MAP: u8 = 3;
 /// The kind of what is carried.

@@ -78,7 +78,7 @@ pub record IsSent (s : Seen) (peer : Peered) (m : ℕ) (bytes : List ℕ) : Type
   pub text : bytes ≡ text_for peer m content
 
 -- whether a machine and this one hand on datagrams for each other
-abbrev pub can_carry : Peered → ℕ → Bool
+unfoldable pub can_carry : Peered → ℕ → Bool
 can_carry peer m =
     not (is_lost peer m)
     && (nat_lt m (length peer.contacts)

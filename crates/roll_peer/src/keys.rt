@@ -25,6 +25,7 @@ impl Peer {
     }
 
     /// Whether a machine and this one hand on datagrams for each other: it plays with this one, isn't gone, and both say that they carry.
+    #[tactic(auto, unfolding(crate::specs::Sending::can_carry))]
     pub fn can_carry(&self, machine: u8) -> bool
         ensures { result ≡ can_carry self.now machine }
     {
@@ -36,6 +37,7 @@ impl Peer {
     }
 
     /// By what this machine seals a map, or what it hands on, for another. None unless they hand on datagrams for each other.
+    #[tactic(auto, unfolding(crate::specs::Sending::can_carry))]
     pub fn carrier_key(&self, machine: u8) -> Option<Key>
         ensures { result ≡ carrier_key self.now machine }
     {
@@ -51,6 +53,7 @@ impl Peer {
     }
 
     /// By what such a datagram of another is sealed for this one. None unless they hand on datagrams for each other.
+    #[tactic(auto, unfolding(crate::specs::Sending::can_carry))]
     pub fn carried_key(&self, machine: u8) -> Option<Key>
         ensures { result ≡ carried_key self.now machine }
     {

@@ -119,8 +119,8 @@ impl Peer {
         say(&self.key_for(machine, &body), self.settings.me, body)
     }
 
-    /// Whether nothing is sent to a machine.
-    pub(crate) fn is_lost(&self, machine: u8) -> bool
+    /// Whether nothing is sent to a machine: there is none of this number, it is this one, or it is gone.
+    pub fn is_lost(&self, machine: u8) -> bool
         ensures { result ≡ is_lost self.now machine }
     {
         let seat = self.member.mesh().seat();

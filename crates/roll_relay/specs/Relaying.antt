@@ -1,10 +1,9 @@
 -- What a relay makes of what comes and goes.
-use Rattle.std.specs.Prelude.{◌≡◌, ◌⊎◌, ℕ, ◌+◌, List, [], ◌∷◌, length, take, Bool, true, false, not, ◌||◌, ◌==◌, is_ok, is_some, nat_le, Option, Some, None, Result, Ok, Err, if◌then◌else◌}
-use Rattle.roll_carry.specs.Carrying.{after_handed, after_sent, after_taken, after_told, first_owed, first_waited_for, hop_of, is_straight_due, maker_of, opened_carrying, turned, Carrying}
+use Rattle.std.specs.Prelude.{◌≡◌, ◌⊎◌, ℕ, List, [], ◌∷◌, length, replicate, take, Bool, true, false, not, ◌&&◌, ◌||◌, ◌==◌, nat_le, Option, Some, None, Result, Ok, Err, if◌then◌else◌}
+use Rattle.roll_carry.specs.Carrying.{after_handed, after_sent, after_taken, after_told, first_owed, first_waited_for, is_straight_due, maker_of, Carrying}
 use Rattle.roll_carry.specs.Mapping.{after_map, heard_straight}
 use Rattle.roll_carry.specs.Reading.{map_of, parcels_of}
-use Rattle.roll_carry.specs.Spelling.{said_by, Carries, Maps, ParcelValue}
-use Rattle.roll_carry.specs.Waiting.{lane_of}
+use Rattle.roll_carry.specs.Spelling.{Carries, ParcelValue, Says}
 use Rattle.roll_carry.specs.declared.datagram.Hearing.{Hearing}
 use Rattle.roll_carry.specs.declared.limits.TheConstants.{CARRIED, CARRIED_LIMIT, MAP}
 use Rattle.roll_contact.specs.Seals.{unsealed}
@@ -12,26 +11,152 @@ use Rattle.roll_contact.specs.declared.key.Key.{Key}
 use Rattle.roll_mesh.specs.Machines.{at_places, is_in}
 use Rattle.roll_mesh.specs.declared.limits.TheConstants.{MACHINE_LIMIT}
 use Rattle.roll_peer.specs.Peered.{Peered}
-use Rattle.roll_peer.specs.Receiving.{byte_at, sender_of}
+use Rattle.roll_peer.specs.Receiving.{byte_at, moment_of, sender_of}
 use Rattle.roll_peer.specs.Requests.{Beside, HearsBytes}
-use Rattle.roll_peer.specs.Sending.{can_carry, carried_key, carrier_key}
+use Rattle.roll_peer.specs.Sending.{can_carry, carried_key, is_lost}
 use Rattle.roll_peer.specs.declared.received.Ignored.{Ignored}
 use Rattle.roll_peer.specs.declared.received.Ignored.TheVariants.{NotSealed, NoDatagram}
 use Rattle.roll_peer.specs.declared.received.Received.{Received}
+use Rattle.roll_relay.specs.declared.relay.TheConstants.{KIND_AT}
 use Rattle.roll_relay.specs.declared.heard.Heard.{Heard}
 use Rattle.roll_relay.specs.declared.heard.Heard.TheVariants.{Straight, Map, Carried}
-use Rattle.roll_relay.specs.declared.heard.Parcels.{Parcels}
 use Rattle.roll_session.specs.Seen.{Step}
 use Rattle.roll_wire.specs.declared.fault.WireFault.{WireFault}
 
--- the machines with which this one hands on datagrams, and all others
-abbrev pub ready_of : Peered → List Bool
-ready_of peer = at_places (can_carry peer) peer.contacts
-
-abbrev pub shut_of : Peered → List Bool
-shut_of peer = at_places (λ m. not (can_carry peer m)) peer.contacts
-
--- a session, the network of its match, and what is carried
+-- a session with the network of its match, and what is carried
 pub record Relayed : Type 0 where
   pub beside : Beside
   pub carrying : Carrying
+
+-- no machine
+abbrev pub nobody : List Bool
+nobody = replicate MACHINE_LIMIT false
+
+-- the machines with which this one hands on datagrams, and all others
+abbrev pub ready_of : Peered → List Bool
+ready_of peer = at_places (can_carry peer) nobody
+
+abbrev pub is_shut : Peered → ℕ → Bool
+is_shut peer m = not (can_carry peer m)
+
+abbrev pub shut_of : Peered → List Bool
+shut_of peer = at_places (is_shut peer) nobody
+
+-- ---- what comes
+
+abbrev pub kind_of : List ℕ → ℕ
+kind_of bytes = byte_at bytes KIND_AT
+
+-- a machine was heard straight, at the moment that the peer's clock shows
+abbrev pub hearing : Peered → (machine : ℕ) → Carrying → Carrying
+hearing peer machine here = record here { map = heard_straight machine (moment_of peer) here.map }
+
+-- what bytes held before they were sealed, or why they aren't heard
+abbrev pub opened_text : Option (List ℕ) → Result (List ℕ) Ignored
+opened_text None = Err NotSealed
+opened_text (Some text) = Ok text
+
+-- what a machine that carries sealed as these bytes
+abbrev pub text_by : Option Key → List ℕ → Result (List ℕ) Ignored
+text_by None bytes = Err NotSealed
+text_by (Some key) bytes = opened_text (unsealed key bytes)
+
+abbrev pub text_in : Peered → List ℕ → Result (List ℕ) Ignored
+text_in peer bytes = text_by (carried_key peer (sender_of bytes)) bytes
+
+-- what reading gave, or why it gave nothing
+abbrev pub seen : {X : Type 0} → Result X WireFault → Result X Ignored
+seen (Ok x) = Ok x
+seen (Err fault) = Err (NoDatagram fault)
+
+abbrev pub read_by : {X : Type 0} → (List ℕ → Result X WireFault) → Result (List ℕ) Ignored → Result X Ignored
+read_by read (Err why) = Err why
+read_by read (Ok text) = seen (read text)
+
+-- the map, and the parcels, that bytes hold
+abbrev pub map_in : Peered → List ℕ → Result (List Hearing) Ignored
+map_in peer bytes = read_by map_of (text_in peer bytes)
+
+abbrev pub parcels_in : Peered → List ℕ → Result (List ParcelValue) Ignored
+parcels_in peer bytes = read_by parcels_of (text_in peer bytes)
+
+-- what a machine that carries sealed as these bytes are these parcels
+abbrev pub HoldsParcels : Peered → List ℕ → List ParcelValue → Type 0
+HoldsParcels peer bytes parcels =
+    (text : List ℕ) × (text_in peer bytes ≡ Ok text) × Says text (Carries parcels)
+
+-- whether the maker of a parcel and who it is for are both in the match, and not gone here
+abbrev pub are_here : Peered → ParcelValue → Bool
+are_here peer parcel = not (is_lost peer (maker_of parcel.bytes)) && not (is_lost peer parcel.to)
+
+-- a parcel that one machine gave for another is handed on, unless either end is gone
+abbrev pub handing : Peered → (from : ℕ) → ParcelValue → Carrying → Carrying
+handing peer from parcel here =
+    if are_here peer parcel then after_handed here from (shut_of peer) parcel else here
+
+-- its own parcel is heard here by the call that hears what comes straight, and any other handed on
+abbrev pub HearsParcel : Step → (now from : ℕ) → (old new : Relayed) → ParcelValue → Type 0
+HearsParcel step now from old new parcel =
+    ((parcel.to ≡ old.beside.peer.settings.me)
+    × ((said : Result Received Ignored) × HearsBytes step old.beside new.beside now parcel.bytes said)
+    × (new.carrying ≡ old.carrying))
+    ⊎ ((parcel.to ≡ old.beside.peer.settings.me → ⊥) × (new.beside ≡ old.beside)
+    × (new.carrying ≡ handing old.beside.peer from parcel old.carrying))
+
+-- one parcel after another
+abbrev pub HearsParcels : Step → (now from : ℕ) → Relayed → List ParcelValue → Relayed → Type 0
+HearsParcels step now from old [] new = new ≡ old
+HearsParcels step now from old (parcel ∷ more) new =
+    (next : Relayed) × HearsParcel step now from old next parcel × HearsParcels step now from next more new
+
+-- bytes came, and this is said of them
+abbrev pub Hears : Step → (now : ℕ) → (old new : Relayed) → List ℕ → Heard → Type 0
+Hears step now old new bytes (Straight received) =
+    HearsBytes step old.beside new.beside now bytes (Ok received)
+    × (new.carrying ≡ hearing new.beside.peer (sender_of bytes) old.carrying)
+Hears step now old new bytes (Map sender) =
+    (sender ≡ sender_of bytes) × (new.beside ≡ old.beside)
+    × ((told : List Hearing) × (map_in old.beside.peer bytes ≡ Ok told)
+    × (new.carrying ≡ record (hearing old.beside.peer sender old.carrying) {
+      map = after_map sender told (hearing old.beside.peer sender old.carrying).map;
+    }))
+Hears step now old new bytes (Carried sender) =
+    (sender ≡ sender_of bytes)
+    × ((parcels : List ParcelValue) × HoldsParcels old.beside.peer bytes parcels
+    × HearsParcels step now sender
+    (record old { carrying = hearing old.beside.peer sender old.carrying }) parcels new)
+
+-- what a kind is said to be, by who hears it
+abbrev pub is_said : (kind : ℕ) → Heard → Bool
+is_said kind (Straight received) = not (kind == MAP) && not (kind == CARRIED)
+is_said kind (Map sender) = kind == MAP
+is_said kind (Carried sender) = kind == CARRIED
+
+-- why bytes aren't heard that are a map, are parcels, or are neither
+abbrev pub IsIgnoredAs : Step → (now : ℕ) → (is_map is_carried : Bool) → (old new : Beside) → List ℕ → Ignored → Type 0
+IsIgnoredAs step now true is_carried old new bytes why = (map_in old.peer bytes ≡ Err why) × (new ≡ old)
+IsIgnoredAs step now false true old new bytes why = (parcels_in old.peer bytes ≡ Err why) × (new ≡ old)
+IsIgnoredAs step now false false old new bytes why = HearsBytes step old new now bytes (Err why)
+
+-- why bytes aren't heard
+abbrev pub IsUnheard : Step → (now : ℕ) → (old new : Beside) → List ℕ → Ignored → Type 0
+IsUnheard step now old new bytes why =
+    IsIgnoredAs step now (kind_of bytes == MAP) (kind_of bytes == CARRIED) old new bytes why
+
+-- ---- what goes
+
+-- whether a datagram is carried, if its line is broken: it has room for what stands beside it
+abbrev pub is_carriable : List ℕ → Bool
+is_carriable bytes = nat_le (length bytes) CARRIED_LIMIT
+
+abbrev pub sending : Peered → (to : ℕ) → List ℕ → Carrying → Carrying
+sending peer to bytes here = if is_carriable bytes then after_sent here (shut_of peer) to bytes else here
+
+-- what goes straight of a datagram for a machine
+abbrev pub straight : Peered → (to : ℕ) → List ℕ → Carrying → Option (List ℕ)
+straight peer to bytes here =
+    if is_straight_due here (shut_of peer) to || not (is_carriable bytes) then Some bytes else None
+
+-- what this machine tells another of who hears whom
+abbrev pub told_map : Carrying → List Hearing
+told_map here = take here.map.machines here.map.lines

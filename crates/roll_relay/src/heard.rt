@@ -2,29 +2,18 @@
 use roll_peer::Received;
 
 /// What was heard.
-#[derive(Debug, Drop)]
+#[derive(Clone, Copy, Debug, PartialEq, Eq)]
 pub enum Heard {
     /// A datagram came straight of the machine that made it.
     Straight(Received),
-    /// A machine told whom it hears.
+    /// A machine told whom each hears.
     Map {
         /// The machine.
         sender: u8,
     },
-    /// A machine gave what it carries.
+    /// A machine gave datagrams that it carries: those for this machine were heard, and others handed on.
     Carried {
-        /// The machine that gave it. It made none of what is inside.
+        /// The machine that gave them, which made none of them.
         sender: u8,
-        /// What became of it.
-        parcels: Parcels,
     },
-}
-
-/// What became of the datagrams that a machine carried.
-#[derive(Clone, Copy, Debug, PartialEq, Eq)]
-pub struct Parcels {
-    /// How many of them were for this machine, and heard.
-    pub heard: u32,
-    /// How many it handed on.
-    pub handed_on: u32,
 }

@@ -5,5 +5,5 @@
 mod heard;
 mod relay;
 
-pub use heard::{Heard, Parcels};
+pub use heard::Heard;
 pub use relay::Relay;

@@ -1,0 +1,304 @@
+//! What goes between machines whose line may be broken.
+ghost use Rattle.std.specs.Prelude.{◌≡◌, ◌≤◌, List, length, true, Err, Ok, IfErr, IfOk, OnErr};
+ghost use Rattle.std.specs.List.{AllByRecursion};
+ghost use Rattle.roll_carry.specs.Carrying.{opened_carrying, turned};
+ghost use Rattle.roll_carry.specs.Mapping.{after_map};
+ghost use Rattle.roll_carry.specs.Spelling.{area_text, IsParcel, ParcelValue, parcel_value};
+ghost use Rattle.roll_carry.specs.declared.datagram.Hearing.{Hearing};
+ghost use Rattle.roll_carry.specs.declared.limits.TheConstants.{AREA_LIMIT, HEAD};
+ghost use Rattle.roll_peer.specs.Receiving.{byte_at, moment_of, sender_of};
+ghost use Rattle.roll_peer.specs.Requests.{HearsBytes};
+ghost use Rattle.roll_peer.specs.declared.received.Received.{Received};
+ghost use Rattle.roll_relay.specs.Relaying.{are_here, handing, hearing, is_said, kind_of, map_in, parcels_in, ready_of, shut_of, text_in, Hears, HearsParcel, HearsParcels, HoldsParcels, IsUnheard};
+
+use crate::heard::Heard;
+use arrayvec::ArrayVec;
+use roll_carry::{CARRIED, Carrier, Hearing, MAP, Parcel, first_parcel, read_map, read_parcels};
+use roll_contact::seal::unseal;
+use roll_mesh::MACHINE_LIMIT;
+use roll_peer::{Ignored, Peer};
+use roll_session::Networked;
+use roll_wire::DATAGRAM_LIMIT;
+use std::alloc::{AllocError, Global};
+use std::marker::Model;
+
+/// Where a datagram has its sender's number, its maker's, and its kind.
+const SENDER_AT: usize = 12;
+
+const KIND_AT: usize = 13;
+/// How many machines a match has at most.
+const MACHINES: u8 = 8;
+
+/// A set of machines: a place for each.
+type Machines = [bool; MACHINE_LIMIT];
+
+/// What goes between machines of a match whose line may be broken. It stands beside the network of the match, which each call is lent:
+/// give always the same one.
+///
+/// A program gives what came to `receive`, in the place of the peer's, makes a turn of the peer and then `turn`, sends what `send` makes
+/// for each other machine, and then what `next` gives, until it gives nothing. Two machines need none of it.
+#[derive(Debug, Drop)]
+pub struct Relay {
+    pub(crate) carrier: Carrier,
+}
+
+/// A clause sees what is carried.
+impl Model for Relay {
+    ghost use Rattle.roll_carry.specs.Carrying.{Carrying};
+
+    ghost Value = { Carrying };
+
+    ghost view = { λ relay. relay.carrier };
+}
+
+impl Relay {
+    /// Nothing is known of who hears whom: all hear all.
+    ///
+    /// # Errors
+    ///
+    /// If there is no memory.
+    pub fn open(alloc: Global, peer: &Peer) -> Result<Relay, AllocError>
+        ensures { IfOk result (λ relay. relay
+            ≡ opened_carrying peer.now.settings.me peer.now.settings.machines (moment_of peer.now)) }
+    {
+        let settings = peer.settings();
+        let carrier = Carrier::new(alloc, settings.me, settings.machines, peer.moment())?;
+        Ok(Relay { carrier })
+    }
+
+    /// A turn begins, at the moment that the peer's clock shows.
+    pub fn turn(&mut self, peer: &Peer)
+        ensures { self.new ≡ turned (moment_of peer.now) self.old }
+    {
+        self.carrier.turn(peer.moment());
+    }
+
+    /// Hears bytes that came by the network, at a moment: a datagram of the match, which the peer hears; who hears whom; or what another
+    /// machine carries. What is inside for this machine the peer hears as if it had come straight, and of what is for others at most
+    /// one datagram goes on for each. It takes memory as the peer's `receive` does.
+    ///
+    /// # Errors
+    ///
+    /// Why they weren't heard. Then nothing changed but what the peer's `receive` changes.
+    pub fn receive<S: Networked>(
+        &mut self,
+        peer: &mut Peer,
+        session: &mut S,
+        bytes: &[u8],
+        now: u32,
+    ) -> Result<Heard, Ignored>
+        ensures heard { IfOk result (Hears S.step now
+            (record { beside = record { session = S.seen session.old; peer = peer.old }; carrying = self.old })
+            (record { beside = record { session = S.seen session.new; peer = peer.new }; carrying = self.new })
+            bytes.now) }
+        ensures said { IfOk result (λ heard. is_said (kind_of bytes.now) heard ≡ true) }
+        ensures ignored { IfErr result (IsUnheard S.step now
+            (record { session = S.seen session.old; peer = peer.old })
+            (record { session = S.seen session.new; peer = peer.new }) bytes.now) }
+        ensures unchanged { OnErr result (self.new ≡ self.old) }
+        ensures keeps { S.keeps session.old session.new }
+    {
+        match byte_of(bytes, KIND_AT) {
+            MAP => self.receive_map(peer, bytes),
+            CARRIED => self.receive_parcels(peer, session, bytes, now),
+            _ => self.receive_straight(peer, session, bytes, now),
+        }
+    }
+
+    /// A datagram that came straight.
+    fn receive_straight<S: Networked>(
+        &mut self,
+        peer: &mut Peer,
+        session: &mut S,
+        bytes: &[u8],
+        now: u32,
+    ) -> Result<Heard, Ignored>
+        ensures heard { IfOk result (λ heard. (received : Received) × (heard ≡ Heard.Straight received)
+            × HearsBytes S.step (record { session = S.seen session.old; peer = peer.old })
+            (record { session = S.seen session.new; peer = peer.new }) now bytes.now (Ok received)
+            × (self.new ≡ hearing peer.new (sender_of bytes.now) self.old)) }
+        ensures ignored { IfErr result (λ why. HearsBytes S.step
+            (record { session = S.seen session.old; peer = peer.old })
+            (record { session = S.seen session.new; peer = peer.new }) now bytes.now (Err why)) }
+        ensures unchanged { OnErr result (self.new ≡ self.old) }
+        ensures keeps { S.keeps session.old session.new }
+    {
+        match peer.receive(session, bytes, now) {
+            Ok(received) => {
+                self.carrier
+                    .heard_straight(byte_of(bytes, SENDER_AT), peer.moment());
+                Ok(Heard::Straight(received))
+            }
+            Err(why) => Err(why),
+        }
+    }
+
+    /// What another machine tells of who hears whom.
+    fn receive_map(&mut self, peer: &Peer, bytes: &[u8]) -> Result<Heard, Ignored>
+        ensures heard { IfOk result (λ heard. (heard ≡ Heard.Map (sender_of bytes.now))
+            × ((told : List Hearing) × (map_in peer.now bytes.now ≡ Ok told)
+            × (self.new ≡ record (hearing peer.now (sender_of bytes.now) self.old) {
+              map = after_map (sender_of bytes.now) told (hearing peer.now (sender_of bytes.now) self.old).map;
+            }))) }
+        ensures ignored { IfErr result (λ why. map_in peer.now bytes.now ≡ Err why) }
+        ensures unchanged { OnErr result (self.new ≡ self.old) }
+    {
+        let sender = byte_of(bytes, SENDER_AT);
+        let told = map_in(peer, bytes)?;
+        self.carrier.heard_straight(sender, peer.moment());
+        self.carrier.take_map(sender, told.as_slice());
+        Ok(Heard::Map { sender })
+    }
+
+    /// What another machine carries.
+    fn receive_parcels<S: Networked>(
+        &mut self,
+        peer: &mut Peer,
+        session: &mut S,
+        bytes: &[u8],
+        now: u32,
+    ) -> Result<Heard, Ignored>
+        ensures heard { IfOk result (λ heard. (heard ≡ Heard.Carried (sender_of bytes.now))
+            × ((parcels : List ParcelValue) × HoldsParcels peer.old bytes.now parcels
+            × HearsParcels S.step now (sender_of bytes.now)
+            (record {
+              beside = record { session = S.seen session.old; peer = peer.old };
+              carrying = hearing peer.old (sender_of bytes.now) self.old;
+            }) parcels
+            (record { beside = record { session = S.seen session.new; peer = peer.new }; carrying = self.new }))) }
+        ensures ignored { IfErr result (λ why. parcels_in peer.old bytes.now ≡ Err why) }
+        ensures unchanged { OnErr result (self.new ≡ self.old) }
+        ensures peer { OnErr result (peer.new ≡ peer.old) }
+        ensures session { OnErr result (session.new ≡ session.old) }
+        ensures keeps { S.keeps session.old session.new }
+    {
+        let sender = byte_of(bytes, SENDER_AT);
+        let text = text_in(peer, bytes)?;
+        match read_parcels(&text) {
+            Ok(area) => {
+                self.carrier.heard_straight(sender, peer.moment());
+                self.hear_parcels(peer, session, sender, area, now);
+                Ok(Heard::Carried { sender })
+            }
+            Err(fault) => Err(Ignored::NoDatagram(fault)),
+        }
+    }
+
+    /// One parcel after another: those of this machine are heard, and any other handed on.
+    fn hear_parcels<S: Networked>(
+        &mut self,
+        peer: &mut Peer,
+        session: &mut S,
+        from: u8,
+        area: &[u8],
+        now: u32,
+    )
+        requires { length area.now ≤ AREA_LIMIT }
+        ensures heard { (parcels : List ParcelValue) → AllByRecursion IsParcel parcels → area.now ≡ area_text parcels
+            → HearsParcels S.step now from
+            (record { beside = record { session = S.seen session.old; peer = peer.old }; carrying = self.old }) parcels
+            (record { beside = record { session = S.seen session.new; peer = peer.new }; carrying = self.new }) }
+        ensures keeps { S.keeps session.old session.new }
+    {
+        if let Some((parcel, others)) = first_parcel(area) {
+            self.hear_parcel(peer, session, from, &parcel, now);
+            self.hear_parcels(peer, session, from, others, now);
+        }
+    }
+
+    /// This machine's own parcel is heard, and any other handed on.
+    fn hear_parcel<S: Networked>(
+        &mut self,
+        peer: &mut Peer,
+        session: &mut S,
+        from: u8,
+        parcel: &Parcel,
+        now: u32,
+    )
+        requires { IsParcel (parcel_value parcel.now) }
+        ensures heard { HearsParcel S.step now from
+            (record { beside = record { session = S.seen session.old; peer = peer.old }; carrying = self.old })
+            (record { beside = record { session = S.seen session.new; peer = peer.new }; carrying = self.new })
+            (parcel_value parcel.now) }
+        ensures keeps { S.keeps session.old session.new }
+    {
+        if parcel.to == peer.settings().me {
+            let _ = peer.receive(session, parcel.bytes, now);
+        } else {
+            self.hand_on(peer, from, parcel);
+        }
+    }
+
+    /// A parcel for another machine is handed on, unless either end is gone.
+    fn hand_on(&mut self, peer: &Peer, from: u8, parcel: &Parcel)
+        requires { IsParcel (parcel_value parcel.now) }
+        ensures { self.new ≡ handing peer.now from (parcel_value parcel.now) self.old }
+    {
+        if are_here(peer, parcel) {
+            self.carrier.hand_on(from, &shut_of(peer), parcel);
+        }
+    }
+}
+
+/// Whether the maker of a parcel and who it is for are both in the match, and not gone here.
+fn are_here(peer: &Peer, parcel: &Parcel) -> bool
+    requires { HEAD ≤ length parcel.now.bytes.now }
+    ensures { result ≡ are_here peer.now (parcel_value parcel.now) }
+{
+    !peer.is_lost(parcel.bytes[SENDER_AT]) && !peer.is_lost(parcel.to)
+}
+
+/// The machines with which this one hands on datagrams.
+fn ready_of(peer: &Peer) -> Machines
+    ensures { result ≡ ready_of peer.now }
+{
+    let mut ready = [false; MACHINE_LIMIT];
+    for machine in 0..MACHINES {
+        ready[usize::from(machine)] = peer.can_carry(machine);
+    }
+    ready
+}
+
+/// All others.
+fn shut_of(peer: &Peer) -> Machines
+    ensures { result ≡ shut_of peer.now }
+{
+    let mut shut = [false; MACHINE_LIMIT];
+    for machine in 0..MACHINES {
+        shut[usize::from(machine)] = !peer.can_carry(machine);
+    }
+    shut
+}
+
+/// What a machine that carries sealed as these bytes.
+fn text_in(peer: &Peer, bytes: &[u8]) -> Result<ArrayVec<u8, DATAGRAM_LIMIT>, Ignored>
+    ensures text { IfOk result (λ text. text_in peer.now bytes.now ≡ Ok text.items) }
+    ensures ignored { IfErr result (λ why. text_in peer.now bytes.now ≡ Err why) }
+{
+    let Some(key) = peer.carried_key(byte_of(bytes, SENDER_AT)) else {
+        return Err(Ignored::NotSealed);
+    };
+    match unseal(bytes, &key) {
+        Some(text) => Ok(text),
+        None => Err(Ignored::NotSealed),
+    }
+}
+
+/// The map that bytes hold.
+fn map_in(peer: &Peer, bytes: &[u8]) -> Result<ArrayVec<Hearing, MACHINE_LIMIT>, Ignored>
+    ensures map { IfOk result (λ map. map_in peer.now bytes.now ≡ Ok map.items) }
+    ensures ignored { IfErr result (λ why. map_in peer.now bytes.now ≡ Err why) }
+{
+    let text = text_in(peer, bytes)?;
+    match read_map(&text) {
+        Ok(map) => Ok(map),
+        Err(fault) => Err(Ignored::NoDatagram(fault)),
+    }
+}
+
+/// The byte at a place, 0 if there is none.
+fn byte_of(bytes: &[u8], place: usize) -> u8
+    ensures { result ≡ byte_at bytes.now place }
+{
+    if place < bytes.len() { bytes[place] } else { 0 }
+}
