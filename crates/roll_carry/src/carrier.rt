@@ -73,7 +73,8 @@ impl Carrier {
 
     /// What is known of who hears whom.
     pub fn map(&self) -> &LineMap
-        ensures { result.now ≡ self.now.map }
+        ensures map { result.now ≡ self.now.map }
+        ensures machines { result.now.machines ≤ MACHINE_LIMIT }
     {
         &self.map
     }

@@ -28,13 +28,15 @@ impl Carrier {
 
     /// A parcel waits for who gets it next.
     fn wait(&mut self, hop: usize, parcel: &Parcel)
-        requires to { parcel.now.to < MACHINE_LIMIT }
         requires hop { hop < MACHINE_LIMIT }
         requires least { HEAD ≤ length parcel.now.bytes.now }
         requires most { length parcel.now.bytes.now ≤ CARRIED_LIMIT }
         ensures { self.new ≡ waiting_for self.old parcel.now.to (Some hop) (parcel_value parcel.now) }
     {
-        self.last[usize::from(parcel.to)] = hop as u8;
+        let to = usize::from(parcel.to);
+        if to < MACHINE_LIMIT {
+            self.last[to] = hop as u8;
+        }
         if hop < self.lanes.len() {
             self.lanes[hop].push(parcel);
         }
@@ -42,7 +44,6 @@ impl Carrier {
 
     /// A datagram of this machine goes to another, and if a line between them is broken, it is carried too.
     pub fn sent(&mut self, shut: &[bool; MACHINE_LIMIT], to: u8, bytes: &[u8])
-        requires to { to < MACHINE_LIMIT }
         requires least { HEAD ≤ length bytes.now }
         requires most { length bytes.now ≤ CARRIED_LIMIT }
         ensures { self.new ≡ after_sent self.old shut.now to bytes.now }

@@ -3,24 +3,28 @@ use Rattle.std.specs.Prelude.{◌≡◌, ◌⊎◌, ℕ, List, [], ◌∷◌, le
 use Rattle.roll_carry.specs.Carrying.{after_handed, after_sent, after_taken, after_told, first_owed, first_waited_for, is_straight_due, maker_of, Carrying}
 use Rattle.roll_carry.specs.Mapping.{after_map, heard_straight}
 use Rattle.roll_carry.specs.Reading.{map_of, parcels_of}
-use Rattle.roll_carry.specs.Spelling.{Carries, ParcelValue, Says}
+use Rattle.roll_carry.specs.Spelling.{area_text, said_by, Carries, Maps, ParcelValue, Says}
+use Rattle.roll_carry.specs.Waiting.{lane_of}
 use Rattle.roll_carry.specs.declared.datagram.Hearing.{Hearing}
-use Rattle.roll_carry.specs.declared.limits.TheConstants.{CARRIED, CARRIED_LIMIT, MAP}
+use Rattle.roll_carry.specs.declared.limits.TheConstants.{CARRIED, CARRIED_LIMIT, HEAD, MAP}
 use Rattle.roll_contact.specs.Seals.{unsealed}
 use Rattle.roll_contact.specs.declared.key.Key.{Key}
-use Rattle.roll_mesh.specs.Machines.{at_places, is_in}
+use Rattle.roll_member.specs.Beside.{IsOf}
+use Rattle.roll_mesh.specs.Machines.{at_places}
+use Rattle.std.specs.List.{slice_get}
 use Rattle.roll_mesh.specs.declared.limits.TheConstants.{MACHINE_LIMIT}
 use Rattle.roll_peer.specs.Peered.{Peered}
-use Rattle.roll_peer.specs.Receiving.{byte_at, moment_of, sender_of}
+use Rattle.roll_peer.specs.Receiving.{byte_at, meeting, moment_of, sender_of, ticking}
 use Rattle.roll_peer.specs.Requests.{Beside, HearsBytes}
-use Rattle.roll_peer.specs.Sending.{can_carry, carried_key, is_lost}
+use Rattle.roll_peer.specs.Sending.{after_send, can_carry, carried_key, is_lost, text_for, with_draws, IsSent}
 use Rattle.roll_peer.specs.declared.received.Ignored.{Ignored}
 use Rattle.roll_peer.specs.declared.received.Ignored.TheVariants.{NotSealed, NoDatagram}
 use Rattle.roll_peer.specs.declared.received.Received.{Received}
 use Rattle.roll_relay.specs.declared.relay.TheConstants.{KIND_AT}
 use Rattle.roll_relay.specs.declared.heard.Heard.{Heard}
 use Rattle.roll_relay.specs.declared.heard.Heard.TheVariants.{Straight, Map, Carried}
-use Rattle.roll_session.specs.Seen.{Step}
+use Rattle.roll_session.specs.Seen.{Seen, Step}
+use Rattle.roll_wire.specs.Spelling.{Leaves as LeavesMatch}
 use Rattle.roll_wire.specs.declared.fault.WireFault.{WireFault}
 
 -- a session with the network of its match, and what is carried
@@ -147,7 +151,7 @@ IsUnheard step now old new bytes why =
 
 -- whether a datagram is carried, if its line is broken: it has room for what stands beside it
 abbrev pub is_carriable : List ℕ → Bool
-is_carriable bytes = nat_le (length bytes) CARRIED_LIMIT
+is_carriable bytes = nat_le HEAD (length bytes) && nat_le (length bytes) CARRIED_LIMIT
 
 abbrev pub sending : Peered → (to : ℕ) → List ℕ → Carrying → Carrying
 sending peer to bytes here = if is_carriable bytes then after_sent here (shut_of peer) to bytes else here
@@ -160,3 +164,55 @@ straight peer to bytes here =
 -- what this machine tells another of who hears whom
 abbrev pub told_map : Carrying → List Hearing
 told_map here = take here.map.machines here.map.lines
+
+-- a datagram of the peer went to a machine: it is what the peer sends, it goes straight if that is due, and is carried if the line is broken
+abbrev pub IsMade : Seen → (now to : ℕ) → (before after : Peered) → (old new : Carrying) → Option (List ℕ) → Type 0
+IsMade s now to before after old new sent =
+    (bytes : List ℕ) × IsSent s (meeting s (ticking now before)) to bytes
+    × (new ≡ sending after to bytes old) × (sent ≡ straight after to bytes old)
+
+abbrev pub Sends : Seen → (now to : ℕ) → (before after : Peered) → (old new : Carrying) → Option (List ℕ) → Type 0
+Sends s now to before after old new sent =
+    IsOf s before.member × (after ≡ after_send (meeting s (ticking now before)) to)
+    × (((is_lost before to ≡ true) × (new ≡ old) × (sent ≡ None))
+    ⊎ ((is_lost before to ≡ false) × IsMade s now to before after old new sent))
+
+-- a bye goes straight, and is carried too if the line is broken
+abbrev pub SaysBye : Peered → (to : ℕ) → (old new : Carrying) → Option (List ℕ) → Type 0
+SaysBye peer to old new None = new ≡ old
+SaysBye peer to old new (Some bytes) =
+    (bytes ≡ text_for peer to LeavesMatch) × (new ≡ sending peer to bytes old)
+
+-- the map goes to a machine
+abbrev pub TellsMap : Peered → (old new : Carrying) → (to : ℕ) → Option (ℕ × List ℕ) → Type 0
+TellsMap peer old new to said =
+    (new ≡ after_told old (Some to))
+    × (said ≡ Some (to, said_by (with_draws peer to) peer.settings.me (Maps (told_map old))))
+
+-- parcels that wait for a machine go to it
+abbrev pub GivesParcels : Peered → (old new : Carrying) → (to : ℕ) → Option (ℕ × List ℕ) → Type 0
+GivesParcels peer old new to said =
+    (new ≡ after_taken old (Some to))
+    × ((area bytes : List ℕ) × (slice_get (lane_of old.lanes to) 0 ≡ Some area)
+    × (said ≡ Some (to, bytes))
+    × ((parcels : List ParcelValue) → area ≡ area_text parcels
+    → bytes ≡ said_by (with_draws peer to) peer.settings.me (Carries parcels)))
+
+-- the map goes to a machine, if there is one
+abbrev pub IsNextMap : Peered → (old new : Carrying) → (owed : Option ℕ) → Option (ℕ × List ℕ) → Type 0
+IsNextMap peer old new (Some to) said = TellsMap peer old new to said
+IsNextMap peer old new None said = (new ≡ old) × (said ≡ None)
+
+-- parcels go to a machine, if there is one
+abbrev pub IsNextParcels : Peered → (old new : Carrying) → (waited : Option ℕ) → Option (ℕ × List ℕ) → Type 0
+IsNextParcels peer old new (Some to) said = GivesParcels peer old new to said
+IsNextParcels peer old new None said = (new ≡ old) × (said ≡ None)
+
+-- what goes out next: the map, to each machine to which it is still to go in this turn, and then what waits for others
+abbrev pub IsNextOf : Peered → (old new : Carrying) → (owed waited : Option ℕ) → Option (ℕ × List ℕ) → Type 0
+IsNextOf peer old new (Some to) waited said = TellsMap peer old new to said
+IsNextOf peer old new None waited said = IsNextParcels peer old new waited said
+
+abbrev pub IsNext : Peered → (old new : Carrying) → Option (ℕ × List ℕ) → Type 0
+IsNext peer old new said =
+    IsNextOf peer old new (first_owed old (ready_of peer)) (first_waited_for old (ready_of peer)) said

@@ -4,6 +4,7 @@
 
 mod heard;
 mod relay;
+mod sending;
 
 pub use heard::Heard;
 pub use relay::Relay;

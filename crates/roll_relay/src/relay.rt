@@ -1,11 +1,13 @@
 //! What goes between machines whose line may be broken.
-ghost use Rattle.std.specs.Prelude.{◌≡◌, ◌≤◌, List, length, true, Err, Ok, IfErr, IfOk, OnErr};
+ghost use Rattle.std.specs.Prelude.{◌≡◌, ℕ, ◌≤◌, List, length, true, Err, Ok, IfErr, IfOk, OnErr};
 ghost use Rattle.std.specs.List.{AllByRecursion};
 ghost use Rattle.roll_carry.specs.Carrying.{opened_carrying, turned};
 ghost use Rattle.roll_carry.specs.Mapping.{after_map};
 ghost use Rattle.roll_carry.specs.Spelling.{area_text, IsParcel, ParcelValue, parcel_value};
 ghost use Rattle.roll_carry.specs.declared.datagram.Hearing.{Hearing};
 ghost use Rattle.roll_carry.specs.declared.limits.TheConstants.{AREA_LIMIT, HEAD};
+ghost use Rattle.roll_mesh.specs.Machines.{is_in};
+ghost use Rattle.roll_peer.specs.Sending.{can_carry};
 ghost use Rattle.roll_peer.specs.Receiving.{byte_at, moment_of, sender_of};
 ghost use Rattle.roll_peer.specs.Requests.{HearsBytes};
 ghost use Rattle.roll_peer.specs.declared.received.Received.{Received};
@@ -249,8 +251,9 @@ fn are_here(peer: &Peer, parcel: &Parcel) -> bool
 }
 
 /// The machines with which this one hands on datagrams.
-fn ready_of(peer: &Peer) -> Machines
-    ensures { result ≡ ready_of peer.now }
+pub(crate) fn ready_of(peer: &Peer) -> Machines
+    ensures ready { result ≡ ready_of peer.now }
+    ensures each { (m : ℕ) → is_in result m ≡ true → can_carry peer.now m ≡ true }
 {
     let mut ready = [false; MACHINE_LIMIT];
     for machine in 0..MACHINES {
@@ -260,7 +263,7 @@ fn ready_of(peer: &Peer) -> Machines
 }
 
 /// All others.
-fn shut_of(peer: &Peer) -> Machines
+pub(crate) fn shut_of(peer: &Peer) -> Machines
     ensures { result ≡ shut_of peer.now }
 {
     let mut shut = [false; MACHINE_LIMIT];

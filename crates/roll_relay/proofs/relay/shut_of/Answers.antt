@@ -1,4 +1,4 @@
-use Rattle.std.proofs.Common.{◌<◌, length, false, arith, sym, ◌∙◌}
+use Rattle.std.proofs.Common.{false, arith, sym, ◌∙◌}
 use Rattle.std.proofs.lemmas.List.{length-replicate}
 use Rattle.roll_relay.specs.Relaying.{is_shut}
 use Rattle.roll_relay.specs.Relaying.{nobody}

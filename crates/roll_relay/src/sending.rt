@@ -1,0 +1,156 @@
+//! What goes by a line that may be broken.
+ghost use Rattle.std.specs.Prelude.{◌≡◌, true, is_none, is_some, option_map, not, ◌||◌, IfErr, IfOk, IfSome, OnErr};
+ghost use Rattle.roll_contact.specs.Contacts.{is_playing};
+ghost use Rattle.roll_carry.specs.Carrying.{first_owed, first_waited_for};
+ghost use Rattle.roll_carry.specs.Spelling.{said_by, Maps};
+ghost use Rattle.roll_carry.specs.declared.limits.TheConstants.{CARRIED_LIMIT};
+ghost use Rattle.roll_mesh.specs.declared.limits.TheConstants.{MACHINE_LIMIT};
+ghost use Rattle.roll_peer.specs.Peered.{contact_at};
+ghost use Rattle.roll_peer.specs.Receiving.{ticking, IsOther};
+ghost use Rattle.roll_peer.specs.Sending.{can_carry, is_lost, with_draws};
+ghost use Rattle.roll_relay.specs.Relaying.{is_carriable, sending, straight, told_map, ready_of, IsNext, IsNextMap, IsNextParcels, SaysBye, Sends};
+
+use crate::relay::{Relay, ready_of, shut_of};
+use arrayvec::ArrayVec;
+use roll_carry::{CARRIED_LIMIT, HEAD, say_map, say_parcels};
+use roll_contact::Key;
+use roll_peer::{OtherSession, Peer};
+use roll_session::Networked;
+use roll_wire::DATAGRAM_LIMIT;
+
+impl Relay {
+    /// The bytes to send to a machine straight in this turn, as the peer makes them. If the line between the two is broken, they wait for
+    /// another machine too, to be carried. None if the peer sends none; or if the other machine doesn't hear this one and somebody
+    /// carries: then they go straight in one turn of 16, and in each of 16 turns after something is known to have changed.
+    ///
+    /// # Errors
+    ///
+    /// If the session isn't this match's. Nothing changed then but the peer's clock.
+    pub fn send<S: Networked>(
+        &mut self,
+        peer: &mut Peer,
+        session: &S,
+        machine: u8,
+        now: u32,
+    ) -> Result<Option<ArrayVec<u8, DATAGRAM_LIMIT>>, OtherSession>
+        ensures sent { IfOk result (λ sent. Sends (S.seen session.now) now machine peer.old peer.new self.old self.new
+            (option_map (λ bytes. bytes.items) sent)) }
+        ensures other { OnErr result (IsOther (S.seen session.now) peer.old) }
+        ensures peer { OnErr result (peer.new ≡ ticking now peer.old) }
+        ensures unchanged { OnErr result (self.new ≡ self.old) }
+    {
+        match peer.send(session, machine, now) {
+            Ok(Some(bytes)) => Ok(self.pass(peer, machine, bytes)),
+            Ok(None) => Ok(None),
+            Err(other) => Err(other),
+        }
+    }
+
+    /// The peer's datagram for a machine, if it goes straight in this turn. If the line is broken, it is carried too.
+    fn pass(
+        &mut self,
+        peer: &Peer,
+        machine: u8,
+        bytes: ArrayVec<u8, DATAGRAM_LIMIT>,
+    ) -> Option<ArrayVec<u8, DATAGRAM_LIMIT>>
+        ensures carried { self.new ≡ sending peer.now machine bytes.items self.old }
+        ensures straight { option_map (λ sent. sent.items) result ≡ straight peer.now machine bytes.items self.old }
+    {
+        let is_due = self.carrier.is_straight_due(&shut_of(peer), machine);
+        let is_carriable = is_carriable(&bytes);
+        self.carry(peer, machine, &bytes);
+        if is_due || !is_carriable {
+            Some(bytes)
+        } else {
+            None
+        }
+    }
+
+    /// A datagram of this machine is carried, if the line is broken.
+    fn carry(&mut self, peer: &Peer, machine: u8, bytes: &[u8])
+        ensures { self.new ≡ sending peer.now machine bytes.now self.old }
+    {
+        if is_carriable(bytes) {
+            self.carrier.sent(&shut_of(peer), machine, bytes);
+        }
+    }
+
+    /// The bytes that say to a machine that this one leaves the match, as the peer makes them. If the line between the two is broken, they
+    /// wait for another machine too.
+    pub fn bye(&mut self, peer: &Peer, machine: u8) -> Option<ArrayVec<u8, DATAGRAM_LIMIT>>
+        ensures said { SaysBye peer.now machine self.old self.new (option_map (λ bytes. bytes.items) result) }
+        ensures none { is_none result
+            ≡ (is_lost peer.now machine || not (is_playing (contact_at peer.now machine).stage)) }
+    {
+        match peer.bye(machine) {
+            Some(bytes) => {
+                self.carry(peer, machine, &bytes);
+                Some(bytes)
+            }
+            None => None,
+        }
+    }
+
+    /// What this machine tells another of who hears whom.
+    fn map_for(&self, peer: &Peer, machine: u8) -> ArrayVec<u8, DATAGRAM_LIMIT>
+        requires { can_carry peer.now machine ≡ true }
+        ensures { result.items
+            ≡ said_by (with_draws peer.now machine) peer.now.settings.me (Maps (told_map self.now)) }
+    {
+        let map = self.carrier.map();
+        say_map(
+            &key_for(peer, machine),
+            peer.settings().me,
+            &map.lines[..usize::from(map.machines)],
+        )
+    }
+
+    /// The next bytes that go out beside what `send` makes, and to which machine: who hears whom, and what others have had this machine
+    /// hand on, or this one others. None if there is nothing more in this turn.
+    pub fn next(&mut self, peer: &Peer) -> Option<(u8, ArrayVec<u8, DATAGRAM_LIMIT>)>
+        ensures { IsNext peer.now self.old self.new (option_map (λ x. (x.0, x.1.items)) result) }
+    {
+        match self.next_map(peer) {
+            Some(told) => Some(told),
+            None => self.next_parcels(peer),
+        }
+    }
+
+    /// The map for the first machine to which it is still to go in this turn.
+    fn next_map(&mut self, peer: &Peer) -> Option<(u8, ArrayVec<u8, DATAGRAM_LIMIT>)>
+        ensures told { IsNextMap peer.now self.old self.new (first_owed self.old (ready_of peer.now))
+            (option_map (λ x. (x.0, x.1.items)) result) }
+        ensures some { is_some result ≡ is_some (first_owed self.old (ready_of peer.now)) }
+    {
+        let machine = self.carrier.next_to_tell(&ready_of(peer))?;
+        Some((machine, self.map_for(peer, machine)))
+    }
+
+    /// The parcels that wait for the first machine for which some wait.
+    fn next_parcels(&mut self, peer: &Peer) -> Option<(u8, ArrayVec<u8, DATAGRAM_LIMIT>)>
+        ensures { IsNextParcels peer.now self.old self.new (first_waited_for self.old (ready_of peer.now))
+            (option_map (λ x. (x.0, x.1.items)) result) }
+    {
+        let (machine, area) = self.carrier.take(&ready_of(peer))?;
+        let key = key_for(peer, machine);
+        Some((machine, say_parcels(&key, peer.settings().me, &area)))
+    }
+}
+
+/// Whether a datagram can be carried: it has room for what stands beside it.
+fn is_carriable(bytes: &[u8]) -> bool
+    ensures { result ≡ is_carriable bytes.now }
+{
+    HEAD <= bytes.len() && bytes.len() <= CARRIED_LIMIT
+}
+
+/// By what this machine seals what it tells, or hands on, another.
+fn key_for(peer: &Peer, machine: u8) -> Key
+    requires { can_carry peer.now machine ≡ true }
+    ensures { result ≡ with_draws peer.now machine }
+{
+    match peer.carrier_key(machine) {
+        Some(key) => key,
+        None => unreachable!(),
+    }
+}
