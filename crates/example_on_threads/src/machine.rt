@@ -64,6 +64,8 @@ pub fn the_match(me: u8) -> MatchSettings {
         silent_after: 0,
         notify_after: 0,
         stalled_after: 0,
+        // Two machines have nobody between them.
+        carries: false,
         words: 1,
     }
 }

@@ -208,6 +208,8 @@ fn the_match(me: u8) -> MatchSettings {
         silent_after: 5_000,
         notify_after: 750,
         stalled_after: 0,
+        // Two machines have nobody between them.
+        carries: false,
         words: 1,
     }
 }
