@@ -10,7 +10,7 @@ use Rattle.clap.specs.Walk.{Row, Text, rows_of}
 use Rattle.clap.specs.declared.parser.matches.ArgMatches.{ArgMatches}
 use Rattle.clap.specs.declared.parser.matches.ArgMatches.TheViews.{out-ArgMatches, out-SubCommand}
 use Rattle.clap.specs.declared.parser.matches.Found.{Found}
-use Rattle.prog_command_line.specs.Requests.{HasOptions, asked_in, asked_named, picture_in, picture_named, stop_texts}
+use Rattle.prog_command_line.specs.Requests.{HasOptions, asked_in, asked_named, picture_in, picture_named, texts_named}
 use Rattle.prog_command_line.specs.declared.request.Request.{Request}
 
 both_parts : {A X Y : Type 0} (f : A → X) (g : A → Y) (o : Option A) (x : X) (y : Y) → Some x ≡ option_map f o
@@ -39,13 +39,13 @@ asked_of_found name f = ap (asked_named name) (λ i id. first_value-rows f id i)
 pub picture_of_found : (name : Text) (f : Found) → picture_named (first_value f) ≡ picture_in (Some (name, rows_of f))
 picture_of_found name f = ap picture_named (λ i id. first_value-rows f id i)
 
--- the values of --stop, where it is given, and where it isn't
-pub some_stop_texts : (f : Found) (texts : List Text) → Some texts ≡ option_map raw_values (matched_of f (codes "stop"))
-    → stop_texts (rows_of f) ≡ texts
-some_stop_texts f texts e = ap (λ (o : Option (List Text)). unwrap_or o []) (sym (e ∙ raw_values-rows f (codes "stop")))
+-- the values of an option, where it is given, and where it isn't
+pub some_texts : (f : Found) (name : Text) (texts : List Text) → Some texts ≡ option_map raw_values (matched_of f name)
+    → texts_named name (rows_of f) ≡ texts
+some_texts f name texts e = ap (λ (o : Option (List Text)). unwrap_or o []) (sym (e ∙ raw_values-rows f name))
 
-pub no_stop_texts : (f : Found) → None ≡ option_map raw_values (matched_of f (codes "stop")) → stop_texts (rows_of f) ≡ []
-no_stop_texts f e = ap (λ (o : Option (List Text)). unwrap_or o []) (sym (e ∙ raw_values-rows f (codes "stop")))
+pub no_texts : (f : Found) (name : Text) → None ≡ option_map raw_values (matched_of f name) → texts_named name (rows_of f) ≡ []
+no_texts f name e = ap (λ (o : Option (List Text)). unwrap_or o []) (sym (e ∙ raw_values-rows f name))
 
 -- the options of a request, where the command that was met has these rows
 pub options_met : (request : Request) (name : Text) (rows : List Row) (found : Option (Text × List Row)) → Some (name, rows) ≡ found

@@ -63,10 +63,10 @@ free_number_rule name least most = record (new_rule name) {
   parser = Some (parser.Unsigned least most);
 }
 
--- --stop M:FRAME, which may be given several times
-abbrev pub stop_rule : Rule
-stop_rule = record (new_rule (codes "stop")) {
-  long = Some (codes "stop");
+-- --name VALUE, which may be given several times
+abbrev pub several_rule : Text → Rule
+several_rule name = record (new_rule name) {
+  long = Some name;
   value_names = 1;
   action = Some Append;
 }
@@ -94,7 +94,7 @@ rule_for (argument.Game games) = game_rule games
 rule_for (argument.Guesses guesses) = guesses_rule guesses
 rule_for (argument.Number name value default least most help) = number_rule name.now default.now least most
 rule_for (argument.FreeNumber name value least most help) = free_number_rule name.now least most
-rule_for argument.Stop = stop_rule
+rule_for (argument.Several name value help) = several_rule name.now
 rule_for argument.Picture = picture_rule
 rule_for (argument.Frame name help) = frame_rule name.now
 rule_for argument.Explain = explain_rule
@@ -128,7 +128,8 @@ sessions_app games guesses = with_rules line_app (
 
 abbrev pub match_app : Choices → Choices → App
 match_app games guesses = with_rules (with_rules (sessions_app games guesses) (
-    number_rule (codes "peers") (codes "2") 2 8 ∷ stop_rule ∷
+    number_rule (codes "peers") (codes "2") 2 8 ∷
+    several_rule (codes "stop") ∷ several_rule (codes "break") ∷ several_rule (codes "heal") ∷
     free_number_rule (codes "hostile") 0 (2 ^ 64 - 1) ∷ free_number_rule (codes "held") 1 8 ∷ [])) picture_rules
 
 abbrev pub synctest_app : Choices → App

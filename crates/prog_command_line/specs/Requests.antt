@@ -186,15 +186,17 @@ abbrev pub HasWorkers : Request → Type 0
 HasWorkers (request.Live input how) = (1 ≤ how.workers) × (how.workers ≤ 4)
 HasWorkers _ = ⊤
 
--- the values of --stop
-abbrev pub stop_texts : List Row → List Text
-stop_texts rows = unwrap_or (all_of (codes "stop") rows) []
+-- the values of an option that may be given several times
+abbrev pub texts_named : (name : Text) → List Row → List Text
+texts_named name rows = unwrap_or (all_of name rows) []
 
 -- the options of a match are those that the arguments name
 pub record AreAsked (rows : List Row) (options : PeersRequest) : Type 0 where
   pub machines : options.machines ≡ number_named 8 (first_of (codes "peers") rows)
   pub common : options.common ≡ options_named (λ name. first_of name rows)
-  pub stops : map (λ text. text.now) options.stops.items ≡ stop_texts rows
+  pub stops : map (λ text. text.now) options.stops.items ≡ texts_named (codes "stop") rows
+  pub breaks : map (λ text. text.now) options.breaks.items ≡ texts_named (codes "break") rows
+  pub heals : map (λ text. text.now) options.heals.items ≡ texts_named (codes "heal") rows
   pub hostile : options.hostile ≡ option_map (number_in 64) (first_of (codes "hostile") rows)
   pub held : options.held ≡ option_map (number_in 8) (first_of (codes "held") rows)
 

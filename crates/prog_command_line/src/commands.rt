@@ -3,7 +3,7 @@ ghost use Rattle.std.specs.Prelude.{◌≡◌, false, IfOk, IsOkAnd, map};
 ghost use Rattle.clap.specs.declared.builder.command.Command.TheViews.{out-Command as fields_of};
 ghost use Rattle.clap.specs.Words.{app_of, new_app, rule_of, with_subcommand};
 ghost use Rattle.prog_command_line.specs.Commands.{AreGames, AreGuesses, app_with, certify_app, line_app, live_app, match_app, play_app, sessions_app, synctest_app, with_rules};
-ghost use Rattle.prog_command_line.specs.Commands.{explain_rule, file_rule, frame_rule, free_number_rule, game_rule, guesses_rule, number_rule, picture_rule, picture_rules, rule_for, stop_rule};
+ghost use Rattle.prog_command_line.specs.Commands.{explain_rule, file_rule, frame_rule, free_number_rule, game_rule, guesses_rule, number_rule, picture_rule, picture_rules, rule_for, several_rule};
 
 use crate::help;
 use clap::builder::ValueParser;
@@ -41,6 +41,10 @@ pub const GUESSES: &str = "guesses";
 pub const PEERS: &str = "peers";
 
 pub const STOP: &str = "stop";
+
+pub const BREAK: &str = "break";
+
+pub const HEAL: &str = "heal";
 
 pub const HOSTILE: &str = "hostile";
 
@@ -82,8 +86,8 @@ pub enum Argument<'a> {
     Number(&'a str, &'a str, &'a str, u64, u64, &'a str),
     /// The same without a default: it needn't be given.
     FreeNumber(&'a str, &'a str, u64, u64, &'a str),
-    /// `--stop M:FRAME`.
-    Stop,
+    /// `--name VALUE`, which may be given several times: the name, what stands for the value in the help, and the help.
+    Several(&'a str, &'a str, &'a str),
     /// `--picture FILE`.
     Picture,
     /// `--name FRAME`, which needn't be given: the name and its help.
@@ -165,7 +169,9 @@ fn match_command<'a>(
 {
     let arguments = [
         Argument::Number(PEERS, "N", "2", 2, 8, help::PEERS),
-        Argument::Stop,
+        Argument::Several(STOP, "M:FRAME", help::STOP),
+        Argument::Several(BREAK, "A-B:FRAME", help::BREAK),
+        Argument::Several(HEAL, "A-B:FRAME", help::HEAL),
         Argument::FreeNumber(HOSTILE, "SEED", 0, u64::MAX, help::HOSTILE),
         Argument::FreeNumber(HELD, "TURNS", 1, 8, help::HELD),
     ];
@@ -281,7 +287,7 @@ fn arg_of<'a>(alloc: Global, argument: &Argument<'a>) -> Arg<'a>
         Argument::FreeNumber(name, value, least, most, help) => {
             free_number_arg(alloc, name, value, least, most, help)
         }
-        Argument::Stop => stop_arg(alloc),
+        Argument::Several(name, value, help) => several_arg(alloc, name, value, help),
         Argument::Picture => picture_arg(alloc),
         Argument::Frame(name, help) => frame_arg(alloc, name, help),
         Argument::Explain => explain_arg(alloc),
@@ -367,16 +373,16 @@ fn free_number_arg<'a>(
         .help(help)
 }
 
-/// `--stop M:FRAME`, which may be given several times.
-fn stop_arg<'a>(alloc: Global) -> Arg<'a>
-    ensures rule { rule_of result ≡ stop_rule }
+/// `--name VALUE`, which may be given several times.
+fn several_arg<'a>(alloc: Global, name: &'a str, value: &'a str, help: &'a str) -> Arg<'a>
+    ensures rule { rule_of result ≡ several_rule name.entry.now }
     ensures local { result.global ≡ false }
 {
-    Arg::new(alloc, STOP)
-        .long(STOP)
-        .value_name("M:FRAME")
+    Arg::new(alloc, name)
+        .long(name)
+        .value_name(value)
         .action(ArgAction::Append)
-        .help(help::STOP)
+        .help(help)
 }
 
 /// `--picture FILE`.

@@ -191,6 +191,10 @@ It prints, and after it the line for scripts:
 `--stop M:FRAME` has machine M go silent for ever at that frame: the others notice after some seconds, let its
 player leave, and play on.
 
+`--break A-B:FRAME` breaks the line between machines A and B: from that frame of each on, what one sends the
+other straight doesn't come. Other machines carry it then, so nobody is put out, and the match goes on.
+`--heal A-B:FRAME` mends it again. Each is given once for each line and frame, 8 times at most.
+
 With `--hostile SEED` 50 hostile datagrams come before each real one: noise, real ones with a bit
 changed, sealed for another match, or of machines that are gone, and old real ones again. The first two tables
 and the line on who agrees are the same as without. Old ones of machines that stay are heard again, so what was
@@ -215,6 +219,11 @@ pub const PEERS: &str = "How many machines there are, 2 to 8; a duel has ships f
 
 pub const STOP: &str =
     "Machine M goes silent for ever at this frame; for several machines it is given several times";
+
+pub const BREAK: &str =
+    "From this frame on nothing of A's comes to B straight, nor of B's to A; for several lines it is given several times";
+
+pub const HEAL: &str = "From this frame on the line between A and B works again";
 
 pub const HOSTILE: &str = "Hostile datagrams come too, drawn from this seed";
 

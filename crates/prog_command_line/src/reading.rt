@@ -6,11 +6,11 @@ ghost use Rattle.clap.specs.Words.{first_value, found_of, kind_of, rows_of, take
 ghost use Rattle.clap.specs.Words.{subcommand_rows_of};
 ghost use Rattle.clap.specs.declared.error.kind.ErrorKind.TheVariants.{OutOfMemory};
 ghost use Rattle.prog_command_line.specs.Commands.{rollduel_app};
-ghost use Rattle.prog_command_line.specs.Requests.{AreAsked, HasOptions, HasWorkers, asked_by, asked_in, asked_named, asked_of, frames_named, game_named, guesses_named, is_named, live_named, number_in, number_named, options_named, path_named, path_of, picture_by, picture_in, picture_of, rows_by, rows_in, stop_texts, task_named, work_named, workers_named};
+ghost use Rattle.prog_command_line.specs.Requests.{AreAsked, HasOptions, HasWorkers, asked_by, asked_in, asked_named, asked_of, frames_named, game_named, guesses_named, is_named, live_named, number_in, number_named, options_named, path_named, path_of, picture_by, picture_in, picture_of, rows_by, rows_in, task_named, texts_named, work_named, workers_named};
 
 use crate::commands::{
-    DELAY, EXPLAIN, FILE, FRAMES, GAME, GUESSES, HELD, HOLD, HOSTILE, JOBS, LATE, LOST, PEERS,
-    SEED, STOP, THRESHOLD, WORKERS, games, guesses, program_command,
+    BREAK, DELAY, EXPLAIN, FILE, FRAMES, GAME, GUESSES, HEAL, HELD, HOLD, HOSTILE, JOBS, LATE,
+    LOST, PEERS, SEED, STOP, THRESHOLD, WORKERS, games, guesses, program_command,
 };
 use crate::picture::{frame_of, option_fault, picture_of};
 use crate::request::{
@@ -134,20 +134,30 @@ pub fn is_given(found: &ArgMatches<'_>, name: &str) -> bool
 fn peers_of<'a>(alloc: Global, found: &ArgMatches<'a>) -> Result<PeersRequest<'a>, AllocError>
     ensures { IfOk result (AreAsked (rows_of (found_of found.now))) }
 {
-    let stops = stops_of(alloc, found)?;
+    let stops = texts_of(alloc, found, STOP)?;
+    let breaks = texts_of(alloc, found, BREAK)?;
+    let heals = texts_of(alloc, found, HEAL)?;
     Ok(PeersRequest {
         machines: byte_of(found, PEERS),
         common: options_of(found),
         stops,
+        breaks,
+        heals,
         hostile: hostile_of(found),
         held: held_of(found),
     })
 }
 
-fn stops_of<'a>(alloc: Global, found: &ArgMatches<'a>) -> Result<Vec<&'a str>, AllocError>
-    ensures { IfOk result (λ stops. map (λ text. text.now) stops.items ≡ stop_texts (rows_of (found_of found.now))) }
+/// The values of an option that may be given several times, in their order.
+fn texts_of<'a>(
+    alloc: Global,
+    found: &ArgMatches<'a>,
+    name: &str,
+) -> Result<Vec<&'a str>, AllocError>
+    ensures { IfOk result (λ texts. map (λ text. text.now) texts.items
+        ≡ texts_named name.now (rows_of (found_of found.now))) }
 {
-    match found.get_strs(STOP) {
+    match found.get_strs(name) {
         Some(texts) => Vec::from_slice(alloc, texts),
         None => Ok(Vec::new(alloc)),
     }

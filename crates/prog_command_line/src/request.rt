@@ -96,6 +96,10 @@ pub struct PeersRequest<'a> {
     pub common: MatchRequest,
     /// Each text of `--stop`, in their order.
     pub stops: Vec<&'a str>,
+    /// Each text of `--break`, in their order.
+    pub breaks: Vec<&'a str>,
+    /// Each text of `--heal`, in their order.
+    pub heals: Vec<&'a str>,
     /// The seed of the hostile datagrams, if there are any.
     pub hostile: Option<u64>,
     /// For how many turns words are held back at most, if they are.

@@ -12,6 +12,8 @@ returns c =
       machines = c.byte_of.ensures ∙ ap (number_named 8) (first_value-rows found (codes "peers"));
       common = c.options_of.ensures ∙ ap options_named (λ i id. first_value-rows found id i);
       stops = c.in_ok-stops.ensures;
+      breaks = c.in_ok-breaks.ensures;
+      heals = c.in_ok-heals.ensures;
       hostile = c.hostile_of.ensures ∙ ap (option_map (number_in 64)) (first_value-rows found (codes "hostile"));
       held = c.held_of.ensures ∙ ap (option_map (number_in 8)) (first_value-rows found (codes "held"));
     }
