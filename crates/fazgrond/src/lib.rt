@@ -10,6 +10,8 @@
 //!   datagrams, and says what happened ([`PeerEvent`]). The session stays the program's, and is lent to its calls.
 //!   If frames are dear, words that came are held back ([`holding`]) until another thread has run their frames: then no frame is run
 //!   again on the thread that draws.
+//!   Where the line between two of three or more machines may break, a [`Relay`] stands beside the peer: then others carry what goes
+//!   between the two.
 //! - **Beside other threads**: [`Host`] has a session, [`Link`]s that bring remote words from the network's thread, and the
 //!   workers of a [`Crew`], which run guesses ahead.
 //! - **Guesses** worth making: [`Habits`] has what was seen of a player, and chooses them. [`PlayerHabits`] chooses them by parts of
@@ -30,34 +32,105 @@
 //! The program `example_two_peers` is this loop, and `example_on_threads` the one with a host; both use this crate alone.
 #![tactic(auto)]
 
-pub use roll_branch::{Branch, Done, Job, PackedRoute, extend};
+pub use roll_branch::Branch;
+pub use roll_branch::Done;
+pub use roll_branch::Job;
+pub use roll_branch::PackedRoute;
+pub use roll_branch::extend;
 pub use roll_cert as claims;
-pub use roll_frame::{
-    Advice, Cell, Claim, Entry, Event, FRAME_LIMIT, LOG_LIMIT, PLAYER_LIMIT, Path, Profile,
-    Refusal, Reply, Row, Settings, SettingsFault,
-};
+pub use roll_frame::Advice;
+pub use roll_frame::Cell;
+pub use roll_frame::Claim;
+pub use roll_frame::Entry;
+pub use roll_frame::Event;
+pub use roll_frame::FRAME_LIMIT;
+pub use roll_frame::LOG_LIMIT;
+pub use roll_frame::PLAYER_LIMIT;
+pub use roll_frame::Path;
+pub use roll_frame::Profile;
+pub use roll_frame::Refusal;
+pub use roll_frame::Reply;
+pub use roll_frame::Row;
+pub use roll_frame::Settings;
+pub use roll_frame::SettingsFault;
 pub use roll_game as game;
-pub use roll_guess::{Guess, Habits, PartHabits, PartsRefusal, PlayerHabits, Ranking, WordParts};
+pub use roll_guess::Guess;
+pub use roll_guess::Habits;
+pub use roll_guess::PartHabits;
+pub use roll_guess::PartsRefusal;
+pub use roll_guess::PlayerHabits;
+pub use roll_guess::Ranking;
+pub use roll_guess::WordParts;
 pub use roll_held as holding;
-pub use roll_host::{Absorbed, Host, HostReply, HostRequest, LINK_LIMIT, Pumped, TURN_LIMIT};
-pub use roll_link::{Finished, LINK_ROOM, Link, LinkSender, Remote, SendFault};
-pub use roll_member::{JoinRefusal, Taken};
-pub use roll_peer::{
-    Field, Ignored, MatchSettings, OpenRefusal, OtherSession, Peer, PeerEvent, PeerRefusal,
-    Received, Stage, Stats, ends_in_roll,
-};
-pub use roll_pool::{
-    Crew, Gate, IssueFault, JOBS_OUT, OpenGate, Outcome, Owner, WORKER_LIMIT, WorkerEnd, start_all,
-};
-pub use roll_session::{
-    Call, Grafted, Heard, Log, Logged, Networked, Parts, Plan, Reached, ReplayFault, Request,
-    Session, Source, StartFault,
-};
-pub use roll_spectate::{
-    Feed, RING_ROWS, RowReceiver, RowSender, SPECTATOR_LIMIT, Spectator, SpectatorFault, open_ring,
-};
+pub use roll_host::Absorbed;
+pub use roll_host::Host;
+pub use roll_host::HostReply;
+pub use roll_host::HostRequest;
+pub use roll_host::LINK_LIMIT;
+pub use roll_host::Pumped;
+pub use roll_host::TURN_LIMIT;
+pub use roll_link::Finished;
+pub use roll_link::LINK_ROOM;
+pub use roll_link::Link;
+pub use roll_link::LinkSender;
+pub use roll_link::Remote;
+pub use roll_link::SendFault;
+pub use roll_member::JoinRefusal;
+pub use roll_member::Taken;
+pub use roll_peer::Field;
+pub use roll_peer::Ignored;
+pub use roll_peer::MatchSettings;
+pub use roll_peer::OpenRefusal;
+pub use roll_peer::OtherSession;
+pub use roll_peer::Peer;
+pub use roll_peer::PeerEvent;
+pub use roll_peer::PeerRefusal;
+pub use roll_peer::Received;
+pub use roll_peer::Stage;
+pub use roll_peer::Stats;
+pub use roll_peer::ends_in_roll;
+pub use roll_pool::Crew;
+pub use roll_pool::Gate;
+pub use roll_pool::IssueFault;
+pub use roll_pool::JOBS_OUT;
+pub use roll_pool::OpenGate;
+pub use roll_pool::Outcome;
+pub use roll_pool::Owner;
+pub use roll_pool::WORKER_LIMIT;
+pub use roll_pool::WorkerEnd;
+pub use roll_pool::start_all;
+pub use roll_relay::Heard as HeardOf;
+pub use roll_relay::Relay;
+pub use roll_session::Call;
+pub use roll_session::Grafted;
+pub use roll_session::Heard;
+pub use roll_session::Log;
+pub use roll_session::Logged;
+pub use roll_session::Networked;
+pub use roll_session::Parts;
+pub use roll_session::Plan;
+pub use roll_session::Reached;
+pub use roll_session::ReplayFault;
+pub use roll_session::Request;
+pub use roll_session::Session;
+pub use roll_session::Source;
+pub use roll_session::StartFault;
+pub use roll_spectate::Feed;
+pub use roll_spectate::RING_ROWS;
+pub use roll_spectate::RowReceiver;
+pub use roll_spectate::RowSender;
+pub use roll_spectate::SPECTATOR_LIMIT;
+pub use roll_spectate::Spectator;
+pub use roll_spectate::SpectatorFault;
+pub use roll_spectate::open_ring;
 pub use roll_state as states;
-pub use roll_synctest::{SyncTest, Verdict};
+pub use roll_synctest::SyncTest;
+pub use roll_synctest::Verdict;
 pub use roll_text as text;
-pub use roll_viewer::{LineFault, LineRefusal, LineSettings, Viewer, ViewerLine, WAITING_LIMIT};
+pub use roll_viewer::LineFault;
+pub use roll_viewer::LineRefusal;
+pub use roll_viewer::LineSettings;
+pub use roll_viewer::Viewer;
+pub use roll_viewer::ViewerLine;
+pub use roll_viewer::WAITING_LIMIT;
 pub use roll_wire::DATAGRAM_LIMIT;

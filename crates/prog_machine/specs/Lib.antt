@@ -5,3 +5,4 @@ pub mod Over
 pub mod Pressing
 pub mod Stops
 pub mod Waiting
+pub mod Lines

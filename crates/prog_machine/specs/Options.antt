@@ -1,8 +1,8 @@
 -- What a match of several machines is played with, and why one isn't played.
-use Rattle.std.specs.Prelude.{ℕ, Bool, true, false, not, ◌||◌, nat_le, nat_lt, Option, Some, None, is_none, if◌then◌else◌, slice_get}
+use Rattle.std.specs.Prelude.{ℕ, Bool, true, false, not, ◌&&◌, ◌||◌, nat_le, nat_lt, Option, Some, None, is_none, is_some, if◌then◌else◌, slice_get, slice_index_or}
 use Rattle.std.specs.Int.{is_in_range}
-use Rattle.std.specs.List.{find, list_any, range_with_len}
-use Rattle.std.specs.Option.{option_map_or}
+use Rattle.std.specs.List.{filter, find, list_any, range_with_len}
+use Rattle.std.specs.Option.{option_map_or, option_or}
 use Rattle.prog_sides.specs.declared.options.Guesses.{Guesses}
 use Rattle.prog_sides.specs.declared.options.Guesses.TheVariants as guesses
 use Rattle.prog_parts.specs.declared.ending.GameName.{GameName}
@@ -11,7 +11,9 @@ use Rattle.roll_frame.specs.Settings.{most_players, most_threshold}
 use Rattle.roll_frame.specs.declared.profile.Profile.TheVariants.{Ggpo, Wide}
 use Rattle.roll_mesh.specs.declared.limits.TheConstants.{MACHINE_LIMIT}
 use Rattle.prog_machine.specs.declared.options.PeersFault.{PeersFault}
-use Rattle.prog_machine.specs.declared.options.PeersFault.TheVariants.{Machines, Ships, Threshold, Held, NobodyStays, NoMachine, Frame}
+use Rattle.prog_machine.specs.declared.options.PeersFault.TheVariants.{Machines, Ships, Threshold, Held, NobodyStays, NoMachine, Frame, HeldLines, NoLine}
+use Rattle.prog_machine.specs.Lines.{is_odd_line, Lines}
+use Rattle.prog_machine.specs.declared.lines.LineAt.{LineAt}
 use Rattle.prog_machine.specs.declared.options.PeersOptions.{PeersOptions}
 use Rattle.prog_machine.specs.declared.options.TheConstants.{SHIP_LIMIT}
 
@@ -68,6 +70,22 @@ abbrev pub stop_fault_of : PeersOptions → Option ℕ → Option PeersFault
 stop_fault_of options None = None
 stop_fault_of options (Some machine) = Some (stop_fault_at options machine)
 
+-- whether any line breaks
+abbrev pub breaks_lines : PeersOptions → Bool
+breaks_lines options = is_some (slice_index_or options.breaks 0 None)
+
+-- the first of these lines that isn't there
+abbrev pub odd_line_in : Lines → (machines : ℕ) → Option LineAt
+odd_line_in lines machines =
+    slice_index_or (filter (λ line. option_map_or (is_odd_line machines) line false) lines) 0 None
+
+abbrev pub odd_line_of : PeersOptions → Option LineAt
+odd_line_of options = option_or (odd_line_in options.breaks options.machines) (odd_line_in options.heals options.machines)
+
+abbrev pub line_fault_of : Option LineAt → Option PeersFault → Option PeersFault
+line_fault_of None other = other
+line_fault_of (Some line) other = Some (NoLine line.one line.other)
+
 -- why no match is played with these options: the first of these that holds
 abbrev pub fault_of : PeersOptions → Option PeersFault
 fault_of options =
@@ -76,4 +94,5 @@ fault_of options =
     else (if has_odd_threshold options then Some (Threshold (threshold_for options.machines) options.machines)
     else (if has_odd_turns options.held then Some Held
     else (if not (has_staying options) then Some NobodyStays
-    else stop_fault_of options (odd_stop_of options)))))
+    else (if breaks_lines options && is_some options.held then Some HeldLines
+    else line_fault_of (odd_line_of options) (stop_fault_of options (odd_stop_of options)))))))

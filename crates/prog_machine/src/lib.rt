@@ -5,6 +5,7 @@ mod claims;
 mod digest;
 mod enemy;
 mod guessing;
+mod lines;
 mod machine;
 mod options;
 mod other;
@@ -12,6 +13,7 @@ mod settings;
 mod stops;
 
 pub use claims::Claims;
+pub use lines::{LINE_LIMIT, LineAt, Lines, read_lines};
 pub use machine::{Counts, Machine};
 pub use options::{PeersFault, PeersOptions};
 pub use stops::read_stops;

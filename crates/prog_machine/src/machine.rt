@@ -18,16 +18,22 @@ use crate::guessing::guess_best;
 use crate::options::PeersOptions;
 use crate::other::Other;
 use crate::settings::match_settings;
+use arrayvec::ArrayVec;
 use prog_holding::{Holding, hand_over, hear, note_settled, send, take_turn};
 use prog_observer::{Observer, has_rolled};
 use prog_sides::{Engines, drawn, word_at};
 use roll_frame::{Refusal, Settings, SettingsFault};
 use roll_game::Shown;
 use roll_mesh::MACHINE_LIMIT;
-use roll_peer::{Ignored, MatchSettings, OpenRefusal, Peer, PeerEvent, Received};
+use roll_peer::{Ignored, MatchSettings, OpenRefusal, OtherSession, Peer, PeerEvent};
+use roll_relay::Relay;
 use roll_session::Session;
 use roll_simnet::{Draws, Letter, Network, Route};
-use std::alloc::Global;
+use roll_wire::DATAGRAM_LIMIT;
+use std::alloc::{AllocError, Global};
+
+/// The bytes of a datagram.
+type Bytes = ArrayVec<u8, DATAGRAM_LIMIT>;
 
 /// The number of the stream from which the words of machine 0 are drawn; the others follow.
 const FIRST_STREAM: u64 = 16;
@@ -78,6 +84,8 @@ pub struct Machine<G: Shown> {
     enemy: Option<Enemy>,
     /// The words of others that it holds back from its session, if it holds any back.
     pub holding: Option<Holding>,
+    /// What it carries for others, and has carried, if lines break.
+    relay: Option<Relay>,
     /// What it saw of the other players, if it guesses their words.
     others: Vec<Other>,
     /// What was seen of its session.
@@ -123,9 +131,10 @@ impl<G: Shown + Drop> Machine<G> {
             helper,
         } = engines;
         match start(alloc, options, me, settings, game, opening) {
-            Ok((session, peer)) => Ok(Machine {
+            Ok((session, Line { peer, relay })) => Ok(Machine {
                 session,
                 peer,
+                relay,
                 helper,
                 me,
                 words,
@@ -234,24 +243,31 @@ impl<G: Shown + Drop> Machine<G> {
     fn receive(&mut self, bytes: &[u8], now: u32) -> Result<bool, Refusal>
         ensures { self.new.me ≡ self.old.me }
     {
-        match self.take(bytes, now)? {
-            Ok(_) => Ok(true),
-            Err(Ignored::OtherSession) => Err(Refusal::InvalidRequest),
-            Err(_) => Ok(false),
+        let ignored = match &mut self.relay {
+            Some(relay) => relay
+                .receive(&mut self.peer, &mut self.session, bytes, now)
+                .err(),
+            None => self.take(bytes, now)?,
+        };
+        match ignored {
+            None => Ok(true),
+            Some(Ignored::OtherSession) => Err(Refusal::InvalidRequest),
+            Some(_) => Ok(false),
         }
     }
 
-    /// Hears bytes, and says what came of them.
-    fn take(&mut self, bytes: &[u8], now: u32) -> Result<Result<Received, Ignored>, Refusal>
+    /// Hears bytes where no line breaks, and says why they weren't heard, if so.
+    fn take(&mut self, bytes: &[u8], now: u32) -> Result<Option<Ignored>, Refusal>
         ensures { self.new.me ≡ self.old.me }
     {
-        hear(
+        let heard = hear(
             &mut self.holding,
             &mut self.peer,
             &mut self.session,
             bytes,
             now,
-        )
+        )?;
+        Ok(heard.err())
     }
 
     /// Hears what its enemy makes, if it has one.
@@ -264,14 +280,20 @@ impl<G: Shown + Drop> Machine<G> {
         let gone = who_is_gone(&self.peer);
         for _ in 0..HOSTILE {
             let trick = enemy.make(&gone)?;
-            let heard = hear(
-                &mut self.holding,
-                &mut self.peer,
-                &mut self.session,
-                enemy.bytes(),
-                now,
-            )?;
-            self.counts.note_hostile(trick, heard.is_ok());
+            let heard = match &mut self.relay {
+                Some(relay) => relay
+                    .receive(&mut self.peer, &mut self.session, enemy.bytes(), now)
+                    .is_ok(),
+                None => hear(
+                    &mut self.holding,
+                    &mut self.peer,
+                    &mut self.session,
+                    enemy.bytes(),
+                    now,
+                )?
+                .is_ok(),
+            };
+            self.counts.note_hostile(trick, heard);
         }
         Ok(())
     }
@@ -282,7 +304,11 @@ impl<G: Shown + Drop> Machine<G> {
     {
         hand_over(&mut self.holding, &mut self.session)?;
         self.press()?;
-        take_turn(&mut self.holding, &mut self.peer, &mut self.session, now)
+        take_turn(&mut self.holding, &mut self.peer, &mut self.session, now)?;
+        if let Some(relay) = &mut self.relay {
+            relay.turn(&self.peer);
+        }
+        Ok(())
     }
 
     /// Has its observer note which words have come by the end of a tick, and which of them wait, if it holds words back.
@@ -441,27 +467,77 @@ impl<G: Shown + Drop> Machine<G> {
         ensures { self.new.me ≡ self.old.me }
     {
         for to in 0..options.machines {
-            self.send(network, to, tick)?;
+            if let Some(bytes) = self.made_for(to, clock(tick))? {
+                self.post(options, network, to, tick, &bytes)?;
+            }
+        }
+        self.send_carried(options, network, tick)
+    }
+
+    /// What it sends straight to a machine.
+    fn made_for(&mut self, to: u8, now: u32) -> Result<Option<Bytes>, Refusal>
+        ensures { self.new.me ≡ self.old.me }
+    {
+        match &mut self.relay {
+            Some(relay) => match relay.send(&mut self.peer, &self.session, to, now) {
+                Ok(sent) => Ok(sent),
+                Err(OtherSession) => Err(Refusal::InvalidRequest),
+            },
+            None => send(
+                &mut self.holding,
+                &mut self.peer,
+                &mut self.session,
+                to,
+                now,
+            ),
+        }
+    }
+
+    /// Sends what it carries for others, or has carried.
+    fn send_carried(
+        &mut self,
+        options: &PeersOptions,
+        network: &mut Network,
+        tick: u32,
+    ) -> Result<(), Refusal>
+        ensures { self.new.me ≡ self.old.me }
+    {
+        for _ in 0..LETTER_LIMIT {
+            let Some((to, bytes)) = self.next_carried() else {
+                return Ok(());
+            };
+            self.post(options, network, to, tick, &bytes)?;
         }
         Ok(())
     }
 
-    /// Sends to a machine.
-    fn send(&mut self, network: &mut Network, to: u8, tick: u32) -> Result<(), Refusal>
+    /// The next that goes out beside its own datagrams.
+    fn next_carried(&mut self) -> Option<(u8, Bytes)>
         ensures { self.new.me ≡ self.old.me }
     {
-        let sent = send(
-            &mut self.holding,
-            &mut self.peer,
-            &mut self.session,
-            to,
-            clock(tick),
-        )?;
-        if let Some(bytes) = sent {
-            self.counts.note_sent(bytes.len() as u64);
-            let route = Route { from: self.me, to };
-            network.send(route, tick, &bytes)?;
+        match &mut self.relay {
+            Some(relay) => relay.next(&self.peer),
+            None => None,
         }
+    }
+
+    /// Puts a datagram on the network, and counts it. On a line that is broken it is lost.
+    fn post(
+        &mut self,
+        options: &PeersOptions,
+        network: &mut Network,
+        to: u8,
+        tick: u32,
+        bytes: &[u8],
+    ) -> Result<(), Refusal>
+        ensures { self.new.me ≡ self.old.me }
+    {
+        self.counts.note_sent(bytes.len() as u64);
+        if options.is_broken(self.me, to, self.session.frame()) {
+            return Ok(());
+        }
+        let route = Route { from: self.me, to };
+        network.send(route, tick, bytes)?;
         Ok(())
     }
 }
@@ -585,6 +661,13 @@ fn plain_settings(options: &PeersOptions, player: u8) -> Result<Settings, Settin
         .with_frame_limit(options.common.frames)
 }
 
+/// The network of the match at a machine, and what it carries, if lines break.
+#[derive(Drop)]
+struct Line {
+    peer: Peer,
+    relay: Option<Relay>,
+}
+
 /// A session, and beside it the network of the match.
 fn start<G: Shown + Drop>(
     alloc: Global,
@@ -593,7 +676,7 @@ fn start<G: Shown + Drop>(
     settings: Settings,
     game: G,
     opening: G::Snapshot,
-) -> Result<(Session<G>, Peer), Refusal> {
+) -> Result<(Session<G>, Line), Refusal> {
     match Session::start(alloc, game, opening, settings) {
         Ok(session) => open(alloc, session, match_settings(options, me)),
         Err(fault) => Err(fault.why),
@@ -605,13 +688,36 @@ fn open<G: Shown + Drop>(
     alloc: Global,
     session: Session<G>,
     settings: MatchSettings,
-) -> Result<(Session<G>, Peer), Refusal> {
-    match Peer::open(alloc, &session, settings) {
-        Ok(peer) => Ok((session, peer)),
+) -> Result<(Session<G>, Line), Refusal> {
+    match line_of(alloc, &session, settings) {
+        Ok(line) => Ok((session, line)),
         Err(why) => {
             drop(session);
-            Err(refusal_of(why))
+            Err(why)
         }
+    }
+}
+
+/// The network beside a session, and what carries beside it, if the match is played so.
+fn line_of<G: Shown>(
+    alloc: Global,
+    session: &Session<G>,
+    settings: MatchSettings,
+) -> Result<Line, Refusal> {
+    let peer = match Peer::open(alloc, session, settings) {
+        Ok(peer) => peer,
+        Err(why) => return Err(refusal_of(why)),
+    };
+    let relay = relay_of(alloc, &peer)?;
+    Ok(Line { peer, relay })
+}
+
+/// What carries beside the network of a match, if it is played so.
+fn relay_of(alloc: Global, peer: &Peer) -> Result<Option<Relay>, AllocError> {
+    if peer.settings().carries {
+        Ok(Some(Relay::open(alloc, peer)?))
+    } else {
+        Ok(None)
     }
 }
 

@@ -1,8 +1,10 @@
 //! What a match of several machines is played with, and why one isn't played.
 ghost use Rattle.std.specs.Prelude.{◌≡◌, count_by};
 ghost use Rattle.std.specs.List.{range_with_len};
-ghost use Rattle.prog_machine.specs.Options.{fault_of, first_staying, has_odd_threshold, has_odd_turns, has_staying, is_odd_stop, lacks_ships, makes_guesses, odd_stop_of, stays, stop_fault_at, stop_of, threshold_for};
+ghost use Rattle.prog_machine.specs.Lines.{is_broken};
+ghost use Rattle.prog_machine.specs.Options.{breaks_lines, fault_of, first_staying, has_odd_threshold, has_odd_turns, has_staying, is_odd_stop, lacks_ships, makes_guesses, odd_line_in, odd_line_of, odd_stop_of, stays, stop_fault_at, stop_of, threshold_for};
 
+use crate::lines::{LINE_LIMIT, LineAt, Lines, is_broken};
 use prog_holding::is_turn_count;
 use prog_parts::GameName;
 use prog_sides::{Guesses, MatchOptions};
@@ -22,6 +24,10 @@ pub struct PeersOptions {
     pub common: MatchOptions,
     /// The frame at which a machine goes silent for ever, machine 0 first; none for one that stays.
     pub stops: [Option<u32>; MACHINE_LIMIT],
+    /// The lines that break, each from a frame of the machine that sends on.
+    pub breaks: Lines,
+    /// The lines that work again, each from a frame on.
+    pub heals: Lines,
     /// The seed of the hostile datagrams; none where there are no such datagrams.
     pub hostile: Option<u64>,
     /// For how many turns at most each machine holds back words of others, 1 to 8; none where it holds none back.
@@ -69,6 +75,23 @@ pub enum PeersFault {
         /// The machine.
         machine: u8,
     },
+    /// A line has another form.
+    #[error("--break and --heal take A-B:FRAME, as 0-2:30")]
+    UnreadableLine,
+    /// Too many lines are named.
+    #[error("--break and --heal are given 8 times each at most")]
+    ManyLines,
+    /// There is no such line.
+    #[error("--break {one}-{other}: there is no line between two such machines")]
+    NoLine {
+        /// The one machine.
+        one: u8,
+        /// The other.
+        other: u8,
+    },
+    /// Words aren't held back where others carry them.
+    #[error("--break isn't played with --held")]
+    HeldLines,
     /// Some machine has to stay.
     #[error("--stop: at least one machine has to stay")]
     NobodyStays,
@@ -135,6 +158,10 @@ impl PeersOptions {
             Some(PeersFault::Held)
         } else if !self.has_staying() {
             Some(PeersFault::NobodyStays)
+        } else if self.breaks_lines() && self.held.is_some() {
+            Some(PeersFault::HeldLines)
+        } else if let Some(LineAt { one, other, .. }) = self.odd_line() {
+            Some(PeersFault::NoLine { one, other })
         } else {
             let machine = self.odd_stop()?;
             Some(self.stop_fault(machine))
@@ -147,6 +174,30 @@ impl PeersOptions {
     {
         let threshold = self.common.threshold;
         threshold < 1 || u32::from(most_threshold(self.machines)) < threshold
+    }
+
+    /// Whether any line breaks: then machines carry for one another.
+    pub fn breaks_lines(&self) -> bool
+        ensures { result ≡ breaks_lines self.now }
+    {
+        self.breaks[0].is_some()
+    }
+
+    /// Whether the line from one machine to another doesn't work once the one is at a frame.
+    pub fn is_broken(&self, one: u8, other: u8, frame: u32) -> bool
+        ensures { result ≡ is_broken self.now.breaks self.now.heals one other frame }
+    {
+        is_broken(&self.breaks, &self.heals, one, other, frame)
+    }
+
+    /// The first line that is named and isn't there.
+    fn odd_line(&self) -> Option<LineAt>
+        ensures { result ≡ odd_line_of self.now }
+    {
+        match odd_line_in(&self.breaks, self.machines) {
+            Some(line) => Some(line),
+            None => odd_line_in(&self.heals, self.machines),
+        }
     }
 
     /// Whether any guesses are made.
@@ -185,6 +236,20 @@ impl PeersOptions {
             PeersFault::Frame { machine }
         }
     }
+}
+
+/// The first of these lines that isn't there.
+fn odd_line_in(lines: &Lines, machines: u8) -> Option<LineAt>
+    ensures { result ≡ odd_line_in lines.now machines }
+{
+    for place in 0..LINE_LIMIT {
+        if let Some(line) = lines[place]
+            && line.is_odd(machines)
+        {
+            return Some(line);
+        }
+    }
+    None
 }
 
 /// The greatest threshold of a session of so many players.

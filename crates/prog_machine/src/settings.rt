@@ -46,7 +46,7 @@ pub fn match_settings(options: &PeersOptions, me: u8) -> MatchSettings {
         silent_after: SILENT_AFTER,
         notify_after: NOTIFY_AFTER,
         stalled_after: 0,
-        carries: false,
+        carries: options.breaks_lines(),
         words: 1,
     }
 }

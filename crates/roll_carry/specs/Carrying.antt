@@ -7,7 +7,7 @@ use Rattle.roll_carry.specs.Mapping.{first_map, is_whole_line, looked, shows}
 use Rattle.roll_carry.specs.Spelling.{ParcelValue}
 use Rattle.roll_carry.specs.Waiting.{lane_of, waiting_with, without_first, Lane}
 use Rattle.roll_carry.specs.Ways.{next_in, with_way}
-use Rattle.roll_carry.specs.declared.limits.TheConstants.{BETWEEN, HANDED_LIMIT, MADE_AT, STEP_LIMIT, TELL_EVERY}
+use Rattle.roll_carry.specs.declared.limits.TheConstants.{BETWEEN, HANDED_LIMIT, MADE_AT, STEP_LIMIT, STRAIGHT_EVERY, TELL_EVERY}
 use Rattle.roll_carry.specs.declared.map.LineMap.{LineMap}
 
 -- the map; how many turns there were; the machines to which the map goes in this turn; who carried last for each; how many parcels of
@@ -124,7 +124,7 @@ abbrev pub is_straight_due : Carrying → (shut : List Bool) → (to : ℕ) → 
 is_straight_due here shut to =
     shows here.map to here.map.me
     || (nat_lt 0 here.map.telling
-    || ((here.turns % TELL_EVERY == to) || not (is_some (carrier_for here shut to))))
+    || ((here.turns % STRAIGHT_EVERY == to) || not (is_some (carrier_for here shut to))))
 
 -- its own datagram is carried too where a line is broken
 abbrev pub after_sent : Carrying → (shut : List Bool) → (to : ℕ) → (bytes : List ℕ) → Carrying

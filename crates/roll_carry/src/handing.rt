@@ -10,7 +10,7 @@ ghost use Rattle.std.specs.List.{slice_get};
 
 use crate::carrier::Carrier;
 use crate::datagram::Parcel;
-use crate::limits::{AREA_LIMIT, HANDED_LIMIT, MADE_AT, STEP_LIMIT, TELL_EVERY};
+use crate::limits::{AREA_LIMIT, HANDED_LIMIT, MADE_AT, STEP_LIMIT, STRAIGHT_EVERY};
 use crate::ways::{Machines, is_in};
 use arrayvec::ArrayVec;
 use roll_mesh::MACHINE_LIMIT;
@@ -22,7 +22,7 @@ impl Carrier {
     {
         self.map.shows(usize::from(to), usize::from(self.map.me))
             || self.map.telling > 0
-            || self.turns as usize % TELL_EVERY == usize::from(to)
+            || self.turns as usize % STRAIGHT_EVERY == usize::from(to)
             || self.carrier_for(shut, usize::from(to)).is_none()
     }
 

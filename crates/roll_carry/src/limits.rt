@@ -23,8 +23,11 @@ pub const CARRY_AFTER: u32 = 150;
 pub(crate) const TELL_TURNS: u8 = 16;
 /// The most datagrams that wait for one machine.
 pub(crate) const WAITING_LIMIT: usize = 4;
-/// In one turn of so many a map is told in any case, and a datagram goes straight by a line that is broken.
+/// In one turn of so many a map is told in any case.
 pub(crate) const TELL_EVERY: usize = 16;
+/// In one turn of so many a datagram goes straight by a line that is broken. The number is odd, since hellos and plays may go in turn:
+/// with an even one only the one or the other would ever go.
+pub(crate) const STRAIGHT_EVERY: usize = 17;
 /// The most parcels of one machine that are handed on in a turn.
 pub(crate) const HANDED_LIMIT: u8 = 64;
 /// Where the maker of a datagram stands in it.

@@ -48,9 +48,9 @@ first_silent peer now =
     slice_get (filter (λ m. is_here peer m && is_silent (contact_at peer m) now peer.settings.silent_after)
     (range_with_len 0 peer.settings.machines)) 0
 
--- whether this machine is cut off: somebody is silent for so long, and it doesn't hear most
+-- whether this machine is cut off: the match has begun, somebody is silent for so long, and it doesn't hear most
 abbrev pub is_cut_off : Peered → (now : ℕ) → Bool
-is_cut_off peer now = is_some (first_silent peer now) && not (hears_most peer now)
+is_cut_off peer now = peer.running && (is_some (first_silent peer now) && not (hears_most peer now))
 
 -- it is cut off at a moment: that is told as it begins, and that the match is over here once it has lasted as long again
 abbrev pub cut_off_since : (now : ℕ) → Option ℕ → Peered → Peered

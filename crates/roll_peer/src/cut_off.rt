@@ -137,11 +137,11 @@ impl Peer {
             && self.contacts[usize::from(machine)].is_silent(now, self.settings.silent_after)
     }
 
-    /// Whether somebody is silent for so long, and this machine doesn't hear most.
+    /// Whether the match has begun, somebody is silent for so long, and this machine doesn't hear most.
     fn is_cut_off(&self, now: u32) -> bool
         ensures { result ≡ is_cut_off self.now now }
     {
-        self.first_silent(now).is_some() && !self.hears_most(now)
+        self.running && self.first_silent(now).is_some() && !self.hears_most(now)
     }
 
     /// It is looked at whether this machine hears most, and told if it is cut off.

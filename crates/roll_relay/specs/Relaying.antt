@@ -21,6 +21,7 @@ use Rattle.roll_peer.specs.declared.received.Ignored.{Ignored}
 use Rattle.roll_peer.specs.declared.received.Ignored.TheVariants.{NotSealed, NoDatagram}
 use Rattle.roll_peer.specs.declared.received.Received.{Received}
 use Rattle.roll_relay.specs.declared.relay.TheConstants.{KIND_AT}
+use Rattle.roll_peer.specs.declared.received.Received.TheVariants.{Hello as HelloHeard, Play as PlayHeard, Bye as ByeHeard}
 use Rattle.roll_relay.specs.declared.heard.Heard.{Heard}
 use Rattle.roll_relay.specs.declared.heard.Heard.TheVariants.{Straight, Map, Carried}
 use Rattle.roll_session.specs.Seen.{Seen, Step}
@@ -50,6 +51,12 @@ shut_of peer = at_places (is_shut peer) nobody
 
 abbrev pub kind_of : List ℕ → ℕ
 kind_of bytes = byte_at bytes KIND_AT
+
+-- whether it shows that its sender is heard straight: a hello may be an old one, which somebody has kept
+abbrev pub is_play_or_bye : Received → Bool
+is_play_or_bye (HelloHeard sender) = false
+is_play_or_bye (PlayHeard sender taken) = true
+is_play_or_bye (ByeHeard sender) = true
 
 -- a machine was heard straight, at the moment that the peer's clock shows
 abbrev pub hearing : Peered → (machine : ℕ) → Carrying → Carrying
@@ -117,7 +124,8 @@ HearsParcels step now from old (parcel ∷ more) new =
 abbrev pub Hears : Step → (now : ℕ) → (old new : Relayed) → List ℕ → Heard → Type 0
 Hears step now old new bytes (Straight received) =
     HearsBytes step old.beside new.beside now bytes (Ok received)
-    × (new.carrying ≡ hearing new.beside.peer (sender_of bytes) old.carrying)
+    × (new.carrying ≡ (if is_play_or_bye received
+    then hearing new.beside.peer (sender_of bytes) old.carrying else old.carrying))
 Hears step now old new bytes (Map sender) =
     (sender ≡ sender_of bytes) × (new.beside ≡ old.beside)
     × ((told : List Hearing) × (map_in old.beside.peer bytes ≡ Ok told)

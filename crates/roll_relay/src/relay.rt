@@ -1,5 +1,5 @@
 //! What goes between machines whose line may be broken.
-ghost use Rattle.std.specs.Prelude.{◌≡◌, ℕ, ◌≤◌, List, length, true, Err, Ok, IfErr, IfOk, OnErr};
+ghost use Rattle.std.specs.Prelude.{◌≡◌, ℕ, ◌≤◌, List, length, true, Err, Ok, IfErr, IfOk, OnErr, if◌then◌else◌};
 ghost use Rattle.std.specs.List.{AllByRecursion};
 ghost use Rattle.roll_carry.specs.Carrying.{opened_carrying, turned};
 ghost use Rattle.roll_carry.specs.Mapping.{after_map};
@@ -10,15 +10,14 @@ ghost use Rattle.roll_mesh.specs.Machines.{is_in};
 ghost use Rattle.roll_peer.specs.Sending.{can_carry};
 ghost use Rattle.roll_peer.specs.Receiving.{byte_at, moment_of, sender_of};
 ghost use Rattle.roll_peer.specs.Requests.{HearsBytes};
-ghost use Rattle.roll_peer.specs.declared.received.Received.{Received};
-ghost use Rattle.roll_relay.specs.Relaying.{are_here, handing, hearing, is_said, kind_of, map_in, parcels_in, ready_of, shut_of, text_in, Hears, HearsParcel, HearsParcels, HoldsParcels, IsUnheard};
+ghost use Rattle.roll_relay.specs.Relaying.{are_here, handing, hearing, is_play_or_bye, is_said, kind_of, map_in, parcels_in, ready_of, shut_of, text_in, Hears, HearsParcel, HearsParcels, HoldsParcels, IsUnheard};
 
 use crate::heard::Heard;
 use arrayvec::ArrayVec;
 use roll_carry::{CARRIED, Carrier, Hearing, MAP, Parcel, first_parcel, read_map, read_parcels};
 use roll_contact::seal::unseal;
 use roll_mesh::MACHINE_LIMIT;
-use roll_peer::{Ignored, Peer};
+use roll_peer::{Ignored, Peer, Received};
 use roll_session::Networked;
 use roll_wire::DATAGRAM_LIMIT;
 use std::alloc::{AllocError, Global};
@@ -118,7 +117,8 @@ impl Relay {
         ensures heard { IfOk result (λ heard. (received : Received) × (heard ≡ Heard.Straight received)
             × HearsBytes S.step (record { session = S.seen session.old; peer = peer.old })
             (record { session = S.seen session.new; peer = peer.new }) now bytes.now (Ok received)
-            × (self.new ≡ hearing peer.new (sender_of bytes.now) self.old)) }
+            × (self.new ≡ (if is_play_or_bye received
+            then hearing peer.new (sender_of bytes.now) self.old else self.old))) }
         ensures ignored { IfErr result (λ why. HearsBytes S.step
             (record { session = S.seen session.old; peer = peer.old })
             (record { session = S.seen session.new; peer = peer.new }) now bytes.now (Err why)) }
@@ -127,11 +127,23 @@ impl Relay {
     {
         match peer.receive(session, bytes, now) {
             Ok(received) => {
-                self.carrier
-                    .heard_straight(byte_of(bytes, SENDER_AT), peer.moment());
+                self.note_straight(peer, bytes, received);
                 Ok(Heard::Straight(received))
             }
             Err(why) => Err(why),
+        }
+    }
+
+    /// What came straight was heard. A hello doesn't show that its sender is heard now: it may be an old one, which somebody has kept.
+    fn note_straight(&mut self, peer: &Peer, bytes: &[u8], received: Received)
+        ensures { self.new ≡ (if is_play_or_bye received
+            then hearing peer.now (sender_of bytes.now) self.old else self.old) }
+    {
+        match received {
+            Received::Hello { .. } => {}
+            Received::Play { .. } | Received::Bye { .. } => self
+                .carrier
+                .heard_straight(byte_of(bytes, SENDER_AT), peer.moment()),
         }
     }
 

@@ -24,6 +24,7 @@ use Rattle.prog_sides.specs.declared.options.Guesses.{Guesses}
 use Rattle.prog_sides.specs.declared.options.Guesses.TheVariants.{Best, Off}
 use Rattle.prog_sides.specs.declared.options.MatchOptions.{MatchOptions}
 use Rattle.prog_machine.specs.Options.{fault_of}
+use Rattle.prog_machine.specs.Lines.{NamesLines}
 use Rattle.prog_machine.specs.Stops.{no_stops, NamesStops}
 use Rattle.prog_machine.specs.declared.options.PeersOptions.{PeersOptions}
 use Rattle.prog_picture.specs.declared.scene.Window.{Window}
@@ -75,6 +76,8 @@ pub record IsOf (asked : PeersRequest) (options : PeersOptions) : Type 0 where
   pub machines : options.machines ≡ asked.machines
   pub common : options.common ≡ options_as asked.common
   pub stops : NamesStops no_stops (map (λ text. text.now) asked.stops.items) options.stops
+  pub breaks : NamesLines (map (λ text. text.now) asked.breaks.items) options.breaks
+  pub heals : NamesLines (map (λ text. text.now) asked.heals.items) options.heals
   pub hostile : options.hostile ≡ asked.hostile
   pub held : options.held ≡ asked.held
   pub fine : fault_of options ≡ None

@@ -15,7 +15,7 @@ use prog_command_line::{
     PictureRequest as AskedPicture, PictureWindow, Request as Asked, TextRequest as AskedText,
     TextTask,
 };
-use prog_machine::{PeersFault, PeersOptions, read_stops};
+use prog_machine::{PeersFault, PeersOptions, read_lines, read_stops};
 use prog_parts::{GameName, Task};
 use prog_picture::Window;
 use prog_sides::{Guesses, MatchOptions};
@@ -158,10 +158,14 @@ fn peers_of(asked: &PeersRequest<'_>) -> Result<PeersOptions, PeersFault>
     ensures { IfOk result (IsOf asked.now) }
 {
     let stops = read_stops(&asked.stops)?;
+    let breaks = read_lines(&asked.breaks)?;
+    let heals = read_lines(&asked.heals)?;
     let options = PeersOptions {
         machines: asked.machines,
         common: options_of(&asked.common),
         stops,
+        breaks,
+        heals,
         hostile: asked.hostile,
         held: asked.held,
     };

@@ -1,4 +1,5 @@
 use Rattle.std.proofs.Common.{◌∙◌, map, refl, subst, sym}
+use Rattle.prog_machine.specs.Lines.{NamesLines}
 use Rattle.prog_machine.specs.Stops.{no_stops, NamesStops}
 use Rattle.rollduel.proofs.command_line.peers_of.Goals as goal
 
@@ -7,6 +8,8 @@ returns-in-None c = record {
   machines = refl;
   common = c.options_of.ensures;
   stops = subst (λ texts. NamesStops no_stops (map (λ text. text.now) texts) c.in_ok-stops.stops) c.deref.ensures.value c.in_ok-stops.ensures;
+  breaks = subst (λ texts. NamesLines (map (λ text. text.now) texts) c.in_ok-breaks.breaks) c.deref-2.ensures.value c.in_ok-breaks.ensures;
+  heals = subst (λ texts. NamesLines (map (λ text. text.now) texts) c.in_ok-heals.heals) c.deref-3.ensures.value c.in_ok-heals.ensures;
   hostile = refl;
   held = refl;
   fine = sym c.fault.ensures ∙ c.in-None.is;
