@@ -1,0 +1,237 @@
+"""Worlds: what can happen to machines and lines, drawn at random."""
+import random
+
+from epochs import Terms
+from machine import Settings
+from world import Plan, RandomFates, RandomWords
+
+QUIET = 300
+OPENED = 250        # by this turn all that opened in the first turns play with each other
+
+
+def connects(down, machines):
+    """Whether the lines that aren't down lead from each of these machines to each other one."""
+    for first in machines:
+        seen, queue = {first}, [first]
+        while queue:
+            a = queue.pop()
+            for b in machines:
+                if b not in seen and (a, b) not in down:
+                    seen.add(b)
+                    queue.append(b)
+        if len(seen) < len(machines):
+            return False
+    return True
+
+
+class Scene:
+    """A world that is being drawn."""
+
+    def __init__(self, seed, kind, machines=(3, 3, 4, 4, 5, 6), turns=700, silent_after=None):
+        self.seed, self.kind, self.turns = seed, kind, turns
+        self.draw = draw = random.Random(f"{kind} {seed}")
+        self.count = draw.choice(machines)
+        self.loss, self.late = draw.choice([0, .02, .1, .25]), draw.choice([1, 3, 6, 12])
+        self.copies = draw.choice([0, .05])
+        silent_after = silent_after or draw.choice([3000, 3100, 5000])
+        self.silent_turns = silent_after * 3 // 50
+        self.settings = Settings(silent_after, 150, 1000, draw.choice([0, 0, 4000]), draw.choice([0, (1 << 32) - 3]))
+        self.happenings, self.down, self.claims = [], set(), {}
+        extra = [draw.randrange(self.count) for _ in range(draw.choice([0, 0, 1, 2]))]
+        self.owners = (list(range(self.count)) + extra)[:8]
+        self.machines = list(range(self.count))
+
+    def at(self, turn, verb, *numbers):
+        self.happenings.append((turn, verb, *numbers))
+
+    def bits(self):
+        return self.draw.randrange(1, 1 << 64)
+
+    def open_all(self, late=()):
+        """All machines open the match in the first turns, but for those that come later."""
+        for m in self.machines:
+            if m not in late:
+                self.at(self.draw.randrange(4), "open", m, self.bits())
+
+    def lines(self, turn, down):
+        """From a turn on these lines are down, and no others."""
+        for line in sorted(down - self.down):
+            self.at(turn, "down", *line)
+        for line in sorted(self.down - down):
+            self.at(turn, "up", *line)
+        self.down = set(down)
+
+    def pairs(self):
+        return [(a, b) for a in self.machines for b in self.machines if a != b]
+
+    def some_down(self, *connected, opening=False):
+        """Lines that are down, one-way or both ways, so that each of these sets of machines stays connected: while the match is
+        opened, by lines that work both ways."""
+        draw, down, pairs = self.draw, set(), self.pairs()
+        draw.shuffle(pairs)
+        want = draw.choice([1, 2, self.count, 2 * self.count, len(pairs)])
+        for a, b in pairs:
+            if len(down) >= want:
+                break
+            more = down | ({(a, b)} if draw.random() < .3 else {(a, b), (b, a)})
+            seen = more | {(b, a) for a, b in more} if opening else more
+            if all(connects(seen, machines) for machines in connected):
+                down = more
+        return down
+
+    def changes(self, first, last, stops=None):
+        """Lines come and go, so that those that work connect all that haven't stopped. A set of them stays for so long that
+        the map gets through, and clocks there and back."""
+        draw, turn, stops = self.draw, first, stops or {}
+        gap = max(60, 12 * self.late)
+        while turn < last:
+            later = turn + draw.randrange(gap, gap + 140)
+            now = [m for m in self.machines if stops.get(m, later) > turn - 20]
+            then = [m for m in self.machines if stops.get(m, later) >= later]
+            self.lines(turn, set() if draw.random() < .2 else self.some_down(now, then, opening=turn < OPENED))
+            turn = later
+
+    def plan(self):
+        """The plan of the run."""
+        owners = tuple(self.owners + [None] * (8 - len(self.owners)))
+        delays = tuple(self.draw.choice([0, 1, 2, 3]) if owner is not None else 0 for owner in owners)
+        terms = Terms(0, 0, tuple(self.machines), owners, delays, self.draw.choice([6, 8, 8]), 0)
+        fates = RandomFates(self.seed, self.loss, self.late, self.copies, self.turns)
+        happenings = sorted(self.happenings, key=lambda it: it[0])
+        quiet = max(QUIET, self.silent_turns * 5 // 2)
+        return Plan(self.kind, self.settings, terms, self.turns + quiet, happenings, fates, RandomWords(self.seed), self.claims)
+
+
+def lines(seed):
+    """Lines come and go, some one way alone; in some runs a few never work."""
+    scene = Scene(seed, "lines")
+    scene.open_all()
+    first = scene.draw.randrange(20, 80) if scene.draw.random() < .6 else 0
+    scene.changes(first, scene.turns - 200)
+    scene.claims = {"live": scene.machines}
+    return scene.plan()
+
+
+def split(seed):
+    """At one moment the lines between two groups break for good. The greater one goes on, and each of the other is cut off."""
+    scene = Scene(seed, "split")
+    draw = scene.draw
+    scene.open_all()
+    order = list(scene.machines)
+    draw.shuffle(order)
+    cut = draw.randrange(1, scene.count)
+    groups = [set(order[:cut]), set(order[cut:])]
+    down = {(a, b) for a, b in scene.pairs() if (a in groups[0]) != (b in groups[0])}
+    for group in groups:
+        for a, b in scene.pairs():
+            more = down | {(a, b), (b, a)}
+            if a < b and a in group and b in group and draw.random() < .3 and connects(more, sorted(group)):
+                down = more
+    scene.lines(draw.randrange(60, 200), down)
+    greater = max(groups, key=lambda group: (len(group), 0 in group))
+    smaller = set(scene.machines) - greater
+    scene.claims = {"live": sorted(greater), "stop": sorted(smaller), "lonely": sorted(smaller)}
+    return scene.plan()
+
+
+def stops(seed):
+    """Machines stop or leave, one after the other, and lines come and go."""
+    scene = Scene(seed, "stops")
+    draw, stopped, turn = scene.draw, {}, scene.draw.randrange(60, 200)
+    scene.open_all()
+    for m in draw.sample(scene.machines, draw.randrange(1, min(4, scene.count - 1))):
+        stopped[m] = turn
+        scene.at(turn, draw.choice(["stop", "stop", "leave"]), m)
+        turn += draw.randrange(scene.silent_turns * 3 // 2, scene.silent_turns * 2)
+    scene.turns = turn + 200
+    scene.changes(draw.randrange(20, 80), scene.turns - 200, stopped)
+    scene.claims = {"live": [m for m in scene.machines if m not in stopped], "stop": sorted(stopped)}
+    return scene.plan()
+
+
+def deaf(seed):
+    """From some moment on one machine hears nobody, and is heard. It alone is put out."""
+    scene = Scene(seed, "deaf")
+    scene.open_all()
+    one = scene.draw.choice(scene.machines)
+    scene.lines(scene.draw.randrange(60, 200), {(a, one) for a in scene.machines if a != one})
+    scene.claims = {"live": [m for m in scene.machines if m != one], "stop": [one], "lonely": [one]}
+    return scene.plan()
+
+
+def swallows(seed):
+    """One machine hands on nothing of what it should carry. Some lines never work, but there are ways round it."""
+    scene = Scene(seed, "swallows", turns=900)
+    one = scene.draw.choice(scene.machines)
+    scene.open_all()
+    scene.at(10, "swallow", one)
+    scene.lines(0, scene.some_down(scene.machines, [m for m in scene.machines if m != one], opening=True))
+    scene.claims = {"live": scene.machines}
+    return scene.plan()
+
+
+def openings(seed):
+    """Some machines come late, or stop and are opened again before all are there; some lines don't work from the start on."""
+    scene = Scene(seed, "openings", machines=(2, 3, 4, 5))
+    draw = scene.draw
+    late = draw.sample(scene.machines, draw.randrange(0, scene.count))
+    scene.open_all(late)
+    opened = {m: draw.randrange(20, 400) for m in late}
+    for m, turn in opened.items():
+        scene.at(turn, "open", m, scene.bits())
+    scene.lines(0, scene.some_down(scene.machines, opening=True) if scene.count > 2 else set())
+    early = [m for m in scene.machines if m not in late]
+    if late and draw.random() < .5:
+        one = draw.choice(early)
+        stop = draw.randrange(5, 200)
+        scene.at(stop, "stop", one)
+        scene.lines(stop, set())
+        if draw.random() < .7:
+            scene.at(stop + draw.randrange(1, 60), "open", one, scene.bits())
+        else:
+            scene.at(650, "out", draw.choice(late), one)
+        early.remove(one)
+    scene.claims = {"live": early + late}
+    return scene.plan()
+
+
+def leaps(seed):
+    """Clocks leap ahead, or programs stand still for a while without having known it."""
+    scene = Scene(seed, "leaps", machines=(2, 2, 3, 4))
+    scene.open_all()
+    for _ in range(scene.draw.randrange(1, 5)):
+        scene.at(scene.draw.randrange(100, scene.turns), "leap", scene.draw.choice(scene.machines), scene.draw.randrange(2000, 20000))
+    scene.claims = {"live": scene.machines}
+    return scene.plan()
+
+
+def stalls(seed):
+    """One machine answers and gives no words any more: it alone is put out."""
+    scene = Scene(seed, "stalls")
+    scene.open_all()
+    one = scene.draw.choice(scene.machines)
+    scene.settings = scene.settings._replace(stalled_after=2000)
+    scene.at(scene.draw.randrange(100, 300), "hang", one)
+    scene.lines(0, scene.some_down(scene.machines, [m for m in scene.machines if m != one], opening=True))
+    scene.claims = {"live": [m for m in scene.machines if m != one], "stop": [one]}
+    return scene.plan()
+
+
+def anything(seed):
+    """Lines come and go as they like, machines stop, leave, and put others out. Only what holds always is asked."""
+    scene = Scene(seed, "anything")
+    draw, turn = scene.draw, scene.draw.randrange(20, 80)
+    scene.open_all()
+    while turn < scene.turns - 200:
+        part = draw.choice([.1, .5])
+        scene.lines(turn, {line for line in scene.pairs() if draw.random() < part})
+        if draw.random() < .2:
+            scene.at(turn, "out", *draw.sample(scene.machines, 2))
+        if draw.random() < .1:
+            scene.at(turn, draw.choice(["stop", "leave"]), draw.choice(scene.machines))
+        turn += draw.randrange(5, 120)
+    scene.lines(turn, set())
+    return scene.plan()
+
+
+KINDS = {it.__name__: it for it in (lines, split, stops, deaf, swallows, openings, leaps, stalls, anything)}

@@ -1,0 +1,85 @@
+"""What is checked of each run.
+
+Always, whatever the network does:
+
+- if a player has left one machine, each that this one doesn't regard as gone has as many words of it;
+- two machines let a player leave at the same number of words, unless each regards the other as gone;
+- two machines of which neither regards the other as gone have the same settled rows;
+- nobody gives, or is told, two words for one frame, and nothing that an honest machine says is refused.
+
+By what happens in a world some machines *live*: they never stop, and working lines connect them, each way. Others *stop*: they are
+broken off for good, or leave. Of them:
+
+- nobody who lives is put out by one who lives, and who stops is put out by all who live;
+- the players of the gone leave, and frames go on at the end;
+- a word that a machine gave stands in the settled rows of those who live, at the frame that it was given for;
+- who is to find itself alone is cut off, puts nobody out, and ends.
+"""
+
+
+def broken_laws(world):
+    """The laws that a run broke, in words."""
+    machines = [m for m in world.machines.values() if m.epoch]
+    faults = set()
+    for a in machines:
+        faults |= a.faults
+        for epoch in a.epochs():
+            faults |= epoch.mesh.faults
+        for b in machines:
+            if a is not b:
+                faults |= of_two(a, b)
+    return sorted(faults | of_those_who_live(world) | of_the_lonely(world))
+
+
+def of_two(a, b):
+    """What has to hold of two machines at any time."""
+    faults = set()
+    for one in a.epochs():
+        for other in b.epochs():
+            if one.terms.id == other.terms.id:
+                faults |= of_two_meshes(one.mesh, other.mesh)
+    together = b.name in a.epoch.terms.members and a.name in b.epoch.terms.members \
+        and not a.epoch.mesh.is_gone(b.name) and not b.epoch.mesh.is_gone(a.name)
+    if together and any(a.rows[at] != b.rows[at] for at in a.rows.keys() & b.rows.keys()):
+        faults.add("LAW: together, and other settled rows")
+    return faults
+
+
+def of_two_meshes(a, b):
+    faults = set()
+    for p in a.players:
+        if a.left[p] is None:
+            continue
+        if not a.is_gone(b.me) and len(b.words[p]) != a.left[p]:
+            faults.add("LAW: who stays has as many")
+        if b.left[p] not in (None, a.left[p]) and not (a.is_gone(b.me) and b.is_gone(a.me)):
+            faults.add("LAW: they agree")
+    return faults
+
+
+def of_those_who_live(world):
+    faults = set()
+    living = [world.machines[name] for name in world.plan.claims.get("live", ())]
+    for machine in living:
+        mesh = machine.epoch.mesh
+        if machine.over or any(other is not machine and mesh.is_gone(other.name) for other in living):
+            faults.add("one who lives was put out")
+        if any(name in mesh.members and not mesh.is_gone(name) for name in world.plan.claims.get("stop", ())):
+            faults.add("one who stopped is still there")
+        if any(mesh.left[p] is None and mesh.is_orphan(p, mesh.gone) for p in mesh.players):
+            faults.add("a player doesn't leave")
+        if world.frames[machine.name][0] < world.before[machine.name] + 50:
+            faults.add("the match stands")
+    return faults
+
+
+def of_the_lonely(world):
+    faults = set()
+    lonely = world.plan.claims.get("lonely", ())
+    for name in lonely:
+        machine = world.machines[name]
+        if any(machine.epoch.mesh.is_gone(other) for other in machine.epoch.mesh.members if other not in lonely):
+            faults.add("one who is cut off puts others out")
+        if machine.why != "cut off":
+            faults.add("one who is cut off doesn't end")
+    return faults

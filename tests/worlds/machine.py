@@ -1,0 +1,312 @@
+"""A machine of a match: what it hears, its turns, and what it sends.
+
+A machine that is silent, or that could give words and gave none for `stalled_after`, is gone from then on, but only while this machine
+*hears most*: of the machines that aren't gone, itself and those of which a clock came back within the last half of `silent_after` are
+more than half; or just half, with the lowest of all among them; or there are only two. A machine of which no play was opened yet
+doesn't count at all. If a machine is silent and this one doesn't hear most, it is *cut off*: it tells its program so, and calls nobody
+gone. Once that has lasted for `silent_after`, it says bye to all that aren't gone, and ends. In the meantime its program can put the
+silent ones out itself, and go on with the others.
+
+Whoever leaves, or ends, says bye in three turns.
+"""
+from typing import NamedTuple
+
+from contact import Contact, Hello
+from epochs import Epoch
+from lines import STEPS
+from rules import holds
+import sizes
+
+HELLO, PLAY, BYE, MAP, CARRIED = "hello", "play", "bye", "map", "carried"
+BYES = 3
+LEAP = 1000
+
+
+class Settings(NamedTuple):
+    """In milliseconds; `stalled_after` is never if it is 0."""
+    silent_after: int
+    relay_after: int
+    join_after: int
+    stalled_after: int
+    first_number: int
+
+
+class Datagram:
+    """What one machine seals for another. All but hellos is sealed with both draws."""
+    __slots__ = ("epoch", "sender", "receiver", "kind", "draws", "body", "size")
+
+    def __init__(self, epoch, sender, receiver, kind, draws, body, size):
+        self.epoch, self.sender, self.receiver, self.kind = epoch, sender, receiver, kind
+        self.draws, self.body, self.size = draws, body, size
+
+
+class Machine:
+    """One opening of a program at its seat. `program` gives words and marks."""
+
+    def __init__(self, name, settings, draw, program):
+        self.name, self.settings, self.draw, self.program = name, settings, draw, program
+        self.epoch, self.old, self.running = None, None, False
+        self.contacts, self.straight_at, self.stalls = {}, {}, {}
+        self.cut_off_at, self.byes, self.over, self.why = None, 0, False, None
+        self.events, self.faults, self.refused = [], set(), 0
+        self.swallows, self.hangs = False, False
+        self.rows, self.chain = {}, []
+
+    # ---- epochs
+
+    def epochs(self):
+        """The epochs in which it speaks, the newest last."""
+        return [epoch for epoch in (self.old, self.epoch) if epoch]
+
+    def open(self, terms):
+        """It opens the match."""
+        self.epoch = Epoch(self.name, terms, self.settings.first_number)
+        self.chain.append(terms.id)
+        for machine in terms.members:
+            if machine != self.name:
+                self.contacts[machine] = Contact()
+
+    def opening(self):
+        """What its hellos say."""
+        return Hello(self.epoch.terms.id, self.draw, 0, self.settings.silent_after)
+
+    def share_gone(self):
+        """Who is gone in one epoch is gone in both."""
+        if self.old:
+            gone = self.old.mesh.gone | self.epoch.mesh.gone
+            for epoch in self.epochs():
+                epoch.mesh.gone |= gone & sum(1 << m for m in epoch.terms.members if m != self.name)
+
+    def put_out(self, machine):
+        """A machine is gone, from now on."""
+        for epoch in self.epochs():
+            if machine in epoch.terms.members and machine != self.name:
+                epoch.mesh.gone |= 1 << machine
+
+    # ---- hearing
+
+    def unseal(self, datagram):
+        """The epoch in which a datagram is opened; None if it isn't."""
+        epoch = next((it for it in self.epochs() if it.terms.id == datagram.epoch), None)
+        if epoch is None or datagram.receiver != self.name or datagram.sender not in self.contacts:
+            return None
+        if datagram.sender not in epoch.terms.members or epoch.mesh.is_gone(datagram.sender) and holds("fence"):
+            return None
+        contact = self.contacts[datagram.sender]
+        if datagram.kind != HELLO and (not contact.playing or datagram.draws != (contact.draw, self.draw)):
+            return None
+        return epoch
+
+    def receive(self, datagram, turn, now):
+        """Hears what came by the network."""
+        epoch = None if self.over else self.unseal(datagram)
+        if epoch is None:
+            return
+        if datagram.kind != HELLO:
+            self.straight_at[datagram.sender] = now
+        if datagram.kind == MAP:
+            epoch.lines.learn(datagram.body, turn)
+        elif datagram.kind == CARRIED:
+            self.hear_parcels(epoch, datagram, turn, now)
+        else:
+            self.hear(epoch, datagram, now)
+
+    def hear_parcels(self, epoch, datagram, turn, now):
+        """What was carried is for this machine, or is handed on."""
+        for parcel in datagram.body:
+            receiver, _, inner = parcel
+            if receiver != self.name:
+                if not self.swallows and not self.byes:
+                    epoch.lines.hand_on(parcel, self.heard_straight(epoch, now), epoch.mesh.gone)
+            elif inner.kind in (HELLO, PLAY, BYE):
+                found = self.unseal(inner)
+                if found:
+                    self.hear(found, inner, now)
+
+    def hear(self, epoch, datagram, now):
+        """Hears a hello, a play or a bye."""
+        sender, contact = datagram.sender, self.contacts[datagram.sender]
+        epoch.heard.add(sender)
+        if datagram.kind == HELLO:
+            if contact.hear_hello(self.opening(), datagram.body, now):
+                self.events.append(("restarted", sender))
+        elif datagram.kind == BYE:
+            self.put_out(sender)
+        else:
+            self.hear_play(epoch, contact, datagram, now)
+        self.share_gone()
+
+    def hear_play(self, epoch, contact, datagram, now):
+        packet, clocks = datagram.body
+        if packet.view.gone >> self.name & 1:
+            self.events.append(("dropped", datagram.sender))
+        if epoch.mesh.hear(packet):
+            contact.hear_play(clocks, now)
+
+    # ---- a turn
+
+    def turn(self, now):
+        """Who is silent is gone, players leave, and the match goes on by a frame."""
+        if self.over or self.byes:
+            return
+        self.look_after(now)
+        for epoch in self.epochs():
+            epoch.mesh.let_leave()
+        self.begin()
+        if self.running and not self.byes:
+            self.play()
+
+    def begin(self):
+        """The match begins once a play of each other machine that isn't gone was opened."""
+        if not self.running and all(self.contacts[m].confirmed for m in self.epoch.mesh.staying()):
+            self.running = True
+            self.events.append(("running",))
+
+    def play(self):
+        """The next frame, unless words of others are too far behind."""
+        epoch = self.epoch
+        if epoch.can_play() and not self.hangs:
+            for player in epoch.mesh.own():
+                self.give(player)
+            epoch.frame += 1
+        self.note_rows()
+
+    def give(self, player):
+        """The word of an own player for this frame."""
+        words = self.epoch.mesh.words[player]
+        if len(words) == self.epoch.frame + self.epoch.terms.delays[player]:
+            words.append((self.program.word(self, player), None))
+
+    def note_rows(self):
+        """Keeps the rows that are settled."""
+        epoch = self.epoch
+        while epoch.rows < epoch.settled():
+            self.rows[epoch.terms.base + epoch.rows] = epoch.row(epoch.rows)
+            epoch.rows += 1
+
+    # ---- who is gone
+
+    def heard_straight(self, epoch, now):
+        """The mask of the machines of an epoch that it hears straight, with its own bit."""
+        limit = now - self.settings.relay_after
+        return sum(1 << m for m in epoch.terms.members if m == self.name or self.straight_at.get(m, limit - 1) >= limit)
+
+    def is_silent(self, machine, now):
+        contact = self.contacts[machine]
+        return contact.confirmed and contact.is_silent(now, self.settings.silent_after)
+
+    def is_stalled(self, machine, now):
+        """Whether a machine has held up the match for too long. Asked in each turn."""
+        held = self.epoch.mesh.held_up_by(machine, self.epoch.terms.threshold) if self.running else None
+        words, since, seen = self.stalls.get(machine, (None, now, now))
+        if held is None or held != words or now - seen > LEAP:
+            since = now
+        self.stalls[machine] = held, since, now
+        return self.settings.stalled_after > 0 and now - since > self.settings.stalled_after
+
+    def counts_among_most(self, machine):
+        return machine == self.name or self.contacts[machine].confirmed or not holds("opened")
+
+    def hears_most(self, now):
+        """Whether it can judge who is gone."""
+        there = [m for m in self.epoch.terms.members if not self.epoch.mesh.is_gone(m) and self.counts_among_most(m)]
+        heard = [m for m in there if m == self.name or self.contacts[m].silence(now) <= self.settings.silent_after // 2]
+        return 2 * len(heard) > len(there) or 2 * len(heard) == len(there) and there[0] in heard or len(there) == 2
+
+    def look_after(self, now):
+        """Silent and stalled machines are gone, or this one is cut off."""
+        staying = self.epoch.mesh.staying()
+        silent = [m for m in staying if self.is_silent(m, now)]
+        stalled = [m for m in staying if self.is_stalled(m, now)]
+        most = (silent or stalled) and self.hears_most(now)
+        for machine in stalled if most or not holds("stalls") else []:
+            self.put_out(machine)
+        if silent and not most and holds("most"):
+            self.be_cut_off(now)
+            return
+        self.cut_off_at = None
+        for machine in silent:
+            self.put_out(machine)
+
+    def be_cut_off(self, now):
+        """It hears too few to say who is gone."""
+        if self.cut_off_at is None:
+            self.cut_off_at = now
+            self.events.append(("cut off",))
+        elif now - self.cut_off_at > self.settings.silent_after and holds("ends"):
+            self.leave("cut off")
+
+    def leave(self, why):
+        """It says bye from now on, and then it ends."""
+        if not self.byes and not self.over:
+            self.byes, self.why = BYES, why
+
+    # ---- sending
+
+    def send(self, turn, now):
+        """All that goes out in a turn: to whom, and a datagram."""
+        if self.over:
+            return []
+        out = []
+        contents = self.contents(now)
+        for epoch in self.epochs():
+            self.send_in(epoch, contents, turn, now, out)
+        self.byes -= self.byes > 0
+        self.over = self.why is not None and not self.byes
+        return out
+
+    def contents(self, now):
+        """For each other machine what goes to it: a hello, or the clocks of its plays."""
+        contents = {}
+        for machine in self.epoch.mesh.staying():
+            contact = self.contacts[machine]
+            if self.byes:
+                contents[machine] = BYE, None
+            elif contact.says_hello():
+                contents[machine] = HELLO, contact.hello(self.opening())
+            else:
+                contents[machine] = PLAY, contact.clocks(now)
+        return contents
+
+    def send_in(self, epoch, contents, turn, now, out):
+        """What goes out in one epoch."""
+        lines, gone = epoch.lines, epoch.mesh.gone
+        heard = self.heard_straight(epoch, now)
+        lines.look(heard, turn)
+        for machine in sorted(epoch.mesh.staying(), key=lambda it: not lines.is_broken(it, heard)):
+            datagram = self.datagram(epoch, machine, *contents[machine]) if machine in contents else None
+            if datagram:
+                self.send_one(lines, datagram, heard, gone, turn, out)
+            if self.contacts[machine].playing and lines.tells_map(turn):
+                entries = lines.entries()
+                out.append((machine, self.seal(epoch, machine, MAP, entries, sizes.map_size(entries))))
+        for hop, size, parcels in lines.take_waiting():
+            if self.contacts[hop].playing:
+                out.append((hop, self.seal(epoch, hop, CARRIED, parcels, size)))
+
+    def send_one(self, lines, datagram, heard, gone, turn, out):
+        """A datagram goes straight, or to a carrier, or both ways. What goes straight goes with the parcels that wait for the same
+        machine."""
+        machine = datagram.receiver
+        carrier = lines.carrier(machine, self.name, gone) if lines.is_broken(machine, heard) else None
+        if carrier is not None:
+            lines.wait(carrier, (machine, STEPS, datagram))
+        if lines.goes_straight(machine, turn, carrier):
+            parcel = machine, 0, datagram
+            if not (holds("together") and self.contacts[machine].playing and machine in lines.waiting and lines.wait(machine, parcel)):
+                out.append((machine, datagram))
+
+    def datagram(self, epoch, machine, kind, content):
+        """A hello, a play or a bye for a machine; None if that can't be made."""
+        if kind == HELLO:
+            return self.seal(epoch, machine, HELLO, content, sizes.HELLO) if epoch is self.epoch else None
+        if not self.contacts[machine].playing:
+            return None
+        if kind == BYE:
+            return self.seal(epoch, machine, BYE, None, sizes.BYE)
+        packet = epoch.mesh.tell(machine)
+        return self.seal(epoch, machine, PLAY, (packet, content), sizes.play_size(packet, content, epoch.frame))
+
+    def seal(self, epoch, machine, kind, body, size):
+        draws = None if kind == HELLO else (self.draw, self.contacts[machine].draw)
+        return Datagram(epoch.terms.id, self.name, machine, kind, draws, body, size)
