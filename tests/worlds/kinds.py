@@ -3,7 +3,7 @@ import random
 
 from epochs import Terms
 from machine import Settings
-from world import Plan, RandomFates, RandomWords
+from world import Plan, RandomFates, RandomMarks, RandomWords
 
 QUIET = 300
 OPENED = 250        # by this turn all that opened in the first turns play with each other
@@ -36,7 +36,8 @@ class Scene:
         silent_after = silent_after or draw.choice([3000, 3100, 5000])
         self.silent_turns = silent_after * 3 // 50
         self.settings = Settings(silent_after, 150, 1000, draw.choice([0, 0, 4000]), draw.choice([0, (1 << 32) - 3]))
-        self.happenings, self.down, self.claims = [], set(), {}
+        self.happenings, self.down, self.claims, self.triggers = [], set(), {}, {}
+        self.limit, self.apart, self.liar, self.quiet = None, 0, None, 0
         extra = [draw.randrange(self.count) for _ in range(draw.choice([0, 0, 1, 2]))]
         self.owners = (list(range(self.count)) + extra)[:8]
         self.machines = list(range(self.count))
@@ -62,6 +63,7 @@ class Scene:
         self.down = set(down)
 
     def pairs(self):
+        """All lines that may break."""
         return [(a, b) for a in self.machines for b in self.machines if a != b]
 
     def some_down(self, *connected, opening=False):
@@ -98,8 +100,9 @@ class Scene:
         terms = Terms(0, 0, tuple(self.machines), owners, delays, self.draw.choice([6, 8, 8]), 0)
         fates = RandomFates(self.seed, self.loss, self.late, self.copies, self.turns)
         happenings = sorted(self.happenings, key=lambda it: it[0])
-        quiet = max(QUIET, self.silent_turns * 5 // 2)
-        return Plan(self.kind, self.settings, terms, self.turns + quiet, happenings, fates, RandomWords(self.seed), self.claims)
+        quiet = max(QUIET, self.silent_turns * 5 // 2, self.quiet)
+        return Plan(self.kind, self.settings, terms, self.turns + quiet, quiet, happenings, fates, RandomWords(self.seed),
+                    RandomMarks(self.seed, self.limit, self.apart, self.liar), self.claims, self.triggers)
 
 
 def lines(seed):
@@ -172,11 +175,11 @@ def swallows(seed):
 
 def openings(seed):
     """Some machines come late, or stop and are opened again before all are there; some lines don't work from the start on."""
-    scene = Scene(seed, "openings", machines=(2, 3, 4, 5))
+    scene = Scene(seed, "openings", machines=(2, 3, 4, 5), turns=800)
     draw = scene.draw
     late = draw.sample(scene.machines, draw.randrange(0, scene.count))
     scene.open_all(late)
-    opened = {m: draw.randrange(20, 400) for m in late}
+    opened = {m: draw.choice([draw.randrange(20, 400), draw.randrange(500, 700)]) for m in late}
     for m, turn in opened.items():
         scene.at(turn, "open", m, scene.bits())
     scene.lines(0, scene.some_down(scene.machines, opening=True) if scene.count > 2 else set())
@@ -189,7 +192,7 @@ def openings(seed):
         if draw.random() < .7:
             scene.at(stop + draw.randrange(1, 60), "open", one, scene.bits())
         else:
-            scene.at(650, "out", draw.choice(late), one)
+            scene.at(750, "out", draw.choice(late), one)
         early.remove(one)
     scene.claims = {"live": early + late}
     return scene.plan()
@@ -234,4 +237,156 @@ def anything(seed):
     return scene.plan()
 
 
-KINDS = {it.__name__: it for it in (lines, split, stops, deaf, swallows, openings, leaps, stalls, anything)}
+class EpochScene(Scene):
+    """A world of a match that goes on in epochs. All lines work."""
+
+    def __init__(self, seed, kind, hard=False, machines=(2, 2, 3, 3, 4, 5), silent_after=1700):
+        super().__init__(seed, kind, machines, turns=900, silent_after=silent_after)
+        draw = self.draw
+        self.hard = hard
+        self.loss, self.late = draw.choice([0, .05, .2, .4]), draw.choice([1, 3, 8, 12])
+        if hard:
+            self.loss, self.late = draw.choice([.3, .4, .5]), draw.choice([3, 8, 12])
+        self.copies = .05
+        self.owners = list(range(self.count)) + ([draw.randrange(self.count)] if draw.random() < .3 else [])
+        self.limit, self.apart = draw.choice([None, None, 60, 150]), draw.choice([0, 3, 20])
+        self.quiet = 5 * self.silent_turns
+        self.coming = list(range(self.count, self.count + draw.choice([1, 2, 3] if hard else [0, 1, 1, 2, 3])))
+        self.stopping, self.kicked, self.comes = [], [], {}
+
+    def may_stop(self):
+        """Whether one more can stop without a word: of fewer than five machines the others hear most only of one."""
+        return len(self.stopping) + len(self.kicked) < (2 if self.count > 4 else 1)
+
+    def stop(self, likely):
+        """Somebody stops: at some time, or as an epoch closes, or just after it gave a mark."""
+        draw = self.draw
+        if not self.may_stop() or draw.random() > likely:
+            return
+        one = draw.choice([m for m in self.machines if m not in self.stopping])
+        self.stopping.append(one)
+        when = draw.choice(["time", "seam", "mark"])
+        if when == "time":
+            self.at(draw.randrange(30, 500), "stop", one)
+        elif when == "seam":
+            self.triggers.setdefault(("seam", draw.choice([1, 1, 2, 3])), []).append((draw.randrange(40), "stop", one))
+        else:
+            self.triggers.setdefault(("mark", one), []).append((draw.choice([0, 0, 1, 2, 5, 12]), "stop", one))
+
+    def kick(self):
+        """One machine puts another out, at some time or while an epoch closes."""
+        draw = self.draw
+        if self.count < 3 or not self.may_stop() or draw.random() > .4:
+            return
+        a, b = draw.sample(self.machines, 2)
+        self.kicked.append(b)
+        if draw.random() < .3:
+            self.at(draw.randrange(30, 500), "out", a, b)
+        else:
+            self.triggers.setdefault(("seam", 1), []).append((draw.randrange(25), "out", a, b))
+
+    def come(self, newcomer):
+        """A newcomer comes, perhaps for a player of somebody who stopped. One machine at least is told of it, that stays."""
+        draw = self.draw
+        steady = [m for m in self.machines if m not in self.stopping + self.kicked]
+        told = [m for m in self.machines if draw.random() < .7]
+        if not set(told) & set(steady):
+            told.append(draw.choice(steady))
+        turn = draw.randrange(20, 450)
+        player = draw.choice(self.stopping) if self.stopping and draw.random() < .6 else draw.randrange(8)
+        self.comes[newcomer] = turn
+        self.at(turn, "come", newcomer, self.bits())
+        for m in told:
+            self.at(turn, "told", m, newcomer, player)
+
+    def fill(self):
+        """All that can happen in epochs."""
+        self.open_all()
+        self.stop(.6 if not self.hard else .9)
+        self.kick()
+        for newcomer in self.coming:
+            self.come(newcomer)
+        if self.coming and self.may_stop() and self.draw.random() < .4:
+            one = self.draw.choice(self.coming)
+            self.stopping.append(one)
+            self.at(self.comes[one] + self.draw.randrange(10, 200), "stop", one)
+        live = [m for m in self.machines + self.coming if m not in self.stopping + self.kicked]
+        self.claims = {"live": live, "kicked": self.kicked}
+
+
+def epochs(seed):
+    """Epochs close and open: delays and thresholds change, newcomers come, somebody stops as an epoch closes or is put out."""
+    scene = EpochScene(seed, "epochs")
+    scene.fill()
+    scene.liar = scene.draw.choice([None, None, scene.draw.choice(scene.machines)])
+    return scene.plan()
+
+
+def hard(seed):
+    """As epochs, with more loss, more newcomers, and more who stop just after a mark."""
+    scene = EpochScene(seed, "hard", hard=True)
+    scene.fill()
+    return scene.plan()
+
+
+def parted(seed):
+    """The network splits for good while epochs go on. The greater side goes on, with its newcomers."""
+    scene = EpochScene(seed, "parted", machines=(3, 4, 5))
+    draw = scene.draw
+    scene.open_all()
+    order = list(scene.machines)
+    draw.shuffle(order)
+    cut = draw.randrange(1, scene.count)
+    groups = [set(order[:cut]), set(order[cut:])]
+    for newcomer in scene.coming:
+        scene.come(newcomer)
+        draw.choice(groups).add(newcomer)
+    everybody = scene.machines + scene.coming
+    turn = draw.randrange(40, 400)
+    for a in everybody:
+        for b in everybody:
+            if a != b and (a in groups[0]) != (b in groups[0]):
+                scene.at(turn, "down", a, b)
+    return scene.plan()
+
+
+class Everything(EpochScene):
+    """Epochs, and lines that come and go, also those of newcomers; but each has one host to which its line works."""
+
+    def __init__(self, seed):
+        super().__init__(seed, "everything", silent_after=3000)
+        self.loss, self.late = self.draw.choice([0, .02, .1]), self.draw.choice([1, 3, 6])
+        self.kept = set()
+
+    def pairs(self):
+        everybody = self.machines + self.coming
+        return [(a, b) for a in everybody for b in everybody if a != b and (a, b) not in self.kept]
+
+    def keep_hosts(self):
+        """The line of each newcomer with a host that stays works."""
+        for newcomer in self.coming:
+            host = next(a for _, verb, a, *rest in self.happenings
+                        if verb == "told" and rest[0] == newcomer and a not in self.stopping + self.kicked)
+            self.kept |= {(newcomer, host), (host, newcomer)}
+
+    def break_lines(self):
+        """Sets of lines that are down, one after the other, so that those who stay are connected, with newcomers and without."""
+        gone = set(self.stopping + self.kicked)
+        steady = [m for m in self.machines if m not in gone]
+        sets = [self.machines, steady, self.machines + self.coming, [m for m in self.machines + self.coming if m not in gone]]
+        turn = self.draw.randrange(0, 80)
+        while turn < self.turns - 200:
+            self.lines(turn, set() if self.draw.random() < .2 else self.some_down(*sets, opening=turn < OPENED))
+            turn += self.draw.randrange(12 * self.late + 60, 300)
+
+
+def everything(seed):
+    """Epochs over lines that come and go, with newcomers, one who stops, and one who is put out."""
+    scene = Everything(seed)
+    scene.fill()
+    scene.keep_hosts()
+    scene.break_lines()
+    return scene.plan()
+
+
+KINDS = {it.__name__: it for it in (lines, split, stops, deaf, swallows, openings, leaps, stalls, anything, epochs, hard, parted, everything)}

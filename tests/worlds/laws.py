@@ -20,29 +20,44 @@ broken off for good, or leave. Of them:
 def broken_laws(world):
     """The laws that a run broke, in words."""
     machines = [m for m in world.machines.values() if m.epoch]
-    faults = set()
+    faults = set(world.faults)
     for a in machines:
-        faults |= a.faults
+        faults |= a.faults | of_one(a)
         for epoch in a.epochs():
             faults |= epoch.mesh.faults
         for b in machines:
-            if a is not b:
-                faults |= of_two(a, b)
+            if a.name < b.name:
+                faults |= of_two(world, a, b)
     return sorted(faults | of_those_who_live(world) | of_the_lonely(world))
 
 
-def of_two(a, b):
+def of_one(machine):
+    """The words that a machine gave stand in the rows that it has, where they were given."""
+    given = ((machine.rows.get(at), player, word) for at, player, word in machine.promised)
+    if any(row is not None and (row[player] is None or row[player][0] != word) for row, player, word in given):
+        return {"LAW: a given word is lost"}
+    return set()
+
+
+def of_two(world, a, b):
     """What has to hold of two machines at any time."""
     faults = set()
     for one in a.epochs():
         for other in b.epochs():
             if one.terms.id == other.terms.id:
-                faults |= of_two_meshes(one.mesh, other.mesh)
-    together = b.name in a.epoch.terms.members and a.name in b.epoch.terms.members \
-        and not a.epoch.mesh.is_gone(b.name) and not b.epoch.mesh.is_gone(a.name)
-    if together and any(a.rows[at] != b.rows[at] for at in a.rows.keys() & b.rows.keys()):
+                faults |= of_two_meshes(one.mesh, other.mesh) | of_two_meshes(other.mesh, one.mesh)
+    common = [at for at in a.rows.keys() & b.rows.keys() if a.rows[at] != b.rows[at]]
+    if common and any(min(common) < world.known[id].base for id in set(a.chain) & set(b.chain)):
+        faults.add("LAW: of one id, and another past")
+    if common and are_together(a, b):
         faults.add("LAW: together, and other settled rows")
     return faults
+
+
+def are_together(a, b):
+    """Whether two machines are in the match together, as both see it."""
+    return not (a.over or b.over) and b.name in a.epoch.terms.members and a.name in b.epoch.terms.members \
+        and not a.epoch.mesh.is_gone(b.name) and not b.epoch.mesh.is_gone(a.name)
 
 
 def of_two_meshes(a, b):
@@ -58,19 +73,38 @@ def of_two_meshes(a, b):
 
 
 def of_those_who_live(world):
-    faults = set()
-    living = [world.machines[name] for name in world.plan.claims.get("live", ())]
+    faults, machines = set(), world.machines
+    names = world.plan.claims.get("live", ())
+    living = [machines[name] for name in names if is_owed(world, name)]
+    if any(machine.epoch is None for machine in living):
+        faults.add("a newcomer doesn't come in")
+    living = [machine for machine in living if machine.epoch]
+    stopped = [m.name for m in machines.values() if m.name in world.plan.claims.get("stop", ()) or m.stopped]
     for machine in living:
         mesh = machine.epoch.mesh
-        if machine.over or any(other is not machine and mesh.is_gone(other.name) for other in living):
+        if machine.over or any(mesh.is_gone(other.name) for other in living):
             faults.add("one who lives was put out")
-        if any(name in mesh.members and not mesh.is_gone(name) for name in world.plan.claims.get("stop", ())):
+        if any(name in mesh.members and not mesh.is_gone(name) for name in stopped):
             faults.add("one who stopped is still there")
         if any(mesh.left[p] is None and mesh.is_orphan(p, mesh.gone) for p in mesh.players):
             faults.add("a player doesn't leave")
-        if world.frames[machine.name][0] < world.before[machine.name] + 50:
+        if world.frames[machine.name][0] < world.before.get(machine.name, 0) + 50:
             faults.add("the match stands")
+        if any(are_together(machine, other) and not set(machine.chain[-2:]) & set(other.chain[-2:]) for other in living):
+            faults.add("together, and in other epochs")
     return faults
+
+
+def is_owed(world, name):
+    """Whether a machine that lives has to be in the match: a newcomer only if there is a player for it, and nobody was put out by a
+    call, since it may have come in at that one's side."""
+    machine = world.machines[name]
+    if not machine.newcomer:
+        return True
+    if world.plan.claims.get("kicked"):
+        return False
+    others = [m for m in world.machines.values() if m.epoch and m is not machine and not m.over]
+    return machine.epoch is not None or not any(None not in m.epoch.terms.owners for m in others)
 
 
 def of_the_lonely(world):

@@ -57,6 +57,13 @@ class Lines:
         self.known_ways, self.known_gone, self.taken_turns = {}, 0, {}
         self.waiting = {}
 
+    def follow(self, old):
+        """The masks of the epoch before. Its own number is greater than what the others begin with."""
+        own = sum(1 << m for m in self.members)
+        for machine in self.members:
+            self.hears[machine] = old.hears.get(machine, 0) & own
+        self.numbers[self.me] = (self.numbers[self.me] + 1) % NUMBERS
+
     # ---- the map
 
     def works(self, a, b):

@@ -3,21 +3,23 @@
 A machine that is silent, or that could give words and gave none for `stalled_after`, is gone from then on, but only while this machine
 *hears most*: of the machines that aren't gone, itself and those of which a clock came back within the last half of `silent_after` are
 more than half; or just half, with the lowest of all among them; or there are only two. A machine of which no play was opened yet
-doesn't count at all. If a machine is silent and this one doesn't hear most, it is *cut off*: it tells its program so, and calls nobody
+doesn't count at all; but for a newcomer all others count. If a machine is silent and this one doesn't hear most, it is *cut off*: it tells its program so, and calls nobody
 gone. Once that has lasted for `silent_after`, it says bye to all that aren't gone, and ends. In the meantime its program can put the
 silent ones out itself, and go on with the others.
 
 Whoever leaves, or ends, says bye in three turns.
 """
+import hashlib
 from typing import NamedTuple
 
 from contact import Contact, Hello
-from epochs import Epoch
+from epochs import Epoch, mask, successor
 from lines import STEPS
+from newcomers import Had, Host, Newcomer
 from rules import holds
 import sizes
 
-HELLO, PLAY, BYE, MAP, CARRIED = "hello", "play", "bye", "map", "carried"
+HELLO, PLAY, BYE, MAP, CARRIED, LINE = "hello", "play", "bye", "map", "carried", "line"
 BYES = 3
 LEAP = 1000
 
@@ -48,9 +50,11 @@ class Machine:
         self.epoch, self.old, self.running = None, None, False
         self.contacts, self.straight_at, self.stalls = {}, {}, {}
         self.cut_off_at, self.byes, self.over, self.why = None, 0, False, None
-        self.events, self.faults, self.refused = [], set(), 0
-        self.swallows, self.hangs = False, False
-        self.rows, self.chain = {}, []
+        self.events, self.faults = [], set()
+        self.swallows, self.hangs, self.stopped = False, False, False
+        self.rows, self.digests, self.chain, self.promised = {}, {}, [], []
+        self.joined, self.opened_at, self.met, self.burst = None, 0, set(), 0
+        self.host, self.newcomer, self.hosts = Host(self), None, []
 
     # ---- epochs
 
@@ -58,28 +62,80 @@ class Machine:
         """The epochs in which it speaks, the newest last."""
         return [epoch for epoch in (self.old, self.epoch) if epoch]
 
-    def open(self, terms):
+    def open(self, terms, now):
         """It opens the match."""
-        self.epoch = Epoch(self.name, terms, self.settings.first_number)
-        self.chain.append(terms.id)
-        for machine in terms.members:
-            if machine != self.name:
-                self.contacts[machine] = Contact()
+        self.enter(Epoch(self.name, terms, self.settings.first_number), now)
 
     def opening(self):
         """What its hellos say."""
         return Hello(self.epoch.terms.id, self.draw, 0, self.settings.silent_after)
 
+    def enter(self, epoch, now):
+        """It is in an epoch from now on."""
+        self.epoch, self.opened_at = epoch, now
+        self.chain.append(epoch.terms.id)
+        self.digests[epoch.terms.base] = epoch.terms.opening
+        self.met |= set(epoch.terms.members)
+        for machine in epoch.terms.members:
+            if machine != self.name:
+                self.contacts.setdefault(machine, Contact())
+        self.program.note(self)
+
+    def join(self, terms, now):
+        """A newcomer opens its first epoch."""
+        self.joined, self.running = terms.id, True
+        self.open(terms, now)
+
+    def begin_anew(self):
+        """A newcomer has seen nothing, and nobody knows it."""
+        if self.epoch and holds("drawn_anew"):
+            self.draw = int.from_bytes(hashlib.sha256(self.draw.to_bytes(8, "big")).digest()[:8], "big")
+        self.epoch, self.joined, self.cut_off_at, self.burst = None, None, None, 0
+        self.contacts, self.straight_at, self.stalls, self.met = {}, {}, {}, set()
+        self.rows, self.chain, self.promised = {}, [], []
+
+    def has_company(self):
+        """Whether somebody was heard in its epoch who isn't gone."""
+        return any(not self.epoch.mesh.is_gone(m) for m in self.epoch.heard)
+
+    def go_over(self, now):
+        """The epoch has ended: the next one opens, and as many frames are played as were past the end."""
+        old = self.epoch
+        terms = successor(old.terms, old.end, old.mark, old.mesh.left, self.digests[old.terms.base + old.end])
+        if self.name not in terms.members:
+            self.over, self.why = True, "not in the next epoch"
+            return
+        if self.old and holds("until_heard") and holds("told_on"):
+            self.faults.add("LAW: three epochs at once")
+        self.enter(Epoch(self.name, terms, self.settings.first_number, old), now)
+        self.old = old if holds("told_on") else None
+        self.faults |= old.mesh.faults
+        self.burst = old.frame - old.end
+        while self.burst and self.epoch.can_play():
+            self.burst -= 1
+            self.play_frame()
+
+    def forget(self):
+        """The old epoch is told until all that stay were heard in the new one."""
+        staying = self.epoch.mesh.staying()
+        if self.old and (all(m in self.epoch.heard for m in staying) if holds("until_heard") else self.all_have_old_words(staying)):
+            self.old = None
+
+    def all_have_old_words(self, staying):
+        mesh, end = self.old.mesh, self.old.end
+        return all(m in mesh.told and all(mesh.told[m].has[p] >= min(len(mesh.words[p]), end) for p in mesh.players)
+                   for m in staying if m in mesh.members)
+
     def share_gone(self):
         """Who is gone in one epoch is gone in both."""
-        if self.old:
+        if self.old and holds("both_gone"):
             gone = self.old.mesh.gone | self.epoch.mesh.gone
             for epoch in self.epochs():
-                epoch.mesh.gone |= gone & sum(1 << m for m in epoch.terms.members if m != self.name)
+                epoch.mesh.gone |= gone & mask(m for m in epoch.terms.members if m != self.name)
 
     def put_out(self, machine):
         """A machine is gone, from now on."""
-        for epoch in self.epochs():
+        for epoch in self.epochs() if holds("both_gone") else [self.epoch]:
             if machine in epoch.terms.members and machine != self.name:
                 epoch.mesh.gone |= 1 << machine
 
@@ -99,6 +155,9 @@ class Machine:
 
     def receive(self, datagram, turn, now):
         """Hears what came by the network."""
+        if datagram.kind == LINE:
+            self.hear_line(datagram, now)
+            return
         epoch = None if self.over else self.unseal(datagram)
         if epoch is None:
             return
@@ -110,6 +169,13 @@ class Machine:
             self.hear_parcels(epoch, datagram, turn, now)
         else:
             self.hear(epoch, datagram, now)
+
+    def hear_line(self, datagram, now):
+        """Hears what a newcomer and a host tell each other."""
+        if isinstance(datagram.body, Had):
+            self.host.hear(datagram.sender, datagram.body)
+        elif self.newcomer and not self.over:
+            self.newcomer.hear(datagram.sender, datagram.body, now)
 
     def hear_parcels(self, epoch, datagram, turn, now):
         """What was carried is for this machine, or is handed on."""
@@ -147,14 +213,14 @@ class Machine:
 
     def turn(self, now):
         """Who is silent is gone, players leave, and the match goes on by a frame."""
-        if self.over or self.byes:
+        if self.over or self.byes or self.epoch is None:
             return
         self.look_after(now)
         for epoch in self.epochs():
             epoch.mesh.let_leave()
         self.begin()
         if self.running and not self.byes:
-            self.play()
+            self.play(now)
 
     def begin(self):
         """The match begins once a play of each other machine that isn't gone was opened."""
@@ -162,27 +228,51 @@ class Machine:
             self.running = True
             self.events.append(("running",))
 
-    def play(self):
-        """The next frame, unless words of others are too far behind."""
-        epoch = self.epoch
-        if epoch.can_play() and not self.hangs:
-            for player in epoch.mesh.own():
-                self.give(player)
-            epoch.frame += 1
+    def play(self, now):
+        """The next frame, unless words of others are too far behind; and the next epoch, if this one is over."""
+        for _ in range(1 + self.burst):
+            if self.epoch.can_play() and not self.hangs:
+                self.burst = max(0, self.burst - 1)
+                self.play_frame()
         self.note_rows()
+        self.forget()
+        if self.epoch.is_over():
+            self.go_over(now)
+            self.forget()
+
+    def play_frame(self):
+        for player in self.epoch.mesh.own():
+            self.give(player)
+        self.epoch.frame += 1
 
     def give(self, player):
-        """The word of an own player for this frame."""
-        words = self.epoch.mesh.words[player]
-        if len(words) == self.epoch.frame + self.epoch.terms.delays[player]:
-            words.append((self.program.word(self, player), None))
+        """The word of an own player for this frame, unless its words are ahead."""
+        epoch, words = self.epoch, self.epoch.mesh.words[player]
+        if len(words) == epoch.frame + epoch.terms.delays[player]:
+            word = self.program.word(self, player)
+            self.promised.append((epoch.terms.base + len(words), player, word))
+            words.append((word, self.proposal()))
+
+    def proposal(self):
+        """The mark of the next word, if this machine wants something otherwise."""
+        epoch = self.epoch
+        if epoch.mark or epoch.marked:
+            return None
+        mark = self.program.mark(self, self.host.proposed())
+        epoch.marked = mark is not None
+        return mark
 
     def note_rows(self):
-        """Keeps the rows that are settled."""
+        """Keeps the rows that are settled, and reads their marks."""
         epoch = self.epoch
-        while epoch.rows < epoch.settled():
-            self.rows[epoch.terms.base + epoch.rows] = epoch.row(epoch.rows)
-            epoch.rows += 1
+        if not (holds("settled") and holds("first")):
+            epoch.read_marks_wrongly()
+        row = epoch.next_row()
+        while row is not None:
+            at = epoch.terms.base + epoch.rows
+            self.rows[at - 1] = row
+            self.digests[at] = hash((self.digests[at - 1], row))
+            row = epoch.next_row()
 
     # ---- who is gone
 
@@ -192,8 +282,16 @@ class Machine:
         return sum(1 << m for m in epoch.terms.members if m == self.name or self.straight_at.get(m, limit - 1) >= limit)
 
     def is_silent(self, machine, now):
-        contact = self.contacts[machine]
-        return contact.confirmed and contact.is_silent(now, self.settings.silent_after)
+        """Whether a machine is silent, by its clocks or since it hasn't come to this epoch."""
+        contact, waited = self.contacts[machine], now - self.opened_at
+        opening = self.epoch.terms.id == 0
+        if contact.confirmed or not opening and contact.playing and holds("early"):
+            return contact.is_silent(now, self.settings.silent_after)
+        if opening or contact.playing:
+            return False
+        if self.joined == self.epoch.terms.id:
+            return waited > self.settings.silent_after * (3 if holds("patient") else 1)
+        return waited > self.settings.join_after and holds("join")
 
     def is_stalled(self, machine, now):
         """Whether a machine has held up the match for too long. Asked in each turn."""
@@ -205,7 +303,8 @@ class Machine:
         return self.settings.stalled_after > 0 and now - since > self.settings.stalled_after
 
     def counts_among_most(self, machine):
-        return machine == self.name or self.contacts[machine].confirmed or not holds("opened")
+        newcomer = self.joined == self.epoch.terms.id and holds("all_count")
+        return machine == self.name or newcomer or self.contacts[machine].confirmed or not holds("opened")
 
     def hears_most(self, now):
         """Whether it can judge who is gone."""
@@ -247,13 +346,25 @@ class Machine:
         """All that goes out in a turn: to whom, and a datagram."""
         if self.over:
             return []
-        out = []
+        out = self.send_lines()
+        if self.epoch is None:
+            return out
         contents = self.contents(now)
         for epoch in self.epochs():
             self.send_in(epoch, contents, turn, now, out)
         self.byes -= self.byes > 0
         self.over = self.why is not None and not self.byes
         return out
+
+    def send_lines(self):
+        """What a newcomer and its hosts tell each other."""
+        if self.newcomer:
+            return [(m, self.line(m, self.newcomer.had())) for m in self.hosts if self.newcomer.is_unsure()]
+        told = [(m, self.host.tell(m)) for m in self.host.guests] if self.epoch and self.running else []
+        return [(m, self.line(m, said)) for m, said in told if said]
+
+    def line(self, machine, said):
+        return Datagram(None, self.name, machine, LINE, None, said, sizes.HEAD)
 
     def contents(self, now):
         """For each other machine what goes to it: a hello, or the clocks of its plays."""
@@ -305,7 +416,15 @@ class Machine:
         if kind == BYE:
             return self.seal(epoch, machine, BYE, None, sizes.BYE)
         packet = epoch.mesh.tell(machine)
+        if not holds("marks_told_on"):
+            packet = self.without_marks(packet)
         return self.seal(epoch, machine, PLAY, (packet, content), sizes.play_size(packet, content, epoch.frame))
+
+    def without_marks(self, packet):
+        """A packet as it would be if only their owners told marks."""
+        own = self.epoch.mesh.own()
+        return packet._replace(offers=tuple((p, first, words if p in own else tuple((value, None) for value, _ in words))
+                                            for p, first, words in packet.offers))
 
     def seal(self, epoch, machine, kind, body, size):
         draws = None if kind == HELLO else (self.draw, self.contacts[machine].draw)

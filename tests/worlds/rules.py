@@ -32,6 +32,42 @@ RULES = {
     "together": "what goes straight goes with the parcels that wait for the same machine",
     "letters": "a parcel says for whom it is in place of its datagram's first four bytes, which are always the same",
     "full": "at most four datagrams wait for one next machine",
+    # epochs
+    "settled": "a mark counts only once its row is settled",
+    "first": "the mark of the first row counts, and not that of the lowest player",
+    "void": "void marks don't count",
+    "marks_told_on": "who tells words of a gone machine on tells their marks",
+    "left_in_id": "where players left goes into the id of the next epoch",
+    "seam_gone": "who is gone is gone in the next epoch",
+    "both_gone": "who is gone in one epoch is gone in the other",
+    "given_again": "words past the end are given again",
+    "map_over": "the map of the next epoch begins with the masks of the old one",
+    "told_on": "the old epoch is told beside the new one",
+    "until_heard": "it is told until all were heard in the new one, and not until all have its words",
+    # newcomers
+    "caught_up": "a newcomer is proposed only once it has the settled rows",
+    "any_host": "a newcomer hears rows of any host",
+    "compare": "a newcomer begins anew if the digest before a host's rows is another",
+    "anew": "a newcomer begins anew if its epoch isn't told any more",
+    "unsure": "so does one that has opened an epoch and heard nobody there who isn't gone",
+    "drawn_anew": "who begins anew draws anew",
+    "join": "a newcomer that doesn't come is gone",
+    "early": "the silence of a newcomer counts before a play of it was opened",
+    "patient": "a newcomer waits longer for those that it hasn't heard yet",
+    "all_count": "for a newcomer all others count among those of whom it has to hear most",
+}
+
+# In which worlds it shows that a rule was left out.
+NEEDED = {
+    "fence": ["anything"], "sets": ["anything"], "counts": ["anything"], "echo": ["openings"], "fresh": ["deaf"], "ten": ["leaps"],
+    "quarter": ["swallows", "lines"], "most": ["deaf", "split"], "stalls": ["split"], "opened": ["openings"], "ends": ["split"],
+    "carry": ["lines"], "one_way": ["lines"], "probe": ["lines"], "probe_news": ["lines"], "no_carrier": ["openings", "lines"],
+    "numbers": ["lines"], "own_entry": ["openings"], "news": ["lines"], "again": ["lines"], "in_turn": ["swallows"],
+    "pass_over": ["swallows"], "sure": ["lines"], "steps": ["lines"], "packed": ["lines"], "together": ["lines"], "full": ["lines"],
+    "settled": ["hard"], "first": ["hard"], "void": ["epochs"], "marks_told_on": ["hard"], "left_in_id": ["hard", "parted"],
+    "seam_gone": ["hard"], "both_gone": ["hard"], "given_again": ["epochs"], "map_over": ["everything"], "told_on": ["hard"],
+    "until_heard": ["hard"], "caught_up": ["hard"], "any_host": ["hard"], "compare": ["hard"], "anew": ["hard"], "unsure": ["hard"],
+    "drawn_anew": ["hard"], "join": ["epochs"], "early": ["hard"], "patient": ["hard"], "all_count": ["hard", "parted"],
 }
 
 left_out = set()

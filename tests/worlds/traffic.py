@@ -3,7 +3,6 @@ import random
 
 from kinds import Scene
 from sizes import UDP
-from rules import left_out
 from world import World
 
 FIRST, LAST = 300, 600
@@ -46,6 +45,3 @@ def traffic():
             print(f"{machines} machines, {name:18} machine 0 {rate[0]:7,}  1 {rate[1]:7,}  2 {rate[2]:7,}  3 {rate[3]:7,}  all {sum(rate):9,}"
                   f"  {sum(rate) / whole:.2f}", flush=True)
 
-
-if __name__ == "__main__":
-    traffic()

@@ -8,10 +8,9 @@ import random
 from collections import Counter
 from dataclasses import dataclass, field
 
-from epochs import Terms
+from epochs import FORGERS, Mark, Terms
 from machine import Machine, Settings
-
-NOBODY = None
+from newcomers import Newcomer
 
 
 def moment(turn):
@@ -26,10 +25,13 @@ class Plan:
     settings: Settings
     terms: Terms
     turns: int
+    quiet: int
     happenings: list
     fates: object
     words: object
+    marks: object
     claims: dict = field(default_factory=dict)
+    triggers: dict = field(default_factory=dict)
 
 
 class RandomFates:
@@ -56,11 +58,31 @@ class RandomWords:
     def __init__(self, seed, values=4):
         self.seed, self.values, self.players = seed, values, {}
 
-    def next(self, machine, player):
+    def next(self, _turn, machine, player):
         """The next word of a player, or None if it is the one before."""
         key = machine, player
         draw = self.players.get(key) or self.players.setdefault(key, random.Random(f"{self.seed} {machine} {player}"))
         return draw.randrange(self.values) if draw.random() < .3 else None
+
+
+class RandomMarks:
+    """Marks for newcomers that have caught up, and once an epoch is long enough. One machine may give marks that are void."""
+
+    def __init__(self, seed, limit, apart, liar):
+        self.draw, self.limit, self.apart, self.liar = random.Random(f"marks {seed}"), limit, apart, liar
+
+    def next(self, _turn, machine, guest):
+        """The mark of a machine's next word; None if it wants nothing."""
+        draw, epoch = self.draw, machine.epoch
+        if machine.name == self.liar and draw.random() < .02:
+            return draw.choice([Mark(None, (), ((draw.choice(epoch.mesh.players), 9),), 0), Mark(None, (), (), 16),
+                                Mark(FORGERS, (0,), (), 0), Mark(99, (), (), 0)])
+        long = self.limit and epoch.frame > self.limit + machine.name * self.apart
+        if not guest and not long:
+            return None
+        newcomer, player = guest or (None, None)
+        delays = tuple((p, draw.choice([0, 1, 2, 3])) for p in epoch.mesh.own() if draw.random() < .3)
+        return Mark(newcomer, () if newcomer is None else (player,), delays, draw.choice([0, 6, 8]))
 
 
 class World:
@@ -72,19 +94,44 @@ class World:
         self.down, self.flight, self.sent = set(), {}, Counter()
         self.log, self.held, self.leaps = [], {}, Counter()
         self.frames, self.longest, self.silence = {}, 0, 0
-        self.bytes = Counter()
-        self.counted = range(0)
+        self.bytes, self.counted = Counter(), range(0)
+        self.known, self.faults, self.hosts, self.before = {}, set(), {}, {}
+        self.schedule = {}
+        for turn, *happening in plan.happenings:
+            self.schedule.setdefault(turn, []).append(happening)
 
     # ---- the program of each machine
 
     def word(self, machine, player):
         """The word that a program gives."""
         key = machine.name, player
-        word = self.plan.words.next(*key)
+        word = self.plan.words.next(self.turn, *key)
         if word is not None and word != self.held.get(key, 0):
             self.held[key] = word
             self.log.append((self.turn, "word", *key, word))
         return self.held.get(key, 0)
+
+    def mark(self, machine, guest):
+        """The mark that a program puts on its next word; None if it wants nothing otherwise."""
+        mark = self.plan.marks.next(self.turn, machine, guest)
+        if mark:
+            self.log.append((self.turn, "mark", machine.name, *mark.numbers()))
+            self.trigger("mark", machine.name)
+        return mark
+
+    def note(self, machine):
+        """A machine has opened an epoch: all that open one of one id open it alike."""
+        terms = machine.epoch.terms
+        if self.known.setdefault(terms.id, terms) != terms:
+            self.faults.add("LAW: of one id, and not opened alike")
+
+    # ---- what comes of something that happened
+
+    def trigger(self, kind, key):
+        """Something is to happen so many turns after this."""
+        for later, *happening in self.plan.triggers.pop((kind, key), ()):
+            if self.turn + later < self.plan.turns - 2 * self.plan.quiet // 3:
+                self.schedule.setdefault(self.turn + max(1, later), []).append(happening)
 
     # ---- the network
 
@@ -115,19 +162,34 @@ class World:
         if name in self.machines:
             self.ended.append(self.machines[name])
         machine = Machine(name, self.plan.settings, draw, self)
-        machine.open(self.plan.terms)
         self.machines[name] = machine
+        machine.open(self.plan.terms, self.now(name))
+
+    def do_come(self, name, draw):
+        """A newcomer begins to listen to its lines."""
+        machine = Machine(name, self.plan.settings, draw, self)
+        machine.newcomer, machine.hosts = Newcomer(machine), self.hosts.setdefault(name, [])
+        self.machines[name] = machine
+
+    def do_told(self, name, newcomer, player):
+        """A machine is told of a newcomer, and has a line with it."""
+        self.machines[name].host.told_of(newcomer, player)
+        self.hosts.setdefault(newcomer, []).append(name)
 
     def do_stop(self, name):
         """A machine's program stops, without a word."""
-        self.machines[name].over = True
+        if name in self.machines:
+            self.machines[name].over = self.machines[name].stopped = True
 
     def do_leave(self, name):
+        """A machine's program leaves, and says bye."""
+        self.machines[name].stopped = True
         self.machines[name].leave("left")
 
     def do_out(self, name, other):
         """A machine's program puts another out."""
-        self.machines[name].put_out(other)
+        if self.machines[name].epoch:
+            self.machines[name].put_out(other)
 
     def do_down(self, a, b):
         """The line from a to b is down."""
@@ -161,9 +223,17 @@ class World:
             if not machine.over:
                 machine.turn(self.now(name))
                 self.note_frame(machine)
+        self.look_for_seams()
         for name, machine in self.machines.items():
             for to, datagram in machine.send(self.turn, self.now(name)):
                 self.send(name, to, datagram)
+
+    def look_for_seams(self):
+        """What is to happen once so many epochs are closing."""
+        if self.plan.triggers:
+            seams = max((len(m.chain) - 1 + (m.epoch is not None and m.epoch.end is not None) for m in self.machines.values()), default=0)
+            for at in range(1, seams + 1):
+                self.trigger("seam", at)
 
     def note_frame(self, machine):
         """For how long frames stand."""
@@ -179,19 +249,16 @@ class World:
         live = self.plan.claims.get("live", ())
         for a in live:
             machine = self.machines.get(a)
-            if machine and machine.running:
-                self.silence = max([self.silence] + [machine.contacts[b].silence(self.now(a)) for b in live
-                                                     if b != a and not machine.epoch.mesh.is_gone(b)])
+            if machine and machine.running and machine.epoch:
+                self.silence = max([self.silence] + [machine.contacts[b].silence(self.now(a)) for b in machine.epoch.mesh.staying()
+                                                     if b in live and machine.contacts[b].confirmed])
 
     def run(self):
-        """All turns. What was broken of the laws."""
-        by_turn = {}
-        for turn, *happening in self.plan.happenings:
-            by_turn.setdefault(turn, []).append(happening)
+        """All turns."""
         for self.turn in range(self.plan.turns):
             if self.turn == self.plan.turns - 100:
                 self.before = {name: frame for name, (frame, _) in self.frames.items()}
-            self.step(by_turn.get(self.turn, ()))
+            self.step(self.schedule.pop(self.turn, ()))
             if self.turn % 8 == 0:
                 self.note_silence()
         return self
