@@ -1,7 +1,7 @@
 """Epochs: parts of a match with fixed machines, owners, delays and threshold.
 
 A *mark* is what a word may carry beside its number: what is to be otherwise in the next epoch. A machine that wants something
-otherwise puts one on the next word that it gives, if it has put none in this epoch and has read none in a settled row. A mark goes
+otherwise puts one on the next word that it gives, if it has put none in this epoch that isn't void, and has read none in a settled row. A mark goes
 wherever its word goes.
 
 The first settled row that has a word with a mark ends the epoch; of several in it, that of the lowest player counts. The *end* is the

@@ -45,6 +45,10 @@ class Scene:
     def at(self, turn, verb, *numbers):
         self.happenings.append((turn, verb, *numbers))
 
+    def live(self, live, stop=()):
+        """These machines live together, and these stop for them."""
+        self.claims.setdefault("groups", []).append((live, stop))
+
     def bits(self):
         return self.draw.randrange(1, 1 << 64)
 
@@ -111,12 +115,13 @@ def lines(seed):
     scene.open_all()
     first = scene.draw.randrange(20, 80) if scene.draw.random() < .6 else 0
     scene.changes(first, scene.turns - 200)
-    scene.claims = {"live": scene.machines}
+    scene.live(scene.machines)
     return scene.plan()
 
 
 def split(seed):
-    """At one moment the lines between two groups break for good. The greater one goes on, and each of the other is cut off."""
+    """At one moment the lines between two groups break for good. The greater one goes on, and each of the other is cut off; in some
+    runs its programs put the others out then, and it goes on too."""
     scene = Scene(seed, "split")
     draw = scene.draw
     scene.open_all()
@@ -133,7 +138,12 @@ def split(seed):
     scene.lines(draw.randrange(60, 200), down)
     greater = max(groups, key=lambda group: (len(group), 0 in group))
     smaller = set(scene.machines) - greater
-    scene.claims = {"live": sorted(greater), "stop": sorted(smaller), "lonely": sorted(smaller)}
+    scene.live(sorted(greater), sorted(smaller))
+    if draw.random() < .3:
+        scene.claims["stubborn"] = sorted(smaller)
+        scene.live(sorted(smaller), sorted(greater))
+    else:
+        scene.claims["lonely"] = sorted(smaller)
     return scene.plan()
 
 
@@ -148,7 +158,7 @@ def stops(seed):
         turn += draw.randrange(scene.silent_turns * 3 // 2, scene.silent_turns * 2)
     scene.turns = turn + 200
     scene.changes(draw.randrange(20, 80), scene.turns - 200, stopped)
-    scene.claims = {"live": [m for m in scene.machines if m not in stopped], "stop": sorted(stopped)}
+    scene.live([m for m in scene.machines if m not in stopped], sorted(stopped))
     return scene.plan()
 
 
@@ -158,7 +168,8 @@ def deaf(seed):
     scene.open_all()
     one = scene.draw.choice(scene.machines)
     scene.lines(scene.draw.randrange(60, 200), {(a, one) for a in scene.machines if a != one})
-    scene.claims = {"live": [m for m in scene.machines if m != one], "stop": [one], "lonely": [one]}
+    scene.live([m for m in scene.machines if m != one], [one])
+    scene.claims["lonely"] = [one]
     return scene.plan()
 
 
@@ -169,7 +180,19 @@ def swallows(seed):
     scene.open_all()
     scene.at(10, "swallow", one)
     scene.lines(0, scene.some_down(scene.machines, [m for m in scene.machines if m != one], opening=True))
-    scene.claims = {"live": scene.machines}
+    scene.live(scene.machines)
+    return scene.plan()
+
+
+def forges(seed):
+    """One machine hands on nothing, and says of all others that they hear everybody. It may stop the match, and puts nobody out."""
+    scene = Scene(seed, "forges", turns=900)
+    one = scene.draw.choice(scene.machines)
+    scene.open_all()
+    scene.at(100, "swallow", one)
+    scene.at(100, "forge", one)
+    scene.lines(0, scene.some_down(scene.machines, [m for m in scene.machines if m != one], opening=True))
+    scene.live(scene.machines)
     return scene.plan()
 
 
@@ -194,7 +217,7 @@ def openings(seed):
         else:
             scene.at(750, "out", draw.choice(late), one)
         early.remove(one)
-    scene.claims = {"live": early + late}
+    scene.live(early + late)
     return scene.plan()
 
 
@@ -204,7 +227,7 @@ def leaps(seed):
     scene.open_all()
     for _ in range(scene.draw.randrange(1, 5)):
         scene.at(scene.draw.randrange(100, scene.turns), "leap", scene.draw.choice(scene.machines), scene.draw.randrange(2000, 20000))
-    scene.claims = {"live": scene.machines}
+    scene.live(scene.machines)
     return scene.plan()
 
 
@@ -216,7 +239,7 @@ def stalls(seed):
     scene.settings = scene.settings._replace(stalled_after=2000)
     scene.at(scene.draw.randrange(100, 300), "hang", one)
     scene.lines(0, scene.some_down(scene.machines, [m for m in scene.machines if m != one], opening=True))
-    scene.claims = {"live": [m for m in scene.machines if m != one], "stop": [one]}
+    scene.live([m for m in scene.machines if m != one], [one])
     return scene.plan()
 
 
@@ -311,7 +334,8 @@ class EpochScene(Scene):
             self.stopping.append(one)
             self.at(self.comes[one] + self.draw.randrange(10, 200), "stop", one)
         live = [m for m in self.machines + self.coming if m not in self.stopping + self.kicked]
-        self.claims = {"live": live, "kicked": self.kicked}
+        self.live(live)
+        self.claims["kicked"] = self.kicked
 
 
 def epochs(seed):
@@ -389,4 +413,4 @@ def everything(seed):
     return scene.plan()
 
 
-KINDS = {it.__name__: it for it in (lines, split, stops, deaf, swallows, openings, leaps, stalls, anything, epochs, hard, parted, everything)}
+KINDS = {it.__name__: it for it in (lines, split, stops, deaf, swallows, forges, openings, leaps, stalls, anything, epochs, hard, parted, everything)}

@@ -13,7 +13,7 @@ broken off for good, or leave. Of them:
 - nobody who lives is put out by one who lives, and who stops is put out by all who live;
 - the players of the gone leave, and frames go on at the end;
 - a word that a machine gave stands in the settled rows of those who live, at the frame that it was given for;
-- who is to find itself alone is cut off, puts nobody out, and ends.
+- who finds itself with too few is cut off, puts nobody out, and ends, unless its program puts the others out.
 """
 
 
@@ -28,7 +28,9 @@ def broken_laws(world):
         for b in machines:
             if a.name < b.name:
                 faults |= of_two(world, a, b)
-    return sorted(faults | of_those_who_live(world) | of_the_lonely(world))
+    for live, stop in world.plan.claims.get("groups", ()):
+        faults |= of_those_who_live(world, live, stop)
+    return sorted(faults | of_the_lonely(world))
 
 
 def of_one(machine):
@@ -72,14 +74,14 @@ def of_two_meshes(a, b):
     return faults
 
 
-def of_those_who_live(world):
+def of_those_who_live(world, live, stop):
+    """What has to hold of machines that live together, for which others stop."""
     faults, machines = set(), world.machines
-    names = world.plan.claims.get("live", ())
-    living = [machines[name] for name in names if is_owed(world, name)]
+    living = [machines[name] for name in live if is_owed(world, name)]
     if any(machine.epoch is None for machine in living):
         faults.add("a newcomer doesn't come in")
     living = [machine for machine in living if machine.epoch]
-    stopped = [m.name for m in machines.values() if m.name in world.plan.claims.get("stop", ()) or m.stopped]
+    stopped = [m.name for m in machines.values() if m.name in stop or m.stopped]
     for machine in living:
         mesh = machine.epoch.mesh
         if machine.over or any(mesh.is_gone(other.name) for other in living):

@@ -83,6 +83,12 @@ class Lines:
         if heard != self.hears[self.me]:
             self.change(self.me, heard, self.numbers[self.me] + 1, turn)
 
+    def forge(self, turn):
+        """A liar says of all others that they hear everybody."""
+        for machine in self.members:
+            if machine != self.me:
+                self.change(machine, sum(1 << m for m in self.members), self.numbers[machine] + 1, turn)
+
     def entries(self):
         """What is told of the map."""
         return tuple((m, self.hears[m], self.numbers[m]) for m in self.members)

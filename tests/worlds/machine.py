@@ -13,7 +13,7 @@ import hashlib
 from typing import NamedTuple
 
 from contact import Contact, Hello
-from epochs import Epoch, mask, successor
+from epochs import Epoch, is_void, mask, successor
 from lines import STEPS
 from newcomers import Had, Host, Newcomer
 from rules import holds
@@ -51,9 +51,10 @@ class Machine:
         self.contacts, self.straight_at, self.stalls = {}, {}, {}
         self.cut_off_at, self.byes, self.over, self.why = None, 0, False, None
         self.events, self.faults = [], set()
-        self.swallows, self.hangs, self.stopped = False, False, False
+        self.swallows, self.hangs, self.forges, self.stopped = False, False, False, False
         self.rows, self.digests, self.chain, self.promised = {}, {}, [], []
-        self.joined, self.opened_at, self.met, self.burst = None, 0, set(), 0
+        self.joined, self.opened_at, self.gathered_at = None, 0, None
+        self.met, self.awaited, self.burst, self.turns = set(), set(), 0, 0
         self.host, self.newcomer, self.hosts = Host(self), None, []
 
     # ---- epochs
@@ -72,7 +73,8 @@ class Machine:
 
     def enter(self, epoch, now):
         """It is in an epoch from now on."""
-        self.epoch, self.opened_at = epoch, now
+        self.awaited = set(epoch.terms.members) - set(self.epoch.terms.members if self.epoch else ())
+        self.epoch, self.opened_at, self.gathered_at = epoch, now, None
         self.chain.append(epoch.terms.id)
         self.digests[epoch.terms.base] = epoch.terms.opening
         self.met |= set(epoch.terms.members)
@@ -153,7 +155,7 @@ class Machine:
             return None
         return epoch
 
-    def receive(self, datagram, turn, now):
+    def receive(self, datagram, now):
         """Hears what came by the network."""
         if datagram.kind == LINE:
             self.hear_line(datagram, now)
@@ -164,9 +166,9 @@ class Machine:
         if datagram.kind != HELLO:
             self.straight_at[datagram.sender] = now
         if datagram.kind == MAP:
-            epoch.lines.learn(datagram.body, turn)
+            epoch.lines.learn(datagram.body, self.turns)
         elif datagram.kind == CARRIED:
-            self.hear_parcels(epoch, datagram, turn, now)
+            self.hear_parcels(epoch, datagram, now)
         else:
             self.hear(epoch, datagram, now)
 
@@ -177,7 +179,7 @@ class Machine:
         elif self.newcomer and not self.over:
             self.newcomer.hear(datagram.sender, datagram.body, now)
 
-    def hear_parcels(self, epoch, datagram, turn, now):
+    def hear_parcels(self, epoch, datagram, now):
         """What was carried is for this machine, or is handed on."""
         for parcel in datagram.body:
             receiver, _, inner = parcel
@@ -259,7 +261,7 @@ class Machine:
         if epoch.mark or epoch.marked:
             return None
         mark = self.program.mark(self, self.host.proposed())
-        epoch.marked = mark is not None
+        epoch.marked = mark is not None and not is_void(mark, self.name, epoch.terms)
         return mark
 
     def note_rows(self):
@@ -291,7 +293,14 @@ class Machine:
             return False
         if self.joined == self.epoch.terms.id:
             return waited > self.settings.silent_after * (3 if holds("patient") else 1)
-        return waited > self.settings.join_after and holds("join")
+        gathered = self.gathered_at if holds("gathered") else self.opened_at
+        return gathered is not None and now - gathered > self.settings.join_after and holds("join")
+
+    def gather(self, now):
+        """Notes when all that were in the epoch before, and aren't gone, were heard in this one."""
+        old = [m for m in self.epoch.mesh.staying() if m not in self.awaited]
+        if self.gathered_at is None and all(m in self.epoch.heard for m in old):
+            self.gathered_at = now
 
     def is_stalled(self, machine, now):
         """Whether a machine has held up the match for too long. Asked in each turn."""
@@ -314,6 +323,7 @@ class Machine:
 
     def look_after(self, now):
         """Silent and stalled machines are gone, or this one is cut off."""
+        self.gather(now)
         staying = self.epoch.mesh.staying()
         silent = [m for m in staying if self.is_silent(m, now)]
         stalled = [m for m in staying if self.is_stalled(m, now)]
@@ -331,7 +341,7 @@ class Machine:
         """It hears too few to say who is gone."""
         if self.cut_off_at is None:
             self.cut_off_at = now
-            self.events.append(("cut off",))
+            self.program.cut_off(self, [m for m in self.epoch.mesh.staying() if self.is_silent(m, now)])
         elif now - self.cut_off_at > self.settings.silent_after and holds("ends"):
             self.leave("cut off")
 
@@ -342,16 +352,17 @@ class Machine:
 
     # ---- sending
 
-    def send(self, turn, now):
+    def send(self, now):
         """All that goes out in a turn: to whom, and a datagram."""
         if self.over:
             return []
+        self.turns += 1
         out = self.send_lines()
         if self.epoch is None:
             return out
         contents = self.contents(now)
         for epoch in self.epochs():
-            self.send_in(epoch, contents, turn, now, out)
+            self.send_in(epoch, contents, now, out)
         self.byes -= self.byes > 0
         self.over = self.why is not None and not self.byes
         return out
@@ -379,30 +390,32 @@ class Machine:
                 contents[machine] = PLAY, contact.clocks(now)
         return contents
 
-    def send_in(self, epoch, contents, turn, now, out):
+    def send_in(self, epoch, contents, now, out):
         """What goes out in one epoch."""
         lines, gone = epoch.lines, epoch.mesh.gone
         heard = self.heard_straight(epoch, now)
-        lines.look(heard, turn)
+        lines.look(heard, self.turns)
+        if self.forges:
+            lines.forge(self.turns)
         for machine in sorted(epoch.mesh.staying(), key=lambda it: not lines.is_broken(it, heard)):
             datagram = self.datagram(epoch, machine, *contents[machine]) if machine in contents else None
             if datagram:
-                self.send_one(lines, datagram, heard, gone, turn, out)
-            if self.contacts[machine].playing and lines.tells_map(turn):
+                self.send_one(lines, datagram, heard, gone, out)
+            if self.contacts[machine].playing and lines.tells_map(self.turns):
                 entries = lines.entries()
                 out.append((machine, self.seal(epoch, machine, MAP, entries, sizes.map_size(entries))))
         for hop, size, parcels in lines.take_waiting():
             if self.contacts[hop].playing:
                 out.append((hop, self.seal(epoch, hop, CARRIED, parcels, size)))
 
-    def send_one(self, lines, datagram, heard, gone, turn, out):
+    def send_one(self, lines, datagram, heard, gone, out):
         """A datagram goes straight, or to a carrier, or both ways. What goes straight goes with the parcels that wait for the same
         machine."""
         machine = datagram.receiver
         carrier = lines.carrier(machine, self.name, gone) if lines.is_broken(machine, heard) else None
         if carrier is not None:
             lines.wait(carrier, (machine, STEPS, datagram))
-        if lines.goes_straight(machine, turn, carrier):
+        if lines.goes_straight(machine, self.turns, carrier):
             parcel = machine, 0, datagram
             if not (holds("together") and self.contacts[machine].playing and machine in lines.waiting and lines.wait(machine, parcel)):
                 out.append((machine, datagram))

@@ -2,7 +2,7 @@
 
 A newcomer has a *line* with each machine that was told of it, its *hosts*. By such a line it is told a state with its epoch and frame,
 and then the settled rows from there on, with their marks; it says how many it has. It takes a state of one host, and rows of any. A
-host proposes it once it has all but 30 of its settled rows. It finds the end, the id and its own place as all others do.
+host proposes it once it has all but 30 of its settled rows, if a player is free and there are fewer than 8 machines. It finds the end, the id and its own place as all others do.
 
 With its rows a host tells the digest of its state before the first of them. If the newcomer has another there, it saw rows that
 those who stay never had: it throws away what it has and begins anew. It begins anew also if its epoch isn't told any more. To a newcomer
@@ -10,13 +10,14 @@ that is among the machines of a host's epoch, and wasn't heard there, the host t
 the newcomer is in no epoch, or in its first one with nobody there, who isn't gone, whom it has heard in it. Whoever begins anew
 draws anew when it opens an epoch.
 
-A newcomer with which a machine doesn't play `join_after` after that machine opened the epoch is gone. From then on its silence counts
-as any other's, even before a play of it was opened. A newcomer, in its first epoch, waits three times `silent_after` for a machine with
+A newcomer is gone if a machine doesn't play with it `join_after` after that machine has heard in the new epoch all that were in the old one
+and aren't gone: before, its host may be in the old one still. Once a machine plays with it, its silence counts as any other's, even before
+a play of it was opened. A newcomer, in its first epoch, waits three times `silent_after` for a machine with
 which it doesn't play yet, since that may be in the old epoch still.
 """
 from typing import NamedTuple
 
-from epochs import mark_of_row, successor
+from epochs import MEMBERS, mark_of_row, successor
 from rules import holds
 
 ROWS = 20           # in one datagram
@@ -150,6 +151,8 @@ class Host:
     def proposed(self):
         """A newcomer that has caught up, and isn't in yet, with its player; None if there is none."""
         epoch = self.machine.epoch
+        if None not in epoch.terms.owners or len(epoch.terms.members) == MEMBERS:
+            return None
         for newcomer, (had, player) in self.guests.items():
             near = had.epoch == epoch.terms.id and epoch.rows - had.rows < BEHIND
             if newcomer not in self.machine.met and (near or not holds("caught_up")):

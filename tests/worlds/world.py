@@ -9,8 +9,10 @@ from collections import Counter
 from dataclasses import dataclass, field
 
 from epochs import FORGERS, Mark, Terms
-from machine import Machine, Settings
+from machine import LINE, Machine, Settings
 from newcomers import Newcomer
+
+LINES = 1_000_000   # what a newcomer and a host tell each other is counted apart, from here on
 
 
 def moment(turn):
@@ -119,6 +121,12 @@ class World:
             self.trigger("mark", machine.name)
         return mark
 
+    def cut_off(self, machine, silent):
+        """A program is told that its machine is cut off. It may put the silent ones out itself, and go on without them."""
+        if machine.name in self.plan.claims.get("stubborn", ()):
+            for other in silent:
+                self.schedule.setdefault(self.turn + 1, []).append(("out", machine.name, other))
+
     def note(self, machine):
         """A machine has opened an epoch: all that open one of one id open it alike."""
         terms = machine.epoch.terms
@@ -136,8 +144,9 @@ class World:
     # ---- the network
 
     def send(self, a, b, datagram):
-        k = self.sent[a, b]
-        self.sent[a, b] += 1
+        apart = datagram.kind == LINE
+        k = self.sent[a, b, apart] + LINES * apart
+        self.sent[a, b, apart] += 1
         if self.turn in self.counted:
             self.bytes[a] += datagram.size + 28
         if (a, b) in self.down:
@@ -202,6 +211,10 @@ class World:
         """A machine hands on nothing."""
         self.machines[name].swallows = True
 
+    def do_forge(self, name):
+        """A machine says of all others that they hear everybody."""
+        self.machines[name].forges = True
+
     def do_hang(self, name):
         """A machine gives no words any more."""
         self.machines[name].hangs = True
@@ -218,14 +231,14 @@ class World:
             self.happen(verb, *numbers)
         for to, datagram in self.flight.pop(self.turn, []):
             if to in self.machines:
-                self.machines[to].receive(datagram, self.turn, self.now(to))
+                self.machines[to].receive(datagram, self.now(to))
         for name, machine in self.machines.items():
             if not machine.over:
                 machine.turn(self.now(name))
                 self.note_frame(machine)
         self.look_for_seams()
         for name, machine in self.machines.items():
-            for to, datagram in machine.send(self.turn, self.now(name)):
+            for to, datagram in machine.send(self.now(name)):
                 self.send(name, to, datagram)
 
     def look_for_seams(self):
@@ -246,7 +259,7 @@ class World:
 
     def note_silence(self):
         """For how long one who lives didn't answer another."""
-        live = self.plan.claims.get("live", ())
+        live = self.plan.claims.get("groups", [((), ())])[0][0]
         for a in live:
             machine = self.machines.get(a)
             if machine and machine.running and machine.epoch:
