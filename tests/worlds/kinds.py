@@ -37,7 +37,7 @@ class Scene:
         self.silent_turns = silent_after * 3 // 50
         self.settings = Settings(silent_after, 150, 1000, draw.choice([0, 0, 4000]), draw.choice([0, (1 << 32) - 3]))
         self.happenings, self.down, self.claims, self.triggers = [], set(), {}, {}
-        self.limit, self.apart, self.liar, self.quiet = None, 0, None, 0
+        self.limit, self.apart, self.liar, self.quiet, self.breaks = None, 0, None, 0, True
         extra = [draw.randrange(self.count) for _ in range(draw.choice([0, 0, 1, 2]))]
         self.owners = (list(range(self.count)) + extra)[:8]
         self.machines = list(range(self.count))
@@ -89,13 +89,29 @@ class Scene:
         """Lines come and go, so that those that work connect all that haven't stopped. A set of them stays for so long that
         the map gets through, and clocks there and back."""
         draw, turn, stops = self.draw, first, stops or {}
-        gap = max(60, 12 * self.late)
+        gap, one_by_one = max(60, 12 * self.late), draw.random() < .5
         while turn < last:
             later = turn + draw.randrange(gap, gap + 140)
             now = [m for m in self.machines if stops.get(m, later) > turn - 20]
             then = [m for m in self.machines if stops.get(m, later) >= later]
-            self.lines(turn, set() if draw.random() < .2 else self.some_down(now, then, opening=turn < OPENED))
+            if one_by_one and self.down:
+                self.lines(turn, self.one_changed(now, then, opening=turn < OPENED))
+            else:
+                self.lines(turn, set() if draw.random() < .2 else self.some_down(now, then, opening=turn < OPENED))
             turn = later
+
+    def one_changed(self, *connected, opening):
+        """One line works again; then one that worked breaks, and so on."""
+        pairs = [(a, b) for a, b in self.pairs() if a < b]
+        self.draw.shuffle(pairs)
+        self.breaks = not self.breaks
+        for a, b in pairs:
+            both = {(a, b), (b, a)}
+            down = self.down | both if self.breaks else self.down - both
+            seen = down | {(b, a) for a, b in down} if opening else down
+            if down != self.down and all(connects(seen, machines) for machines in connected):
+                return down
+        return self.some_down(*connected, opening=opening)
 
     def plan(self):
         """The plan of the run."""
@@ -197,7 +213,8 @@ def forges(seed):
 
 
 def openings(seed):
-    """Some machines come late, or stop and are opened again before all are there; some lines don't work from the start on."""
+    """Some machines come late, or stop and are opened again before all are there; some lines don't work from the start on; or only
+    one machine's work at first, and that one hands nothing on."""
     scene = Scene(seed, "openings", machines=(2, 3, 4, 5), turns=800)
     draw = scene.draw
     late = draw.sample(scene.machines, draw.randrange(0, scene.count))
@@ -207,7 +224,13 @@ def openings(seed):
         scene.at(turn, "open", m, scene.bits())
     scene.lines(0, scene.some_down(scene.machines, opening=True) if scene.count > 2 else set())
     early = [m for m in scene.machines if m not in late]
-    if late and draw.random() < .5:
+    if draw.random() < .3:
+        hub = draw.choice(early)
+        scene.settings = scene.settings._replace(stalled_after=0)
+        scene.at(5, "swallow", hub)
+        scene.lines(0, {(a, b) for a, b in scene.pairs() if hub not in (a, b)})
+        scene.lines(draw.randrange(150, 350), set())
+    elif late and draw.random() < .5:
         one = draw.choice(early)
         stop = draw.randrange(5, 200)
         scene.at(stop, "stop", one)

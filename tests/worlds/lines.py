@@ -14,7 +14,7 @@ By the map a line *works* from a to b if b hears a straight. A *way* to a machin
 A datagram (hello, play or bye) for machine m goes straight
 
 - in each turn, if the line to m works by the map, or nobody can carry for m;
-- else in one turn of 16, and in each of the 16 turns after an entry of the map changed.
+- else in one turn of 17: by an even number of turns hellos and plays, which go in turn, would never change places.
 
 It is also handed to a carrier if the line to m doesn't work by the map, or this machine doesn't hear m straight. A carrier for m is a
 machine to which the line works and from which a way leads to m, neither by this machine nor by the one that made the datagram. The
@@ -122,8 +122,7 @@ class Lines:
     def goes_straight(self, machine, turn, carrier):
         """Whether what goes to a machine goes straight, for which there is this carrier or none."""
         return self.works(self.me, machine) or carrier is None and holds("no_carrier") \
-            or self.has_news(turn) and holds("probe_news") \
-            or (turn + self.me) % TURNS == TURNS // 2 and holds("probe")
+            or (turn + self.me) % (TURNS + holds("odd")) == TURNS // 2 and holds("probe")
 
     def distances(self, receiver, without, gone):
         """How many steps it is from each machine to the receiver."""

@@ -304,12 +304,14 @@ class Machine:
 
     def is_stalled(self, machine, now):
         """Whether a machine has held up the match for too long. Asked in each turn."""
+        if not self.settings.stalled_after:
+            return False
         held = self.epoch.mesh.held_up_by(machine, self.epoch.terms.threshold) if self.running else None
         words, since, seen = self.stalls.get(machine, (None, now, now))
         if held is None or held != words or now - seen > LEAP:
             since = now
         self.stalls[machine] = held, since, now
-        return self.settings.stalled_after > 0 and now - since > self.settings.stalled_after
+        return now - since > self.settings.stalled_after
 
     def counts_among_most(self, machine):
         newcomer = self.joined == self.epoch.terms.id and holds("all_count")

@@ -17,8 +17,8 @@ RULES = {
     # lines
     "carry": "what can't go straight is carried",
     "one_way": "it is carried too if only the way back is down",
-    "probe": "where the map says that a line is down, one turn in 16 sends straight all the same",
-    "probe_news": "so does each of the 16 turns after an entry of the map changed",
+    "probe": "where the map says that a line is down, one turn in 17 sends straight all the same",
+    "odd": "one in 17, and not in 16",
     "no_carrier": "with no carrier it sends straight in each turn",
     "numbers": "an entry of the map is taken only if its number is greater",
     "own_entry": "who hears a wrong entry of itself makes its number greater",
@@ -62,7 +62,7 @@ RULES = {
 NEEDED = {
     "fence": ["anything"], "sets": ["anything"], "counts": ["anything"], "echo": ["openings"], "fresh": ["deaf"], "ten": ["leaps"],
     "quarter": ["swallows", "lines"], "most": ["deaf", "split"], "stalls": ["split"], "opened": ["openings"], "ends": ["split"],
-    "carry": ["lines"], "one_way": ["lines"], "probe": ["lines"], "probe_news": ["lines"], "no_carrier": ["openings", "lines"],
+    "carry": ["lines"], "one_way": ["lines"], "probe": ["openings"], "odd": ["openings"], "no_carrier": ["openings", "lines"],
     "numbers": ["lines"], "own_entry": ["forges"], "news": ["lines"], "again": ["lines"], "in_turn": ["swallows"],
     "pass_over": ["swallows"], "sure": ["lines"], "steps": ["lines"], "packed": ["lines"], "together": ["lines"], "full": ["lines"],
     "settled": ["hard"], "first": ["hard"], "void": ["epochs"], "marks_told_on": ["hard"], "left_in_id": ["hard", "parted"],

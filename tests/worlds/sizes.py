@@ -10,7 +10,7 @@ UDP = 28            # of IP and UDP, with each datagram
 
 def short(number):
     """Bytes of a short number: 7 bits in each."""
-    return max(1, (number.bit_length() + 6) // 7)
+    return (number.bit_length() + 6) // 7 or 1
 
 
 def clocks_size(clocks, frame):
