@@ -10,9 +10,10 @@ another draw which echoes, was *started again*: it can't come back. If no play o
 one's place.
 
 Plays tell *clocks*: the sender's clock, the newest one of the receiver's that it heard, and how long ago. A play has them if a sixteenth
-of the patience of the two has passed since the last ones, or the 15 plays before had none. It has them also if none came back for a
-quarter of the patience: of what goes by several bad lines little comes through. A clock of one's own that comes back, and that is newer than all that came back before, ends a silence, by whatever way it came. A machine is *silent* if
-none came back for longer than `silent_after`, and ten or more clocks were sent to it since.
+of the patience of the two has passed since the last ones, or the 15 plays before had none. It has them also if no clock of one's own
+came back for a quarter of the patience: of what goes by several bad lines little comes through. A clock of one's own that comes back,
+and that is newer than all that came back before, ends a silence, by whatever way it came. A machine is *silent* if none came back for
+longer than `silent_after`, and ten or more clocks were sent to it since, not counting those that only the quarter asked for.
 
 Moments are milliseconds. That the real clocks begin anew after 2^32 isn't in this model.
 """

@@ -1,8 +1,8 @@
 """Epochs: parts of a match with fixed machines, owners, delays and threshold.
 
 A *mark* is what a word may carry beside its number: what is to be otherwise in the next epoch. A machine that wants something
-otherwise puts one on the next word that it gives, if it has put none in this epoch that isn't void, and has read none in a settled row. A mark goes
-wherever its word goes.
+otherwise puts one on the next word that it gives, if it has put none in this epoch that isn't void, and has read none in a settled
+row. A mark goes wherever its word goes.
 
 The first settled row that has a word with a mark ends the epoch; of several in it, that of the lowest player counts. The *end* is the
 frame after that row. A mark is void, as if it weren't there, if its threshold or a delay is out of range, if it changes the delay of a
@@ -18,8 +18,9 @@ A machine closes the epoch once it knows all words before the end and has played
   takes no new word until its frame has come up to them. What it has heard of others past the end is void;
 - it plays at once as many frames as it had played past the end.
 
-It goes on telling the old epoch, beside the new one, until it has heard in the new one each other machine of it that isn't gone. Silence
-and who is gone are of machines, not of epochs. Whose players left before the end isn't in the next epoch, and ends.
+It goes on telling the old epoch, beside the new one, until it has heard in the new one each other machine of it that isn't gone: a
+play, or a hello that says back its draw. Silence and who is gone are of machines, not of epochs. Whose players left before the end
+isn't in the next epoch, and ends.
 """
 import hashlib
 from typing import NamedTuple, Optional

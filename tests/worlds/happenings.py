@@ -94,6 +94,7 @@ def outcome(world):
         if machine.epoch:
             epochs = " ".join(f"{world.known[id].base}:{id:016x}" for id in machine.chain)
             first, end = (min(machine.rows), max(machine.rows) + 1) if machine.rows else (0, 0)
-            lines.append(f"machine {name}: gone {machine.epoch.mesh.gone:08b}, {machine.why or 'plays' if not machine.stopped else 'stopped'}, "
-                         f"epochs {epochs}, rows {first} to {end} {rows_digest(machine)}")
+            how = "stopped" if machine.stopped else machine.why or "plays"
+            lines.append(f"machine {name}: gone {machine.epoch.mesh.gone:08b}, {how}, epochs {epochs}, "
+                         f"rows {first} to {end} {rows_digest(machine)}")
     return lines

@@ -377,7 +377,7 @@ def hard(seed):
 
 
 def parted(seed):
-    """The network splits for good while epochs go on. The greater side goes on, with its newcomers."""
+    """The network splits for good while epochs go on. Each machine goes on with the greater side, or ends."""
     scene = EpochScene(seed, "parted", machines=(3, 4, 5))
     draw = scene.draw
     scene.open_all()
@@ -394,6 +394,7 @@ def parted(seed):
         for b in everybody:
             if a != b and (a in groups[0]) != (b in groups[0]):
                 scene.at(turn, "down", a, b)
+    scene.claims["go on"] = True
     return scene.plan()
 
 
@@ -436,4 +437,5 @@ def everything(seed):
     return scene.plan()
 
 
-KINDS = {it.__name__: it for it in (lines, split, stops, deaf, swallows, forges, openings, leaps, stalls, anything, epochs, hard, parted, everything)}
+KINDS = {it.__name__: it
+         for it in (lines, split, stops, deaf, swallows, forges, openings, leaps, stalls, anything, epochs, hard, parted, everything)}

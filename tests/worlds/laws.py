@@ -11,7 +11,7 @@ By what happens in a world some machines *live*: they never stop, and working li
 broken off for good, or leave. Of them:
 
 - nobody who lives is put out by one who lives, and who stops is put out by all who live;
-- the players of the gone leave, and frames go on at the end;
+- the players of the gone leave, and frames go on at the end (if the network splits while epochs go on, of all that haven't ended);
 - a word that a machine gave stands in the settled rows of those who live, at the frame that it was given for;
 - who finds itself with too few is cut off, puts nobody out, and ends, unless its program puts the others out.
 """
@@ -30,6 +30,8 @@ def broken_laws(world):
                 faults |= of_two(world, a, b)
     for live, stop in world.plan.claims.get("groups", ()):
         faults |= of_those_who_live(world, live, stop)
+    if world.plan.claims.get("go on"):
+        faults |= {"a machine stands" for m in machines if not m.over and world.frames[m.name][0] < world.before.get(m.name, 0) + 50}
     return sorted(faults | of_the_lonely(world))
 
 

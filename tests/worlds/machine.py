@@ -3,9 +3,9 @@
 A machine that is silent, or that could give words and gave none for `stalled_after`, is gone from then on, but only while this machine
 *hears most*: of the machines that aren't gone, itself and those of which a clock came back within the last half of `silent_after` are
 more than half; or just half, with the lowest of all among them; or there are only two. A machine of which no play was opened yet
-doesn't count at all; but for a newcomer all others count. If a machine is silent and this one doesn't hear most, it is *cut off*: it tells its program so, and calls nobody
-gone. Once that has lasted for `silent_after`, it says bye to all that aren't gone, and ends. In the meantime its program can put the
-silent ones out itself, and go on with the others.
+doesn't count at all; but for a newcomer all others count. If a machine is silent and this one doesn't hear most, it is *cut off*: it
+tells its program so, and calls nobody gone. Once that has lasted for `silent_after`, it says bye to all that aren't gone, and ends. In
+the meantime its program can put the silent ones out itself, and go on with the others.
 
 Whoever leaves, or ends, says bye in three turns.
 """
@@ -194,7 +194,8 @@ class Machine:
     def hear(self, epoch, datagram, now):
         """Hears a hello, a play or a bye."""
         sender, contact = datagram.sender, self.contacts[datagram.sender]
-        epoch.heard.add(sender)
+        if datagram.kind != HELLO or datagram.body.echo == self.draw:
+            epoch.heard.add(sender)
         if datagram.kind == HELLO:
             if contact.hear_hello(self.opening(), datagram.body, now):
                 self.events.append(("restarted", sender))

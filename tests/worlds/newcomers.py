@@ -2,7 +2,8 @@
 
 A newcomer has a *line* with each machine that was told of it, its *hosts*. By such a line it is told a state with its epoch and frame,
 and then the settled rows from there on, with their marks; it says how many it has. It takes a state of one host, and rows of any. A
-host proposes it once it has all but 30 of its settled rows, if a player is free and there are fewer than 8 machines. It finds the end, the id and its own place as all others do.
+host proposes it once it has all but 30 of its settled rows, if a player is free and there are fewer than 8 machines. It finds the end,
+the id and its own place as all others do.
 
 With its rows a host tells the digest of its state before the first of them. If the newcomer has another there, it saw rows that
 those who stay never had: it throws away what it has and begins anew. It begins anew also if its epoch isn't told any more. To a newcomer

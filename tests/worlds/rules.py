@@ -63,12 +63,14 @@ NEEDED = {
     "fence": ["anything"], "sets": ["anything"], "counts": ["anything"], "echo": ["openings"], "fresh": ["deaf"], "ten": ["leaps"],
     "quarter": ["swallows", "lines"], "most": ["deaf", "split"], "stalls": ["split"], "opened": ["openings"], "ends": ["split"],
     "carry": ["lines"], "one_way": ["lines"], "probe": ["openings"], "odd": ["openings"], "no_carrier": ["openings", "lines"],
-    "numbers": ["lines"], "own_entry": ["forges"], "news": ["lines"], "again": ["lines"], "in_turn": ["swallows"],
+    "numbers": ["lines"],
+    "own_entry": ["forges"], "news": ["lines"], "again": ["lines"], "in_turn": ["swallows"],
     "pass_over": ["swallows"], "sure": ["lines"], "steps": ["lines"], "packed": ["lines"], "together": ["lines"], "full": ["lines"],
     "settled": ["hard"], "first": ["hard"], "void": ["epochs"], "marks_told_on": ["hard"], "left_in_id": ["hard", "parted"],
     "seam_gone": ["hard"], "both_gone": ["hard"], "given_again": ["epochs"], "map_over": ["everything"], "told_on": ["hard"],
     "until_heard": ["hard"], "caught_up": ["hard"], "any_host": ["hard"], "compare": ["hard"], "anew": ["hard"], "unsure": ["hard"],
-    "drawn_anew": ["hard"], "join": ["epochs"], "gathered": ["hard", "epochs"], "early": ["hard"], "patient": ["hard"], "all_count": ["hard", "parted"],
+    "drawn_anew": ["hard"], "join": ["epochs"], "gathered": ["hard", "epochs"], "early": ["hard"],
+    "patient": ["hard"], "all_count": ["hard", "parted"],
 }
 
 left_out = set()

@@ -42,6 +42,6 @@ def traffic():
         for name, down in (("all lines work", set()), ("line 0-1 is down", {(0, 1), (1, 0)}), ("star of machine 0", star(machines))):
             rate = rates(machines, down)
             whole = whole or sum(rate)
-            print(f"{machines} machines, {name:18} machine 0 {rate[0]:7,}  1 {rate[1]:7,}  2 {rate[2]:7,}  3 {rate[3]:7,}  all {sum(rate):9,}"
-                  f"  {sum(rate) / whole:.2f}", flush=True)
+            print(f"{machines} machines, {name:18} machine 0 {rate[0]:7,}  1 {rate[1]:7,}  2 {rate[2]:7,}  3 {rate[3]:7,}"
+                  f"  all {sum(rate):9,}  {sum(rate) / whole:.2f}", flush=True)
 
