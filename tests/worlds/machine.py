@@ -344,7 +344,7 @@ class Machine:
         """It hears too few to say who is gone."""
         if self.cut_off_at is None:
             self.cut_off_at = now
-            self.program.cut_off(self, [m for m in self.epoch.mesh.staying() if self.is_silent(m, now)])
+            self.events.append(("cut off",))
         elif now - self.cut_off_at > self.settings.silent_after and holds("ends"):
             self.leave("cut off")
 

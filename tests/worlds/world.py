@@ -121,11 +121,13 @@ class World:
             self.trigger("mark", machine.name)
         return mark
 
-    def cut_off(self, machine, silent):
-        """A program is told that its machine is cut off. It may put the silent ones out itself, and go on without them."""
-        if machine.name in self.plan.claims.get("stubborn", ()):
-            for other in silent:
-                self.schedule.setdefault(self.turn + 1, []).append(("out", machine.name, other))
+    def be_stubborn(self, machine):
+        """A program whose machine has been cut off for half a second puts out whom it doesn't hear, and goes on without them."""
+        now = self.now(machine.name)
+        if machine.cut_off_at is not None and now - machine.cut_off_at > 500:
+            for other in machine.epoch.mesh.staying():
+                if machine.contacts[other].silence(now) > self.plan.settings.silent_after // 2:
+                    self.schedule.setdefault(self.turn + 1, []).append(("out", machine.name, other))
 
     def note(self, machine):
         """A machine has opened an epoch: all that open one of one id open it alike."""
@@ -236,6 +238,8 @@ class World:
             if not machine.over:
                 machine.turn(self.now(name))
                 self.note_frame(machine)
+                if name in self.plan.claims.get("stubborn", ()):
+                    self.be_stubborn(machine)
         self.look_for_seams()
         for name, machine in self.machines.items():
             for to, datagram in machine.send(self.now(name)):
