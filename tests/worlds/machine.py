@@ -2,10 +2,12 @@
 
 A machine that is silent, or that could give words and gave none for `stalled_after`, is gone from then on, but only while this machine
 *hears most*: of the machines that aren't gone, itself and those of which a clock came back within the last half of `silent_after` are
-more than half; or just half, with the lowest of all among them; or there are only two. A machine of which no play was opened yet
-doesn't count at all; but for a newcomer all others count. If a machine is silent and this one doesn't hear most, it is *cut off*: it
-tells its program so, and calls nobody gone. Once that has lasted for `silent_after`, it says bye to all that aren't gone, and ends. In
-the meantime its program can put the silent ones out itself, and go on with the others.
+more than half; or just half, with the lowest of all among them; or there are only two. All machines of the match count from its opening
+on. A newcomer counts once a play of it was opened, and for the newcomer itself all others count.
+
+If a machine is silent and this one doesn't hear most, it calls nobody gone. If the match has begun, it is *cut off*, and tells its program
+so. Once that has lasted for `silent_after`, it says bye to all that aren't gone, and ends. In the meantime its program can put out whom it
+doesn't hear, and go on with the others.
 
 Whoever leaves, or ends, says bye in three turns.
 """
@@ -315,8 +317,10 @@ class Machine:
         return now - since > self.settings.stalled_after
 
     def counts_among_most(self, machine):
-        newcomer = self.joined == self.epoch.terms.id and holds("all_count")
-        return machine == self.name or newcomer or self.contacts[machine].confirmed or not holds("opened")
+        """Whether a machine is one of those of whom most have to be heard."""
+        if machine == self.name or self.epoch.terms.id == 0 or not holds("opened"):
+            return True
+        return self.contacts[machine].confirmed or self.joined == self.epoch.terms.id and holds("all_count")
 
     def hears_most(self, now):
         """Whether it can judge who is gone."""
@@ -334,7 +338,8 @@ class Machine:
         for machine in stalled if most or not holds("stalls") else []:
             self.put_out(machine)
         if silent and not most and holds("most"):
-            self.be_cut_off(now)
+            if self.running or not holds("begun"):
+                self.be_cut_off(now)
             return
         self.cut_off_at = None
         for machine in silent:

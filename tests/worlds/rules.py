@@ -12,7 +12,8 @@ RULES = {
     "quarter": "who hasn't answered for a quarter of the patience is sent clocks in each play",
     "most": "only who hears most calls silent machines gone",
     "stalls": "only who hears most calls stalled machines gone",
-    "opened": "who was never heard to play doesn't count among those of whom most have to be heard",
+    "opened": "a newcomer counts among those of whom most have to be heard only once a play of it was opened",
+    "begun": "nobody is cut off before the match has begun",
     "ends": "who is cut off says bye and ends",
     # lines
     "carry": "what can't go straight is carried",
@@ -61,7 +62,7 @@ RULES = {
 # In which worlds it shows that a rule was left out.
 NEEDED = {
     "fence": ["anything"], "sets": ["anything"], "counts": ["anything"], "echo": ["openings"], "fresh": ["deaf"], "ten": ["leaps"],
-    "quarter": ["swallows", "lines"], "most": ["deaf", "split"], "stalls": ["split"], "opened": ["openings"], "ends": ["split"],
+    "quarter": ["swallows", "lines"], "most": ["deaf", "split"], "stalls": ["split"], "opened": ["hard"], "begun": ["openings"], "ends": ["split"],
     "carry": ["lines"], "one_way": ["lines"], "probe": ["openings"], "odd": ["openings"], "no_carrier": ["openings", "lines"],
     "numbers": ["lines"],
     "own_entry": ["forges"], "news": ["lines"], "again": ["lines"], "in_turn": ["swallows"],
