@@ -219,7 +219,8 @@ def openings(seed):
     draw = scene.draw
     late = draw.sample(scene.machines, draw.randrange(0, scene.count))
     scene.open_all(late)
-    opened = {m: draw.choice([draw.randrange(20, 400), draw.randrange(500, 700)]) for m in late}
+    all_late = draw.random() < .3
+    opened = {m: draw.randrange(20, 400) if not all_late and draw.random() < .5 else draw.randrange(600, 700) for m in late}
     for m, turn in opened.items():
         scene.at(turn, "open", m, scene.bits())
     scene.lines(0, scene.some_down(scene.machines, opening=True) if scene.count > 2 else set())
