@@ -312,7 +312,7 @@ class EpochScene(Scene):
             return
         one = draw.choice([m for m in self.machines if m not in self.stopping])
         self.stopping.append(one)
-        when = draw.choice(["time", "seam", "mark"])
+        when = draw.choice(["mark", "mark", "seam"] if self.hard else ["time", "seam", "mark"])
         if when == "time":
             self.at(draw.randrange(30, 500), "stop", one)
         elif when == "seam":
@@ -346,17 +346,23 @@ class EpochScene(Scene):
         for m in told:
             self.at(turn, "told", m, newcomer, player)
 
+    def stop_guest(self, one):
+        """A newcomer stops some time after it came, or after somebody proposed it."""
+        self.stopping.append(one)
+        if self.draw.random() < .5:
+            self.at(self.comes[one] + self.draw.randrange(10, 200), "stop", one)
+        else:
+            self.triggers.setdefault(("guest", one), []).append((self.draw.randrange(60), "stop", one))
+
     def fill(self):
         """All that can happen in epochs."""
         self.open_all()
-        self.stop(.6 if not self.hard else .9)
+        self.stop(.6)
         self.kick()
         for newcomer in self.coming:
             self.come(newcomer)
-        if self.coming and self.may_stop() and self.draw.random() < .4:
-            one = self.draw.choice(self.coming)
-            self.stopping.append(one)
-            self.at(self.comes[one] + self.draw.randrange(10, 200), "stop", one)
+        if self.coming and self.may_stop() and self.draw.random() < .6:
+            self.stop_guest(self.draw.choice(self.coming))
         live = [m for m in self.machines + self.coming if m not in self.stopping + self.kicked]
         self.live(live)
         self.claims["kicked"] = self.kicked

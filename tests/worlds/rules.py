@@ -70,7 +70,7 @@ NEEDED = {
     "settled": ["hard"], "first": ["hard"], "void": ["epochs"], "marks_told_on": ["hard"], "left_in_id": ["hard", "parted"],
     "seam_gone": ["hard"], "both_gone": ["hard"], "given_again": ["epochs"], "map_over": ["everything"], "told_on": ["hard"],
     "until_heard": ["hard"], "caught_up": ["hard"], "any_host": ["hard"], "compare": ["hard"], "anew": ["hard"], "unsure": ["hard"],
-    "drawn_anew": ["hard"], "join": ["epochs"], "gathered": ["hard", "epochs"], "early": ["hard"],
+    "drawn_anew": ["hard"], "join": ["hard"], "gathered": ["hard"], "early": ["hard"],
     "patient": ["hard"], "all_count": ["hard", "parted"],
 }
 

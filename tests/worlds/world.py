@@ -119,6 +119,7 @@ class World:
         if mark:
             self.log.append((self.turn, "mark", machine.name, *mark.numbers()))
             self.trigger("mark", machine.name)
+            self.trigger("guest", mark.newcomer)
         return mark
 
     def be_stubborn(self, machine):
