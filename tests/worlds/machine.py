@@ -1,0 +1,452 @@
+"""A machine of a match: what it hears, its turns, and what it sends.
+
+A machine that is silent, or that could give words and gave none for `stalled_after`, is gone from then on, but only while this machine
+*hears most*: of the machines that aren't gone, itself and those of which a clock came back within the last half of `silent_after` are
+more than half; or just half, with the lowest of all among them; or there are only two. All machines of the match count from its opening
+on. A newcomer counts once a play of it was opened, and for the newcomer itself all others count.
+
+If a machine is silent and this one doesn't hear most, it calls nobody gone. If the match has begun, it is *cut off*, and tells its program
+so. Once that has lasted for `silent_after`, it says bye to all that aren't gone, and ends. In the meantime its program can put out whom it
+doesn't hear, and go on with the others.
+
+Whoever leaves, or ends, says bye in three turns.
+"""
+import hashlib
+from typing import NamedTuple
+
+from contact import Contact, Hello
+from epochs import Epoch, is_void, mask, successor
+from lines import STEPS
+from newcomers import Had, Host, Newcomer
+from rules import holds
+import sizes
+
+HELLO, PLAY, BYE, MAP, CARRIED, LINE = "hello", "play", "bye", "map", "carried", "line"
+BYES = 3
+LEAP = 1000
+
+
+class Settings(NamedTuple):
+    """In milliseconds; `stalled_after` is never if it is 0."""
+    silent_after: int
+    relay_after: int
+    join_after: int
+    stalled_after: int
+    first_number: int
+
+
+class Datagram:
+    """What one machine seals for another. All but hellos is sealed with both draws."""
+    __slots__ = ("epoch", "sender", "receiver", "kind", "draws", "body", "size")
+
+    def __init__(self, epoch, sender, receiver, kind, draws, body, size):
+        self.epoch, self.sender, self.receiver, self.kind = epoch, sender, receiver, kind
+        self.draws, self.body, self.size = draws, body, size
+
+
+class Machine:
+    """One opening of a program at its seat. `program` gives words and marks."""
+
+    def __init__(self, name, settings, draw, program):
+        self.name, self.settings, self.draw, self.program = name, settings, draw, program
+        self.epoch, self.old, self.running = None, None, False
+        self.contacts, self.straight_at, self.stalls = {}, {}, {}
+        self.cut_off_at, self.byes, self.over, self.why = None, 0, False, None
+        self.events, self.faults = [], set()
+        self.swallows, self.hangs, self.forges, self.stopped = False, False, False, False
+        self.rows, self.digests, self.chain, self.promised = {}, {}, [], []
+        self.joined, self.opened_at, self.gathered_at = None, 0, None
+        self.met, self.awaited, self.burst, self.turns = set(), set(), 0, 0
+        self.host, self.newcomer, self.hosts = Host(self), None, []
+
+    # ---- epochs
+
+    def epochs(self):
+        """The epochs in which it speaks, the newest last."""
+        return [epoch for epoch in (self.old, self.epoch) if epoch]
+
+    def open(self, terms, now):
+        """It opens the match."""
+        self.enter(Epoch(self.name, terms, self.settings.first_number), now)
+
+    def opening(self):
+        """What its hellos say."""
+        return Hello(self.epoch.terms.id, self.draw, 0, self.settings.silent_after)
+
+    def enter(self, epoch, now):
+        """It is in an epoch from now on."""
+        self.awaited = set(epoch.terms.members) - set(self.epoch.terms.members if self.epoch else ())
+        self.epoch, self.opened_at, self.gathered_at = epoch, now, None
+        self.chain.append(epoch.terms.id)
+        self.digests[epoch.terms.base] = epoch.terms.opening
+        self.met |= set(epoch.terms.members)
+        for machine in epoch.terms.members:
+            if machine != self.name:
+                self.contacts.setdefault(machine, Contact())
+        self.program.note(self)
+
+    def join(self, terms, now):
+        """A newcomer opens its first epoch."""
+        self.joined, self.running = terms.id, True
+        self.open(terms, now)
+
+    def begin_anew(self):
+        """A newcomer has seen nothing, and nobody knows it."""
+        if self.epoch and holds("drawn_anew"):
+            self.draw = int.from_bytes(hashlib.sha256(self.draw.to_bytes(8, "big")).digest()[:8], "big")
+        self.epoch, self.joined, self.cut_off_at, self.burst = None, None, None, 0
+        self.contacts, self.straight_at, self.stalls, self.met = {}, {}, {}, set()
+        self.rows, self.chain, self.promised = {}, [], []
+
+    def has_company(self):
+        """Whether somebody was heard in its epoch who isn't gone."""
+        return any(not self.epoch.mesh.is_gone(m) for m in self.epoch.heard)
+
+    def go_over(self, now):
+        """The epoch has ended: the next one opens, and as many frames are played as were past the end."""
+        old = self.epoch
+        terms = successor(old.terms, old.end, old.mark, old.mesh.left, self.digests[old.terms.base + old.end])
+        if self.name not in terms.members:
+            self.over, self.why = True, "not in the next epoch"
+            return
+        if self.old and holds("until_heard") and holds("told_on"):
+            self.faults.add("LAW: three epochs at once")
+        self.enter(Epoch(self.name, terms, self.settings.first_number, old), now)
+        self.old = old if holds("told_on") else None
+        self.faults |= old.mesh.faults
+        self.burst = old.frame - old.end
+        while self.burst and self.epoch.can_play():
+            self.burst -= 1
+            self.play_frame()
+
+    def forget(self):
+        """The old epoch is told until all that stay were heard in the new one."""
+        staying = self.epoch.mesh.staying()
+        if self.old and (all(m in self.epoch.heard for m in staying) if holds("until_heard") else self.all_have_old_words(staying)):
+            self.old = None
+
+    def all_have_old_words(self, staying):
+        mesh, end = self.old.mesh, self.old.end
+        return all(m in mesh.told and all(mesh.told[m].has[p] >= min(len(mesh.words[p]), end) for p in mesh.players)
+                   for m in staying if m in mesh.members)
+
+    def share_gone(self):
+        """Who is gone in one epoch is gone in both."""
+        if self.old and holds("both_gone"):
+            gone = self.old.mesh.gone | self.epoch.mesh.gone
+            for epoch in self.epochs():
+                epoch.mesh.gone |= gone & mask(m for m in epoch.terms.members if m != self.name)
+
+    def put_out(self, machine):
+        """A machine is gone, from now on."""
+        for epoch in self.epochs() if holds("both_gone") else [self.epoch]:
+            if machine in epoch.terms.members and machine != self.name:
+                epoch.mesh.gone |= 1 << machine
+
+    # ---- hearing
+
+    def unseal(self, datagram):
+        """The epoch in which a datagram is opened; None if it isn't."""
+        epoch = next((it for it in self.epochs() if it.terms.id == datagram.epoch), None)
+        if epoch is None or datagram.receiver != self.name or datagram.sender not in self.contacts:
+            return None
+        if datagram.sender not in epoch.terms.members or epoch.mesh.is_gone(datagram.sender) and holds("fence"):
+            return None
+        contact = self.contacts[datagram.sender]
+        if datagram.kind != HELLO and (not contact.playing or datagram.draws != (contact.draw, self.draw)):
+            return None
+        return epoch
+
+    def receive(self, datagram, now):
+        """Hears what came by the network."""
+        if datagram.kind == LINE:
+            self.hear_line(datagram, now)
+            return
+        epoch = None if self.over else self.unseal(datagram)
+        if epoch is None:
+            return
+        if datagram.kind != HELLO:
+            self.straight_at[datagram.sender] = now
+        if datagram.kind == MAP:
+            epoch.lines.learn(datagram.body, self.turns)
+        elif datagram.kind == CARRIED:
+            self.hear_parcels(epoch, datagram, now)
+        else:
+            self.hear(epoch, datagram, now)
+
+    def hear_line(self, datagram, now):
+        """Hears what a newcomer and a host tell each other."""
+        if isinstance(datagram.body, Had):
+            self.host.hear(datagram.sender, datagram.body)
+        elif self.newcomer and not self.over:
+            self.newcomer.hear(datagram.sender, datagram.body, now)
+
+    def hear_parcels(self, epoch, datagram, now):
+        """What was carried is for this machine, or is handed on."""
+        for parcel in datagram.body:
+            receiver, _, inner = parcel
+            if receiver != self.name:
+                if not self.swallows and not self.byes:
+                    epoch.lines.hand_on(parcel, self.heard_straight(epoch, now), epoch.mesh.gone)
+            elif inner.kind in (HELLO, PLAY, BYE):
+                found = self.unseal(inner)
+                if found:
+                    self.hear(found, inner, now)
+
+    def hear(self, epoch, datagram, now):
+        """Hears a hello, a play or a bye."""
+        sender, contact = datagram.sender, self.contacts[datagram.sender]
+        if datagram.kind != HELLO or datagram.body.echo == self.draw:
+            epoch.heard.add(sender)
+        if datagram.kind == HELLO:
+            if contact.hear_hello(self.opening(), datagram.body, now):
+                self.events.append(("restarted", sender))
+        elif datagram.kind == BYE:
+            self.put_out(sender)
+        else:
+            self.hear_play(epoch, contact, datagram, now)
+        self.share_gone()
+
+    def hear_play(self, epoch, contact, datagram, now):
+        packet, clocks = datagram.body
+        if packet.view.gone >> self.name & 1:
+            self.events.append(("dropped", datagram.sender))
+        if epoch.mesh.hear(packet):
+            contact.hear_play(clocks, now)
+
+    # ---- a turn
+
+    def turn(self, now):
+        """Who is silent is gone, players leave, and the match goes on by a frame."""
+        if self.over or self.byes or self.epoch is None:
+            return
+        self.look_after(now)
+        for epoch in self.epochs():
+            epoch.mesh.let_leave()
+        self.begin()
+        if self.running and not self.byes:
+            self.play(now)
+
+    def begin(self):
+        """The match begins once a play of each other machine that isn't gone was opened."""
+        if not self.running and all(self.contacts[m].confirmed for m in self.epoch.mesh.staying()):
+            self.running = True
+            self.events.append(("running",))
+
+    def play(self, now):
+        """The next frame, unless words of others are too far behind; and the next epoch, if this one is over."""
+        for _ in range(1 + self.burst):
+            if self.epoch.can_play() and not self.hangs:
+                self.burst = max(0, self.burst - 1)
+                self.play_frame()
+        self.note_rows()
+        self.forget()
+        if self.epoch.is_over():
+            self.go_over(now)
+            self.forget()
+
+    def play_frame(self):
+        for player in self.epoch.mesh.own():
+            self.give(player)
+        self.epoch.frame += 1
+
+    def give(self, player):
+        """The word of an own player for this frame, unless its words are ahead."""
+        epoch, words = self.epoch, self.epoch.mesh.words[player]
+        if len(words) == epoch.frame + epoch.terms.delays[player]:
+            word = self.program.word(self, player)
+            self.promised.append((epoch.terms.base + len(words), player, word))
+            words.append((word, self.proposal()))
+
+    def proposal(self):
+        """The mark of the next word, if this machine wants something otherwise."""
+        epoch = self.epoch
+        if epoch.mark or epoch.marked:
+            return None
+        mark = self.program.mark(self, self.host.proposed())
+        epoch.marked = mark is not None and not is_void(mark, self.name, epoch.terms)
+        return mark
+
+    def note_rows(self):
+        """Keeps the rows that are settled, and reads their marks."""
+        epoch = self.epoch
+        if not (holds("settled") and holds("first")):
+            epoch.read_marks_wrongly()
+        row = epoch.next_row()
+        while row is not None:
+            at = epoch.terms.base + epoch.rows
+            self.rows[at - 1] = row
+            self.digests[at] = hash((self.digests[at - 1], row))
+            row = epoch.next_row()
+
+    # ---- who is gone
+
+    def heard_straight(self, epoch, now):
+        """The mask of the machines of an epoch that it hears straight, with its own bit."""
+        limit = now - self.settings.relay_after
+        return sum(1 << m for m in epoch.terms.members if m == self.name or self.straight_at.get(m, limit - 1) >= limit)
+
+    def is_silent(self, machine, now):
+        """Whether a machine is silent, by its clocks or since it hasn't come to this epoch."""
+        contact, waited = self.contacts[machine], now - self.opened_at
+        opening = self.epoch.terms.id == 0
+        if contact.confirmed or not opening and contact.playing and holds("early"):
+            return contact.is_silent(now, self.settings.silent_after)
+        if opening or contact.playing:
+            return False
+        if self.joined == self.epoch.terms.id:
+            return waited > self.settings.silent_after * (3 if holds("patient") else 1)
+        gathered = self.gathered_at if holds("gathered") else self.opened_at
+        return gathered is not None and now - gathered > self.settings.join_after and holds("join")
+
+    def gather(self, now):
+        """Notes when all that were in the epoch before, and aren't gone, were heard in this one."""
+        old = [m for m in self.epoch.mesh.staying() if m not in self.awaited]
+        if self.gathered_at is None and all(m in self.epoch.heard for m in old):
+            self.gathered_at = now
+
+    def is_stalled(self, machine, now):
+        """Whether a machine has held up the match for too long. Asked in each turn."""
+        if not self.settings.stalled_after:
+            return False
+        held = self.epoch.mesh.held_up_by(machine, self.epoch.terms.threshold) if self.running else None
+        words, since, seen = self.stalls.get(machine, (None, now, now))
+        if held is None or held != words or now - seen > LEAP:
+            since = now
+        self.stalls[machine] = held, since, now
+        return now - since > self.settings.stalled_after
+
+    def counts_among_most(self, machine):
+        """Whether a machine is one of those of whom most have to be heard."""
+        if machine == self.name or self.epoch.terms.id == 0 or not holds("opened"):
+            return True
+        return self.contacts[machine].confirmed or self.joined == self.epoch.terms.id and holds("all_count")
+
+    def hears_most(self, now):
+        """Whether it can judge who is gone."""
+        there = [m for m in self.epoch.terms.members if not self.epoch.mesh.is_gone(m) and self.counts_among_most(m)]
+        heard = [m for m in there if m == self.name or self.contacts[m].silence(now) <= self.settings.silent_after // 2]
+        return 2 * len(heard) > len(there) or 2 * len(heard) == len(there) and there[0] in heard or len(there) == 2
+
+    def look_after(self, now):
+        """Silent and stalled machines are gone, or this one is cut off."""
+        self.gather(now)
+        staying = self.epoch.mesh.staying()
+        silent = [m for m in staying if self.is_silent(m, now)]
+        stalled = [m for m in staying if self.is_stalled(m, now)]
+        most = (silent or stalled) and self.hears_most(now)
+        for machine in stalled if most or not holds("stalls") else []:
+            self.put_out(machine)
+        if silent and not most and holds("most"):
+            if self.running or not holds("begun"):
+                self.be_cut_off(now)
+            return
+        self.cut_off_at = None
+        for machine in silent:
+            self.put_out(machine)
+
+    def be_cut_off(self, now):
+        """It hears too few to say who is gone."""
+        if self.cut_off_at is None:
+            self.cut_off_at = now
+            self.events.append(("cut off",))
+        elif now - self.cut_off_at > self.settings.silent_after and holds("ends"):
+            self.leave("cut off")
+
+    def leave(self, why):
+        """It says bye from now on, and then it ends."""
+        if not self.byes and not self.over:
+            self.byes, self.why = BYES, why
+
+    # ---- sending
+
+    def send(self, now):
+        """All that goes out in a turn: to whom, and a datagram."""
+        if self.over:
+            return []
+        self.turns += 1
+        out = self.send_lines()
+        if self.epoch is None:
+            return out
+        contents = self.contents(now)
+        for epoch in self.epochs():
+            self.send_in(epoch, contents, now, out)
+        self.byes -= self.byes > 0
+        self.over = self.why is not None and not self.byes
+        return out
+
+    def send_lines(self):
+        """What a newcomer and its hosts tell each other."""
+        if self.newcomer:
+            return [(m, self.line(m, self.newcomer.had())) for m in self.hosts if self.newcomer.is_unsure()]
+        told = [(m, self.host.tell(m)) for m in self.host.guests] if self.epoch and self.running else []
+        return [(m, self.line(m, said)) for m, said in told if said]
+
+    def line(self, machine, said):
+        return Datagram(None, self.name, machine, LINE, None, said, sizes.HEAD)
+
+    def contents(self, now):
+        """For each other machine what goes to it: a hello, or the clocks of its plays."""
+        contents = {}
+        for machine in self.epoch.mesh.staying():
+            contact = self.contacts[machine]
+            if self.byes:
+                contents[machine] = BYE, None
+            elif contact.says_hello():
+                contents[machine] = HELLO, contact.hello(self.opening())
+            else:
+                contents[machine] = PLAY, contact.clocks(now)
+        return contents
+
+    def send_in(self, epoch, contents, now, out):
+        """What goes out in one epoch."""
+        lines, gone = epoch.lines, epoch.mesh.gone
+        heard = self.heard_straight(epoch, now)
+        lines.look(heard, self.turns)
+        if self.forges:
+            lines.forge(self.turns)
+        for machine in sorted(epoch.mesh.staying(), key=lambda it: not lines.is_broken(it, heard)):
+            datagram = self.datagram(epoch, machine, *contents[machine]) if machine in contents else None
+            if datagram:
+                self.send_one(lines, datagram, heard, gone, out)
+            if self.contacts[machine].playing and lines.tells_map(self.turns):
+                entries = lines.entries()
+                out.append((machine, self.seal(epoch, machine, MAP, entries, sizes.map_size(entries))))
+        for hop, size, parcels in lines.take_waiting():
+            if self.contacts[hop].playing:
+                out.append((hop, self.seal(epoch, hop, CARRIED, parcels, size)))
+
+    def send_one(self, lines, datagram, heard, gone, out):
+        """A datagram goes straight, or to a carrier, or both ways. What goes straight goes with the parcels that wait for the same
+        machine."""
+        machine = datagram.receiver
+        carrier = lines.carrier(machine, self.name, gone) if lines.is_broken(machine, heard) else None
+        if carrier is not None:
+            lines.wait(carrier, (machine, STEPS, datagram))
+        if lines.goes_straight(machine, self.turns, carrier):
+            parcel = machine, 0, datagram
+            if not (holds("together") and self.contacts[machine].playing and machine in lines.waiting and lines.wait(machine, parcel)):
+                out.append((machine, datagram))
+
+    def datagram(self, epoch, machine, kind, content):
+        """A hello, a play or a bye for a machine; None if that can't be made."""
+        if kind == HELLO:
+            return self.seal(epoch, machine, HELLO, content, sizes.HELLO) if epoch is self.epoch else None
+        if not self.contacts[machine].playing:
+            return None
+        if kind == BYE:
+            return self.seal(epoch, machine, BYE, None, sizes.BYE)
+        packet = epoch.mesh.tell(machine)
+        if not holds("marks_told_on"):
+            packet = self.without_marks(packet)
+        return self.seal(epoch, machine, PLAY, (packet, content), sizes.play_size(packet, content, epoch.frame))
+
+    def without_marks(self, packet):
+        """A packet as it would be if only their owners told marks."""
+        own = self.epoch.mesh.own()
+        return packet._replace(offers=tuple((p, first, words if p in own else tuple((value, None) for value, _ in words))
+                                            for p, first, words in packet.offers))
+
+    def seal(self, epoch, machine, kind, body, size):
+        draws = None if kind == HELLO else (self.draw, self.contacts[machine].draw)
+        return Datagram(epoch.terms.id, self.name, machine, kind, draws, body, size)
