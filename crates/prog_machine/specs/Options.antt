@@ -1,7 +1,7 @@
 -- What a match of several machines is played with, and why one isn't played.
 use Rattle.std.specs.Prelude.{ℕ, Bool, true, false, not, ◌&&◌, ◌||◌, nat_le, nat_lt, Option, Some, None, is_none, is_some, if◌then◌else◌, slice_get, slice_index_or}
 use Rattle.std.specs.Int.{is_in_range}
-use Rattle.std.specs.List.{filter, find, list_any, range_with_len}
+use Rattle.std.specs.List.{find, list_any, range_with_len}
 use Rattle.std.specs.Option.{option_map_or, option_or}
 use Rattle.prog_sides.specs.declared.options.Guesses.{Guesses}
 use Rattle.prog_sides.specs.declared.options.Guesses.TheVariants as guesses
@@ -14,6 +14,7 @@ use Rattle.prog_machine.specs.declared.options.PeersFault.{PeersFault}
 use Rattle.prog_machine.specs.declared.options.PeersFault.TheVariants.{Machines, Ships, Threshold, Held, NobodyStays, NoMachine, Frame, HeldLines, NoLine}
 use Rattle.prog_machine.specs.Lines.{is_odd_line, Lines}
 use Rattle.prog_machine.specs.declared.lines.LineAt.{LineAt}
+use Rattle.prog_machine.specs.declared.lines.TheConstants.{LINE_LIMIT}
 use Rattle.prog_machine.specs.declared.options.PeersOptions.{PeersOptions}
 use Rattle.prog_machine.specs.declared.options.TheConstants.{SHIP_LIMIT}
 
@@ -74,10 +75,15 @@ stop_fault_of options (Some machine) = Some (stop_fault_at options machine)
 abbrev pub breaks_lines : PeersOptions → Bool
 breaks_lines options = is_some (slice_index_or options.breaks 0 None)
 
+-- whether a line is named in a place, and isn't there
+abbrev pub is_odd_at : Lines → (machines place : ℕ) → Bool
+is_odd_at lines machines place = option_map_or (is_odd_line machines) (slice_index_or lines place None) false
+
 -- the first of these lines that isn't there
 abbrev pub odd_line_in : Lines → (machines : ℕ) → Option LineAt
 odd_line_in lines machines =
-    slice_index_or (filter (λ line. option_map_or (is_odd_line machines) line false) lines) 0 None
+    option_map_or (λ place. slice_index_or lines place None)
+    (find (is_odd_at lines machines) (range_with_len 0 LINE_LIMIT)) None
 
 abbrev pub odd_line_of : PeersOptions → Option LineAt
 odd_line_of options = option_or (odd_line_in options.breaks options.machines) (odd_line_in options.heals options.machines)

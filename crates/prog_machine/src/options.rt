@@ -1,8 +1,9 @@
 //! What a match of several machines is played with, and why one isn't played.
-ghost use Rattle.std.specs.Prelude.{◌≡◌, count_by};
+ghost use Rattle.std.specs.Prelude.{◌≡◌, ◌<◌, count_by};
+ghost use Rattle.prog_machine.specs.declared.lines.TheConstants.{LINE_LIMIT};
 ghost use Rattle.std.specs.List.{range_with_len};
 ghost use Rattle.prog_machine.specs.Lines.{is_broken};
-ghost use Rattle.prog_machine.specs.Options.{breaks_lines, fault_of, first_staying, has_odd_threshold, has_odd_turns, has_staying, is_odd_stop, lacks_ships, makes_guesses, odd_line_in, odd_line_of, odd_stop_of, stays, stop_fault_at, stop_of, threshold_for};
+ghost use Rattle.prog_machine.specs.Options.{breaks_lines, fault_of, first_staying, has_odd_threshold, has_odd_turns, has_staying, is_odd_stop, lacks_ships, makes_guesses, is_odd_at, odd_line_in, odd_line_of, odd_stop_of, stays, stop_fault_at, stop_of, threshold_for};
 
 use crate::lines::{LINE_LIMIT, LineAt, Lines, is_broken};
 use prog_holding::is_turn_count;
@@ -238,18 +239,23 @@ impl PeersOptions {
     }
 }
 
+/// Whether a line is named in a place, and isn't there.
+fn is_odd_at(lines: &Lines, machines: u8, place: usize) -> bool
+    requires { place < LINE_LIMIT }
+    ensures { result ≡ is_odd_at lines.now machines place }
+{
+    match &lines[place] {
+        Some(line) => line.is_odd(machines),
+        None => false,
+    }
+}
+
 /// The first of these lines that isn't there.
 fn odd_line_in(lines: &Lines, machines: u8) -> Option<LineAt>
     ensures { result ≡ odd_line_in lines.now machines }
 {
-    for place in 0..LINE_LIMIT {
-        if let Some(line) = lines[place]
-            && line.is_odd(machines)
-        {
-            return Some(line);
-        }
-    }
-    None
+    let place = (0..LINE_LIMIT).find(|place| is_odd_at(lines, machines, *place))?;
+    lines[place]
 }
 
 /// The greatest threshold of a session of so many players.

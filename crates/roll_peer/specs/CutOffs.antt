@@ -18,13 +18,15 @@ count_of test (suc n) = count_of test n + (if test n then 1 else 0)
 abbrev pub is_here : Peered → ℕ → Bool
 is_here peer m = not (is_in peer.member.mesh.machine.gone m)
 
--- whether it is this one, or isn't gone, and a clock that this machine sent it came back within half of the time after which it would be
+-- whether it is this one, or isn't gone, and a clock that this machine sent it came back within half of the time after which it would be;
+-- if that is never, all that aren't gone are heard
 abbrev pub is_heard : Peered → (now : ℕ) → ℕ → Bool
 is_heard peer now m =
     is_here peer m
     && ((m == peer.member.mesh.seat.me)
+    || ((peer.settings.silent_after == 0)
     || ((contact_at peer m).confirmed
-    && nat_le (unanswered_for (contact_at peer m) now) (peer.settings.silent_after / 2)))
+    && nat_le (unanswered_for (contact_at peer m) now) (peer.settings.silent_after / 2))))
 
 -- the lowest machine that isn't gone
 abbrev pub lowest_here : Peered → Option ℕ

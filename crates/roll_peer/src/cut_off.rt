@@ -50,6 +50,7 @@ impl Peer {
         let contact = &self.contacts[usize::from(machine)];
         self.is_here(machine)
             && (machine == self.member.mesh().seat().me
+                || self.settings.silent_after == 0
                 || contact.confirmed
                     && contact.unanswered_for(now) <= self.settings.silent_after / 2)
     }
