@@ -395,7 +395,8 @@ static inline void fazgrond_one_number(fazgrond_match *match, uint64_t number) {
  * heard again.
  * LEFT: `machine` is gone for good. DESYNC: it has another state at the settled frame `frame`.
  * MISMATCH: `machine` means another match: `field` is 1 if it has another number of machines, 2 if other owners, 3 if another
- * digest, 4 if inputs of another number of words. It may come in the middle of a match too. DROPPED: another machine regards this one as gone.
+ * digest, 4 if inputs of another number of words. It may come in the middle of a match too.
+ * DROPPED: the match is over here. Another machine regards this one as gone, or this one was cut off for too long.
  * RESTARTED: `machine` was opened anew. It can't come back into this match: its old opening is silent from now on, and gone by
  * that, and its new one waits until you open a match anew too. Told once for each opening.
  * STALLED: `machine` is heard, and holds this one up, since it gives no words. If it is to be gone for that, it is in
@@ -403,12 +404,14 @@ static inline void fazgrond_one_number(fazgrond_match *match, uint64_t number) {
  * REFUSED: what `machine` sealed was refused, or a word of it was: its program is broken, or it lies. Told at the first of a run.
  * MISSING: `silent_after` has passed since this peer was opened, and `machine` isn't there yet. Told once. It is waited for, until
  * you disconnect it.
+ * CUT_OFF: this machine hears too few of the others, of a match of three or more: it regards none as gone for that, and the match is
+ * over here in `disconnect_in` milliseconds, which DROPPED tells, unless it hears more of them again. Told at the first of a run.
  * c/numbers writes the list. */
 enum {
     FAZGROND_SYNCHRONIZING = 1001, FAZGROND_SYNCHRONIZED = 1002, FAZGROND_RUNNING = 1003, FAZGROND_DISCONNECTED = 1004,
     FAZGROND_TIME_SYNC = 1005, FAZGROND_INTERRUPTED = 1006, FAZGROND_RESUMED = 1007, FAZGROND_LEFT = 1101, FAZGROND_DESYNC = 1102,
     FAZGROND_MISMATCH = 1103, FAZGROND_DROPPED = 1104, FAZGROND_RESTARTED = 1105, FAZGROND_STALLED = 1106,
-    FAZGROND_REFUSED = 1107, FAZGROND_MISSING = 1108
+    FAZGROND_REFUSED = 1107, FAZGROND_MISSING = 1108, FAZGROND_CUT_OFF = 1109
 };
 
 /* What an event doesn't say is 0. */

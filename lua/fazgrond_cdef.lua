@@ -177,6 +177,7 @@ enum {
     FAZGROND_STALLED = 1106,
     FAZGROND_REFUSED = 1107,
     FAZGROND_MISSING = 1108,
+    FAZGROND_CUT_OFF = 1109,
 };
 typedef struct fazgrond_event {
     uint32_t code;
@@ -415,6 +416,7 @@ return {
         STALLED = 1106,
         REFUSED = 1107,
         MISSING = 1108,
+        CUT_OFF = 1109,
         PIECE_AGAIN = 1,
         PIECE_TAKEN = 2,
         STATE_WHOLE = 3,
@@ -486,5 +488,6 @@ return {
         [1106] = "stalled",
         [1107] = "refused",
         [1108] = "missing",
+        [1109] = "cut_off",
     },
 }

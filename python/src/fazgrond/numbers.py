@@ -115,6 +115,7 @@ class Happened(IntEnum):
     STALLED = 1106
     REFUSED = 1107
     MISSING = 1108
+    CUT_OFF = 1109
 
 
 class Piece(IntEnum):

@@ -189,6 +189,7 @@ pub const RESTARTED: u32 = 1105;
 pub const STALLED: u32 = 1106;
 pub const REFUSED: u32 = 1107;
 pub const MISSING: u32 = 1108;
+pub const CUT_OFF: u32 = 1109;
 
 pub const PIECE_AGAIN: u32 = 1;
 pub const PIECE_TAKEN: u32 = 2;
