@@ -3,7 +3,7 @@ local ffi = require "ffi"
 
 if not pcall(ffi.typeof, "fazgrond_session") then -- (this may be loaded more than once)
     ffi.cdef [[
-static const int FAZGROND_VERSION = 0x000100;
+static const int FAZGROND_VERSION = 0x000101;
 uint32_t fazgrond_version(void);
 size_t fazgrond_text(int32_t code, uint8_t *out, size_t room);
 static const int FAZGROND_PLAYERS = 8;
@@ -327,7 +327,7 @@ end
 
 return {
     numbers = {
-        VERSION = 256,
+        VERSION = 257,
         PLAYERS = 8,
         NO_PLAYER = 255,
         MACHINES = 8,

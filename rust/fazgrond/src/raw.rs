@@ -95,7 +95,7 @@ pub struct TakerState {
     pub left: usize,
 }
 
-pub const VERSION: u32 = 0x000100;
+pub const VERSION: u32 = 0x000101;
 pub const PLAYERS: usize = 8;
 pub const NO_PLAYER: u32 = 255;
 pub const MACHINES: usize = 8;
