@@ -345,8 +345,9 @@ typedef struct fazgrond_match {
     uint32_t me;                         /* which machine this is */
     uint32_t machines;                   /* how many there are, 2 to 8 */
     uint32_t owners[FAZGROND_PLAYERS];   /* the machine of each player, player 1 first; FAZGROND_NO_PLAYER if there is none */
-    uint32_t silent_after;               /* milliseconds after which a machine is gone that answers nothing. 0: it never is, so
-                                          * the match waits for it until you disconnect it, and FAZGROND_MISSING isn't told */
+    uint32_t silent_after;               /* milliseconds after which a machine is gone that answers nothing, unless
+                                          * FAZGROND_CUT_OFF is told. 0: it never is, so the match waits for it until you
+                                          * disconnect it, and FAZGROND_MISSING isn't told */
     uint32_t notify_after;               /* milliseconds after which FAZGROND_INTERRUPTED tells of a machine of which nothing
                                           * comes, and FAZGROND_STALLED of one that holds this one up; 0: neither is told */
     uint32_t stalled_after;              /* milliseconds after which a machine is gone that answers, and holds this one up since
@@ -404,8 +405,8 @@ static inline void fazgrond_one_number(fazgrond_match *match, uint64_t number) {
  * REFUSED: what `machine` sealed was refused, or a word of it was: its program is broken, or it lies. Told at the first of a run.
  * MISSING: `silent_after` has passed since this peer was opened, and `machine` isn't there yet. Told once. It is waited for, until
  * you disconnect it.
- * CUT_OFF: this machine hears too few of the others, of a match of three or more: it regards none as gone for that, and the match is
- * over here in `disconnect_in` milliseconds, which DROPPED tells, unless it hears more of them again. Told at the first of a run.
+ * CUT_OFF: of three machines or more this one hears too few, and so regards none of them as gone. The match is over here in
+ * `disconnect_in` milliseconds, as DROPPED tells then, unless it hears more of them again. Told whenever that begins.
  * c/numbers writes the list. */
 enum {
     FAZGROND_SYNCHRONIZING = 1001, FAZGROND_SYNCHRONIZED = 1002, FAZGROND_RUNNING = 1003, FAZGROND_DISCONNECTED = 1004,
