@@ -7,7 +7,7 @@ public static unsafe class Fazgrond
 {
     const string Library = "fazgrond";    // fazgrond.dll, or libfazgrond.so on Linux
 
-    public const uint Version = 0x000100;
+    public const uint Version = 0x000101;
     public const int Players = 8;
     public const uint NoPlayer = 255;
     public const int Machines = 8;
@@ -31,7 +31,7 @@ public static unsafe class Fazgrond
                      Barred = 316, NotNow = 317, PastTheEnd = 318, WrongLength = 319, TooLong = 320;
     public const uint Synchronizing = 1001, Synchronized = 1002, Running = 1003, Disconnected = 1004, TimeSync = 1005,
                       Interrupted = 1006, Resumed = 1007, Left = 1101, Desync = 1102, Mismatch = 1103, Dropped = 1104,
-                      Restarted = 1105, Stalled = 1106, Refused = 1107, Missing = 1108;
+                      Restarted = 1105, Stalled = 1106, Refused = 1107, Missing = 1108, CutOff = 1109;
     public const uint PieceAgain = 1, PieceTaken = 2, StateWhole = 3, StateWrong = 4;
 
     [StructLayout(LayoutKind.Sequential)]

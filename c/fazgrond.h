@@ -22,7 +22,7 @@ extern "C" {
 #endif
 
 /* The version of this header: major << 16 | minor << 8 | patch. docs/VERSIONS.md says what raises which of them. */
-#define FAZGROND_VERSION 0x000100
+#define FAZGROND_VERSION 0x000101
 
 /* The version of the library that the program runs with. While the major number is 0, a library fits a header with the same major
  * and minor number. If a library knows another size of fazgrond_settings or fazgrond_match than the header, it opens nothing and
@@ -345,8 +345,9 @@ typedef struct fazgrond_match {
     uint32_t me;                         /* which machine this is */
     uint32_t machines;                   /* how many there are, 2 to 8 */
     uint32_t owners[FAZGROND_PLAYERS];   /* the machine of each player, player 1 first; FAZGROND_NO_PLAYER if there is none */
-    uint32_t silent_after;               /* milliseconds after which a machine is gone that answers nothing. 0: it never is, so
-                                          * the match waits for it until you disconnect it, and FAZGROND_MISSING isn't told */
+    uint32_t silent_after;               /* milliseconds after which a machine is gone that answers nothing, unless
+                                          * FAZGROND_CUT_OFF is told. 0: it never is, so the match waits for it until you
+                                          * disconnect it, and FAZGROND_MISSING isn't told */
     uint32_t notify_after;               /* milliseconds after which FAZGROND_INTERRUPTED tells of a machine of which nothing
                                           * comes, and FAZGROND_STALLED of one that holds this one up; 0: neither is told */
     uint32_t stalled_after;              /* milliseconds after which a machine is gone that answers, and holds this one up since
@@ -395,7 +396,8 @@ static inline void fazgrond_one_number(fazgrond_match *match, uint64_t number) {
  * heard again.
  * LEFT: `machine` is gone for good. DESYNC: it has another state at the settled frame `frame`.
  * MISMATCH: `machine` means another match: `field` is 1 if it has another number of machines, 2 if other owners, 3 if another
- * digest, 4 if inputs of another number of words. It may come in the middle of a match too. DROPPED: another machine regards this one as gone.
+ * digest, 4 if inputs of another number of words. It may come in the middle of a match too.
+ * DROPPED: the match is over here. Another machine regards this one as gone, or this one was cut off for too long.
  * RESTARTED: `machine` was opened anew. It can't come back into this match: its old opening is silent from now on, and gone by
  * that, and its new one waits until you open a match anew too. Told once for each opening.
  * STALLED: `machine` is heard, and holds this one up, since it gives no words. If it is to be gone for that, it is in
@@ -403,12 +405,14 @@ static inline void fazgrond_one_number(fazgrond_match *match, uint64_t number) {
  * REFUSED: what `machine` sealed was refused, or a word of it was: its program is broken, or it lies. Told at the first of a run.
  * MISSING: `silent_after` has passed since this peer was opened, and `machine` isn't there yet. Told once. It is waited for, until
  * you disconnect it.
+ * CUT_OFF: of three machines or more this one hears too few, and so regards none of them as gone. The match is over here in
+ * `disconnect_in` milliseconds, as DROPPED tells then, unless it hears more of them again. Told whenever that begins.
  * c/numbers writes the list. */
 enum {
     FAZGROND_SYNCHRONIZING = 1001, FAZGROND_SYNCHRONIZED = 1002, FAZGROND_RUNNING = 1003, FAZGROND_DISCONNECTED = 1004,
     FAZGROND_TIME_SYNC = 1005, FAZGROND_INTERRUPTED = 1006, FAZGROND_RESUMED = 1007, FAZGROND_LEFT = 1101, FAZGROND_DESYNC = 1102,
     FAZGROND_MISMATCH = 1103, FAZGROND_DROPPED = 1104, FAZGROND_RESTARTED = 1105, FAZGROND_STALLED = 1106,
-    FAZGROND_REFUSED = 1107, FAZGROND_MISSING = 1108
+    FAZGROND_REFUSED = 1107, FAZGROND_MISSING = 1108, FAZGROND_CUT_OFF = 1109
 };
 
 /* What an event doesn't say is 0. */

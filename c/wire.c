@@ -49,6 +49,16 @@ static const uint8_t bye[14] = {
     0x46, 0x5a, 0x47, 0x32, 0x9d, 0xba, 0x50, 0xef, 0x7f, 0x8f, 0x36, 0xf9, 0x01, 0x02,
 };
 
+/* Of machines that carry for each other. */
+static const uint8_t map[29] = {
+    0x46, 0x5a, 0x47, 0x32, 0x9a, 0xfb, 0x1e, 0x37, 0x57, 0x92, 0xef, 0xc4, 0x01, 0x03, 0x03, 0x00,
+    0x00, 0x00, 0x02, 0x07, 0x00, 0x00, 0x00, 0x01, 0x06, 0x00, 0x00, 0x00, 0x02,
+};
+static const uint8_t carried[32] = {
+    0x46, 0x5a, 0x47, 0x32, 0x19, 0xc7, 0x27, 0x8f, 0xfb, 0x67, 0xb5, 0xf4, 0x01, 0x04, 0x00, 0x06,
+    0x00, 0x0e, 0x46, 0x5a, 0x47, 0x32, 0x57, 0x3a, 0xa6, 0x8c, 0x29, 0xb7, 0x51, 0x3d, 0x02, 0x02,
+};
+
 /* Of a viewer's line. */
 static const uint8_t viewers_hello[53] = {
     0x46, 0x5a, 0x47, 0x32, 0xd2, 0x02, 0x20, 0x98, 0x51, 0xc5, 0x8d, 0xab, 0xff, 0x00, 0x02, 0x01,
@@ -67,7 +77,7 @@ static const uint8_t viewers_answer[24] = {
     0x03, 0xdb, 0x04, 0xdb, 0x04, 0x00, 0x00, 0x00,
 };
 
-enum { KIND = 13, HELLO = 0, PLAY = 1 };
+enum { KIND = 13, HELLO = 0, PLAY = 1, MAP = 3, CARRIED = 4 };
 
 /* A machine: its session, and the peer beside it. */
 typedef struct machine {
@@ -231,7 +241,8 @@ static void examples(void) {
     close_machine(&two);
 }
 
-/* An example isn't heard if any bit of it is another. What isn't of the other machine isn't even opened. */
+/* An example isn't heard if any bit of it is another. What isn't of the other machine isn't even opened. Of who carries for nobody
+ * the kinds of what is carried are opened, and refused. */
 static void is_whole(const uint8_t *text, size_t length) {
     machine one;
     uint8_t bytes[FAZGROND_DATAGRAM];
@@ -246,7 +257,10 @@ static void is_whole(const uint8_t *text, size_t length) {
         bytes[bit / 8] ^= (uint8_t)(1 << bit % 8);
     }
     int32_t code = heard(&one, bytes, length, 0);
-    IS(code == FAZGROND_OK || (text[KIND] == PLAY && code == FAZGROND_OVERSTATED), 1);
+    if (text[KIND] == MAP || text[KIND] == CARRIED)
+        IS(code, FAZGROND_NO_DATAGRAM);
+    else
+        IS(code == FAZGROND_OK || (text[KIND] == PLAY && code == FAZGROND_OVERSTATED), 1);
     close_machine(&one);
 }
 
@@ -381,6 +395,8 @@ int main(void) {
     is_whole(turn, sizeof turn);
     is_whole(held, sizeof held);
     is_whole(bye, sizeof bye);
+    is_whole(map, sizeof map);
+    is_whole(carried, sizeof carried);
     refused();
     clocks();
     return 0;

@@ -3,7 +3,7 @@ local ffi = require "ffi"
 
 if not pcall(ffi.typeof, "fazgrond_session") then -- (this may be loaded more than once)
     ffi.cdef [[
-static const int FAZGROND_VERSION = 0x000100;
+static const int FAZGROND_VERSION = 0x000101;
 uint32_t fazgrond_version(void);
 size_t fazgrond_text(int32_t code, uint8_t *out, size_t room);
 static const int FAZGROND_PLAYERS = 8;
@@ -177,6 +177,7 @@ enum {
     FAZGROND_STALLED = 1106,
     FAZGROND_REFUSED = 1107,
     FAZGROND_MISSING = 1108,
+    FAZGROND_CUT_OFF = 1109,
 };
 typedef struct fazgrond_event {
     uint32_t code;
@@ -326,7 +327,7 @@ end
 
 return {
     numbers = {
-        VERSION = 256,
+        VERSION = 257,
         PLAYERS = 8,
         NO_PLAYER = 255,
         MACHINES = 8,
@@ -415,6 +416,7 @@ return {
         STALLED = 1106,
         REFUSED = 1107,
         MISSING = 1108,
+        CUT_OFF = 1109,
         PIECE_AGAIN = 1,
         PIECE_TAKEN = 2,
         STATE_WHOLE = 3,
@@ -486,5 +488,6 @@ return {
         [1106] = "stalled",
         [1107] = "refused",
         [1108] = "missing",
+        [1109] = "cut_off",
     },
 }

@@ -13,10 +13,11 @@ import sys
 from pathlib import Path
 
 MAGIC = b"FZG2"
-HELLO, PLAY, BYE, PIECE, ASK = 0, 1, 2, 5, 6
+HELLO, PLAY, BYE, MAP, CARRIED, PIECE, ASK = 0, 1, 2, 3, 4, 5, 6
 VIEWER = 255
 BLOCK = 64  # of SHA-256, in bytes
 PIECE_LIMIT, ASK_LIMIT = 1024, 16
+DATAGRAM_LIMIT, PLACES = 1200, 8
 
 # ---- the fields
 
@@ -91,6 +92,16 @@ def bye(number, sender):
     return packet(number, sender, BYE)
 
 
+def line_map(number, sender, lines):
+    """Whom each machine hears straight, machine 0 first: those, and the number of what it says."""
+    return packet(number, sender, MAP, b"".join(mask(heard) + fixed(of, 4) for heard, of in lines))
+
+
+def carried(number, sender, parcels):
+    """Packets of others, each with its receiver, and with how many machines may still hand it on."""
+    return packet(number, sender, CARRIED, b"".join(bytes([to, steps]) + fixed(len(inside), 2) + inside for to, steps, inside in parcels))
+
+
 def name(which, frame, state):
     """What a state is called; if it is None, that of one of which nothing is known."""
     known = (len(state), hashlib.sha256(state).digest()) if state else (0, bytes(32))
@@ -140,6 +151,7 @@ def steps(text, own, other):
 NUMBER = 0x1122334455667788
 DRAWS = [0x0102030405060708, 0x1112131415161718]  # of machine 0, and of machine 1
 MATCH = {"machines": 2, "owners": [0, 1], "digest": 0x0123456789ABCDEF}
+THIRD_NUMBER, THIRD_DRAW = 0x8877665544332211, 0x2122232425262728  # of machines 0 and 2; and what machine 2 drew
 LINE = 0x99AABBCCDDEEFF00
 OPTIONS, SAVED = b"speed=2", bytes(range(256)) * 12  # two states
 HOST, GUEST = 0xC1C2C3C4C5C6C7C8, 0xD1D2D3D4D5D6D7D8  # the draws of a line's ends
@@ -165,6 +177,7 @@ def examples():
     """Each packet of the page by its name, with the number and sealed."""
     first_clocks = (130, 120, 118, clock(DRAWS[1], 2016), clock(DRAWS[0], 1984), 16)
     turn = play(NUMBER, 1, {0: 119, 1: 123}, {1: (117, 6)}, [0, 0, 5, 5, 5, 7], first_clocks, (110, 0xFEDCBA9876543210))
+    third_bye = sealed(bye(THIRD_NUMBER, 2), THIRD_DRAW, DRAWS[0])
     line_clocks = (640, 603, 603, clock(HOST, 10016), clock(GUEST, 9984), 8)
     return {
         "hello": of_match(hello(NUMBER, 1, MATCH, DRAWS[1], DRAWS[0], 5000)),
@@ -172,6 +185,8 @@ def examples():
         "turn": of_match(turn),
         "held": of_match(play(NUMBER, 1, {0: 19_999, 1: 20_003}, {1: (19_997, 6)}, [5] * 6)),
         "bye": of_match(bye(NUMBER, 1)),
+        "map": of_match(line_map(NUMBER, 1, [([0, 1], 2), ([0, 1, 2], 1), ([1, 2], 2)])),
+        "carried": of_match(carried(NUMBER, 1, [(0, 6, third_bye)])),
         "viewer's hello": of_line(hello(LINE, VIEWER, MATCH, GUEST, HOST, 3000)),
         "rows": of_line(play(LINE, 0, {0: 603, 1: 601}, {0: (600, 3), 1: (0, 1)}, [5, 5, 9, 9], line_clocks)),
         "viewer's answer": of_line(play(LINE, VIEWER, {0: 603, 1: 603})),
@@ -179,6 +194,11 @@ def examples():
         "piece": of_match(piece(NUMBER, 0, 2, 0, OPTIONS, 0)),
         "ask": of_match(ask(NUMBER, 1, 1, 0, SAVED, [2, 0])),
     }
+
+
+def room():
+    """The most bytes of a packet that is carried."""
+    return DATAGRAM_LIMIT - len(carried(NUMBER, 1, [(0, 7, b"")]))
 
 
 def greatest():
@@ -312,7 +332,7 @@ def sayings(made):
     held = len(made["held"][1])
     return [
         f"`{hexed(MAGIC)}`: the letters `FZG`, and the version, `2`",
-        *(f"0x{number:016x}" for number in [NUMBER, *DRAWS, MATCH["digest"], LINE, HOST, GUEST]),
+        *(f"0x{number:016x}" for number in [NUMBER, *DRAWS, MATCH["digest"], THIRD_NUMBER, THIRD_DRAW, LINE, HOST, GUEST]),
         f"A hello has {len(made['hello'][1])} bytes",
         f"It has {len(made['turn'][1])} bytes:",
         f"It has {held} bytes:",
@@ -320,6 +340,8 @@ def sayings(made):
         f"has {held} bytes at frame 20,000",
         f"{60 * held:,} bytes a second",
         f"A bye has {len(made['bye'][1])} bytes",
+        f"A map has {len(line_map(NUMBER, 1, [([], 0)] * 3))} to {len(line_map(NUMBER, 1, [([], 0)] * PLACES))} bytes",
+        f"carried has {room():,} bytes at most",
         f"A piece has {len(piece(NUMBER, 0, 1, 0, SAVED, 0)):,} bytes at most",
         f"an ask {len(ask(NUMBER, 1, 1, 0, SAVED, range(ASK_LIMIT)))}",
         f"The state of {len(OPTIONS)} bytes `{hexed(OPTIONS)}`",

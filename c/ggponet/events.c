@@ -17,7 +17,8 @@ static void log_event(GGPOSession *session, const fazgrond_event *event) {
 
 /* Whether an event is for the log alone: GGPO has none like it, and a game needs none. */
 static bool is_logged_alone(uint32_t code) {
-    return code == FAZGROND_RESTARTED || code == FAZGROND_STALLED || code == FAZGROND_REFUSED || code == FAZGROND_MISSING;
+    return code == FAZGROND_RESTARTED || code == FAZGROND_STALLED || code == FAZGROND_REFUSED || code == FAZGROND_MISSING
+        || code == FAZGROND_CUT_OFF;
 }
 
 /* The first that is heard of a machine. */

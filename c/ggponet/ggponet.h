@@ -103,7 +103,8 @@ enum {
     FAZGGPO_EVENTCODE_MACHINE_LEFT = 1101, /* a machine is gone for good; its players are told by 1004 */
     FAZGGPO_EVENTCODE_DESYNC = 1102,       /* the checksums of a frame differ, whose inputs are all known: end the match */
     FAZGGPO_EVENTCODE_MISMATCH = 1103,     /* another machine, or who is watched, has other players or inputs: it can't play */
-    FAZGGPO_EVENTCODE_DROPPED = 1104       /* another machine takes this one for gone: the match is over here */
+    FAZGGPO_EVENTCODE_DROPPED = 1104       /* the match is over here: another machine takes this one for gone, or it was cut off
+                                            * for too long */
 };
 
 /* A machine is told by its first player, a spectator by its handle, and to a spectator its host by 0. */
@@ -239,8 +240,9 @@ GGPO_API GGPOErrorCode __cdecl ggpo_set_disconnect_timeout(GGPOSession *session,
 GGPO_API GGPOErrorCode __cdecl ggpo_set_disconnect_notify_start(GGPOSession *session, int timeout);
 
 /* A line for the log: the file that the environment variable FAZGROND_GGPO_LOG names, `-` for standard error. All refusals and
- * events stand there, and four events that no game is told: 1105 a machine was begun anew, 1106 one is heard and gives no inputs,
- * 1107 what one sent is against the rules, 1108 one isn't there after the disconnect timeout. */
+ * events stand there, and five events that no game is told: 1105 a machine was begun anew, 1106 one is heard and gives no inputs,
+ * 1107 what one sent is against the rules, 1108 one isn't there after the disconnect timeout, 1109 this one hears too few of the
+ * others, and is dropped if that lasts. */
 GGPO_API void __cdecl ggpo_log(GGPOSession *session, const char *fmt, ...);
 GGPO_API void __cdecl ggpo_logv(GGPOSession *session, const char *fmt, va_list args);
 

@@ -273,6 +273,7 @@ static void react(match *self, const fazgrond_event *event) {
     case FAZGROND_STALLED: say(self, "machine %" PRIu32 " gives no words", event->machine); break;
     case FAZGROND_RESUMED: say(self, "machine %" PRIu32 " is heard again", event->machine); break;
     case FAZGROND_MISSING: say(self, "machine %" PRIu32 " isn't there", event->machine); break;
+    case FAZGROND_CUT_OFF: say(self, "too few of the others are heard: over in %" PRIu32 " ms", event->disconnect_in); break;
     case FAZGROND_RESTARTED: say(self, "machine %" PRIu32 " was begun anew, and can't come back", event->machine); break;
     case FAZGROND_DISCONNECTED:
         say(self, "player %" PRIu32 " has left", event->player);
@@ -280,7 +281,7 @@ static void react(match *self, const fazgrond_event *event) {
         self->holding.is_forced = true; /* the peer has handed over all that waited */
         break;
     case FAZGROND_LEFT: leave(self, event); break;
-    case FAZGROND_DROPPED: fail(self, "the others regard this machine as gone"); break;
+    case FAZGROND_DROPPED: fail(self, "the others regard this machine as gone, or too few are heard"); break;
     case FAZGROND_MISMATCH: fail(self, "another machine means another match"); break;
     case FAZGROND_DESYNC: part(self, event->machine, event->frame); break;
     default: break;

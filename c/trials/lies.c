@@ -561,10 +561,10 @@ static bool lies_now(world *self, datagram *sent) {
 
 static void kinds_as_text(unsigned kinds, char *out, size_t room) {
     static const char *const names[] = { "INTERRUPTED", "LEFT", "STALLED", "MISSING", "RESTARTED", "REFUSED", "DESYNC",
-                                         "MISMATCH", "DROPPED" };
+                                         "MISMATCH", "DROPPED", "CUT_OFF" };
     size_t length = 0;
     out[0] = 0;
-    for (int bit = 0; bit < 9; bit++)
+    for (int bit = 0; bit < 10; bit++)
         if (kinds >> bit & 1 && length < room)
             length += (size_t)snprintf(out + length, room - length, " %s", names[bit]);
 }

@@ -56,6 +56,7 @@ static unsigned kind_of(uint32_t code) {
     case FAZGROND_DESYNC: return MAY_DESYNC;
     case FAZGROND_MISMATCH: return MAY_MISMATCH;
     case FAZGROND_DROPPED: return MAY_DROP;
+    case FAZGROND_CUT_OFF: return MAY_BE_CUT_OFF;
     default: return 0;
     }
 }

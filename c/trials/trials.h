@@ -21,7 +21,7 @@ void trial_must_of(bool is_so, uint32_t who, const char *what);
  * FAZGROND_SYNCHRONIZING to FAZGROND_RUNNING and FAZGROND_TIME_SYNC are always allowed. */
 enum {
     MAY_INTERRUPT = 1, MAY_LEAVE = 2, MAY_STALL = 4, MAY_MISS = 8, MAY_RESTART = 16, MAY_REFUSE = 32, MAY_DESYNC = 64,
-    MAY_MISMATCH = 128, MAY_DROP = 256
+    MAY_MISMATCH = 128, MAY_DROP = 256, MAY_BE_CUT_OFF = 512
 };
 void trial_nothing_but(const world *self, unsigned allowed);
 

@@ -293,7 +293,7 @@ lent.session:close()
 fails("the session is closed", lent.poll, lent, 0)
 
 -- Sentences, and the version.
-is(fazgrond.version(), "0.1.0")
+is(fazgrond.version(), "0.1.1")
 for code in pairs(fazgrond.answers) do
     is(#fazgrond.text(code) > 1, true)
 end

@@ -1,5 +1,5 @@
 -- What C sees of a match and of what a peer tells, and the numbers of its refusals.
-use Rattle.std.specs.Prelude.{◌≡◌, ℕ, is_some, unwrap_or, if◌then◌else◌, ◌⊎◌, ◌≤◌, ◌<◌, slice_index}
+use Rattle.std.specs.Prelude.{◌≡◌, ℕ, false, is_some, unwrap_or, if◌then◌else◌, ◌⊎◌, ◌≤◌, ◌<◌, slice_index}
 use Rattle.roll_frame.specs.Codes.{code_of}
 use Rattle.roll_contact.specs.declared.terms.Field.{Field}
 use Rattle.roll_contact.specs.declared.terms.Field.TheVariants.{Machines, Owners, Settings, Words}
@@ -9,7 +9,7 @@ use Rattle.roll_member.specs.declared.join.JoinRefusal.TheVariants.{InvalidSeat,
 use Rattle.roll_mesh.specs.declared.refusal.MeshRefusal.{MeshRefusal}
 use Rattle.roll_mesh.specs.declared.refusal.MeshRefusal.TheVariants.{CountFull, InvalidMachine as NoMachine, InvalidPlayer as NoPlayer, InvalidSeat as NoSeat, MachineGone as IsGone, Overstated as SaysMore, Uneven as SaysParts, OwnMachine as ItsOwn}
 use Rattle.roll_peer.specs.declared.event.PeerEvent.{PeerEvent}
-use Rattle.roll_peer.specs.declared.event.PeerEvent.TheVariants.{Synchronizing, Synchronized, Running, DisconnectedFromPeer, TimeSync, Interrupted, Resumed, Desync, Mismatch, Dropped, Left, Restarted, Stalled, Refused, Missing}
+use Rattle.roll_peer.specs.declared.event.PeerEvent.TheVariants.{Synchronizing, Synchronized, Running, DisconnectedFromPeer, TimeSync, Interrupted, Resumed, Desync, Mismatch, Dropped, Left, Restarted, Stalled, Refused, Missing, CutOff}
 use Rattle.roll_peer.specs.declared.received.Ignored.{Ignored}
 use Rattle.roll_peer.specs.declared.received.Ignored.TheVariants.{NotSealed, NoDatagram, InvalidMachine, OwnMachine, MachineGone, OtherSession as IsOther, Outside, Overstated}
 use Rattle.roll_peer.specs.declared.refusal.OpenRefusal.{OpenRefusal}
@@ -33,6 +33,7 @@ pub record AreMatched (given : MatchIn) (settings : MatchSettings) : Type 0 wher
   pub silent_after : settings.silent_after ≡ given.silent_after
   pub notify_after : settings.notify_after ≡ given.notify_after
   pub stalled_after : settings.stalled_after ≡ given.stalled_after
+  pub carries : settings.carries ≡ false
   pub words : settings.words ≡ given.words
   pub held : given.held_turns ≤ TURN_LIMIT
 
@@ -82,6 +83,7 @@ event_out (Stalled machine disconnect_in) =
     record (bare 1106) { machine = machine; disconnect_in = disconnect_in }
 event_out (Refused machine) = record (bare 1107) { machine = machine }
 event_out (Missing machine) = record (bare 1108) { machine = machine }
+event_out (CutOff over_in) = record (bare 1109) { disconnect_in = over_in }
 
 -- what was counted of a machine; the round trip is 0 if it wasn't measured
 abbrev pub stats_out : Stats → StatsOut

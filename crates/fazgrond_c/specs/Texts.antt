@@ -82,12 +82,13 @@ event_text number =
     else (if number == 1101 then codes "a machine is regarded as gone"
     else (if number == 1102 then codes "a machine has another state at a settled frame"
     else (if number == 1103 then codes "a machine means another match"
-    else (if number == 1104 then codes "another machine regards this one as gone"
+    else (if number == 1104 then codes "the match is over here: another machine regards this one as gone, or it was cut off for too long"
     else (if number == 1105 then codes "a machine was opened anew in the middle of the match"
     else (if number == 1106 then codes "a machine gives no words, and this one waits for them"
     else (if number == 1107 then codes "something that a machine sealed was refused"
     else (if number == 1108 then codes "a machine hasn't come so far"
-    else []))))))))))))))
+    else (if number == 1109 then codes "this machine hears too few of the others"
+    else [])))))))))))))))
 
 -- the sentence for a number, if there is one
 abbrev pub text_of : ℕ → List ℕ

@@ -58,6 +58,7 @@ impl MatchIn {
             silent_after: self.silent_after,
             notify_after: self.notify_after,
             stalled_after: self.stalled_after,
+            carries: false,
             words,
         })
     }
@@ -136,6 +137,10 @@ impl EventOut {
             } => EventOut::before_end(1106, machine, disconnect_in),
             PeerEvent::Refused { machine } => EventOut::by(1107, machine),
             PeerEvent::Missing { machine } => EventOut::by(1108, machine),
+            PeerEvent::CutOff { over_in } => EventOut {
+                disconnect_in: over_in,
+                ..EventOut::bare(1109)
+            },
         }
     }
 

@@ -1,7 +1,7 @@
 """The library's numbers. It is written by python/declare; fazgrond.h says what each means."""
 from enum import IntEnum
 
-VERSION = 0x000100
+VERSION = 0x000101
 PLAYERS = 8
 NO_PLAYER = 255
 MACHINES = 8
@@ -115,6 +115,7 @@ class Happened(IntEnum):
     STALLED = 1106
     REFUSED = 1107
     MISSING = 1108
+    CUT_OFF = 1109
 
 
 class Piece(IntEnum):

@@ -220,7 +220,7 @@ pub enum Event {
         /// What it has otherwise.
         field: Field,
     },
-    /// Another machine regards this one as gone.
+    /// The match is over here: another machine regards this one as gone, or it was cut off for too long.
     Dropped,
     /// A machine was opened anew. It can't come back into this match.
     Restarted {
@@ -244,6 +244,11 @@ pub enum Event {
         /// The machine.
         machine: u8,
     },
+    /// This machine hears too few of the others, of a match of three or more, and so regards none as gone.
+    CutOff {
+        /// In how many milliseconds the match is over here, which [`Event::Dropped`] tells.
+        over_in: u32,
+    },
 }
 
 impl Event {
@@ -266,6 +271,7 @@ impl Event {
             raw::STALLED => Event::Stalled { machine, disconnect_in },
             raw::REFUSED => Event::Refused { machine },
             raw::MISSING => Event::Missing { machine },
+            raw::CUT_OFF => Event::CutOff { over_in: disconnect_in },
             code => unreachable!("an event of the code {code}"),
         }
     }

@@ -95,7 +95,7 @@ pub struct TakerState {
     pub left: usize,
 }
 
-pub const VERSION: u32 = 0x000100;
+pub const VERSION: u32 = 0x000101;
 pub const PLAYERS: usize = 8;
 pub const NO_PLAYER: u32 = 255;
 pub const MACHINES: usize = 8;
@@ -189,6 +189,7 @@ pub const RESTARTED: u32 = 1105;
 pub const STALLED: u32 = 1106;
 pub const REFUSED: u32 = 1107;
 pub const MISSING: u32 = 1108;
+pub const CUT_OFF: u32 = 1109;
 
 pub const PIECE_AGAIN: u32 = 1;
 pub const PIECE_TAKEN: u32 = 2;
