@@ -61,6 +61,39 @@ The same seed prints the same. Hostile datagrams change neither what was played 
   1
   $ $match --hostile 9 | cmp - attacked
 
+Where the line between two of three or more machines breaks, others carry what the two send each other, and nobody is put out,
+however long it lasts: a machine that isn't heard for five seconds would be. No frame is missing, and nobody left.
+
+  $ broken() { seeds=$1; shift; for seed in $(seq $seeds); do
+  >   rollduel match --frames 500 --seed $seed "$@" > out || echo "status $?"
+  >   agreement < out | sed 's/, state.*//'
+  > done | sort | uniq -c | tr -s ' '; }
+  $ broken 3 --peers 3 --break 0-2:30
+   3 all 3 that stay agree: frame 500 settled
+  $ broken 2 --peers 3 --break 1-2:30 --lost 20
+   2 all 3 that stay agree: frame 500 settled
+  $ broken 2 --peers 4 --break 0-1:20 --break 2-3:40 --break 0-3:60 --lost 10
+   2 all 4 that stay agree: frame 500 settled
+  $ broken 2 --peers 4 --break 0-1:20 --heal 0-1:120 --break 0-1:220 --break 1-2:60 --heal 1-2:200 --delay 2
+   2 all 4 that stay agree: frame 500 settled
+
+Neither where all lines but those of one machine are broken, nor in a chain.
+
+  $ broken 1 --peers 5 --break 1-2:20 --break 1-3:20 --break 1-4:20 --break 2-3:20 --break 2-4:20 --break 3-4:20
+   1 all 5 that stay agree: frame 500 settled
+  $ broken 1 --peers 5 --break 0-2:20 --break 0-3:30 --break 0-4:40 --break 1-3:20 --break 1-4:30 --break 2-4:50
+   1 all 5 that stay agree: frame 500 settled
+
+Who goes silent is put out there as ever, also if it carried what others sent, and hostile datagrams deceive nobody.
+
+  $ broken 2 --peers 4 --break 0-2:20 --stop 1:40
+   2 all 3 that stay agree: frame 500 settled, machine 1 left at 40
+  $ rollduel match --peers 3 --frames 120 --break 0-2:10 --hostile 3 > out
+  $ grep -c '^hostile datagrams: [1-9][0-9]*; .*; deceived: 0$' out
+  1
+  $ agreement < out | sed 's/, state.*//'
+  all 3 that stay agree: frame 120 settled
+
 Guesses change neither what is settled nor the states: all is printed as without them, but for what the rollbacks cost.
 
   $ last() { rollduel match "$@" | agreement; }
@@ -131,6 +164,24 @@ What can't be.
   [2]
   $ rollduel match --peers 3 --frames 60 --stop 1:61
   error: --stop 1: the frame has to be from 1 to the match's last
+  [2]
+  $ rollduel match --peers 3 --break 0-3:30
+  error: --break 0-3: there is no line between two such machines
+  [2]
+  $ rollduel match --peers 3 --break 1-1:30
+  error: --break 1-1: there is no line between two such machines
+  [2]
+  $ rollduel match --peers 3 --break 0-1
+  error: --break and --heal take A-B:FRAME, as 0-2:30
+  [2]
+  $ rollduel match --peers 3 --break 0-1:30 --heal 0:1:40
+  error: --break and --heal take A-B:FRAME, as 0-2:30
+  [2]
+  $ rollduel match --peers 3 $(for frame in 1 2 3 4 5 6 7 8 9; do echo --break 0-1:$frame; done)
+  error: --break and --heal are given 8 times each at most
+  [2]
+  $ rollduel match --peers 3 --break 0-1:30 --held 4
+  error: --break isn't played with --held
   [2]
   $ rollduel match --peers 2 --stop 0:30 --stop 1:30
   error: --stop: at least one machine has to stay

@@ -1,7 +1,7 @@
 //! What a match of several machines is played with, and why one isn't played.
-ghost use Rattle.std.specs.Prelude.{◌≡◌, ◌<◌, count_by};
+ghost use Rattle.std.specs.Prelude.{◌≡◌, count_by, slice_index_or, None};
 ghost use Rattle.prog_machine.specs.declared.lines.TheConstants.{LINE_LIMIT};
-ghost use Rattle.std.specs.List.{range_with_len};
+ghost use Rattle.std.specs.List.{find, range_with_len};
 ghost use Rattle.prog_machine.specs.Lines.{is_broken};
 ghost use Rattle.prog_machine.specs.Options.{breaks_lines, fault_of, first_staying, has_odd_threshold, has_odd_turns, has_staying, is_odd_stop, lacks_ships, makes_guesses, is_odd_at, odd_line_in, odd_line_of, odd_stop_of, stays, stop_fault_at, stop_of, threshold_for};
 
@@ -241,12 +241,11 @@ impl PeersOptions {
 
 /// Whether a line is named in a place, and isn't there.
 fn is_odd_at(lines: &Lines, machines: u8, place: usize) -> bool
-    requires { place < LINE_LIMIT }
     ensures { result ≡ is_odd_at lines.now machines place }
 {
-    match &lines[place] {
-        Some(line) => line.is_odd(machines),
-        None => false,
+    match lines.get(place) {
+        Some(Some(line)) => line.is_odd(machines),
+        _ => false,
     }
 }
 
@@ -254,8 +253,27 @@ fn is_odd_at(lines: &Lines, machines: u8, place: usize) -> bool
 fn odd_line_in(lines: &Lines, machines: u8) -> Option<LineAt>
     ensures { result ≡ odd_line_in lines.now machines }
 {
-    let place = (0..LINE_LIMIT).find(|place| is_odd_at(lines, machines, *place))?;
-    lines[place]
+    match odd_place(lines, machines) {
+        Some(place) => line_at(lines, place),
+        None => None,
+    }
+}
+
+/// The line that is named in a place.
+fn line_at(lines: &Lines, place: usize) -> Option<LineAt>
+    ensures { result ≡ slice_index_or lines.now place None }
+{
+    match lines.get(place) {
+        Some(line) => *line,
+        None => None,
+    }
+}
+
+/// The place of it.
+fn odd_place(lines: &Lines, machines: u8) -> Option<usize>
+    ensures { result ≡ find (is_odd_at lines.now machines) (range_with_len 0 LINE_LIMIT) }
+{
+    (0..LINE_LIMIT).find(|place| is_odd_at(lines, machines, *place))
 }
 
 /// The greatest threshold of a session of so many players.
