@@ -2,7 +2,7 @@
 use Rattle.std.specs.Prelude.{◌≡◌, ◌≤◌, Bool, List, Option, None, ⊤, codes, IfOk, map, option_map}
 use Rattle.clap.specs.Walk.{Row, Text, first_of}
 use Rattle.prog_command_line.specs.Requests as line
-use Rattle.prog_command_line.specs.Requests.{number_in, number_named, options_named, path_of, stop_texts}
+use Rattle.prog_command_line.specs.Requests.{number_in, number_named, options_named, path_of, texts_named}
 use Rattle.prog_command_line.specs.declared.picture.OptionFault.{OptionFault}
 use Rattle.prog_command_line.specs.declared.picture.PictureWindow.{PictureWindow}
 use Rattle.prog_command_line.specs.declared.request.Game.{Game}
@@ -133,7 +133,9 @@ window_by words = option_map (λ picture. picture.1) (picture_by words)
 pub record AreNamed (rows : List Row) (options : PeersOptions) : Type 0 where
   pub machines : options.machines ≡ number_named 8 (first_of (codes "peers") rows)
   pub common : options.common ≡ options_as (options_named (λ name. first_of name rows))
-  pub stops : NamesStops no_stops (stop_texts rows) options.stops
+  pub stops : NamesStops no_stops (texts_named (codes "stop") rows) options.stops
+  pub breaks : NamesLines (texts_named (codes "break") rows) options.breaks
+  pub heals : NamesLines (texts_named (codes "heal") rows) options.heals
   pub hostile : options.hostile ≡ option_map (number_in 64) (first_of (codes "hostile") rows)
   pub held : options.held ≡ option_map (number_in 8) (first_of (codes "held") rows)
   pub fine : fault_of options ≡ None
