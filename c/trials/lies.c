@@ -35,6 +35,7 @@ typedef struct lie {
     int32_t answer;  /* what the honest ones' library says to it */
     unsigned told;   /* and what they are told, by kinds */
     unsigned maybe;  /* and may be told, or not */
+    unsigned first;  /* but of these the first of them has to be told */
     course course;
 } lie;
 
@@ -490,7 +491,8 @@ static const lie lies[] = {
     SAYS(far_behind, FAZGROND_OK, 0, GOES_ON),
     SAYS(other_state, FAZGROND_OK, MAY_DESYNC, GOES_ON),
     SAYS(state_of_the_future, FAZGROND_OK, 0, GOES_ON),
-    { .name = "another_is_gone", .says = another_is_gone, .told = MAY_LEAVE, .maybe = MAY_INTERRUPT | MAY_STALL | MAY_DESYNC,
+    { .name = "another_is_gone", .says = another_is_gone,
+      .maybe = MAY_LEAVE | MAY_INTERRUPT | MAY_STALL | MAY_DESYNC | MAY_DROP | MAY_BE_CUT_OFF, .first = MAY_LEAVE,
       .course = ENDS },
     SAYS(itself_is_gone, FAZGROND_OK, MAY_LEAVE, GOES_ON),
     SAYS(you_are_gone, FAZGROND_OK, MAY_DROP, GOES_ON),
@@ -589,6 +591,7 @@ static void must_be_answered(world *self, const lie *one, uint32_t who, const ui
     kinds_as_text(told, kinds, sizeof kinds);
     snprintf(text, sizeof text, "it was told%s", kinds);
     trial_must_of((told & ~one->maybe) == (one->told & ~one->maybe), who, text);
+    trial_must_of(who != 0 || (told & one->first) == one->first, who, text);
     trial_must_of(world_told(self, who, FAZGROND_REFUSED, LIAR) == (one->told & MAY_REFUSE ? 1 : 0), who, "REFUSED is told once");
 }
 

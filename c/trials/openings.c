@@ -205,7 +205,8 @@ static void restart(uint32_t still, uint32_t times, uint32_t seed) {
     world_end(self);
 }
 
-/* Before the third is there, the second is begun anew: what the first believed was its old opening, so it can't come any more. */
+/* Before the third is there, the second is begun anew: what the first believed was its old opening, so it can't come any more. Alone the
+   first hears too few to call it gone; once the third is there they are two of three, and do. */
 static void restart_before(uint32_t seed) {
     setup with = plain;
     with.machines = 3;
@@ -216,16 +217,18 @@ static void restart_before(uint32_t seed) {
     world_open(self, 0);
     world_open(self, 1);
     world_run(self, 1000);
-    uint32_t since = world_millis(self);
     world_open(self, 1);
     world_run(self, 5000);
     trial_must(world_told(self, 0, FAZGROND_RESTARTED, 1) == 1, "RESTARTED is told");
-    uint32_t left_at = world_told_at(self, 0, FAZGROND_LEFT, 1);
-    trial_must(left_at > since + 2500 && left_at < since + 3700, "the old opening leaves");
+    trial_must(world_told(self, 0, FAZGROND_LEFT, 1) == 0, "nobody is called gone by one of three");
+    trial_must(world_told(self, 0, FAZGROND_CUT_OFF, NOBODY) == 0, "nor is it cut off from a match that hasn't begun");
     trial_must(world_told(self, 0, FAZGROND_MISSING, 2) == 1, "the third is missing");
     world_open(self, 2);
+    uint32_t come = world_millis(self);
     trial_must(world_told(self, 0, FAZGROND_RUNNING, NOBODY) == 0, "the match waits for the third");
     world_run(self, 2000);
+    uint32_t left_at = world_told_at(self, 0, FAZGROND_LEFT, 1);
+    trial_must(left_at > come && left_at < come + 1000, "the old opening leaves");
     trial_must(world_told(self, 0, FAZGROND_RUNNING, NOBODY) == 1, "the match begins without the second");
     world_end(self);
 }
