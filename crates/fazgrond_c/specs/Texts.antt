@@ -82,7 +82,7 @@ event_text number =
     else (if number == 1101 then codes "a machine is regarded as gone"
     else (if number == 1102 then codes "a machine has another state at a settled frame"
     else (if number == 1103 then codes "a machine means another match"
-    else (if number == 1104 then codes "the match is over here: another machine regards this one as gone, or it was cut off for too long"
+    else (if number == 1104 then codes "it is over here: another machine regards this one as gone, or it was cut off"
     else (if number == 1105 then codes "a machine was opened anew in the middle of the match"
     else (if number == 1106 then codes "a machine gives no words, and this one waits for them"
     else (if number == 1107 then codes "something that a machine sealed was refused"

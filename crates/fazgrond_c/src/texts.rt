@@ -139,8 +139,7 @@ fn event_text(number: u32) -> &'static str
         1101 => "a machine is regarded as gone",
         1102 => "a machine has another state at a settled frame",
         1103 => "a machine means another match",
-        1104 =>
-            "the match is over here: another machine regards this one as gone, or it was cut off for too long",
+        1104 => "it is over here: another machine regards this one as gone, or it was cut off",
         1105 => "a machine was opened anew in the middle of the match",
         1106 => "a machine gives no words, and this one waits for them",
         1107 => "something that a machine sealed was refused",

@@ -220,7 +220,7 @@ pub enum Event {
         /// What it has otherwise.
         field: Field,
     },
-    /// The match is over here: another machine regards this one as gone, or it was cut off for too long.
+    /// The match is over here: another machine regards this one as gone, or this one was cut off for too long.
     Dropped,
     /// A machine was opened anew. It can't come back into this match.
     Restarted {
