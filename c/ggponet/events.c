@@ -15,11 +15,8 @@ static void log_event(GGPOSession *session, const fazgrond_event *event) {
              (unsigned)event->field, (unsigned)event->disconnect_in);
 }
 
-/* Whether an event is for the log alone: GGPO has none like it, and a game needs none. */
-static bool is_logged_alone(uint32_t code) {
-    return code == FAZGROND_RESTARTED || code == FAZGROND_STALLED || code == FAZGROND_REFUSED || code == FAZGROND_MISSING
-        || code == FAZGROND_CUT_OFF;
-}
+/* Whether an event is for the log alone: GGPO has none like it, and a game needs none. So are those that a later library may tell. */
+static bool is_logged_alone(uint32_t code) { return code >= FAZGROND_RESTARTED; }
 
 /* The first that is heard of a machine. */
 static void tell_connected(GGPOSession *session, const fazgrond_event *event) {
