@@ -21,7 +21,7 @@ use roll_wire::DATAGRAM_LIMIT;
 impl Relay {
     /// The bytes to send to a machine straight in this turn, as the peer makes them. If the line between the two is broken, they wait for
     /// another machine too, to be carried. None if the peer sends none; or if the other machine doesn't hear this one and somebody
-    /// carries: then they go straight in one turn of 16, and in each of 16 turns after something is known to have changed.
+    /// carries: then they go straight in one turn of 17, and in each of 16 turns after something is known to have changed.
     ///
     /// # Errors
     ///
