@@ -10,8 +10,8 @@
 //!   datagrams, and says what happened ([`PeerEvent`]). The session stays the program's, and is lent to its calls.
 //!   If frames are dear, words that came are held back ([`holding`]) until another thread has run their frames: then no frame is run
 //!   again on the thread that draws.
-//!   Where the line between two of three or more machines may break, a [`Relay`] stands beside the peer: then others carry what goes
-//!   between the two.
+//!   Where the line between two of three or more machines may break, a [`relaying::Relay`] stands beside the peer: then others carry
+//!   what goes between the two.
 //! - **Beside other threads**: [`Host`] has a session, [`Link`]s that bring remote words from the network's thread, and the
 //!   workers of a [`Crew`], which run guesses ahead.
 //! - **Guesses** worth making: [`Habits`] has what was seen of a player, and chooses them. [`PlayerHabits`] chooses them by parts of
@@ -99,8 +99,7 @@ pub use roll_pool::Owner;
 pub use roll_pool::WORKER_LIMIT;
 pub use roll_pool::WorkerEnd;
 pub use roll_pool::start_all;
-pub use roll_relay::Heard as HeardOf;
-pub use roll_relay::Relay;
+pub use roll_relay as relaying;
 pub use roll_session::Call;
 pub use roll_session::Grafted;
 pub use roll_session::Heard;
