@@ -24,6 +24,11 @@ pub struct Settings {
     pub delays: [u32; PLAYER_LIMIT],
     /// Which bits of each player's last word are predicted as held. Places past the players are not read.
     pub masks: [u32; PLAYER_LIMIT],
+    /// Each player's word before frame 0, by which is predicted until its first one comes: 0, unless frames came before.
+    pub before: [u32; PLAYER_LIMIT],
+    /// The words with which each local player begins, from frame 0 on: zeros, unless frames came before. Those past its delay are
+    /// not read.
+    pub first: [[u32; DELAY_LIMIT as usize]; PLAYER_LIMIT],
     /// How many frames the session may run ahead of the confirmed ones.
     pub threshold: u32,
     /// The last frame, 1 to 1,048,576.
@@ -99,6 +104,22 @@ impl Settings {
         let mut settings = self;
         settings.masks[usize::from(player) - 1] = bits;
         settings.checked()
+    }
+
+    /// Going on from frames that came before: with each player's last word there, and the words with which each local player begins,
+    /// of which as many count as its delay has frames.
+    pub fn following(
+        self,
+        before: [u32; PLAYER_LIMIT],
+        first: [[u32; DELAY_LIMIT as usize]; PLAYER_LIMIT],
+    ) -> Settings
+        ensures { result ≡ record self { before = before; first = first } }
+    {
+        Settings {
+            before,
+            first,
+            ..self
+        }
     }
 
     /// With this prediction threshold, in frames: 1 to 8, or to 15 in the wide profile.
@@ -262,6 +283,8 @@ fn plain(players: u8, local: u8) -> Settings
         local,
         delays: [0; PLAYER_LIMIT],
         masks: [u32::MAX; PLAYER_LIMIT],
+        before: [0; PLAYER_LIMIT],
+        first: [[0; DELAY_LIMIT as usize]; PLAYER_LIMIT],
         threshold: u32::from(Profile::Ggpo.threshold_limit()),
         limit: FRAME_LIMIT,
         log: LOG_LIMIT,
