@@ -1,5 +1,5 @@
 //! What a session is opened with.
-ghost use Rattle.std.specs.Prelude.{◌≡◌, ℕ, ◌+◌, ◌-◌, ◌≤◌, ◌<◌, ◌^◌, ◌==◌, drop, not, nat_le, nat_lt, ◌&&◌, is_some, IfErr, IfOk, OnOk, None, Some, Err, slice_set, if◌then◌else◌};
+ghost use Rattle.std.specs.Prelude.{◌≡◌, ◌↔◌, IsTrue, ℕ, ◌+◌, ◌-◌, ◌≤◌, ◌<◌, ◌^◌, ◌==◌, drop, not, nat_le, nat_lt, ◌&&◌, is_some, IfErr, IfOk, OnOk, None, Some, Err, slice_set, if◌then◌else◌};
 ghost use Rattle.std.specs.Int.{bit_at, is_in_range};
 ghost use Rattle.std.specs.List.{list_any};
 ghost use Rattle.std.specs.Option.{option_map};
@@ -158,6 +158,13 @@ impl Settings {
         ensures { result ≡ has_player self.now player }
     {
         1 <= player && player <= self.players && usize::from(player) <= PLAYER_LIMIT
+    }
+
+    /// Whether these are the same settings.
+    pub fn is_same(&self, other: &Settings) -> bool
+        ensures { IsTrue result ↔ self.now ≡ other.now }
+    {
+        self == other
     }
 
     /// What a session can't start with, the first by the order of `SettingsFault`. None where it can start.

@@ -86,7 +86,7 @@ impl Member {
         ensures tied { IsTrue result → IsTied (S.seen session.now) self.new.mesh }
         ensures unchanged { IsFalse result → self.new ≡ self.old }
     {
-        if *session.settings() != self.limits || !is_near(session, &self.mesh) {
+        if !session.settings().is_same(&self.limits) || !is_near(session, &self.mesh) {
             return false;
         }
         catch_up(session, &mut self.mesh);
