@@ -24,10 +24,10 @@ is_out Comes was_gone = false
 is_out Empty was_gone = true
 
 -- whether a machine is gone as the next epoch begins: nobody sits there, or it was gone before
-unfoldable pub begins_without : Peered → MatchSettings → List Seating → ℕ → Bool
+abbrev pub begins_without : Peered → MatchSettings → List Seating → ℕ → Bool
 begins_without old settings seating m =
-    nat_lt m settings.machines && (not (m == settings.me) && (nat_lt m MACHINE_LIMIT
-    && is_out (seating_at seating m) (is_in old.member.mesh.machine.gone m)))
+    nat_lt m settings.machines && (not (m == settings.me)
+    && is_out (seating_at seating m) (is_in old.member.mesh.machine.gone m))
 
 abbrev pub gone_first : Peered → MatchSettings → List Seating → List ℕ
 gone_first old settings seating = filter (begins_without old settings seating) (range_with_len 0 MACHINE_LIMIT)

@@ -4,7 +4,7 @@
 -- session's frame when it was polled last; and whether it hears most of them. The session stands beside it.
 use Rattle.std.specs.Prelude.{◌≡◌, ℕ, List, [], Bool, false, true, Some, None, fold, replicate, slice_index_or, ⊤}
 use Rattle.roll_member.specs.Beside.{Membership}
-use Rattle.roll_member.specs.Joined.{join_refusal, IsJoinedAs, Joined}
+use Rattle.roll_member.specs.Joined.{join_refusal, IsJoinedAs, IsTied, Joined}
 use Rattle.roll_mesh.specs.Machines.{leave}
 use Rattle.roll_mesh.specs.Meshes.{stepped, Seated}
 use Rattle.roll_mesh.specs.declared.limits.TheConstants.{MACHINE_LIMIT}
@@ -64,6 +64,8 @@ without_all gone mesh = fold (λ before m. stepped (λ seat here. leave seat m h
 pub record BeginsAs (s : Seen) (settings : MatchSettings) (gone : List ℕ) (peer : Peered) : Type 0 where
   pub first : Seated
   pub joined : IsJoinedAs s (seat_of settings) (record { session = s; mesh = first })
+  pub tied : IsTied s first
+  pub accepted : join_refusal s (seat_of settings) ≡ None
   pub mesh : peer.member.mesh ≡ without_all gone first
   pub settings_are : peer.settings ≡ settings
 

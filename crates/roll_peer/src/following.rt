@@ -1,7 +1,8 @@
 //! How the network of a match goes on in the match's next epoch.
-ghost use Rattle.std.specs.Prelude.{◌≡◌, ◌≢◌, ◌&&◌, None, OnOk, IfErr, IfOk, nat_lt, not, slice_index_or, ◌==◌};
-ghost use Rattle.roll_member.specs.Joined.{join_refusal, IsJoinedAs, IsTied};
-ghost use Rattle.roll_mesh.specs.Machines.{is_in};
+ghost use Rattle.std.specs.Prelude.{◌≡◌, ◌≢◌, ◌<◌, ◌&&◌, None, OnOk, IfErr, IfOk, nat_lt, not, slice_index_or, ◌==◌};
+ghost use Rattle.roll_member.specs.Joined.{join_refusal};
+ghost use Rattle.roll_mesh.specs.Machines.{is_in, leave};
+ghost use Rattle.roll_mesh.specs.Meshes.{leave_refusal, stepped};
 ghost use Rattle.roll_peer.specs.Following.{begins_without, contacts_next, gone_first, is_out, known_next, IsFollowedAs};
 ghost use Rattle.roll_peer.specs.Peered.{without_all, IsWhyNot};
 ghost use Rattle.roll_peer.specs.Settings.{seat_of};
@@ -59,7 +60,6 @@ impl Peer {
         seating: &[Seating; MACHINE_LIMIT],
     ) -> Result<Peer, OpenRefusal>
         ensures followed { IfOk result (IsFollowedAs (S.seen session.now) settings self.now seating.now) }
-        ensures tied { IfOk result (λ peer. IsTied (S.seen session.now) peer.member.mesh) }
         ensures accepted { OnOk result (join_refusal (S.seen session.now) (seat_of settings) ≡ None) }
         ensures drawn { OnOk result (settings.draw ≢ 0) }
         ensures refused { IfErr result (IsWhyNot (S.seen session.now) settings) }
@@ -96,13 +96,12 @@ impl Peer {
         seating: &[Seating; MACHINE_LIMIT],
         machine: u8,
     ) -> bool
+        requires { machine < MACHINE_LIMIT }
         ensures { result ≡ begins_without self.now settings.now seating.now machine }
     {
-        let place = usize::from(machine);
         machine < settings.machines
             && machine != settings.me
-            && place < MACHINE_LIMIT
-            && seating[place].is_out(self.member.mesh().is_gone(machine))
+            && seating[usize::from(machine)].is_out(self.member.mesh().is_gone(machine))
     }
 
     /// A member that regards those as gone.
@@ -112,14 +111,15 @@ impl Peer {
         settings: &MatchSettings,
         seating: &[Seating; MACHINE_LIMIT],
     ) -> Member
-        requires seat { member.entry.mesh.seat ≡ seat_of settings.now }
-        ensures mesh { result.mesh ≡ without_all (gone_first self.now settings.now seating.now) member.entry.mesh }
-        ensures limits { result.limits ≡ member.entry.limits }
+        requires seat { member.mesh.seat ≡ seat_of settings.now }
+        ensures mesh { result.mesh ≡ without_all (gone_first self.now settings.now seating.now) member.mesh }
+        ensures limits { result.limits ≡ member.limits }
+        ensures seat { result.mesh.seat ≡ seat_of settings.now }
     {
         let mut member = member;
         for machine in 0..MACHINE_LIMIT as u8 {
             if self.begins_without(settings, seating, machine) {
-                let _ = member.leave(machine);
+                leave(&mut member, machine);
             }
         }
         member
@@ -147,5 +147,17 @@ impl Peer {
             known[machine] = seating[machine].is_out(self.known_gone[machine]);
         }
         known
+    }
+}
+
+/// A machine is gone from the first.
+fn leave(member: &mut Member, machine: u8)
+    requires { leave_refusal member.old.mesh machine ≡ None }
+    ensures mesh { member.new.mesh ≡ stepped (λ seat here. leave seat machine here) member.old.mesh }
+    ensures limits { member.new.limits ≡ member.old.limits }
+{
+    match member.leave(machine) {
+        Ok(()) => {}
+        Err(_) => unreachable!(),
     }
 }
