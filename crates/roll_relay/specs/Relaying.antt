@@ -1,5 +1,5 @@
 -- What a relay makes of what comes and goes.
-use Rattle.std.specs.Prelude.{◌≡◌, ◌⊎◌, ℕ, List, [], ◌∷◌, length, replicate, take, Bool, true, false, not, ◌&&◌, ◌==◌, Option, Some, None, Result, Ok, Err, if◌then◌else◌}
+use Rattle.std.specs.Prelude.{◌≡◌, ◌⊎◌, ℕ, List, [], ◌∷◌, replicate, take, Bool, true, false, not, ◌&&◌, ◌==◌, Option, Some, None, Result, Ok, Err, if◌then◌else◌}
 use Rattle.roll_carry.specs.Carrying.{after_carried, after_handed, after_sent, after_taken, after_told, first_owed, first_waited_for, goes_at_once, Carrying}
 use Rattle.roll_carry.specs.Mapping.{after_map, heard_straight}
 use Rattle.roll_carry.specs.Reading.{map_of, parcels_of, tail_of}

@@ -1,4 +1,4 @@
-use Rattle.std.proofs.Common.{◌≡◌, ℕ, Ok, ap, subst, refl, sym, ◌∙◌}
+use Rattle.std.proofs.Common.{◌≡◌, Ok, ap, subst, refl, sym, ◌∙◌}
 use Rattle.roll_carry.specs.Carrying.{Carrying}
 use Rattle.roll_peer.specs.Receiving.{sender_of}
 use Rattle.roll_relay.specs.Relaying.{hearing, HearsParcels}
