@@ -19,6 +19,6 @@ returns c =
     (Decides-and _ _ (same_first a.first b.first)
     (Decides-and _ _ (Decides-eqb a.threshold b.threshold)
     (Decides-and _ _ (Decides-eqb a.limit b.limit) (Decides-eqb a.log b.log))))))))) in (
-      λ is. let h = all.0 (sym c.eq.ensures ∙ is) in (λ i. record { profile = h.0 i; players = h.1.0 i; local = h.1.1.0 i; delays = h.1.1.1.0 i; masks = h.1.1.1.1.0 i; before = h.1.1.1.1.1.0 i; first = h.1.1.1.1.1.1.0 i; threshold = h.1.1.1.1.1.1.1.0 i; limit = h.1.1.1.1.1.1.1.1.0 i; log = h.1.1.1.1.1.1.1.1.1 i; }),
+      λ is. let h = all.0 (sym c.eq.ensures ∙ is) in (λ i. record { profile = h.0 i; players = h.1.0 i; local = h.1.1.0 i; delays = h.1.1.1.0 i; masks = h.1.1.1.1.0 i; before = h.1.1.1.1.1.0 i; first = h.1.1.1.1.1.1.0 i; threshold = h.1.1.1.1.1.1.1.0 i; limit = h.1.1.1.1.1.1.1.1.0 i; log = h.1.1.1.1.1.1.1.1.1 i }),
       λ e. c.eq.ensures ∙ all.1 (ap (λ (x : Settings). x.profile) e, (ap (λ (x : Settings). x.players) e, (ap (λ (x : Settings). x.local) e, (ap (λ (x : Settings). x.delays) e, (ap (λ (x : Settings). x.masks) e, (ap (λ (x : Settings). x.before) e, (ap (λ (x : Settings). x.first) e, (ap (λ (x : Settings). x.threshold) e, (ap (λ (x : Settings). x.limit) e, ap (λ (x : Settings). x.log) e))))))))),
     )

@@ -18,17 +18,17 @@ loop-machine-preserved c =
     let test = begins_without c.args.self.now c.args.settings.now c.args.seating.now in
     let n = c.loop-machine.machine in
     elim c.if-begins_without.branch [
-      then-begins_without w ↦ (
+      | then-begins_without w ↦ (
         ap (λ (m : Membership). m.mesh) w.member-is ∙ w.leave.ensures.mesh
-        ∙ ap (λ (m : Seated). stepped (λ seat here. leave seat n here) m) c.loop-machine.invariant.0
-        ∙ sym (gone_next test n c.args.member.mesh (sym c.begins_without.ensures ∙ w.if-begins_without.true)),
+            ∙ ap (λ (m : Seated). stepped (λ seat here. leave seat n here) m) c.loop-machine.invariant.0
+            ∙ sym (gone_next test n c.args.member.mesh (sym c.begins_without.ensures ∙ w.if-begins_without.true)),
         ap (λ (m : Membership). m.limits) w.member-is ∙ w.leave.ensures.limits ∙ c.loop-machine.invariant.1,
         ap (λ (m : Membership). m.mesh.seat) w.member-is ∙ ap (λ (m : Seated). m.seat) w.leave.ensures.mesh
-        ∙ c.loop-machine.invariant.2,
+            ∙ c.loop-machine.invariant.2,
       )
-    | else-begins_without w ↦ (
+      | else-begins_without w ↦ (
         ap (λ (m : Membership). m.mesh) w.member-is ∙ c.loop-machine.invariant.0
-        ∙ sym (here_next test n c.args.member.mesh (sym c.begins_without.ensures ∙ w.if-begins_without.false)),
+            ∙ sym (here_next test n c.args.member.mesh (sym c.begins_without.ensures ∙ w.if-begins_without.false)),
         ap (λ (m : Membership). m.limits) w.member-is ∙ c.loop-machine.invariant.1,
         ap (λ (m : Membership). m.mesh.seat) w.member-is ∙ c.loop-machine.invariant.2,
       )
