@@ -47,8 +47,8 @@ impl Model for Member {
 }
 
 impl Member {
-    /// A session takes its seat. Its local players are those that the seat owns. The zeros with which a player with a delay
-    /// begins are the first words that it gives.
+    /// A session takes its seat. Its local players are those that the seat owns. The words with which a player with a delay
+    /// begins are the first ones that it gives.
     ///
     /// # Errors
     ///
