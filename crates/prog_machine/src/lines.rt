@@ -1,6 +1,7 @@
 //! The lines that are to break, and to work again, as the command line names them.
-ghost use Rattle.std.specs.Prelude.{◌≡◌, IfOk, IfSome, map};
+ghost use Rattle.std.specs.Prelude.{◌≡◌, ◌<◌, ◌≤◌, length, IfErr, IfOk, IfSome, map};
 ghost use Rattle.prog_machine.specs.Lines.{is_between, is_broken, is_healed, is_line_in, is_odd_line, breaks_by, line_text, NamesLines};
+ghost use Rattle.prog_machine.specs.declared.lines.TheConstants.{LINE_LIMIT};
 
 use crate::options::PeersFault;
 use roll_text::{leading_number, number};
@@ -73,7 +74,10 @@ fn line_of(one: u32, other: u32, frame: u32) -> Option<LineAt>
 ///
 /// `ManyLines` if there are more than 8, `UnreadableLine` if a text isn't one.
 pub fn read_lines(texts: &[&str]) -> Result<Lines, PeersFault>
-    ensures { IfOk result (NamesLines (map (λ text. text.now) texts.now)) }
+    ensures named { IfOk result (NamesLines (map (λ text. text.now) texts.now)) }
+    ensures many { IfErr result (λ why. why ≡ PeersFault.ManyLines → LINE_LIMIT < length texts.now) }
+    ensures others { IfErr result (λ why. length texts.now ≤ LINE_LIMIT
+        → why ≡ PeersFault.UnreadableLine) }
 {
     let mut lines = [None; LINE_LIMIT];
     if texts.len() > LINE_LIMIT {
