@@ -92,18 +92,23 @@ next_owners terms e left = come e.mark.newcomer (kept_owners terms.owners left e
 
 -- ---- the rest
 
--- a player's delay: the mark's, if it has one; else as before, if its owner stays the same
+-- whether a player has the owner that it had, who stayed: whoever comes may have the number of one who left
+abbrev pub is_same_owner : Terms → (kept owners : List ℕ) → ℕ → Bool
+is_same_owner terms kept owners p =
+    (owner_of kept p == owner_of terms.owners p) && (owner_of owners p == owner_of terms.owners p)
+
+-- a player's delay: the mark's, if it has one; else as before, if its owner is the same
 abbrev pub delay_by : Option ℕ → (is_same : Bool) → (before : ℕ) → ℕ
 delay_by None is_same before = if is_same then before else FIRST_DELAY
 delay_by (Some delay) is_same before = delay
 
-abbrev pub next_delay : Terms → Mark → List ℕ → ℕ → ℕ
-next_delay terms mark owners p =
-    delay_by (slice_index_or mark.delays p None) (owner_of owners p == owner_of terms.owners p)
+abbrev pub next_delay : Terms → Mark → (kept owners : List ℕ) → ℕ → ℕ
+next_delay terms mark kept owners p =
+    delay_by (slice_index_or mark.delays p None) (is_same_owner terms kept owners p)
     (slice_index terms.delays p)
 
-abbrev pub next_delays : Terms → Mark → List ℕ → List ℕ
-next_delays terms mark owners = each_player (next_delay terms mark owners)
+abbrev pub next_delays : Terms → Mark → (kept owners : List ℕ) → List ℕ
+next_delays terms mark kept owners = each_player (next_delay terms mark kept owners)
 
 abbrev pub next_threshold : Terms → Mark → ℕ
 next_threshold terms mark = if mark.threshold == 0 then terms.threshold else mark.threshold
@@ -116,6 +121,6 @@ successor terms e left =
       id = next_id terms.id e left;
       base = (terms.base + e.frame) % 2 ^ 64;
       owners = owners;
-      delays = next_delays terms e.mark owners;
+      delays = next_delays terms e.mark (kept_owners terms.owners left e.frame) owners;
       threshold = next_threshold terms e.mark;
     }

@@ -2,15 +2,14 @@
 ghost use Rattle.std.specs.Prelude.{◌≡◌, ◌<◌, IfSome, slice_get, filter, not, ◌==◌};
 ghost use Rattle.std.specs.List.{list_all, range_with_len};
 ghost use Rattle.roll_mesh.specs.declared.limits.TheConstants.{PLAYER_LIMIT, MACHINE_LIMIT};
-ghost use Rattle.roll_epoch.specs.Successions.{come, free_player, free_seat, given, given_if, given_to, has_left_before, is_free_player, is_free_seat, is_no_loss, kept_owner, kept_owners, next_owners, place_for, stays};
+ghost use Rattle.roll_epoch.specs.Successions.{come, free_player, free_seat, given, given_if, given_to, has_left_before, is_free_player, is_free_seat, is_no_loss, kept_owner, kept_owners, place_for, stays};
 
 use crate::limits::NO_MACHINE;
-use crate::marks::Ending;
-use crate::terms::Terms;
 use roll_mesh::{MACHINE_LIMIT, PLAYER_LIMIT};
 use roll_wire::Newcomer;
 
-type Owners = [u8; PLAYER_LIMIT];
+/// The machine that owns each player, player 0 first.
+pub(crate) type Owners = [u8; PLAYER_LIMIT];
 
 /// Whether a player left before the end.
 fn has_left_before(end: u32, left: Option<u32>) -> bool
@@ -53,7 +52,8 @@ fn kept_owner(owners: &Owners, left: &[Option<u32>; PLAYER_LIMIT], end: u32, pla
     }
 }
 
-fn kept_owners(owners: &Owners, left: &[Option<u32>; PLAYER_LIMIT], end: u32) -> Owners
+/// Who owns each player still.
+pub(crate) fn kept_owners(owners: &Owners, left: &[Option<u32>; PLAYER_LIMIT], end: u32) -> Owners
     ensures { result ≡ kept_owners owners.now left.now end }
 {
     let mut kept = [NO_MACHINE; PLAYER_LIMIT];
@@ -144,7 +144,7 @@ fn given_all(owners: &Owners, seat: u8, asked: &[bool; PLAYER_LIMIT]) -> Owners
 }
 
 /// The owners once somebody came, if somebody does and there is a number for it.
-fn come(owners: &Owners, newcomer: &Option<Newcomer>) -> Owners
+pub(crate) fn come(owners: &Owners, newcomer: &Option<Newcomer>) -> Owners
     ensures { result ≡ come newcomer.now owners.now }
 {
     let Some(newcomer) = newcomer else {
@@ -154,17 +154,4 @@ fn come(owners: &Owners, newcomer: &Option<Newcomer>) -> Owners
         Some(seat) => given_all(owners, seat, &newcomer.players),
         None => *owners,
     }
-}
-
-/// The owners in the next epoch.
-#[tactic(auto, unfolding(crate::specs::Successions::next_owners))]
-pub(crate) fn next_owners(
-    terms: &Terms,
-    ending: &Ending,
-    left: &[Option<u32>; PLAYER_LIMIT],
-) -> Owners
-    ensures { result ≡ next_owners terms.now ending.now left.now }
-{
-    let kept = kept_owners(&terms.owners, left, ending.frame);
-    come(&kept, &ending.mark.newcomer)
 }

@@ -6,5 +6,5 @@ use Rattle.roll_epoch.proofs.terms.Terms.next_delays.Goals as goal
 
 pub returns : goal.returns
 unfolding each_player
-returns c = fill_by_all (next_delay c.args.self.now c.args.mark.now c.args.owners.now) c.loop-player.delays PLAYER_LIMIT 0 (omega (arith, c.loop-player.invariant.0))
+returns c = fill_by_all (next_delay c.args.self.now c.args.mark.now c.args.kept.now c.args.owners.now) c.loop-player.delays PLAYER_LIMIT 0 (omega (arith, c.loop-player.invariant.0))
     (λ k l. c.loop-player.invariant.1 k (omega arith))

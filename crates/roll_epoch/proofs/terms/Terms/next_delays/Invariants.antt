@@ -5,4 +5,4 @@ use Rattle.roll_epoch.proofs.terms.Terms.next_delays.Given as goal
 
 abbrev pub invariant-loop-player : goal.invariant-loop-player
 invariant-loop-player l =
-    (length l.delays ≡ PLAYER_LIMIT) × ((k : ℕ) → k < l.player → get_or l.delays k 0 ≡ next_delay l.self l.mark l.owners k)
+    (length l.delays ≡ PLAYER_LIMIT) × ((k : ℕ) → k < l.player → get_or l.delays k 0 ≡ next_delay l.self l.mark l.kept l.owners k)
