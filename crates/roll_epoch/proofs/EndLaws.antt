@@ -1,7 +1,7 @@
 -- There is one end, and all find it who know the same of the rows before it.
-use Rattle.std.proofs.Common.{◌≡◌, ℕ, ◌+◌, ◌<◌, ◌≤◌, List, Bool, true, false, cond, leb, ltb, get_or, refl, sym, ap, subst, ◌∙◌, arith, inl, inr, Option, Some, None}
-use Rattle.std.specs.Prelude.{IfNone, IfSome, ◌⊎◌, ◌&&◌, not, is_some, nat_lt, if◌then◌else◌, slice_index_or}
-use Rattle.std.proofs.lemmas.Bool.{and_from, and_parts, cases_Bool, cases_lt, le-leb, leb-true, leb-false, lt-ltb, ltb-true}
+use Rattle.std.proofs.Common.{◌≡◌, ℕ, ◌+◌, ◌<◌, ◌≤◌, List, Bool, true, false, leb, refl, sym, ap, subst, ◌∙◌, arith, inl, inr, Option, Some, None}
+use Rattle.std.specs.Prelude.{IfNone, IfSome, ◌⊎◌, ◌&&◌, nat_lt, if◌then◌else◌, slice_index_or}
+use Rattle.std.proofs.lemmas.Bool.{and_from, and_parts, cases_lt, leb-true, leb-false, lt-ltb, ltb-true}
 use Rattle.roll_mesh.specs.declared.limits.TheConstants.{PLAYER_LIMIT}
 use Rattle.roll_wire.specs.declared.datagram.Marked.{Marked}
 use Rattle.roll_epoch.specs.Ends.{IsEnd, IsFirst, Told, counting, ending, in_rows, is_there, is_void, mark_in, owner_of, sooner, unless_void}

@@ -1,18 +1,16 @@
 -- Who owns what in the next epoch.
-use Rattle.std.proofs.Common.{◌≡◌, ℕ, zero, suc, ◌+◌, ◌<◌, ◌≤◌, List, [], ◌∷◌, Bool, true, false, length, get_or, set, eqb, refl, sym, ap, subst, ◌∙◌, arith, inl, inr, Option, Some, None}
+use Rattle.std.proofs.Common.{◌≡◌, ℕ, zero, suc, ◌<◌, ◌≤◌, List, [], ◌∷◌, Bool, true, false, length, set, eqb, refl, sym, ap, subst, ◌∙◌, arith, inl, inr, Option, Some, None}
 use Rattle.std.specs.Prelude.{◌⊎◌, not, filter, slice_get, slice_index_or, if◌then◌else◌}
-use Rattle.std.specs.List.{list_all, range_with_len}
+use Rattle.std.specs.List.{range_with_len}
 use Rattle.std.proofs.lemmas.Bool.{and_parts, cases_eq, cases_lt, eq-eqb, eqb-true}
-use Rattle.std.proofs.lemmas.List.{get_or-set_same, get_or-set_other, length-set, set_past}
+use Rattle.std.proofs.lemmas.List.{get_or-set_same, get_or-set_other, set_past}
 use Rattle.std.proofs.lemmas.List.FromFn.{get_or-map-range_with_len, length-map-range_with_len}
 use Rattle.roll_mesh.specs.declared.limits.TheConstants.{MACHINE_LIMIT, PLAYER_LIMIT}
 use Rattle.roll_wire.specs.declared.datagram.Newcomer.{Newcomer}
 use Rattle.roll_epoch.specs.Ends.{owner_of}
-use Rattle.roll_epoch.specs.Laws.{AreNext, NobodyLosesAPlayer}
+use Rattle.roll_epoch.specs.Laws.{NobodyLosesAPlayer}
 use Rattle.roll_epoch.specs.Successions.{come, each_player, free_player, free_seat, given, given_at, given_to, is_free_player, is_free_seat, kept_owner, kept_owners, next_owners, place_for, seated, stays}
 use Rattle.roll_epoch.specs.declared.limits.TheConstants.{NO_MACHINE}
-use Rattle.roll_epoch.specs.declared.marks.Ending.{Ending}
-use Rattle.roll_epoch.specs.declared.terms.Terms.{Terms}
 
 -- a player is owned as before, or it was nobody's, and a newcomer of this number has it
 abbrev Stays : (seat : ℕ) → (before now : List ℕ) → ℕ → Type 0

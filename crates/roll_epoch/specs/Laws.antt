@@ -1,5 +1,5 @@
 -- What holds of epochs: of those who know the same of an epoch's rows, and of the owners of the next one.
-use Rattle.std.specs.Prelude.{◌≡◌, ◌⊎◌, ℕ, ◌<◌, ◌≤◌, List, Option, Some, true, false}
+use Rattle.std.specs.Prelude.{◌≡◌, ◌⊎◌, ℕ, ◌<◌, ◌≤◌, List, Option, Some, true}
 use Rattle.roll_mesh.specs.declared.limits.TheConstants.{PLAYER_LIMIT}
 use Rattle.roll_epoch.specs.Ends.{IsEnd, Told, mark_in, owner_of}
 use Rattle.roll_epoch.specs.Successions.{free_seat, kept_owners, next_owners, stays}

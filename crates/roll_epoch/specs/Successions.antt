@@ -1,5 +1,5 @@
 -- What the next epoch is.
-use Rattle.std.specs.Prelude.{ℕ, zero, suc, ◌+◌, ◌%◌, ◌^◌, ◌==◌, List, map, filter, Bool, true, false, ◌&&◌, not, nat_lt, Option, Some, None, if◌then◌else◌, slice_get, slice_index, slice_index_or, slice_set}
+use Rattle.std.specs.Prelude.{ℕ, zero, suc, ◌+◌, ◌%◌, ◌^◌, ◌==◌, List, map, filter, Bool, false, ◌&&◌, not, nat_lt, Option, Some, None, if◌then◌else◌, slice_get, slice_index, slice_index_or, slice_set}
 use Rattle.std.specs.List.{list_all, range_with_len}
 use Rattle.roll_mesh.specs.declared.limits.TheConstants.{MACHINE_LIMIT, PLAYER_LIMIT}
 use Rattle.roll_wire.specs.declared.datagram.Mark.{Mark}

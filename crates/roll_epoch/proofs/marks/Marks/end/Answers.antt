@@ -1,7 +1,7 @@
 use Rattle.std.proofs.Common.{◌+◌, ◌∙◌, ap, sym, subst, Option}
 use Rattle.roll_epoch.specs.Ends.{Told, sooner, told}
 use Rattle.roll_epoch.specs.declared.marks.Ending.{Ending}
-use Rattle.roll_epoch.proofs.EndLaws.{Best, ended, goes_on}
+use Rattle.roll_epoch.proofs.EndLaws.{Best, goes_on}
 use Rattle.roll_epoch.proofs.marks.Marks.end.Goals as goal
 
 pub loop-player-preserved : goal.loop-player-preserved
