@@ -126,15 +126,23 @@ fn three_epochs(rt: HostRuntime) -> Result<(), Fail> {
 fn an_end(rt: HostRuntime) -> Result<(), Fail> {
     let mut marks = Marks::new();
     for (player, frame, delayed) in [(1, 21, 1), (0, 19, 1), (3, 20, 3), (3, 18, 3)] {
-        marks.note(player, Marked {
-            frame,
-            mark: mark(None, &[(delayed, 5)], 0),
-        });
+        marks.note(
+            player,
+            Marked {
+                frame,
+                mark: mark(None, &[(delayed, 5)], 0),
+            },
+        );
     }
     let welcome = [true; PLAYER_LIMIT];
     let end = marks.end(&FIRST, &welcome, &left(&[]), 30);
     assert_eq!(rt; end.map(|end| (end.frame, end.player)), Some((21, 3)));
     assert!(rt; marks.end(&FIRST, &welcome, &left(&[]), 20).is_none());
-    assert_eq!(rt; marks.end(&FIRST, &welcome, &left(&[(3, 20)]), 30).map(|end| end.frame), Some(22));
+    assert_eq!(rt;
+        marks
+            .end(&FIRST, &welcome, &left(&[(3, 20)]), 30)
+            .map(|end| end.frame),
+        Some(22)
+    );
     Ok(())
 }
