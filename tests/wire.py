@@ -105,8 +105,9 @@ def line_map(number, sender, lines):
 
 
 def carried(number, sender, parcels):
-    """Packets of others, each with its receiver, and with how many machines may still hand it on."""
-    return packet(number, sender, CARRIED, b"".join(bytes([to, steps]) + fixed(len(inside), 2) + inside for to, steps, inside in parcels))
+    """Packets without their letters, each with its receiver, and with how many machines may still hand it on."""
+    tails = [(to, steps, inside[len(MAGIC):]) for to, steps, inside in parcels]
+    return packet(number, sender, CARRIED, b"".join(bytes([to, steps]) + fixed(len(tail), 2) + tail for to, steps, tail in tails))
 
 
 def name(which, frame, state):
@@ -194,7 +195,7 @@ def examples():
         "held": of_match(play(NUMBER, 1, {0: 19_999, 1: 20_003}, {1: (19_997, 6)}, [5] * 6)),
         "marked": of_match(play(NUMBER, 1, {0: 119, 1: 123}, {1: (117, 6)}, [0, 0, 5, 5, 5, 7], marks=marks)),
         "bye": of_match(bye(NUMBER, 1)),
-        "map": of_match(line_map(NUMBER, 1, [([0, 1], 2), ([0, 1, 2], 1), ([1, 2], 2)])),
+        "map": of_match(line_map(NUMBER, 1, [([0, 1], 2), ([0, 1, 2], 2), ([1, 2], 2)])),
         "carried": of_match(carried(NUMBER, 1, [(0, 6, third_bye)])),
         "viewer's hello": of_line(hello(LINE, VIEWER, MATCH, GUEST, HOST, 3000)),
         "rows": of_line(play(LINE, 0, {0: 603, 1: 601}, {0: (600, 3), 1: (0, 1)}, [5, 5, 9, 9], line_clocks)),
@@ -207,7 +208,7 @@ def examples():
 
 def room():
     """The most bytes of a packet that is carried."""
-    return DATAGRAM_LIMIT - len(carried(NUMBER, 1, [(0, 7, b"")]))
+    return DATAGRAM_LIMIT - len(carried(NUMBER, 1, [(0, 7, MAGIC)])) + len(MAGIC)
 
 
 def greatest():

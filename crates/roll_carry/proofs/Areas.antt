@@ -20,10 +20,10 @@ use Rattle.roll_carry.proofs.Texts.{IsSized, head_again, head_takes, parcel_agai
 -- ---- parcels one behind the other
 
 pub shorter : (bytes : List ℕ) (p : ParcelValue) (rest : List ℕ) → IsBytes bytes
-    → parcel_at bytes ≡ Ok (p, rest) → length bytes ≡ LABEL + length p.bytes + length rest
+    → parcel_at bytes ≡ Ok (p, rest) → length bytes ≡ LABEL + length p.tail + length rest
 shorter bytes p rest b e =
     let t = parcel_takes bytes p rest b e in
-    omega (arith, ap length t.0.parts, length-append p.bytes rest)
+    omega (arith, ap length t.0.parts, length-append p.tail rest)
 
 abbrev before : ParcelValue → List ParcelValue → Result (List ParcelValue) WireFault
 before p others = Ok (p ∷ others)
@@ -85,16 +85,16 @@ parcels_take (suc n) (x ∷ bytes) parcels b e =
     )
 
 behind : (p : ParcelValue) (ps : List ParcelValue)
-    → length (area_text (p ∷ ps)) ≡ LABEL + length p.bytes + length (area_text ps)
+    → length (area_text (p ∷ ps)) ≡ LABEL + length p.tail + length (area_text ps)
 behind p ps = ap length (flat_map-cons parcel_text p ps)
-    ∙ omega (arith, length-append p.bytes (area_text ps))
+    ∙ omega (arith, length-append p.tail (area_text ps))
 
 -- parcels that have room in a datagram
 limited : (parcels : List ParcelValue) → length (area_text parcels) ≤ AREA_LIMIT
     → AllByRecursion IsSized parcels → AllByRecursion IsParcel parcels
 limited [] few f = tt
 limited (p ∷ ps) few f =
-    let size : length (area_text (p ∷ ps)) ≡ LABEL + length p.bytes + length (area_text ps) =
+    let size : length (area_text (p ∷ ps)) ≡ LABEL + length p.tail + length (area_text ps) =
     behind p ps in (
       record {
         to = f.0.to;
@@ -115,7 +115,7 @@ parcels_again zero [] f few = refl
 parcels_again (suc n) [] f few = refl
 parcels_again zero (p ∷ ps) f few = absurd (omega arith)
 parcels_again (suc n) (p ∷ ps) f few =
-    let size : length (area_text (p ∷ ps)) ≡ LABEL + length p.bytes + length (area_text ps) =
+    let size : length (area_text (p ∷ ps)) ≡ LABEL + length p.tail + length (area_text ps) =
     behind p ps in
     rw (
       parcel_again p (area_text ps) (sized p f.0),
@@ -310,7 +310,7 @@ area_said bytes parcels s = rw (parcels_said bytes parcels s) refl
 
 -- ---- the first of some parcels
 
-is_parcel : (p : ParcelValue) → IsSized p → LABEL + length p.bytes ≤ AREA_LIMIT → IsParcel p
+is_parcel : (p : ParcelValue) → IsSized p → LABEL + length p.tail ≤ AREA_LIMIT → IsParcel p
 is_parcel p f few = record { to = f.to; steps = f.steps; least = f.least; most = omega arith }
 
 pub first_found : {A : Type 0} (bytes : List ℕ) (view : A → ParcelValue × List ℕ)
@@ -326,7 +326,7 @@ first_found bytes view (Err f) b few given = tt
 pub first_len : {A : Type 0} (bytes : List ℕ) (view : A → ParcelValue × List ℕ)
     (r : Result A WireFault) → IsBytes bytes → Gives view r (parcel_at bytes)
     → IfSome (result_ok r) (λ x. length bytes
-    ≡ LABEL + length (view x).0.bytes + length (view x).1)
+    ≡ LABEL + length (view x).0.tail + length (view x).1)
 first_len bytes view (Ok x) b given = shorter bytes (view x).0 (view x).1 b given
 first_len bytes view (Err f) b given = tt
 

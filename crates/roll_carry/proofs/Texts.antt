@@ -17,13 +17,13 @@ use Rattle.roll_wire.specs.Spelling.{byte, envelope, mask, number, IsByte, IsEnv
 use Rattle.roll_wire.proofs.Fields.{IsBytes, IsBytes-drop, IsBytes-take, IsField, Takes, Takes-then, bind_ok, both_at, both_field, byte_field, guard_ok, mask_field, number_field, ok_is, passed_ok, repeated_field, seen_at, seen_field}
 use Rattle.roll_wire.proofs.Groups.{envelope_field}
 use Rattle.roll_carry.specs.declared.datagram.Hearing.{Hearing}
-use Rattle.roll_carry.specs.declared.limits.TheConstants.{HEAD, MAP}
+use Rattle.roll_carry.specs.declared.limits.TheConstants.{MAP, TAIL_LEAST}
 use Rattle.roll_carry.specs.Spelling.{IsHearing, IsMap, Maps, ParcelValue, Says, head, hearing_text, kind, map_text, pair, parcel_text}
-use Rattle.roll_carry.specs.Reading.{datagram_at, head_at, hearing_at, machine_count, map_of, parcel_at}
+use Rattle.roll_carry.specs.Reading.{tail_at, head_at, hearing_at, machine_count, map_of, parcel_at}
 
 -- ---- what each datagram begins with
 
-magic_takes : (bytes : List ℕ) (n : ℕ) (rest : List ℕ) → IsBytes bytes
+pub magic_takes : (bytes : List ℕ) (n : ℕ) (rest : List ℕ) → IsBytes bytes
     → magic_at bytes ≡ Ok (n, rest) → Takes bytes (number n) rest × (n ≡ MAGIC)
 unfolding magic_at
 magic_takes bytes n rest b e =
@@ -191,22 +191,22 @@ pair_again n rest small =
     let long : ltb (length (pair n ++ rest)) 2 ≡ false = le-ltb _ _ (omega arith) in
     rw (long, from_be_bytes-to_be_bytes_2 n small) refl
 
-datagram_takes : (n : ℕ) (bytes x rest : List ℕ) → IsBytes bytes → datagram_at n bytes ≡ Ok (x, rest)
-    → Takes bytes x rest × ((length x ≡ n) × (HEAD ≤ n))
-datagram_takes n bytes x rest b e =
-    let g = guard_ok (ltb n HEAD || ltb (length bytes) n) Short (take n bytes, drop n bytes) (x, rest)
+tail_takes : (n : ℕ) (bytes x rest : List ℕ) → IsBytes bytes → tail_at n bytes ≡ Ok (x, rest)
+    → Takes bytes x rest × ((length x ≡ n) × (TAIL_LEAST ≤ n))
+tail_takes n bytes x rest b e =
+    let g = guard_ok (ltb n TAIL_LEAST || ltb (length bytes) n) Short (take n bytes, drop n bytes) (x, rest)
     e in
-    let both = or_parts (ltb n HEAD) (ltb (length bytes) n) g.0 in
+    let both = or_parts (ltb n TAIL_LEAST) (ltb (length bytes) n) g.0 in
     let long : n ≤ length bytes = ltb-false _ _ both.1 in
-    subst (λ (y : List ℕ × List ℕ). Takes bytes y.0 y.1 × ((length y.0 ≡ n) × (HEAD ≤ n))) g.1 (
+    subst (λ (y : List ℕ × List ℕ). Takes bytes y.0 y.1 × ((length y.0 ≡ n) × (TAIL_LEAST ≤ n))) g.1 (
       record { parts = sym (take-append-drop n bytes); rest_fits = IsBytes-drop n bytes b },
       (length-take-le n bytes long, ltb-false _ _ both.0),
     )
 
-datagram_again : (n : ℕ) (x rest : List ℕ) → length x ≡ n → HEAD ≤ n
-    → datagram_at n (x ++ rest) ≡ Ok (x, rest)
-datagram_again n x rest len least =
-    let whole : ltb n HEAD ≡ false = le-ltb _ _ least in
+tail_again : (n : ℕ) (x rest : List ℕ) → length x ≡ n → TAIL_LEAST ≤ n
+    → tail_at n (x ++ rest) ≡ Ok (x, rest)
+tail_again n x rest len least =
+    let whole : ltb n TAIL_LEAST ≡ false = le-ltb _ _ least in
     let long : ltb (length (x ++ rest)) n ≡ false =
     le-ltb _ _ (omega (arith, length-append x rest, len)) in
     rw (whole, long, take_at x rest n len, drop_at x rest n len) refl
@@ -215,11 +215,11 @@ datagram_again n x rest len least =
 pub record IsSized (p : ParcelValue) : Type 0 where
   pub to : IsByte p.to
   pub steps : IsByte p.steps
-  pub least : HEAD ≤ length p.bytes
-  pub most : length p.bytes < 2 ^ 16
+  pub least : TAIL_LEAST ≤ length p.tail
+  pub most : length p.tail < 2 ^ 16
 
 abbrev made : (to steps : ℕ) → List ℕ × List ℕ → Result (ParcelValue × List ℕ) WireFault
-made to steps x = Ok (record { to = to; steps = steps; bytes = x.0 }, x.1)
+made to steps x = Ok (record { to = to; steps = steps; tail = x.0 }, x.1)
 
 abbrev Reads : List ℕ → ParcelValue × List ℕ → Type 0
 Reads bytes x = Takes bytes (parcel_text x.0) x.1 × IsSized x.0
@@ -227,8 +227,8 @@ Reads bytes x = Takes bytes (parcel_text x.0) x.1 × IsSized x.0
 in_parts : (bytes first second third rest : List ℕ) (to steps size : ℕ) (x : List ℕ)
     → Takes bytes (byte to) first × IsByte to → Takes first (byte steps) second × IsByte steps
     → Takes second (pair size) third × (size < 2 ^ 16)
-    → Takes third x rest × ((length x ≡ size) × (HEAD ≤ size))
-    → Reads bytes (record { to = to; steps = steps; bytes = x }, rest)
+    → Takes third x rest × ((length x ≡ size) × (TAIL_LEAST ≤ size))
+    → Reads bytes (record { to = to; steps = steps; tail = x }, rest)
 in_parts bytes first second third rest to steps size x t u v w =
     let sized : Takes second (pair (length x)) third =
     subst (λ (n : ℕ). Takes second (pair n) third) (sym w.1.0) v.0 in
@@ -248,17 +248,17 @@ pub parcel_takes : (bytes : List ℕ) (p : ParcelValue) (rest : List ℕ) → Is
 unfolding parcel_at
 parcel_takes bytes p rest b e =
     let q = bind_ok (byte_at bytes) (λ to. byte_at to.1 >>= λ steps. number_at w16 steps.1 >>=
-    λ size. datagram_at size.0 size.1 >>= made to.0 steps.0) (p, rest) e in
+    λ size. tail_at size.0 size.1 >>= made to.0 steps.0) (p, rest) e in
     let r = bind_ok (byte_at q.0.1) (λ steps. number_at w16 steps.1 >>=
-    λ size. datagram_at size.0 size.1 >>= made q.0.0 steps.0) (p, rest) q.2 in
-    let s = bind_ok (number_at w16 r.0.1) (λ size. datagram_at size.0 size.1 >>= made q.0.0 r.0.0)
+    λ size. tail_at size.0 size.1 >>= made q.0.0 steps.0) (p, rest) q.2 in
+    let s = bind_ok (number_at w16 r.0.1) (λ size. tail_at size.0 size.1 >>= made q.0.0 r.0.0)
     (p, rest) r.2 in
-    let d = bind_ok (datagram_at s.0.0 s.0.1) (made q.0.0 r.0.0) (p, rest) s.2 in
+    let d = bind_ok (tail_at s.0.0 s.0.1) (made q.0.0 r.0.0) (p, rest) s.2 in
     let t = byte_field.takes bytes q.0.0 q.0.1 b q.1 in
     let u = byte_field.takes q.0.1 r.0.0 r.0.1 t.0.rest_fits r.1 in
     let v = pair_takes r.0.1 s.0.0 s.0.1 u.0.rest_fits s.1 in
-    let w = datagram_takes s.0.0 s.0.1 d.0.0 d.0.1 v.0.rest_fits d.1 in
-    let one : ParcelValue = record { to = q.0.0; steps = r.0.0; bytes = d.0.0 } in
+    let w = tail_takes s.0.0 s.0.1 d.0.0 d.0.1 v.0.rest_fits d.1 in
+    let one : ParcelValue = record { to = q.0.0; steps = r.0.0; tail = d.0.0 } in
     subst (Reads bytes) {x = (one, d.0.1)} (ok_is (one, d.0.1) (p, rest) d.2)
     (in_parts bytes q.0.1 r.0.1 s.0.1 d.0.1 q.0.0 r.0.0 s.0.0 d.0.0 t u v w)
 
@@ -266,14 +266,14 @@ pub parcel_again : (p : ParcelValue) (rest : List ℕ) → IsSized p
     → parcel_at (parcel_text p ++ rest) ≡ Ok (p, rest)
 unfolding parcel_at
 parcel_again p rest f =
-    let parts : parcel_text p ++ rest ≡ byte p.to ++ (byte p.steps ++ (pair (length p.bytes) ++ (p.bytes ++ rest))) =
+    let parts : parcel_text p ++ rest ≡ byte p.to ++ (byte p.steps ++ (pair (length p.tail) ++ (p.tail ++ rest))) =
     simp append_assoc in
     rw (
       parts,
-      byte_field.again p.to (byte p.steps ++ (pair (length p.bytes) ++ (p.bytes ++ rest))) f.to,
-      byte_field.again p.steps (pair (length p.bytes) ++ (p.bytes ++ rest)) f.steps,
-      pair_again (length p.bytes) (p.bytes ++ rest) f.most,
-      datagram_again (length p.bytes) p.bytes rest refl f.least,
+      byte_field.again p.to (byte p.steps ++ (pair (length p.tail) ++ (p.tail ++ rest))) f.to,
+      byte_field.again p.steps (pair (length p.tail) ++ (p.tail ++ rest)) f.steps,
+      pair_again (length p.tail) (p.tail ++ rest) f.most,
+      tail_again (length p.tail) p.tail rest refl f.least,
     ) refl
 
 -- what a caller is told

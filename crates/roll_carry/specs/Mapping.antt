@@ -1,5 +1,5 @@
 -- What a machine knows of who hears whom straight: what it hears itself, and what the others told.
-use Rattle.std.specs.Prelude.{ℕ, ◌+◌, ◌-◌, ◌%◌, ◌^◌, List, length, replicate, Bool, true, false, not, ◌&&◌, ◌||◌, ◌==◌, nat_le, nat_lt, Option, Some, None, if◌then◌else◌, slice_index_or, slice_set}
+use Rattle.std.specs.Prelude.{ℕ, ◌+◌, ◌-◌, ◌%◌, ◌^◌, List, length, replicate, Bool, true, false, ◌&&◌, ◌||◌, ◌==◌, nat_le, nat_lt, Option, Some, None, if◌then◌else◌, slice_index_or, slice_set}
 use Rattle.roll_contact.specs.Clocks.{since}
 use Rattle.roll_mesh.specs.Machines.{at_all, at_places, same_gone as same_machines}
 use Rattle.roll_mesh.specs.declared.limits.TheConstants.{MACHINE_LIMIT}
@@ -8,14 +8,14 @@ use Rattle.roll_carry.specs.declared.datagram.Hearing.{Hearing}
 use Rattle.roll_carry.specs.declared.map.LineMap.{LineMap}
 use Rattle.roll_carry.specs.declared.limits.TheConstants.{CARRY_AFTER, TELL_TURNS}
 
--- all hear all, until something else is known: each was heard just as the map was made
-abbrev pub first_map : (me machines now : ℕ) → LineMap
-first_map me machines now = record {
+-- at first nobody is known to hear anybody
+abbrev pub first_map : (me machines : ℕ) → LineMap
+first_map me machines = record {
   me = me;
   machines = machines;
-  lines = replicate MACHINE_LIMIT (record { hears = replicate MACHINE_LIMIT true; number = 0 });
-  heard_at = replicate MACHINE_LIMIT (Some now);
-  telling = TELL_TURNS;
+  lines = replicate MACHINE_LIMIT (record { hears = replicate MACHINE_LIMIT false; number = 0 });
+  heard_at = replicate MACHINE_LIMIT None;
+  telling = 0;
 }
 
 -- what it says itself
@@ -68,10 +68,6 @@ own_now here now =
 abbrev pub is_later : (number than : ℕ) → Bool
 is_later number than = nat_lt 0 (since number than)
 
--- whether two say the same
-abbrev pub are_same : Hearing → Hearing → Bool
-are_same one other = same_machines one.hears other.hears && (one.number == other.number)
-
 -- what it says of itself, once another told that it hears these: if that isn't so, and isn't older than what it said itself, it says
 -- it anew
 abbrev pub corrected : (own told : Hearing) → Hearing
@@ -79,30 +75,25 @@ corrected own told =
     if same_machines told.hears own.hears || is_later own.number told.number then own
     else record { hears = own.hears; number = (told.number + 1) % 2 ^ 32 }
 
--- whether it is believed what one machine told of another: all of itself; of others what is later than what is known, unless this
--- machine hears them straight, and so of them themselves
-abbrev pub is_believed : LineMap → (sender machine : ℕ) → Hearing → Bool
-is_believed here sender machine told =
-    (machine == sender)
-    || (not (shows here here.me machine) && is_later told.number (hearing_of here.lines machine).number)
-
--- what is known of a machine once one told this of it
-abbrev pub line_told : LineMap → (sender machine : ℕ) → Hearing → Hearing
-line_told here sender machine told =
+-- what is known of a machine once this was told of it: what has the later number; but what this one hears it knows itself
+abbrev pub line_told : LineMap → (machine : ℕ) → Hearing → Hearing
+line_told here machine told =
     if machine == here.me then corrected (own_hearing here) told
-    else (if is_believed here sender machine told then told else hearing_of here.lines machine)
+    else (if is_later told.number (hearing_of here.lines machine).number then told
+    else hearing_of here.lines machine)
 
--- what is known of a machine once one told all that it knows
-abbrev pub line_after : LineMap → (sender : ℕ) → List Hearing → (machine : ℕ) → Hearing
-line_after here sender told machine =
-    if nat_lt machine (length told) then line_told here sender machine (hearing_of told machine)
+-- what is known of a machine once another told all that it knows
+abbrev pub line_after : LineMap → List Hearing → (machine : ℕ) → Hearing
+line_after here told machine =
+    if nat_lt machine (length told) then line_told here machine (hearing_of told machine)
     else hearing_of here.lines machine
 
--- whether the same is known of all machines
+-- whether all machines are known to hear the same ones
 unfoldable pub same_lines : (one other : List Hearing) → Bool
-same_lines one other = at_all (λ machine. are_same (hearing_of one machine) (hearing_of other machine)) one
+same_lines one other =
+    at_all (λ machine. same_machines (hearing_of one machine).hears (hearing_of other machine).hears) one
 
--- this is known now, and if it is something new, it is told in each of the next turns
+-- this is known now, and if some machine hears others than before, it is told in each of the next turns
 abbrev pub knowing : List Hearing → LineMap → LineMap
 knowing lines here = record here {
   lines = lines;
@@ -110,8 +101,8 @@ knowing lines here = record here {
 }
 
 -- a machine told all that it knows
-abbrev pub after_map : (sender : ℕ) → List Hearing → LineMap → LineMap
-after_map sender told here = knowing (at_places (line_after here sender told) here.lines) here
+abbrev pub after_map : List Hearing → LineMap → LineMap
+after_map told here = knowing (at_places (line_after here told) here.lines) here
 
 -- one turn later: it says what it hears now, and has told its map once more
 abbrev pub looked : (now : ℕ) → LineMap → LineMap

@@ -1,5 +1,5 @@
 -- Reading maps and parcels from left to right, with the first fault that is met.
-use Rattle.std.specs.Prelude.{ℕ, zero, suc, ◌/◌, List, [], ◌∷◌, length, take, drop, min, Option, None, Some, Result, Ok, Err, nat_lt, ◌||◌, ◌==◌, if◌then◌else◌}
+use Rattle.std.specs.Prelude.{ℕ, zero, suc, ◌/◌, List, [], ◌∷◌, length, take, drop, min, Option, None, Some, Result, Ok, Err, nat_le, nat_lt, ◌&&◌, ◌||◌, ◌==◌, if◌then◌else◌}
 use Rattle.std.specs.Int.{w16, w32}
 use Rattle.roll_mesh.specs.declared.limits.TheConstants.{MACHINE_LIMIT}
 use Rattle.roll_wire.specs.Reading.{◌>>=◌, byte_at, envelope_at, magic_at, mask_at, number_at, repeated}
@@ -8,7 +8,7 @@ use Rattle.roll_wire.specs.declared.fault.WireFault.{WireFault}
 use Rattle.roll_wire.specs.declared.fault.WireFault.TheVariants.{Short, Kind, Trailing}
 use Rattle.roll_carry.specs.Spelling.{ParcelValue, area_text}
 use Rattle.roll_carry.specs.declared.datagram.Hearing.{Hearing}
-use Rattle.roll_carry.specs.declared.limits.TheConstants.{AREA_LIMIT, CARRIED, HEAD, MAP}
+use Rattle.roll_carry.specs.declared.limits.TheConstants.{AREA_LIMIT, CARRIED, MAP, TAIL_LEAST, TAIL_LIMIT}
 
 -- what a datagram of a kind begins with
 unfoldable pub head_at : (kind : ℕ) → List ℕ → Result (Envelope × List ℕ) WireFault
@@ -35,18 +35,19 @@ map_of bytes = do
   map ← repeated hearing_at (machine_count head.1) head.1
   if length map.1 == 0 then Ok map.0 else Err Trailing
 
--- so many bytes, which are a datagram's
-abbrev pub datagram_at : ℕ → List ℕ → Result (List ℕ × List ℕ) WireFault
-datagram_at n bytes =
-    if nat_lt n HEAD || nat_lt (length bytes) n then Err Short else Ok (take n bytes, drop n bytes)
+-- so many bytes, which are a datagram's behind its letters
+abbrev pub tail_at : ℕ → List ℕ → Result (List ℕ × List ℕ) WireFault
+tail_at n bytes =
+    if nat_lt n TAIL_LEAST || nat_lt (length bytes) n then Err Short
+    else Ok (take n bytes, drop n bytes)
 
 unfoldable pub parcel_at : List ℕ → Result (ParcelValue × List ℕ) WireFault
 parcel_at bytes = do
   to ← byte_at bytes
   steps ← byte_at to.1
   size ← number_at w16 steps.1
-  datagram ← datagram_at size.0 size.1
-  Ok (record { to = to.0; steps = steps.0; bytes = datagram.0 }, datagram.1)
+  tail ← tail_at size.0 size.1
+  Ok (record { to = to.0; steps = steps.0; tail = tail.0 }, tail.1)
 
 -- parcels to the end, no more than so many
 unfoldable pub parcels_within : (most : ℕ) → List ℕ → Result (List ParcelValue) WireFault
@@ -78,3 +79,13 @@ area_of bytes = do
 abbrev pub first_of : List ParcelValue → Option (ParcelValue × List ℕ)
 first_of [] = None
 first_of (p ∷ parcels) = Some (p, area_text parcels)
+
+-- what is carried of a datagram: all behind its letters, if it has room
+abbrev pub with_room : Result (ℕ × List ℕ) WireFault → Option (List ℕ)
+with_room (Err fault) = None
+with_room (Ok found) =
+    if nat_le TAIL_LEAST (length found.1) && nat_le (length found.1) TAIL_LIMIT then Some found.1
+    else None
+
+abbrev pub tail_of : List ℕ → Option (List ℕ)
+tail_of bytes = with_room (magic_at bytes)

@@ -1,5 +1,5 @@
 -- What maps and parcels say, and their one spelling: numbers with the highest byte first.
-use Rattle.std.specs.Prelude.{◌≡◌, ◌≤◌, ℕ, List, ◌++◌, length}
+use Rattle.std.specs.Prelude.{◌≡◌, ◌≤◌, ℕ, List, [], ◌∷◌, ◌++◌, ◌==◌, length, Option, None, Some, if◌then◌else◌, slice_index_or, unwrap_or}
 use Rattle.std.specs.List.{flat_map, AllByRecursion}
 use Rattle.std.specs.Int.{w16, to_be_bytes}
 use Rattle.roll_contact.specs.Seals.{sealed}
@@ -10,16 +10,23 @@ use Rattle.roll_wire.specs.declared.datagram.Envelope.{Envelope}
 use Rattle.roll_wire.specs.declared.limits.TheConstants.{MAGIC}
 use Rattle.roll_carry.specs.declared.datagram.Hearing.{Hearing}
 use Rattle.roll_carry.specs.declared.datagram.Parcel.{Parcel}
-use Rattle.roll_carry.specs.declared.limits.TheConstants.{AREA_LIMIT, CARRIED, CARRIED_LIMIT, HEAD, MAP}
+use Rattle.roll_carry.specs.declared.limits.TheConstants.{AREA_LIMIT, CARRIED, MAKER_AT, MAP, TAIL_LEAST, TAIL_LIMIT}
 
--- a parcel with its datagram as a list
+-- a parcel with its datagram as a list, without the letters that each begins with
 pub record ParcelValue : Type 0 where
   pub to : ℕ
   pub steps : ℕ
-  pub bytes : List ℕ
+  pub tail : List ℕ
 
 abbrev pub parcel_value : Parcel → ParcelValue
-parcel_value p = record { to = p.to; steps = p.steps; bytes = p.bytes.now }
+parcel_value p = record { to = p.to; steps = p.steps; tail = p.tail.now }
+
+-- its whole datagram, and who made that
+abbrev pub datagram_of : ParcelValue → List ℕ
+datagram_of p = number MAGIC ++ p.tail
+
+abbrev pub maker_of : ParcelValue → ℕ
+maker_of p = slice_index_or p.tail MAKER_AT 0
 
 pub data Content : Type 0 where
   Maps : List Hearing → Content
@@ -40,8 +47,9 @@ map_text map = flat_map hearing_text map
 abbrev pub pair : ℕ → List ℕ
 pair n = to_be_bytes w16 n
 
+-- its label stands in the place of the letters
 abbrev pub parcel_text : ParcelValue → List ℕ
-parcel_text p = byte p.to ++ (byte p.steps ++ (pair (length p.bytes) ++ p.bytes))
+parcel_text p = byte p.to ++ (byte p.steps ++ (pair (length p.tail) ++ p.tail))
 
 -- parcels go to the end
 abbrev pub area_text : List ParcelValue → List ℕ
@@ -74,8 +82,8 @@ IsMap map = (length map ≤ MACHINE_LIMIT) × AllByRecursion IsHearing map
 pub record IsParcel (p : ParcelValue) : Type 0 where
   pub to : IsByte p.to
   pub steps : IsByte p.steps
-  pub least : HEAD ≤ length p.bytes
-  pub most : length p.bytes ≤ CARRIED_LIMIT
+  pub least : TAIL_LEAST ≤ length p.tail
+  pub most : length p.tail ≤ TAIL_LIMIT
 
 -- parcels that one datagram has
 abbrev pub AreParcels : List ParcelValue → Type 0
@@ -112,3 +120,13 @@ message_by key sender what = message (record { match_number = key.number; sender
 -- the bytes by which it says so
 unfoldable pub said_by : Key → (sender : ℕ) → Content → List ℕ
 said_by key sender what = sealed key (spelling (message_by key sender what))
+
+-- a datagram that alone goes straight to a machine
+abbrev pub lone : List ParcelValue → Option (List ℕ)
+lone [] = None
+lone (p ∷ []) = if p.steps == 0 then Some (datagram_of p) else None
+lone (p ∷ q ∷ more) = None
+
+-- the bytes by which parcels go to who has the key: such a datagram as it is, all else in a datagram of the sender's
+abbrev pub given_by : Key → (sender : ℕ) → List ParcelValue → List ℕ
+given_by key sender parcels = unwrap_or (lone parcels) (said_by key sender (Carries parcels))

@@ -1,6 +1,7 @@
 -- Parcels that wait to be sent, by the machine that gets them next: for each the datagrams that will have them, the oldest first, and of
 -- each the bytes of its parcels.
-use Rattle.std.specs.Prelude.{ℕ, ◌+◌, ◌-◌, List, [], ◌∷◌, ◌++◌, length, drop, Bool, nat_le, nat_lt, ◌&&◌, if◌then◌else◌, slice_index_or, slice_set}
+use Rattle.std.specs.Prelude.{ℕ, ◌+◌, List, [], ◌∷◌, ◌++◌, length, drop, find, Bool, is_some, nat_le, nat_lt, ◌&&◌, ◌||◌, if◌then◌else◌, Option, None, Some, slice_index_or, slice_set}
+use Rattle.std.specs.List.{range_with_len}
 use Rattle.roll_carry.specs.Spelling.{parcel_text, ParcelValue}
 use Rattle.roll_carry.specs.declared.limits.TheConstants.{AREA_LIMIT, LABEL, WAITING_LIMIT}
 
@@ -13,22 +14,35 @@ lane_of lanes hop = slice_index_or lanes hop []
 
 -- what a parcel takes
 abbrev pub size_of : ParcelValue → ℕ
-size_of parcel = LABEL + length parcel.bytes
+size_of parcel = LABEL + length parcel.tail
 
--- the last datagram of a lane
-abbrev pub last_of : Lane → List ℕ
-last_of lane = slice_index_or lane (length lane - 1) []
+-- one datagram of a lane
+abbrev pub area_of : Lane → ℕ → List ℕ
+area_of lane place = slice_index_or lane place []
 
 -- whether it has room for a parcel
-abbrev pub has_room : Lane → ParcelValue → Bool
-has_room lane parcel = nat_lt 0 (length lane) && nat_le (length (last_of lane) + size_of parcel) AREA_LIMIT
+abbrev pub has_room : Lane → ParcelValue → ℕ → Bool
+has_room lane parcel place =
+    nat_lt place (length lane)
+    && nat_le (length (area_of lane place) + size_of parcel) AREA_LIMIT
 
--- a parcel goes into the last datagram if it has room, or else into one of its own, or is dropped if so many wait already
+-- the first that has
+abbrev pub place_for : Lane → ParcelValue → Option ℕ
+place_for lane parcel = find (has_room lane parcel) (range_with_len 0 WAITING_LIMIT)
+
+-- whether a parcel may wait: a datagram has room for it, or there are fewer than so many
+abbrev pub has_place : Lane → ParcelValue → Bool
+has_place lane parcel = is_some (place_for lane parcel) || nat_lt (length lane) WAITING_LIMIT
+
+-- it goes into that datagram, or else into one of its own
+abbrev pub put_at : Lane → ParcelValue → Option ℕ → Lane
+put_at lane parcel (Some place) = slice_set lane place (area_of lane place ++ parcel_text parcel)
+put_at lane parcel None = lane ++ parcel_text parcel ∷ []
+
+-- or is dropped, if it may not wait
 abbrev pub pushed : Lane → ParcelValue → Lane
 pushed lane parcel =
-    if has_room lane parcel
-    then slice_set lane (length lane - 1) (last_of lane ++ parcel_text parcel)
-    else (if nat_lt (length lane) WAITING_LIMIT then lane ++ parcel_text parcel ∷ [] else lane)
+    if has_place lane parcel then put_at lane parcel (place_for lane parcel) else lane
 
 -- a parcel waits for a machine, if there are lanes
 abbrev pub waiting_with : List Lane → (hop : ℕ) → ParcelValue → List Lane

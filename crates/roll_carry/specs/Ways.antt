@@ -1,6 +1,7 @@
 -- Ways from machine to machine, by what a map says of who hears whom straight. A set of machines has a place for each.
-use Rattle.std.specs.Prelude.{◌≡◌, ◌≤◌, ◌<◌, ◌+◌, ◌%◌, ℕ, zero, suc, List, [], ◌∷◌, length, map, Bool, true, false, not, ◌&&◌, ◌||◌, Option, slice_index_or}
-use Rattle.std.specs.List.{filter, range_with_len, slice_get}
+use Rattle.std.specs.Prelude.{◌≡◌, ◌≤◌, ◌<◌, ℕ, zero, suc, List, [], ◌∷◌, length, find, map, Bool, true, false, not, ◌&&◌, ◌||◌, Option, slice_index_or}
+use Rattle.std.specs.List.{range_with_len}
+use Rattle.roll_carry.specs.declared.limits.TheConstants.{BETWEEN_LIMIT}
 use Rattle.roll_carry.specs.declared.datagram.Hearing.{Hearing}
 use Rattle.roll_mesh.specs.Machines.{at_all, at_places, is_in}
 use Rattle.roll_mesh.specs.declared.limits.TheConstants.{MACHINE_LIMIT}
@@ -59,10 +60,11 @@ WaysAreFound = (lines : List Hearing) (shut : List Bool) (to most machine : ℕ)
     → (is_in (with_way lines shut to most) machine ≡ true → HasWay lines shut machine most to)
     × (HasWay lines shut machine most to → is_in (with_way lines shut to most) machine ≡ true)
 
--- the machines after one, going round all
-abbrev pub round_from : ℕ → List ℕ
-round_from last = map (λ step. (last + step + 1) % MACHINE_LIMIT) (range_with_len 0 MACHINE_LIMIT)
+-- of each number of machines between: those that have a way to a machine by so many others at most
+unfoldable pub ways_to : List Hearing → (shut : List Bool) → (to : ℕ) → List (List Bool)
+ways_to lines shut to = map (with_way lines shut to) (range_with_len 0 BETWEEN_LIMIT)
 
--- the first of a set after a machine, going round
-abbrev pub next_in : List Bool → (last : ℕ) → Option ℕ
-next_in set last = slice_get (filter (is_in set) (round_from last)) 0
+-- by how many others at least a way leads from a machine; none if none does
+abbrev pub least_between : (ways : List (List Bool)) → (machine : ℕ) → Option ℕ
+least_between ways machine =
+    find (λ between. is_in (slice_index_or ways between []) machine) (range_with_len 0 BETWEEN_LIMIT)

@@ -23,14 +23,13 @@ pub struct Carrier {
     pub(crate) map: LineMap,
     pub(crate) turns: u32,
     pub(crate) owed: [bool; MACHINE_LIMIT],
-    pub(crate) last: [u8; MACHINE_LIMIT],
-    pub(crate) handed: [u8; MACHINE_LIMIT],
+    pub(crate) given: [[u32; MACHINE_LIMIT]; MACHINE_LIMIT],
     pub(crate) lanes: Vec<Lane>,
 }
 
 /// A clause sees all of it.
 impl Model for Carrier {
-    ghost use Rattle.std.specs.Prelude.{◌≡◌, ◌<◌, ◌≤◌, All, length};
+    ghost use Rattle.std.specs.Prelude.{◌≡◌, ◌<◌, ◌≤◌, length};
     ghost use Rattle.roll_carry.specs.Carrying.{lane_count, Carrying};
     ghost use Rattle.roll_mesh.specs.declared.limits.TheConstants.{MACHINE_LIMIT};
 
@@ -40,33 +39,31 @@ impl Model for Carrier {
       map = c.map;
       turns = c.turns;
       owed = c.owed;
-      last = c.last;
-      handed = c.handed;
+      given = c.given;
       lanes = c.lanes.items;
     } };
 
     ghost invariant = { λ c. (c.map.me < MACHINE_LIMIT) × (c.map.machines ≤ MACHINE_LIMIT)
-        × (length c.lanes.items ≡ lane_count c.map.machines) × All (λ m. m < MACHINE_LIMIT) c.last };
+        × (length c.lanes.items ≡ lane_count c.map.machines) };
 }
 
 impl Carrier {
-    /// Nothing is known but who this machine is, and that all hear all.
+    /// Nothing is known but who this machine is: nobody is known to hear anybody.
     ///
     /// # Errors
     ///
     /// If there is no memory.
-    pub fn new(alloc: Global, me: u8, machines: u8, now: u32) -> Result<Carrier, AllocError>
+    pub fn new(alloc: Global, me: u8, machines: u8) -> Result<Carrier, AllocError>
         requires me { me < MACHINE_LIMIT }
         requires machines { machines ≤ MACHINE_LIMIT }
-        ensures { IfOk result (λ carrier. carrier ≡ opened_carrying me machines now) }
+        ensures { IfOk result (λ carrier. carrier ≡ opened_carrying me machines) }
     {
         let lanes = lanes_for(alloc, machines)?;
         Ok(Carrier {
-            map: LineMap::new(me, machines, now),
+            map: LineMap::new(me, machines),
             turns: 0,
             owed: [false; MACHINE_LIMIT],
-            last: [0; MACHINE_LIMIT],
-            handed: [0; MACHINE_LIMIT],
+            given: [[0; MACHINE_LIMIT]; MACHINE_LIMIT],
             lanes,
         })
     }
@@ -87,10 +84,10 @@ impl Carrier {
     }
 
     /// A machine told whom each hears, machine 0 first.
-    pub fn take_map(&mut self, sender: u8, told: &[Hearing])
-        ensures { self.new ≡ record self.old { map = after_map sender told.now self.old.map } }
+    pub fn take_map(&mut self, told: &[Hearing])
+        ensures { self.new ≡ record self.old { map = after_map told.now self.old.map } }
     {
-        self.map.take(sender, told);
+        self.map.take(told);
     }
 
     /// Whether the map goes to a machine in this turn.
@@ -100,7 +97,8 @@ impl Carrier {
         self.map.machines > 2
             && machine < usize::from(self.map.machines)
             && machine != usize::from(self.map.me)
-            && (self.map.telling > 0 || self.turns as usize % TELL_EVERY == machine)
+            && (self.map.telling > 0
+                || (self.turns as usize + usize::from(self.map.me)) % TELL_EVERY == 0)
     }
 
     /// To which machines the map goes in this turn.
@@ -147,7 +145,6 @@ impl Carrier {
         self.map.look(now);
         self.turns = self.turns.wrapping_add(1);
         self.owed = self.all_owed();
-        self.handed = [0; MACHINE_LIMIT];
     }
 }
 

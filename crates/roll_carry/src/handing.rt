@@ -1,70 +1,142 @@
 //! What is sent and handed on by others, and what goes out.
-ghost use Rattle.std.specs.Prelude.{◌≡◌, ◌<◌, ◌≤◌, ◌+◌, length, slice_set, true, is_some, None, Some, IfSome};
-ghost use Rattle.roll_carry.specs.Carrying.{after_handed, after_sent, after_taken, counted, first_waited_for, handed_of, hop_of, is_for_another, is_straight_due, is_waited_for, maker_of, one_step_on, waiting_for};
-ghost use Rattle.roll_carry.specs.Spelling.{parcel_value};
-ghost use Rattle.roll_carry.specs.Waiting.{lane_of, waiting_with};
-ghost use Rattle.roll_carry.specs.declared.limits.TheConstants.{CARRIED_LIMIT, HEAD};
+ghost use Rattle.std.specs.Prelude.{◌≡◌, ◌<◌, ◌≤◌, ◌&&◌, length, nat_lt, true, is_some, Some, IfSome};
+ghost use Rattle.roll_carry.specs.Carrying.{after_carried, after_handed, after_joined, after_sent, after_taken, carried, first_waited_for, goes_at_once, has_broken_line, has_company, is_broken, is_direct, is_for_another, is_straight_due, is_waited_for, joins, waiting_for};
+ghost use Rattle.roll_carry.specs.Spelling.{maker_of, parcel_value};
+ghost use Rattle.roll_carry.specs.Waiting.{has_place, lane_of};
+ghost use Rattle.roll_carry.specs.declared.limits.TheConstants.{TAIL_LEAST, TAIL_LIMIT};
 ghost use Rattle.roll_mesh.specs.Machines.{is_in};
 ghost use Rattle.roll_mesh.specs.declared.limits.TheConstants.{MACHINE_LIMIT};
 ghost use Rattle.std.specs.List.{slice_get};
 
 use crate::carrier::Carrier;
 use crate::datagram::Parcel;
-use crate::limits::{AREA_LIMIT, HANDED_LIMIT, MADE_AT, STEP_LIMIT, STRAIGHT_EVERY};
+use crate::limits::{AREA_LIMIT, STEP_LIMIT, STRAIGHT_AT, STRAIGHT_EVERY};
 use crate::ways::{Machines, is_in};
 use arrayvec::ArrayVec;
 use roll_mesh::MACHINE_LIMIT;
 
 impl Carrier {
+    /// A parcel waits for who gets it next, if there is room for it. Says whether.
+    fn wait(&mut self, hop: usize, parcel: &Parcel) -> bool
+        requires least { TAIL_LEAST ≤ length parcel.now.tail.now }
+        requires most { length parcel.now.tail.now ≤ TAIL_LIMIT }
+        ensures waits { self.new ≡ waiting_for self.old hop (parcel_value parcel.now) }
+        ensures said { result ≡ (nat_lt hop (length self.old.lanes)
+            && has_place (lane_of self.old.lanes hop) (parcel_value parcel.now)) }
+    {
+        hop < self.lanes.len() && self.lanes[hop].push(parcel)
+    }
+
+    /// A parcel waits for its carrier, if there is one.
+    fn give(&mut self, maker: usize, hop: Option<usize>, parcel: &Parcel)
+        requires maker { maker < MACHINE_LIMIT }
+        requires least { TAIL_LEAST ≤ length parcel.now.tail.now }
+        requires most { length parcel.now.tail.now ≤ TAIL_LIMIT }
+        ensures { self.new ≡ carried self.old maker hop (parcel_value parcel.now) }
+    {
+        if let Some(hop) = hop {
+            self.count(maker, usize::from(parcel.to));
+            self.wait(hop, parcel);
+        }
+    }
+
+    /// A datagram of this machine is for another: it is carried, if the line between the two isn't whole.
+    pub fn carry(&mut self, shut: &[bool; MACHINE_LIMIT], to: u8, tail: &[u8])
+        requires least { TAIL_LEAST ≤ length tail.now }
+        requires most { length tail.now ≤ TAIL_LIMIT }
+        ensures { self.new ≡ after_carried self.old shut.now to tail.now }
+    {
+        if self.map.is_whole_line(usize::from(to)) {
+            return;
+        }
+        let me = self.me();
+        let hop = self.carrier_for(me, shut, usize::from(to));
+        let parcel = Parcel {
+            to,
+            steps: STEP_LIMIT,
+            tail,
+        };
+        self.give(me, hop, &parcel);
+    }
+
     /// Whether this machine's own datagram goes to another straight in this turn.
-    pub fn is_straight_due(&self, shut: &[bool; MACHINE_LIMIT], to: u8) -> bool
+    fn is_straight_due(&self, shut: &Machines, to: u8) -> bool
         ensures { result ≡ is_straight_due self.now shut.now to }
     {
-        self.map.shows(usize::from(to), usize::from(self.map.me))
-            || self.map.telling > 0
-            || self.turns as usize % STRAIGHT_EVERY == usize::from(to)
-            || self.carrier_for(shut, usize::from(to)).is_none()
+        let me = self.me();
+        self.map.shows(usize::from(to), me)
+            || (self.turns as usize + me) % STRAIGHT_EVERY == STRAIGHT_AT
+            || self.carrier_for(me, shut, usize::from(to)).is_none()
     }
 
-    /// A parcel waits for who gets it next.
-    fn wait(&mut self, hop: usize, parcel: &Parcel)
-        requires hop { hop < MACHINE_LIMIT }
-        requires least { HEAD ≤ length parcel.now.bytes.now }
-        requires most { length parcel.now.bytes.now ≤ CARRIED_LIMIT }
-        ensures { self.new ≡ waiting_for self.old parcel.now.to (Some hop) (parcel_value parcel.now) }
+    /// Whether the line to a machine is broken with which this one carries.
+    fn is_broken(&self, shut: &Machines, machine: u8) -> bool
+        ensures { result ≡ is_broken self.now shut.now machine }
     {
-        let to = usize::from(parcel.to);
-        if to < MACHINE_LIMIT {
-            self.last[to] = hop as u8;
-        }
-        if hop < self.lanes.len() {
-            self.lanes[hop].push(parcel);
+        machine != self.map.me
+            && !is_in(shut, usize::from(machine))
+            && !self.map.is_whole_line(usize::from(machine))
+    }
+
+    /// Whether some line is.
+    fn has_broken_line(&self, shut: &Machines) -> bool
+        ensures { result ≡ has_broken_line self.now shut.now }
+    {
+        (0..self.map.machines).any(|machine| self.is_broken(shut, machine))
+    }
+
+    /// Whether something waits for a machine.
+    fn holds_some(&self, hop: usize) -> bool
+        ensures { result ≡ nat_lt 0 (length (lane_of self.now.lanes hop)) }
+    {
+        match self.lanes.get(hop) {
+            Some(lane) => !lane.is_empty(),
+            None => false,
         }
     }
 
-    /// A datagram of this machine goes to another, and if a line between them is broken, it is carried too.
-    pub fn sent(&mut self, shut: &[bool; MACHINE_LIMIT], to: u8, bytes: &[u8])
-        requires least { HEAD ≤ length bytes.now }
-        requires most { length bytes.now ≤ CARRIED_LIMIT }
-        ensures { self.new ≡ after_sent self.old shut.now to bytes.now }
+    /// Whether something may wait for a machine with which what goes straight can go.
+    fn has_company(&self, shut: &Machines, to: usize) -> bool
+        ensures { result ≡ has_company self.now shut.now to }
     {
-        if let Some(hop) = self.carrier_for(shut, usize::from(to)) {
-            let parcel = Parcel {
-                to,
-                steps: STEP_LIMIT,
-                bytes,
-            };
-            self.wait(hop, &parcel);
+        self.holds_some(to) || self.has_broken_line(shut)
+    }
+
+    /// What goes straight to a machine waits for it, if something may be carried to it with which it can go. Says whether.
+    fn join(&mut self, shut: &Machines, to: u8, tail: &[u8]) -> bool
+        requires least { TAIL_LEAST ≤ length tail.now }
+        requires most { length tail.now ≤ TAIL_LIMIT }
+        ensures joined { self.new ≡ after_joined self.old shut.now to tail.now }
+        ensures said { result ≡ joins self.old shut.now to tail.now }
+    {
+        let place = usize::from(to);
+        if is_in(shut, place) || !self.has_company(shut, place) {
+            return false;
         }
+        self.wait(place, &Parcel { to, steps: 0, tail })
+    }
+
+    /// A datagram of this machine is for another: it is carried, if the line between the two isn't whole; and if it goes straight in this
+    /// turn, it waits to go with what is carried to that machine, or is to go out at once. Says whether it is to go out at once.
+    pub fn send(&mut self, shut: &[bool; MACHINE_LIMIT], to: u8, tail: &[u8]) -> bool
+        requires least { TAIL_LEAST ≤ length tail.now }
+        requires most { length tail.now ≤ TAIL_LIMIT }
+        ensures sent { self.new ≡ after_sent self.old shut.now to tail.now }
+        ensures at_once { result ≡ goes_at_once self.old shut.now to tail.now }
+    {
+        let is_due = self.is_straight_due(shut, to);
+        self.carry(shut, to, tail);
+        is_due && !self.join(shut, to, tail)
     }
 
     /// Whether a parcel is for another machine of the match, and was made by a third one, and has steps left.
     fn is_for_another(&self, parcel: &Parcel) -> bool
-        requires { HEAD ≤ length parcel.now.bytes.now }
+        requires { TAIL_LEAST ≤ length parcel.now.tail.now }
         ensures for_another { result ≡ is_for_another self.now (parcel_value parcel.now) }
-        ensures place { result ≡ true → parcel.now.to < MACHINE_LIMIT }
+        ensures maker { result ≡ true → maker_of (parcel_value parcel.now) < MACHINE_LIMIT }
+        ensures steps { result ≡ true → 0 < parcel.now.steps }
     {
-        let maker = parcel.bytes[MADE_AT];
+        let maker = parcel.maker();
         0 < parcel.steps
             && parcel.steps <= STEP_LIMIT
             && parcel.to < self.map.machines
@@ -74,70 +146,42 @@ impl Carrier {
             && maker != parcel.to
     }
 
-    /// How many parcels of a machine were handed on in this turn.
-    fn handed_of(&self, from: u8) -> u8
-        ensures { result ≡ handed_of self.now from }
+    /// Whether the machine that a parcel is for gets it next.
+    fn is_direct(&self, shut: &Machines, to: usize) -> bool
+        ensures { result ≡ is_direct self.now shut.now to }
     {
-        match self.handed.get(usize::from(from)) {
-            Some(handed) => *handed,
-            None => 0,
-        }
+        self.map.is_whole_line(to) && !is_in(shut, to)
     }
 
-    /// Who gets a parcel next that a machine gave this one.
-    fn hop_of(&self, from: u8, shut: &Machines, parcel: &Parcel) -> Option<usize>
-        requires { HEAD ≤ length parcel.now.bytes.now }
-        ensures hop { result ≡ hop_of self.now from shut.now (parcel_value parcel.now) }
-        ensures places { IfSome result (λ hop. (hop < MACHINE_LIMIT) × (parcel.now.to < MACHINE_LIMIT)) }
-        ensures steps { IfSome result (λ hop. 0 < parcel.now.steps) }
-        ensures few { IfSome result (λ hop. handed_of self.now from < 64) }
+    /// A parcel that another machine gave this one is handed on with a step less, if it is for a third one and somebody gets it next.
+    pub fn hand_on(&mut self, shut: &[bool; MACHINE_LIMIT], parcel: &Parcel)
+        requires least { TAIL_LEAST ≤ length parcel.now.tail.now }
+        requires most { length parcel.now.tail.now ≤ TAIL_LIMIT }
+        ensures { self.new ≡ after_handed self.old shut.now (parcel_value parcel.now) }
     {
-        if self.is_for_another(parcel) && self.handed_of(from) < HANDED_LIMIT {
-            let maker = usize::from(parcel.bytes[MADE_AT]);
-            self.next_for(maker, shut, usize::from(parcel.to))
-        } else {
-            None
+        if !self.is_for_another(parcel) {
+            return;
         }
-    }
-
-    /// One more parcel of a machine was handed on.
-    fn count_handed(&mut self, from: u8)
-        requires { handed_of self.old from < 255 }
-        ensures { self.new ≡ record self.old {
-          handed = slice_set self.old.handed from (handed_of self.old from + 1);
-        } }
-    {
-        let place = usize::from(from);
-        if place < MACHINE_LIMIT {
-            self.handed[place] += 1;
-        }
-    }
-
-    /// A parcel that a machine gave this one is handed on with a step less, if somebody gets it next. Says whether.
-    pub fn hand_on(&mut self, from: u8, shut: &[bool; MACHINE_LIMIT], parcel: &Parcel) -> bool
-        requires least { HEAD ≤ length parcel.now.bytes.now }
-        requires most { length parcel.now.bytes.now ≤ CARRIED_LIMIT }
-        ensures handed { self.new ≡ after_handed self.old from shut.now (parcel_value parcel.now) }
-        ensures said { result ≡ is_some (hop_of self.old from shut.now (parcel_value parcel.now)) }
-    {
-        let Some(hop) = self.hop_of(from, shut, parcel) else {
-            return false;
-        };
-        self.count_handed(from);
+        let to = usize::from(parcel.to);
         let next = Parcel {
             to: parcel.to,
             steps: parcel.steps - 1,
-            bytes: parcel.bytes,
+            tail: parcel.tail,
         };
-        self.wait(hop, &next);
-        true
+        if self.is_direct(shut, to) {
+            self.wait(to, &next);
+        } else {
+            let maker = usize::from(parcel.maker());
+            let hop = self.carrier_for(maker, shut, to);
+            self.give(maker, hop, &next);
+        }
     }
 
     /// Whether something waits for a machine that is ready.
     fn is_waited_for(&self, ready: &Machines, hop: usize) -> bool
         ensures { result ≡ is_waited_for self.now ready.now hop }
     {
-        is_in(ready, hop) && hop < self.lanes.len() && !self.lanes[hop].is_empty()
+        is_in(ready, hop) && self.holds_some(hop)
     }
 
     /// The first machine of these for which something waits.

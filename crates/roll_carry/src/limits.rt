@@ -3,20 +3,26 @@ use roll_wire::DATAGRAM_LIMIT;
 
 /// How many bytes of a datagram stand before its own fields.
 pub const HEAD: usize = 14;
+/// With how many letters each datagram begins.
+pub(crate) const LETTERS: usize = 4;
 /// The kind of maps.
 pub const MAP: u8 = 3;
 /// The kind of what is carried.
 pub const CARRIED: u8 = 4;
 /// The most bytes of parcels in one datagram.
 pub const AREA_LIMIT: usize = DATAGRAM_LIMIT - HEAD;
-/// How many bytes a parcel has beside those of its datagram.
+/// How many bytes a parcel has beside those of its datagram: they stand in the place of the letters.
 pub(crate) const LABEL: usize = 4;
-/// The most bytes of a datagram that is carried.
-pub const CARRIED_LIMIT: usize = AREA_LIMIT - LABEL;
+/// The fewest bytes that a datagram has behind its letters.
+pub const TAIL_LEAST: usize = HEAD - LETTERS;
+/// The most bytes that a datagram that is carried has behind its letters.
+pub const TAIL_LIMIT: usize = AREA_LIMIT - LABEL;
 /// How many steps a parcel has left at first: so many machines hand it on at most.
 pub const STEP_LIMIT: u8 = 7;
-/// How many machines a way has at most between the one that carries first and the one that it leads to.
-pub(crate) const BETWEEN: usize = 6;
+/// A way has fewer machines than that between the one that carries first and the one that it leads to.
+pub(crate) const BETWEEN_LIMIT: usize = 7;
+/// Of so many datagrams one passes a carrier over: so none gets all of what comes in an even rhythm.
+pub(crate) const PASS_OVER: usize = 16;
 /// A machine that wasn't heard straight for more than so many milliseconds isn't heard straight.
 pub const CARRY_AFTER: u32 = 150;
 /// In how many turns a map is told in each, after something of it changed.
@@ -28,7 +34,7 @@ pub(crate) const TELL_EVERY: usize = 16;
 /// In one turn of so many a datagram goes straight by a line that is broken. The number is odd, since hellos and plays may go in turn:
 /// with an even one only the one or the other would ever go.
 pub(crate) const STRAIGHT_EVERY: usize = 17;
-/// The most parcels of one machine that are handed on in a turn.
-pub(crate) const HANDED_LIMIT: u8 = 64;
-/// Where the maker of a datagram stands in it.
-pub(crate) const MADE_AT: usize = 12;
+/// In which of them it goes, counted from the machine's own number on.
+pub(crate) const STRAIGHT_AT: usize = 8;
+/// Where the maker of a datagram stands in it, behind its letters.
+pub(crate) const MAKER_AT: usize = 8;

@@ -1,6 +1,6 @@
 //! What a machine knows of who hears whom straight: what it hears itself, and what the others told.
 ghost use Rattle.std.specs.Prelude.{◌≡◌, ◌<◌, slice_set};
-ghost use Rattle.roll_carry.specs.Mapping.{after_map, are_same, corrected, first_map, heard_lately, heard_now, heard_straight, is_believed, is_heard_now, is_later, is_whole_line, knowing, lately, line_after, line_told, looked, own_hearing, own_now, same_lines, shows};
+ghost use Rattle.roll_carry.specs.Mapping.{after_map, corrected, first_map, heard_lately, heard_now, heard_straight, is_heard_now, is_later, is_whole_line, knowing, lately, line_after, line_told, looked, own_hearing, own_now, same_lines, shows};
 ghost use Rattle.roll_carry.specs.Ways.{hearing_of};
 ghost use Rattle.roll_mesh.specs.Machines.{at_places, same_gone as same_machines};
 ghost use Rattle.roll_mesh.specs.declared.limits.TheConstants.{MACHINE_LIMIT};
@@ -27,20 +27,20 @@ pub struct LineMap {
 }
 
 impl LineMap {
-    /// All hear all, until something else is known.
-    pub(crate) fn new(me: u8, machines: u8, now: u32) -> LineMap
-        ensures { result ≡ first_map me machines now }
+    /// Nobody is known to hear anybody.
+    pub(crate) fn new(me: u8, machines: u8) -> LineMap
+        ensures { result ≡ first_map me machines }
     {
-        let all = Hearing {
-            hears: [true; MACHINE_LIMIT],
+        let nobody = Hearing {
+            hears: [false; MACHINE_LIMIT],
             number: 0,
         };
         LineMap {
             me,
             machines,
-            lines: [all; MACHINE_LIMIT],
-            heard_at: [Some(now); MACHINE_LIMIT],
-            telling: TELL_TURNS,
+            lines: [nobody; MACHINE_LIMIT],
+            heard_at: [None; MACHINE_LIMIT],
+            telling: 0,
         }
     }
 
@@ -135,7 +135,7 @@ impl LineMap {
         heard_at
     }
 
-    /// This is known now, and told in each of the next turns if it is something new.
+    /// This is known now, and told in each of the next turns if a machine hears others than before.
     fn know(&mut self, lines: Lines)
         ensures { self.new ≡ knowing lines self.old }
     {
@@ -157,58 +157,49 @@ impl LineMap {
         self.know(lines);
     }
 
-    /// Whether it is believed what one machine told of another.
-    fn is_believed(&self, sender: u8, machine: usize, told: &Hearing) -> bool
+    /// What is known of a machine once this was told of it.
+    fn line_told(&self, machine: usize, told: &Hearing) -> Hearing
         requires { machine < MACHINE_LIMIT }
-        ensures { result ≡ is_believed self.now sender machine told.now }
+        ensures { result ≡ line_told self.now machine told.now }
     {
-        machine == usize::from(sender)
-            || !hears(&self.lines, usize::from(self.me), machine)
-                && is_later(told.number, self.lines[machine].number)
-    }
-
-    /// What is known of a machine once one told this of it.
-    fn line_told(&self, sender: u8, machine: usize, told: &Hearing) -> Hearing
-        requires { machine < MACHINE_LIMIT }
-        ensures { result ≡ line_told self.now sender machine told.now }
-    {
+        let known = self.lines[machine];
         if machine == usize::from(self.me) {
-            corrected(&self.lines[machine], told)
-        } else if self.is_believed(sender, machine, told) {
+            corrected(&known, told)
+        } else if is_later(told.number, known.number) {
             *told
         } else {
-            self.lines[machine]
+            known
         }
     }
 
     /// What is known of a machine once one told all that it knows.
-    fn line_after(&self, sender: u8, told: &[Hearing], machine: usize) -> Hearing
+    fn line_after(&self, told: &[Hearing], machine: usize) -> Hearing
         requires { machine < MACHINE_LIMIT }
-        ensures { result ≡ line_after self.now sender told.now machine }
+        ensures { result ≡ line_after self.now told.now machine }
     {
         if machine < told.len() {
-            self.line_told(sender, machine, &told[machine])
+            self.line_told(machine, &told[machine])
         } else {
             self.lines[machine]
         }
     }
 
     /// What is known of all once a machine told all that it knows.
-    fn lines_after(&self, sender: u8, told: &[Hearing]) -> Lines
-        ensures { result ≡ at_places (line_after self.now sender told.now) self.now.lines }
+    fn lines_after(&self, told: &[Hearing]) -> Lines
+        ensures { result ≡ at_places (line_after self.now told.now) self.now.lines }
     {
         let mut lines = self.lines;
         for machine in 0..MACHINE_LIMIT {
-            lines[machine] = self.line_after(sender, told, machine);
+            lines[machine] = self.line_after(told, machine);
         }
         lines
     }
 
     /// A machine told all that it knows.
-    pub(crate) fn take(&mut self, sender: u8, told: &[Hearing])
-        ensures { self.new ≡ after_map sender told.now self.old }
+    pub(crate) fn take(&mut self, told: &[Hearing])
+        ensures { self.new ≡ after_map told.now self.old }
     {
-        let lines = self.lines_after(sender, told);
+        let lines = self.lines_after(told);
         self.know(lines);
     }
 }
@@ -246,19 +237,12 @@ fn same_machines(one: &Machines, other: &Machines) -> bool
     true
 }
 
-/// Whether two say the same.
-fn are_same(one: &Hearing, other: &Hearing) -> bool
-    ensures { result ≡ are_same one.now other.now }
-{
-    same_machines(&one.hears, &other.hears) && one.number == other.number
-}
-
-/// Whether the same is known of all machines.
+/// Whether all machines are known to hear the same ones.
 fn same_lines(one: &Lines, other: &Lines) -> bool
     ensures { result ≡ same_lines one.now other.now }
 {
     for machine in 0..MACHINE_LIMIT {
-        if !are_same(&one[machine], &other[machine]) {
+        if !same_machines(&one[machine].hears, &other[machine].hears) {
             return false;
         }
     }

@@ -1,8 +1,8 @@
 //! Parcels that wait to be sent.
-ghost use Rattle.std.specs.Prelude.{◌≡◌, ◌≤◌, ◌+◌, ◌-◌, [], ◌++◌, length, drop, nat_eq, option_map, true, slice_set};
-ghost use Rattle.roll_carry.specs.Waiting.{has_room, last_of, pushed};
-ghost use Rattle.roll_carry.specs.Spelling.{parcel_text, parcel_value};
-ghost use Rattle.roll_carry.specs.declared.limits.TheConstants.{CARRIED_LIMIT, HEAD, WAITING_LIMIT};
+ghost use Rattle.std.specs.Prelude.{◌≡◌, ◌≤◌, [], length, drop, nat_eq, option_map, true, Some, IfSome};
+ghost use Rattle.roll_carry.specs.Waiting.{has_place, has_room, place_for, pushed, put_at};
+ghost use Rattle.roll_carry.specs.Spelling.{parcel_value};
+ghost use Rattle.roll_carry.specs.declared.limits.TheConstants.{TAIL_LEAST, TAIL_LIMIT};
 ghost use Rattle.std.specs.List.{slice_get};
 
 use crate::datagram::Parcel;
@@ -46,44 +46,53 @@ impl Lane {
         self.areas.is_empty()
     }
 
-    /// Whether the last datagram has room for a parcel.
-    fn has_room(&self, parcel: &Parcel) -> bool
-        ensures { result ≡ has_room self.now (parcel_value parcel.now) }
+    /// Whether one of its datagrams has room for a parcel.
+    fn has_room(&self, parcel: &Parcel, place: usize) -> bool
+        requires { length parcel.now.tail.now ≤ TAIL_LIMIT }
+        ensures { result ≡ has_room self.now (parcel_value parcel.now) place }
     {
-        match self.areas.last() {
-            Some(last) => last.len() + LABEL + parcel.bytes.len() <= AREA_LIMIT,
+        match self.areas.get(place) {
+            Some(area) => area.len() + LABEL + parcel.tail.len() <= AREA_LIMIT,
             None => false,
         }
     }
 
-    /// A parcel goes into the last datagram.
-    fn add(&mut self, parcel: &Parcel)
-        requires least { HEAD ≤ length parcel.now.bytes.now }
-        requires room { has_room self.old (parcel_value parcel.now) ≡ true }
-        ensures { self.new ≡ slice_set self.old (length self.old - 1)
-            (last_of self.old ++ parcel_text (parcel_value parcel.now)) }
+    /// The first of its datagrams that has room for a parcel.
+    fn place_for(&self, parcel: &Parcel) -> Option<usize>
+        requires { length parcel.now.tail.now ≤ TAIL_LIMIT }
+        ensures place { result ≡ place_for self.now (parcel_value parcel.now) }
+        ensures room { IfSome result (λ place. has_room self.now (parcel_value parcel.now) place ≡ true) }
     {
-        let place = self.areas.len() - 1;
-        push_parcel(
-            &mut self.areas[place],
-            parcel.to,
-            parcel.steps,
-            parcel.bytes,
-        );
+        (0..WAITING_LIMIT).find(|place| self.has_room(parcel, *place))
     }
 
-    /// A parcel waits too, unless there is no room for it.
-    pub(crate) fn push(&mut self, parcel: &Parcel)
-        requires least { HEAD ≤ length parcel.now.bytes.now }
-        requires most { length parcel.now.bytes.now ≤ CARRIED_LIMIT }
-        ensures { self.new ≡ pushed self.old (parcel_value parcel.now) }
+    /// A parcel goes into one of its datagrams.
+    fn add(&mut self, place: usize, parcel: &Parcel)
+        requires least { TAIL_LEAST ≤ length parcel.now.tail.now }
+        requires room { has_room self.old (parcel_value parcel.now) place ≡ true }
+        ensures { self.new ≡ put_at self.old (parcel_value parcel.now) (Some place) }
     {
-        if self.has_room(parcel) {
-            self.add(parcel);
-        } else if self.areas.len() < WAITING_LIMIT {
-            self.areas.push(Area::new());
-            self.add(parcel);
+        push_parcel(&mut self.areas[place], parcel);
+    }
+
+    /// A parcel waits too, if there is room for it. Says whether.
+    pub(crate) fn push(&mut self, parcel: &Parcel) -> bool
+        requires least { TAIL_LEAST ≤ length parcel.now.tail.now }
+        requires most { length parcel.now.tail.now ≤ TAIL_LIMIT }
+        ensures lane { self.new ≡ pushed self.old (parcel_value parcel.now) }
+        ensures said { result ≡ has_place self.old (parcel_value parcel.now) }
+    {
+        if let Some(place) = self.place_for(parcel) {
+            self.add(place, parcel);
+            return true;
         }
+        if self.areas.len() == WAITING_LIMIT {
+            return false;
+        }
+        let mut area = Area::new();
+        push_parcel(&mut area, parcel);
+        self.areas.push(area);
+        true
     }
 
     /// The oldest datagram, if one waits.

@@ -5,16 +5,18 @@ ghost use Rattle.std.specs.Int.{w16, w32, w64};
 ghost use Rattle.std.specs.List.{AllByRecursion};
 ghost use Rattle.roll_wire.specs.Reading.{Gives, bits, byte_at, envelope_at, magic_at, number_at, repeated};
 ghost use Rattle.roll_mesh.specs.declared.limits.TheConstants.{MACHINE_LIMIT};
-ghost use Rattle.roll_carry.specs.Spelling.{Carries, IsParcel, Maps, ParcelValue, Says, area_text, parcel_text, parcel_value};
-ghost use Rattle.roll_carry.specs.Reading.{area_of, datagram_at, first_of, head_at, hearing_at, map_of, parcel_at, parcels_at};
+ghost use Rattle.roll_carry.specs.Spelling.{Carries, IsParcel, Maps, ParcelValue, Says, area_text, lone, parcel_text, parcel_value};
+ghost use Rattle.roll_carry.specs.Reading.{area_of, first_of, head_at, hearing_at, map_of, parcel_at, parcels_at, tail_at, tail_of};
 ghost use Rattle.roll_carry.specs.declared.datagram.Hearing.{Hearing};
-ghost use Rattle.roll_carry.specs.declared.limits.TheConstants.{AREA_LIMIT, LABEL};
+ghost use Rattle.roll_carry.specs.declared.limits.TheConstants.{AREA_LIMIT, LABEL, TAIL_LEAST, TAIL_LIMIT};
+ghost use Rattle.roll_wire.specs.Spelling.{number};
+ghost use Rattle.roll_wire.specs.declared.limits.TheConstants.{MAGIC};
 
 use crate::datagram::{Hearing, Parcel};
-use crate::limits::{AREA_LIMIT, CARRIED, HEAD, MAP};
+use crate::limits::{AREA_LIMIT, CARRIED, MAP, TAIL_LEAST, TAIL_LIMIT};
 use arrayvec::ArrayVec;
 use roll_mesh::MACHINE_LIMIT;
-use roll_wire::{Envelope, MAGIC, WireFault};
+use roll_wire::{DATAGRAM_LIMIT, Envelope, MAGIC, WireFault};
 
 #[tactic(auto, unfolding(roll_wire::specs::Reading::byte_at))]
 fn byte_of(bytes: &[u8]) -> Result<(u8, &[u8]), WireFault>
@@ -141,11 +143,11 @@ fn hearings_of(
     Ok((map, rest))
 }
 
-/// So many bytes, if they can be a datagram.
-fn datagram_of(size: usize, bytes: &[u8]) -> Result<(&[u8], &[u8]), WireFault>
-    ensures { Gives (λ x. (x.0.now, x.1.now)) result (datagram_at size bytes.now) }
+/// So many bytes, if they can be a datagram's behind its letters.
+fn tail_in(size: usize, bytes: &[u8]) -> Result<(&[u8], &[u8]), WireFault>
+    ensures { Gives (λ x. (x.0.now, x.1.now)) result (tail_at size bytes.now) }
 {
-    if size < HEAD || bytes.len() < size {
+    if size < TAIL_LEAST || bytes.len() < size {
         return Err(WireFault::Short);
     }
     Ok(bytes.split_at(size))
@@ -158,8 +160,8 @@ fn parcel_of(bytes: &[u8]) -> Result<(Parcel<'_>, &[u8]), WireFault>
     let (to, rest) = byte_of(bytes)?;
     let (steps, rest) = byte_of(rest)?;
     let (size, rest) = u16_at(rest)?;
-    let (bytes, rest) = datagram_of(usize::from(size), rest)?;
-    Ok((Parcel { to, steps, bytes }, rest))
+    let (tail, rest) = tail_in(usize::from(size), rest)?;
+    Ok((Parcel { to, steps, tail }, rest))
 }
 
 #[tactic(auto, unfolding(crate::specs::Reading::map_of))]
@@ -222,7 +224,7 @@ pub fn read_map(text: &[u8]) -> Result<ArrayVec<Hearing, MACHINE_LIMIT>, WireFau
 /// # Errors
 ///
 /// The first fault from left to right, if they spell none: `Short`, `Magic`, `Kind` or `Trailing`. A parcel whose datagram has
-/// fewer than 14 bytes is `Short`.
+/// fewer than 14 bytes with its letters is `Short`.
 pub fn read_parcels(text: &[u8]) -> Result<&[u8], WireFault>
     // What is read is spelled so.
     ensures found { IfOk result (λ area. (parcels : List ParcelValue)
@@ -243,7 +245,7 @@ pub fn first_parcel(area: &[u8]) -> Option<(Parcel<'_>, &[u8])>
     ensures found { IfSome result (λ x. IsParcel (parcel_value x.0)
         × (area.now ≡ parcel_text (parcel_value x.0) ++ x.1.now)) }
     ensures len { IfSome result (λ x. length area.now
-        ≡ LABEL + length x.0.bytes.now + length x.1.now) }
+        ≡ LABEL + length x.0.tail.now + length x.1.now) }
     // So one after the other is taken.
     ensures only { (parcels : List ParcelValue) → AllByRecursion IsParcel parcels
         → area.now ≡ area_text parcels
@@ -252,4 +254,34 @@ pub fn first_parcel(area: &[u8]) -> Option<(Parcel<'_>, &[u8])>
         ≡ result_ok (parcel_at area.now) }
 {
     parcel_of(area).ok()
+}
+
+/// The datagram of the only parcel of those that were read, if it goes straight.
+pub fn lone_datagram(area: &[u8]) -> Option<ArrayVec<u8, DATAGRAM_LIMIT>>
+    requires { length area.now ≤ AREA_LIMIT }
+    ensures { (parcels : List ParcelValue) → AllByRecursion IsParcel parcels
+        → area.now ≡ area_text parcels
+        → option_map (λ bytes. bytes.items) result ≡ lone parcels }
+{
+    let (parcel, others) = first_parcel(area)?;
+    if parcel.steps == 0 && others.is_empty() {
+        Some(parcel.datagram())
+    } else {
+        None
+    }
+}
+
+/// What is carried of a datagram: all but the letters that each begins with. None if it doesn't begin so, or has no room beside what
+/// else a datagram has that carries it.
+pub fn tail_of(bytes: &[u8]) -> Option<&[u8]>
+    ensures exact { option_map (λ tail. tail.now) result ≡ tail_of bytes.now }
+    // With its letters it is the datagram again.
+    ensures whole { IfSome result (λ tail. bytes.now ≡ number MAGIC ++ tail.now) }
+    ensures least { IfSome result (λ tail. TAIL_LEAST ≤ length tail.now) }
+    ensures most { IfSome result (λ tail. length tail.now ≤ TAIL_LIMIT) }
+{
+    match magic_of(bytes) {
+        Ok((_magic, tail)) if TAIL_LEAST <= tail.len() && tail.len() <= TAIL_LIMIT => Some(tail),
+        _ => None,
+    }
 }

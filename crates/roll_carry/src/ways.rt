@@ -1,11 +1,11 @@
 //! Ways from machine to machine, by what a map says of who hears whom straight.
 ghost use Rattle.std.specs.Prelude.{◌≡◌, ◌<◌};
-ghost use Rattle.roll_carry.specs.Ways.{hears, is_heard_by, is_heard_in, is_near, next_in, with_way};
+ghost use Rattle.roll_carry.specs.Ways.{hears, is_heard_by, is_heard_in, is_near, least_between, ways_to};
 ghost use Rattle.roll_mesh.specs.Machines.{at_places, is_in};
 ghost use Rattle.roll_mesh.specs.declared.limits.TheConstants.{MACHINE_LIMIT};
 
 use crate::datagram::Hearing;
-use crate::limits::BETWEEN;
+use crate::limits::BETWEEN_LIMIT;
 use roll_mesh::MACHINE_LIMIT;
 
 /// A set of machines: a place for each.
@@ -31,16 +31,28 @@ pub(crate) fn hears(lines: &Lines, machine: usize, other: usize) -> bool
     }
 }
 
-/// The machines that aren't shut and have a way to a machine, by at most `BETWEEN` others between.
+/// Of each number of machines between, from 0 on: those that aren't shut and have a way to a machine by so many at most.
+pub(crate) type Ways = [Machines; BETWEEN_LIMIT];
+
+/// The ways to a machine.
 #[tactic(auto, using(crate::proofs::Found::ways_none, crate::proofs::Found::ways_next))]
-pub(crate) fn with_way(lines: &Lines, shut: &Machines, to: usize) -> Machines
-    ensures { result ≡ with_way lines.now shut.now to BETWEEN }
+pub(crate) fn ways_to(lines: &Lines, shut: &Machines, to: usize) -> Ways
+    ensures { result ≡ ways_to lines.now shut.now to }
 {
     let mut reached = heard_by(lines, shut, to);
-    for _ in 0..BETWEEN {
+    let mut ways = [[false; MACHINE_LIMIT]; BETWEEN_LIMIT];
+    for between in 0..BETWEEN_LIMIT {
+        ways[between] = reached;
         reached = widened(lines, shut, &reached);
     }
-    reached
+    ways
+}
+
+/// By how many others at least a way leads from a machine. None if none does.
+pub(crate) fn least_between(ways: &Ways, machine: usize) -> Option<usize>
+    ensures { result ≡ least_between ways.now machine }
+{
+    (0..BETWEEN_LIMIT).find(|between| is_in(&ways[*between], machine))
 }
 
 /// The machines that aren't shut and that a machine hears.
@@ -89,18 +101,4 @@ fn is_heard_in(lines: &Lines, set: &Machines, machine: usize) -> bool
         }
     }
     false
-}
-
-/// The first of a set after a machine, going round.
-pub(crate) fn next_in(set: &Machines, last: usize) -> Option<usize>
-    requires { last < MACHINE_LIMIT }
-    ensures { result ≡ next_in set.now last }
-{
-    for step in 0..MACHINE_LIMIT {
-        let machine = (last + step + 1) % MACHINE_LIMIT;
-        if set[machine] {
-            return Some(machine);
-        }
-    }
-    None
 }

@@ -4,10 +4,10 @@ ghost use Rattle.std.specs.List.{AllByRecursion};
 ghost use Rattle.roll_wire.specs.Spelling.{IsEnvelope, mask};
 ghost use Rattle.roll_wire.specs.declared.limits.TheConstants.{DATAGRAM_LIMIT};
 ghost use Rattle.roll_mesh.specs.declared.limits.TheConstants.{MACHINE_LIMIT};
-ghost use Rattle.roll_carry.specs.Spelling.{Carries, Fits, IsHearing, IsParcel, Maps, ParcelValue, area_text, head, hearing_text, map_text, message_by, parcel_text, said_by};
-ghost use Rattle.roll_carry.specs.declared.limits.TheConstants.{AREA_LIMIT, HEAD, LABEL};
+ghost use Rattle.roll_carry.specs.Spelling.{Carries, Fits, IsHearing, IsParcel, Maps, ParcelValue, area_text, head, hearing_text, map_text, message_by, parcel_text, parcel_value, said_by};
+ghost use Rattle.roll_carry.specs.declared.limits.TheConstants.{AREA_LIMIT, HEAD, LABEL, TAIL_LEAST};
 
-use crate::datagram::Hearing;
+use crate::datagram::{Hearing, Parcel};
 use crate::limits::{AREA_LIMIT, CARRIED, MAP};
 use arrayvec::ArrayVec;
 use roll_contact::Key;
@@ -17,7 +17,7 @@ use roll_wire::{DATAGRAM_LIMIT, MAGIC};
 
 type Bytes = ArrayVec<u8, DATAGRAM_LIMIT>;
 
-fn put<const N: usize>(out: &mut ArrayVec<u8, N>, bytes: &[u8])
+pub(crate) fn put<const N: usize>(out: &mut ArrayVec<u8, N>, bytes: &[u8])
     requires { length out.old.items + length bytes.now ≤ N }
     ensures items { out.new.items ≡ out.old.items ++ bytes.now }
     ensures len { length out.new.items ≡ length out.old.items + length bytes.now }
@@ -89,19 +89,19 @@ pub fn say_map(key: &Key, sender: u8, map: &[Hearing]) -> ArrayVec<u8, DATAGRAM_
 }
 
 /// Puts a parcel behind others.
-pub(crate) fn push_parcel(area: &mut ArrayVec<u8, AREA_LIMIT>, to: u8, steps: u8, bytes: &[u8])
-    requires least { HEAD ≤ length bytes.now }
-    requires room { length area.old.items + (LABEL + length bytes.now) ≤ AREA_LIMIT }
-    ensures items { area.new.items ≡ area.old.items
-        ++ parcel_text (record { to = to; steps = steps; bytes = bytes.now }) }
-    ensures len { length area.new.items ≡ length area.old.items + (LABEL + length bytes.now) }
-    ensures fits { IsParcel (record { to = to; steps = steps; bytes = bytes.now }) }
+pub(crate) fn push_parcel(area: &mut ArrayVec<u8, AREA_LIMIT>, parcel: &Parcel)
+    requires least { TAIL_LEAST ≤ length parcel.now.tail.now }
+    requires room { length area.old.items + (LABEL + length parcel.now.tail.now) ≤ AREA_LIMIT }
+    ensures items { area.new.items ≡ area.old.items ++ parcel_text (parcel_value parcel.now) }
+    ensures len { length area.new.items
+        ≡ length area.old.items + (LABEL + length parcel.now.tail.now) }
+    ensures fits { IsParcel (parcel_value parcel.now) }
 {
-    let size = bytes.len() as u16;
-    area.push(to);
-    area.push(steps);
+    let size = parcel.tail.len() as u16;
+    area.push(parcel.to);
+    area.push(parcel.steps);
     put(area, &size.to_be_bytes());
-    put(area, bytes);
+    put(area, parcel.tail);
 }
 
 /// The bytes by which a sender gives parcels, one behind the other, to who has the key.

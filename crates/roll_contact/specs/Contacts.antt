@@ -9,7 +9,7 @@ use Rattle.roll_contact.specs.declared.contact.Opening.{Opening}
 use Rattle.roll_contact.specs.declared.contact.Stage.{Stage}
 use Rattle.roll_contact.specs.declared.contact.Stage.TheVariants.{Silent, Greeted, Playing, Mismatched}
 use Rattle.roll_contact.specs.declared.contact.TheirClocks.{TheirClocks}
-use Rattle.roll_contact.specs.declared.contact.TheConstants.{BEHIND_LIMIT, CLOCKS_EVERY, CLOCKS_IN_PATIENCE, HALF, HELLO_AT, HELLO_EVERY, ROUND_TRIP_LIMIT, UNANSWERED}
+use Rattle.roll_contact.specs.declared.contact.TheConstants.{BEHIND_LIMIT, CLOCKS_EVERY, CLOCKS_IN_PATIENCE, HALF, HELLO_AT, HELLO_EVERY, PATIENCE_PARTS, ROUND_TRIP_LIMIT, UNANSWERED}
 use Rattle.roll_contact.specs.declared.terms.Field.{Field}
 use Rattle.roll_contact.specs.declared.terms.TheConstants.{CARRIES}
 use Rattle.roll_contact.specs.Clocks.{difference, one_more, since}
@@ -226,12 +226,23 @@ clocks_for contact frame now = record {
 
 -- ---- what is sent
 
--- whether the next play has clocks: so many went without, or it is time for the silence that either end waits for
-abbrev pub wants_clocks : Contact → ℕ → Bool
-wants_clocks contact now =
+-- whether it is time for clocks: so many plays went without, or so great a part has passed of the silence that either end waits for
+abbrev pub are_clocks_due : Contact → ℕ → Bool
+are_clocks_due contact now =
     (contact.plays_left == 0)
     || (nat_lt 0 contact.patience
     && nat_le (contact.patience / CLOCKS_IN_PATIENCE) (since now contact.clocks_at))
+
+-- for how long no new clock came back
+abbrev pub unanswered_for : Contact → ℕ → ℕ
+unanswered_for contact now = if is_playing contact.stage then since now contact.answered_at else 0
+
+-- whether the next play has clocks: it is time for them, or for more than a quarter of that silence no new clock came back
+abbrev pub wants_clocks : Contact → ℕ → Bool
+wants_clocks contact now =
+    are_clocks_due contact now
+    || (nat_lt 0 contact.patience
+    && nat_lt (contact.patience / PATIENCE_PARTS) (unanswered_for contact now))
 
 -- the draw that hellos say back: the one that is believed, or else the one that was heard last
 abbrev pub hello_echo : Contact → ℕ
@@ -247,9 +258,10 @@ says_hello contact =
 abbrev pub hello_sent : Contact → Contact
 hello_sent contact = counted (record contact { owes_hello = false })
 
+-- only clocks that were due count as unanswered
 abbrev pub play_sent : ℕ → Contact → Contact
 play_sent now contact = counted (
-    if wants_clocks contact now then record contact {
+    if are_clocks_due contact now then record contact {
       unanswered = one_more contact.unanswered;
       clocks_at = now;
       plays_left = CLOCKS_EVERY - 1;
@@ -260,10 +272,6 @@ play_sent now contact = counted (
 -- for how long it wasn't heard at all
 abbrev pub silence : Contact → ℕ → ℕ
 silence contact now = if is_playing contact.stage then since now contact.heard_at else 0
-
--- for how long no new clock came back
-abbrev pub unanswered_for : Contact → ℕ → ℕ
-unanswered_for contact now = if is_playing contact.stage then since now contact.answered_at else 0
 
 -- whether no new clock came back for longer than that, though enough clocks were sent since
 abbrev pub is_unanswered : Contact → ℕ → ℕ → Bool

@@ -1,7 +1,7 @@
 //! What this end knows of another.
 ghost use Rattle.std.specs.Prelude.{◌≡◌};
 ghost use Rattle.roll_contact.specs.Clocks.{difference};
-ghost use Rattle.roll_contact.specs.Contacts.{after_clocks, after_hello, after_play, are_newer, behind_of, believing, clocks_for, confirming, counted, frame_after, greeted, heard, hello_echo, hello_sent, hushed, is_before, is_fresh, is_hushed, is_playing, is_silent, is_unanswered, least_patience, measured, meeting, opened_contact, other_opening, play_sent, refused, says_hello, silence, told, unanswered_for, wants_clocks};
+ghost use Rattle.roll_contact.specs.Contacts.{after_clocks, after_hello, after_play, are_clocks_due, are_newer, behind_of, believing, clocks_for, confirming, counted, frame_after, greeted, heard, hello_echo, hello_sent, hushed, is_before, is_fresh, is_hushed, is_playing, is_silent, is_unanswered, least_patience, measured, meeting, opened_contact, other_opening, play_sent, refused, says_hello, silence, told, unanswered_for, wants_clocks};
 
 use crate::clock::since;
 use crate::terms::{CARRIES, Field};
@@ -15,6 +15,8 @@ const ROUND_TRIP_LIMIT: u32 = 60_000;
 const CLOCKS_EVERY: u32 = 16;
 /// How often clocks go in the time after which a silent end is gone.
 const CLOCKS_IN_PATIENCE: u32 = 16;
+/// Who has been silent for so great a part of the patience is sent clocks in each play.
+const PATIENCE_PARTS: u32 = 4;
 /// So many clocks that weren't answered make a silence.
 const UNANSWERED: u32 = 10;
 /// In how many datagrams one is a hello, if one is owed while the match is played.
@@ -307,12 +309,20 @@ impl Contact {
         }
     }
 
-    /// Whether the next play to it has clocks.
-    pub fn wants_clocks(&self, now: u32) -> bool
-        ensures { result ≡ wants_clocks self.now now }
+    /// Whether it is time for clocks, whether it answers or not.
+    fn are_clocks_due(&self, now: u32) -> bool
+        ensures { result ≡ are_clocks_due self.now now }
     {
         self.plays_left == 0
             || self.patience > 0 && since(now, self.clocks_at) >= self.patience / CLOCKS_IN_PATIENCE
+    }
+
+    /// Whether the next play to it has clocks: it is time for them, or it has been silent for more than a quarter of the patience.
+    pub fn wants_clocks(&self, now: u32) -> bool
+        ensures { result ≡ wants_clocks self.now now }
+    {
+        self.are_clocks_due(now)
+            || self.patience > 0 && self.unanswered_for(now) > self.patience / PATIENCE_PARTS
     }
 
     /// The draw that hellos to it say back: the one that is believed, or else the one that was heard last.
@@ -350,11 +360,12 @@ impl Contact {
         self.count();
     }
 
-    /// A play was sent to it, with clocks if it wanted them.
+    /// A play was sent to it, with clocks if it wanted them. Of these only those that were due count as unanswered, so that
+    /// `UNANSWERED` of them take their time.
     pub fn play_sent(&mut self, now: u32)
         ensures { self.new ≡ play_sent now self.old }
     {
-        if self.wants_clocks(now) {
+        if self.are_clocks_due(now) {
             self.unanswered = self.unanswered.saturating_add(1);
             self.clocks_at = now;
             self.plays_left = CLOCKS_EVERY - 1;

@@ -1,17 +1,17 @@
 -- What a relay makes of what comes and goes.
-use Rattle.std.specs.Prelude.{◌≡◌, ◌⊎◌, ℕ, List, [], ◌∷◌, length, replicate, take, Bool, true, false, not, ◌&&◌, ◌||◌, ◌==◌, nat_le, Option, Some, None, Result, Ok, Err, if◌then◌else◌}
-use Rattle.roll_carry.specs.Carrying.{after_handed, after_sent, after_taken, after_told, first_owed, first_waited_for, is_straight_due, maker_of, Carrying}
+use Rattle.std.specs.Prelude.{◌≡◌, ◌⊎◌, ℕ, List, [], ◌∷◌, replicate, take, Bool, true, false, not, ◌&&◌, ◌==◌, Option, Some, None, Result, Ok, Err, if◌then◌else◌}
+use Rattle.roll_carry.specs.Carrying.{after_carried, after_handed, after_sent, after_taken, after_told, first_owed, first_waited_for, goes_at_once, Carrying}
 use Rattle.roll_carry.specs.Mapping.{after_map, heard_straight}
-use Rattle.roll_carry.specs.Reading.{map_of, parcels_of}
-use Rattle.roll_carry.specs.Spelling.{area_text, said_by, Carries, Maps, ParcelValue, Says}
+use Rattle.roll_carry.specs.Reading.{map_of, parcels_of, tail_of}
+use Rattle.roll_carry.specs.Spelling.{area_text, datagram_of, given_by, maker_of, said_by, Carries, IsParcel, Maps, ParcelValue, Says}
 use Rattle.roll_carry.specs.Waiting.{lane_of}
 use Rattle.roll_carry.specs.declared.datagram.Hearing.{Hearing}
-use Rattle.roll_carry.specs.declared.limits.TheConstants.{CARRIED, CARRIED_LIMIT, HEAD, MAP}
+use Rattle.roll_carry.specs.declared.limits.TheConstants.{CARRIED, MAP}
 use Rattle.roll_contact.specs.Seals.{unsealed}
 use Rattle.roll_contact.specs.declared.key.Key.{Key}
 use Rattle.roll_member.specs.Beside.{IsOf}
 use Rattle.roll_mesh.specs.Machines.{at_places}
-use Rattle.std.specs.List.{slice_get}
+use Rattle.std.specs.List.{slice_get, AllByRecursion}
 use Rattle.roll_mesh.specs.declared.limits.TheConstants.{MACHINE_LIMIT}
 use Rattle.roll_peer.specs.Peered.{Peered}
 use Rattle.roll_peer.specs.Receiving.{byte_at, meeting, moment_of, sender_of, ticking}
@@ -98,27 +98,28 @@ HoldsParcels peer bytes parcels =
 
 -- whether the maker of a parcel and who it is for are both in the match, and not gone here
 abbrev pub are_here : Peered → ParcelValue → Bool
-are_here peer parcel = not (is_lost peer (maker_of parcel.bytes)) && not (is_lost peer parcel.to)
+are_here peer parcel = not (is_lost peer (maker_of parcel)) && not (is_lost peer parcel.to)
 
--- a parcel that one machine gave for another is handed on, unless either end is gone
-abbrev pub handing : Peered → (from : ℕ) → ParcelValue → Carrying → Carrying
-handing peer from parcel here =
-    if are_here peer parcel then after_handed here from (shut_of peer) parcel else here
+-- a parcel that is for another machine is handed on, unless either end is gone
+abbrev pub handing : Peered → ParcelValue → Carrying → Carrying
+handing peer parcel here =
+    if are_here peer parcel then after_handed here (shut_of peer) parcel else here
 
 -- its own parcel is heard here by the call that hears what comes straight, and any other handed on
-abbrev pub HearsParcel : Step → (now from : ℕ) → (old new : Relayed) → ParcelValue → Type 0
-HearsParcel step now from old new parcel =
+abbrev pub HearsParcel : Step → (now : ℕ) → (old new : Relayed) → ParcelValue → Type 0
+HearsParcel step now old new parcel =
     ((parcel.to ≡ old.beside.peer.settings.me)
-    × ((said : Result Received Ignored) × HearsBytes step old.beside new.beside now parcel.bytes said)
+    × ((said : Result Received Ignored)
+    × HearsBytes step old.beside new.beside now (datagram_of parcel) said)
     × (new.carrying ≡ old.carrying))
     ⊎ ((parcel.to ≡ old.beside.peer.settings.me → ⊥) × (new.beside ≡ old.beside)
-    × (new.carrying ≡ handing old.beside.peer from parcel old.carrying))
+    × (new.carrying ≡ handing old.beside.peer parcel old.carrying))
 
 -- one parcel after another
-abbrev pub HearsParcels : Step → (now from : ℕ) → Relayed → List ParcelValue → Relayed → Type 0
-HearsParcels step now from old [] new = new ≡ old
-HearsParcels step now from old (parcel ∷ more) new =
-    (next : Relayed) × HearsParcel step now from old next parcel × HearsParcels step now from next more new
+abbrev pub HearsParcels : Step → (now : ℕ) → Relayed → List ParcelValue → Relayed → Type 0
+HearsParcels step now old [] new = new ≡ old
+HearsParcels step now old (parcel ∷ more) new =
+    (next : Relayed) × HearsParcel step now old next parcel × HearsParcels step now next more new
 
 -- bytes came, and this is said of them
 abbrev pub Hears : Step → (now : ℕ) → (old new : Relayed) → List ℕ → Heard → Type 0
@@ -130,12 +131,12 @@ Hears step now old new bytes (Map sender) =
     (sender ≡ sender_of bytes) × (new.beside ≡ old.beside)
     × ((told : List Hearing) × (map_in old.beside.peer bytes ≡ Ok told)
     × (new.carrying ≡ record (hearing old.beside.peer sender old.carrying) {
-      map = after_map sender told (hearing old.beside.peer sender old.carrying).map;
+      map = after_map told (hearing old.beside.peer sender old.carrying).map;
     }))
 Hears step now old new bytes (Carried sender) =
     (sender ≡ sender_of bytes)
     × ((parcels : List ParcelValue) × HoldsParcels old.beside.peer bytes parcels
-    × HearsParcels step now sender
+    × HearsParcels step now
     (record old { carrying = hearing old.beside.peer sender old.carrying }) parcels new)
 
 -- what a kind is said to be, by who hears it
@@ -157,27 +158,34 @@ IsUnheard step now old new bytes why =
 
 -- ---- what goes
 
--- whether a datagram is carried, if its line is broken: it has room for what stands beside it
-abbrev pub is_carriable : List ℕ → Bool
-is_carriable bytes = nat_le HEAD (length bytes) && nat_le (length bytes) CARRIED_LIMIT
+-- a datagram is for a machine, of which this is carried, if it can be
+abbrev pub sending : Peered → (to : ℕ) → (tail : Option (List ℕ)) → Carrying → Carrying
+sending peer to None here = here
+sending peer to (Some tail) here = after_sent here (shut_of peer) to tail
 
-abbrev pub sending : Peered → (to : ℕ) → List ℕ → Carrying → Carrying
-sending peer to bytes here = if is_carriable bytes then after_sent here (shut_of peer) to bytes else here
+-- whether it goes out at once: what can't be carried does
+abbrev pub is_at_once : Peered → (to : ℕ) → (tail : Option (List ℕ)) → Carrying → Bool
+is_at_once peer to None here = true
+is_at_once peer to (Some tail) here = goes_at_once here (shut_of peer) to tail
 
--- what goes straight of a datagram for a machine
-abbrev pub straight : Peered → (to : ℕ) → List ℕ → Carrying → Option (List ℕ)
-straight peer to bytes here =
-    if is_straight_due here (shut_of peer) to || not (is_carriable bytes) then Some bytes else None
+-- what goes out at once of it
+abbrev pub at_once : Peered → (to : ℕ) → List ℕ → Carrying → Option (List ℕ)
+at_once peer to bytes here = if is_at_once peer to (tail_of bytes) here then Some bytes else None
+
+-- a bye is for a machine
+abbrev pub leaving : Peered → (to : ℕ) → (tail : Option (List ℕ)) → Carrying → Carrying
+leaving peer to None here = here
+leaving peer to (Some tail) here = after_carried here (shut_of peer) to tail
 
 -- what this machine tells another of who hears whom
 abbrev pub told_map : Carrying → List Hearing
 told_map here = take here.map.machines here.map.lines
 
--- a datagram of the peer went to a machine: it is what the peer sends, it goes straight if that is due, and is carried if the line is broken
+-- a datagram of the peer is for a machine: it is what the peer sends, it is carried or waits, and is given if it goes out at once
 abbrev pub IsMade : Seen → (now to : ℕ) → (before after : Peered) → (old new : Carrying) → Option (List ℕ) → Type 0
 IsMade s now to before after old new sent =
     (bytes : List ℕ) × IsSent s (meeting s (ticking now before)) to bytes
-    × (new ≡ sending after to bytes old) × (sent ≡ straight after to bytes old)
+    × (new ≡ sending after to (tail_of bytes) old) × (sent ≡ at_once after to bytes old)
 
 abbrev pub Sends : Seen → (now to : ℕ) → (before after : Peered) → (old new : Carrying) → Option (List ℕ) → Type 0
 Sends s now to before after old new sent =
@@ -185,11 +193,11 @@ Sends s now to before after old new sent =
     × (((is_lost before to ≡ true) × (new ≡ old) × (sent ≡ None))
     ⊎ ((is_lost before to ≡ false) × IsMade s now to before after old new sent))
 
--- a bye goes straight, and is carried too if the line is broken
+-- a bye goes out at once, and is carried too if the line isn't whole
 abbrev pub SaysBye : Peered → (to : ℕ) → (old new : Carrying) → Option (List ℕ) → Type 0
 SaysBye peer to old new None = new ≡ old
 SaysBye peer to old new (Some bytes) =
-    (bytes ≡ text_for peer to LeavesMatch) × (new ≡ sending peer to bytes old)
+    (bytes ≡ text_for peer to LeavesMatch) × (new ≡ leaving peer to (tail_of bytes) old)
 
 -- the map goes to a machine
 abbrev pub TellsMap : Peered → (old new : Carrying) → (to : ℕ) → Option (ℕ × List ℕ) → Type 0
@@ -197,14 +205,14 @@ TellsMap peer old new to said =
     (new ≡ after_told old (Some to))
     × (said ≡ Some (to, said_by (with_draws peer to) peer.settings.me (Maps (told_map old))))
 
--- parcels that wait for a machine go to it
+-- parcels that wait for a machine go to it: a datagram that goes straight, and is alone, as it is
 abbrev pub GivesParcels : Peered → (old new : Carrying) → (to : ℕ) → Option (ℕ × List ℕ) → Type 0
 GivesParcels peer old new to said =
     (new ≡ after_taken old (Some to))
     × ((area bytes : List ℕ) × (slice_get (lane_of old.lanes to) 0 ≡ Some area)
     × (said ≡ Some (to, bytes))
-    × ((parcels : List ParcelValue) → area ≡ area_text parcels
-    → bytes ≡ said_by (with_draws peer to) peer.settings.me (Carries parcels)))
+    × ((parcels : List ParcelValue) → AllByRecursion IsParcel parcels → area ≡ area_text parcels
+    → bytes ≡ given_by (with_draws peer to) peer.settings.me parcels))
 
 -- the map goes to a machine, if there is one
 abbrev pub IsNextMap : Peered → (old new : Carrying) → (owed : Option ℕ) → Option (ℕ × List ℕ) → Type 0

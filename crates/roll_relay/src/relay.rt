@@ -5,7 +5,7 @@ ghost use Rattle.roll_carry.specs.Carrying.{opened_carrying, turned};
 ghost use Rattle.roll_carry.specs.Mapping.{after_map};
 ghost use Rattle.roll_carry.specs.Spelling.{area_text, IsParcel, ParcelValue, parcel_value};
 ghost use Rattle.roll_carry.specs.declared.datagram.Hearing.{Hearing};
-ghost use Rattle.roll_carry.specs.declared.limits.TheConstants.{AREA_LIMIT, HEAD};
+ghost use Rattle.roll_carry.specs.declared.limits.TheConstants.{AREA_LIMIT, TAIL_LEAST};
 ghost use Rattle.roll_mesh.specs.Machines.{is_in};
 ghost use Rattle.roll_peer.specs.Sending.{can_carry};
 ghost use Rattle.roll_peer.specs.Receiving.{byte_at, moment_of, sender_of};
@@ -53,17 +53,17 @@ impl Model for Relay {
 }
 
 impl Relay {
-    /// Nothing is known of who hears whom: all hear all.
+    /// Nobody is known to hear anybody.
     ///
     /// # Errors
     ///
     /// If there is no memory.
     pub fn open(alloc: Global, peer: &Peer) -> Result<Relay, AllocError>
         ensures { IfOk result (λ relay. relay
-            ≡ opened_carrying peer.now.settings.me peer.now.settings.machines (moment_of peer.now)) }
+            ≡ opened_carrying peer.now.settings.me peer.now.settings.machines) }
     {
         let settings = peer.settings();
-        let carrier = Carrier::new(alloc, settings.me, settings.machines, peer.moment())?;
+        let carrier = Carrier::new(alloc, settings.me, settings.machines)?;
         Ok(Relay { carrier })
     }
 
@@ -152,7 +152,7 @@ impl Relay {
         ensures heard { IfOk result (λ heard. (heard ≡ Heard.Map (sender_of bytes.now))
             × ((told : List Hearing) × (map_in peer.now bytes.now ≡ Ok told)
             × (self.new ≡ record (hearing peer.now (sender_of bytes.now) self.old) {
-              map = after_map (sender_of bytes.now) told (hearing peer.now (sender_of bytes.now) self.old).map;
+              map = after_map told (hearing peer.now (sender_of bytes.now) self.old).map;
             }))) }
         ensures ignored { IfErr result (λ why. map_in peer.now bytes.now ≡ Err why) }
         ensures unchanged { OnErr result (self.new ≡ self.old) }
@@ -160,7 +160,7 @@ impl Relay {
         let sender = byte_of(bytes, SENDER_AT);
         let told = map_in(peer, bytes)?;
         self.carrier.heard_straight(sender, peer.moment());
-        self.carrier.take_map(sender, told.as_slice());
+        self.carrier.take_map(told.as_slice());
         Ok(Heard::Map { sender })
     }
 
@@ -174,7 +174,7 @@ impl Relay {
     ) -> Result<Heard, Ignored>
         ensures heard { IfOk result (λ heard. (heard ≡ Heard.Carried (sender_of bytes.now))
             × ((parcels : List ParcelValue) × HoldsParcels peer.old bytes.now parcels
-            × HearsParcels S.step now (sender_of bytes.now)
+            × HearsParcels S.step now
             (record {
               beside = record { session = S.seen session.old; peer = peer.old };
               carrying = hearing peer.old (sender_of bytes.now) self.old;
@@ -191,7 +191,7 @@ impl Relay {
         match read_parcels(&text) {
             Ok(area) => {
                 self.carrier.heard_straight(sender, peer.moment());
-                self.hear_parcels(peer, session, sender, area, now);
+                self.hear_parcels(peer, session, area, now);
                 Ok(Heard::Carried { sender })
             }
             Err(fault) => Err(Ignored::NoDatagram(fault)),
@@ -203,20 +203,19 @@ impl Relay {
         &mut self,
         peer: &mut Peer,
         session: &mut S,
-        from: u8,
         area: &[u8],
         now: u32,
     )
         requires { length area.now ≤ AREA_LIMIT }
         ensures heard { (parcels : List ParcelValue) → AllByRecursion IsParcel parcels → area.now ≡ area_text parcels
-            → HearsParcels S.step now from
+            → HearsParcels S.step now
             (record { beside = record { session = S.seen session.old; peer = peer.old }; carrying = self.old }) parcels
             (record { beside = record { session = S.seen session.new; peer = peer.new }; carrying = self.new }) }
         ensures keeps { S.keeps session.old session.new }
     {
         if let Some((parcel, others)) = first_parcel(area) {
-            self.hear_parcel(peer, session, from, &parcel, now);
-            self.hear_parcels(peer, session, from, others, now);
+            self.hear_parcel(peer, session, &parcel, now);
+            self.hear_parcels(peer, session, others, now);
         }
     }
 
@@ -225,41 +224,40 @@ impl Relay {
         &mut self,
         peer: &mut Peer,
         session: &mut S,
-        from: u8,
         parcel: &Parcel,
         now: u32,
     )
         requires { IsParcel (parcel_value parcel.now) }
-        ensures heard { HearsParcel S.step now from
+        ensures heard { HearsParcel S.step now
             (record { beside = record { session = S.seen session.old; peer = peer.old }; carrying = self.old })
             (record { beside = record { session = S.seen session.new; peer = peer.new }; carrying = self.new })
             (parcel_value parcel.now) }
         ensures keeps { S.keeps session.old session.new }
     {
         if parcel.to == peer.settings().me {
-            let _ = peer.receive(session, parcel.bytes, now);
+            let _ = peer.receive(session, &parcel.datagram(), now);
         } else {
-            self.hand_on(peer, from, parcel);
+            self.hand_on(peer, parcel);
         }
     }
 
     /// A parcel for another machine is handed on, unless either end is gone.
-    fn hand_on(&mut self, peer: &Peer, from: u8, parcel: &Parcel)
+    fn hand_on(&mut self, peer: &Peer, parcel: &Parcel)
         requires { IsParcel (parcel_value parcel.now) }
-        ensures { self.new ≡ handing peer.now from (parcel_value parcel.now) self.old }
+        ensures { self.new ≡ handing peer.now (parcel_value parcel.now) self.old }
     {
         if are_here(peer, parcel) {
-            self.carrier.hand_on(from, &shut_of(peer), parcel);
+            self.carrier.hand_on(&shut_of(peer), parcel);
         }
     }
 }
 
 /// Whether the maker of a parcel and who it is for are both in the match, and not gone here.
 fn are_here(peer: &Peer, parcel: &Parcel) -> bool
-    requires { HEAD ≤ length parcel.now.bytes.now }
+    requires { TAIL_LEAST ≤ length parcel.now.tail.now }
     ensures { result ≡ are_here peer.now (parcel_value parcel.now) }
 {
-    !peer.is_lost(parcel.bytes[SENDER_AT]) && !peer.is_lost(parcel.to)
+    !peer.is_lost(parcel.maker()) && !peer.is_lost(parcel.to)
 }
 
 /// The machines with which this one hands on datagrams.

@@ -1,27 +1,30 @@
 //! What goes by a line that may be broken.
-ghost use Rattle.std.specs.Prelude.{◌≡◌, true, is_none, is_some, option_map, not, ◌||◌, IfErr, IfOk, IfSome, OnErr};
+ghost use Rattle.std.specs.Prelude.{◌≡◌, ◌≤◌, List, length, true, is_none, is_some, option_map, not, ◌||◌, IfErr, IfOk, IfSome, OnErr};
+ghost use Rattle.std.specs.List.{AllByRecursion};
 ghost use Rattle.roll_contact.specs.Contacts.{is_playing};
 ghost use Rattle.roll_carry.specs.Carrying.{first_owed, first_waited_for};
-ghost use Rattle.roll_carry.specs.Spelling.{said_by, Maps};
-ghost use Rattle.roll_carry.specs.declared.limits.TheConstants.{CARRIED_LIMIT};
+ghost use Rattle.roll_carry.specs.Reading.{tail_of};
+ghost use Rattle.roll_carry.specs.Spelling.{area_text, given_by, said_by, IsParcel, Maps, ParcelValue};
+ghost use Rattle.roll_carry.specs.declared.limits.TheConstants.{AREA_LIMIT};
 ghost use Rattle.roll_mesh.specs.declared.limits.TheConstants.{MACHINE_LIMIT};
 ghost use Rattle.roll_peer.specs.Peered.{contact_at};
 ghost use Rattle.roll_peer.specs.Receiving.{ticking, IsOther};
 ghost use Rattle.roll_peer.specs.Sending.{can_carry, is_lost, with_draws};
-ghost use Rattle.roll_relay.specs.Relaying.{is_carriable, sending, straight, told_map, ready_of, IsNext, IsNextMap, IsNextParcels, SaysBye, Sends};
+ghost use Rattle.roll_relay.specs.Relaying.{at_once, is_at_once, leaving, sending, told_map, ready_of, IsNext, IsNextMap, IsNextParcels, SaysBye, Sends};
 
 use crate::relay::{Relay, ready_of, shut_of};
 use arrayvec::ArrayVec;
-use roll_carry::{CARRIED_LIMIT, HEAD, say_map, say_parcels};
+use roll_carry::{lone_datagram, say_map, say_parcels, tail_of};
 use roll_contact::Key;
 use roll_peer::{OtherSession, Peer};
 use roll_session::Networked;
 use roll_wire::DATAGRAM_LIMIT;
 
 impl Relay {
-    /// The bytes to send to a machine straight in this turn, as the peer makes them. If the line between the two is broken, they wait for
-    /// another machine too, to be carried. None if the peer sends none; or if the other machine doesn't hear this one and somebody
-    /// carries: then they go straight in one turn of 17, and in each of 16 turns after something is known to have changed.
+    /// The bytes to send to a machine at once, as the peer makes them. If the line between the two doesn't work both ways, they wait for
+    /// a carrier, to go by `next`. None if the peer sends none; if the other machine doesn't hear this one and somebody carries: then
+    /// they go straight in one turn of 17 alone; or if something may be carried to that machine in this turn: then what goes straight
+    /// goes with it, by `next`.
     ///
     /// # Errors
     ///
@@ -46,37 +49,45 @@ impl Relay {
         }
     }
 
-    /// The peer's datagram for a machine, if it goes straight in this turn. If the line is broken, it is carried too.
+    /// The peer's datagram for a machine, if it goes out at once. Else it is carried, or waits to go with what is.
     fn pass(
         &mut self,
         peer: &Peer,
         machine: u8,
         bytes: ArrayVec<u8, DATAGRAM_LIMIT>,
     ) -> Option<ArrayVec<u8, DATAGRAM_LIMIT>>
-        ensures carried { self.new ≡ sending peer.now machine bytes.items self.old }
-        ensures straight { option_map (λ sent. sent.items) result ≡ straight peer.now machine bytes.items self.old }
+        ensures sent { self.new ≡ sending peer.now machine (tail_of bytes.items) self.old }
+        ensures at_once { option_map (λ sent. sent.items) result ≡ at_once peer.now machine bytes.items self.old }
     {
-        let is_due = self.carrier.is_straight_due(&shut_of(peer), machine);
-        let is_carriable = is_carriable(&bytes);
-        self.carry(peer, machine, &bytes);
-        if is_due || !is_carriable {
+        if self.hand_over(peer, machine, &bytes) {
             Some(bytes)
         } else {
             None
         }
     }
 
-    /// A datagram of this machine is carried, if the line is broken.
-    fn carry(&mut self, peer: &Peer, machine: u8, bytes: &[u8])
-        ensures { self.new ≡ sending peer.now machine bytes.now self.old }
+    /// What is carried of a datagram is handed over, if it can be. Says whether the datagram goes out at once.
+    fn hand_over(&mut self, peer: &Peer, machine: u8, bytes: &[u8]) -> bool
+        ensures sent { self.new ≡ sending peer.now machine (tail_of bytes.now) self.old }
+        ensures at_once { result ≡ is_at_once peer.now machine (tail_of bytes.now) self.old }
     {
-        if is_carriable(bytes) {
-            self.carrier.sent(&shut_of(peer), machine, bytes);
+        match tail_of(bytes) {
+            Some(tail) => self.carrier.send(&shut_of(peer), machine, tail),
+            None => true,
         }
     }
 
-    /// The bytes that say to a machine that this one leaves the match, as the peer makes them. If the line between the two is broken, they
-    /// wait for another machine too.
+    /// A bye of this machine is carried, if the line between the two isn't whole.
+    fn carry(&mut self, peer: &Peer, machine: u8, bytes: &[u8])
+        ensures { self.new ≡ leaving peer.now machine (tail_of bytes.now) self.old }
+    {
+        if let Some(tail) = tail_of(bytes) {
+            self.carrier.carry(&shut_of(peer), machine, tail);
+        }
+    }
+
+    /// The bytes that say to a machine that this one leaves the match, as the peer makes them: they go straight. If the line between the
+    /// two doesn't work both ways, they wait for a carrier too.
     pub fn bye(&mut self, peer: &Peer, machine: u8) -> Option<ArrayVec<u8, DATAGRAM_LIMIT>>
         ensures said { SaysBye peer.now machine self.old self.new (option_map (λ bytes. bytes.items) result) }
         ensures none { is_none result
@@ -132,16 +143,22 @@ impl Relay {
             (option_map (λ x. (x.0, x.1.items)) result) }
     {
         let (machine, area) = self.carrier.take(&ready_of(peer))?;
-        let key = key_for(peer, machine);
-        Some((machine, say_parcels(&key, peer.settings().me, &area)))
+        Some((machine, given_to(peer, machine, &area)))
     }
 }
 
-/// Whether a datagram can be carried: it has room for what stands beside it.
-fn is_carriable(bytes: &[u8]) -> bool
-    ensures { result ≡ is_carriable bytes.now }
+/// The bytes by which parcels go to a machine: one datagram that goes straight as it is.
+fn given_to(peer: &Peer, machine: u8, area: &[u8]) -> ArrayVec<u8, DATAGRAM_LIMIT>
+    requires carries { can_carry peer.now machine ≡ true }
+    requires few { length area.now ≤ AREA_LIMIT }
+    ensures { (parcels : List ParcelValue) → AllByRecursion IsParcel parcels
+        → area.now ≡ area_text parcels
+        → result.items ≡ given_by (with_draws peer.now machine) peer.now.settings.me parcels }
 {
-    HEAD <= bytes.len() && bytes.len() <= CARRIED_LIMIT
+    match lone_datagram(area) {
+        Some(bytes) => bytes,
+        None => say_parcels(&key_for(peer, machine), peer.settings().me, area),
+    }
 }
 
 /// By what this machine seals what it tells, or hands on, another.

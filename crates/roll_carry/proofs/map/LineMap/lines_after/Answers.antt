@@ -5,5 +5,5 @@ use Rattle.roll_mesh.proofs.Places.{filled}
 use Rattle.roll_carry.proofs.map.LineMap.lines_after.Goals as goal
 
 pub returns : goal.returns
-returns c = filled (line_after c.args.self.now c.args.sender c.args.told.now) c.args.self.now.lines c.loop-machine.lines deaf
+returns c = filled (line_after c.args.self.now c.args.told.now) c.args.self.now.lines c.loop-machine.lines deaf
     (omega (arith, c.loop-machine.invariant.0)) (λ m h. c.loop-machine.invariant.1 m (omega arith))

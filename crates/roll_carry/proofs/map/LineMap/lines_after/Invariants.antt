@@ -6,4 +6,4 @@ use Rattle.roll_carry.proofs.map.LineMap.lines_after.Given as goal
 
 abbrev pub invariant-loop-machine : goal.invariant-loop-machine
 invariant-loop-machine l =
-    (length l.lines ≡ MACHINE_LIMIT) × ((m : ℕ) → m < l.machine → get_or l.lines m deaf ≡ line_after l.self l.sender l.told m)
+    (length l.lines ≡ MACHINE_LIMIT) × ((m : ℕ) → m < l.machine → get_or l.lines m deaf ≡ line_after l.self l.told m)

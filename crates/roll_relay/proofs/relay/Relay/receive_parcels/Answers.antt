@@ -1,4 +1,4 @@
-use Rattle.std.proofs.Common.{◌≡◌, ℕ, Ok, ap, subst, refl, sym, ◌∙◌}
+use Rattle.std.proofs.Common.{◌≡◌, Ok, ap, subst, refl, sym, ◌∙◌}
 use Rattle.roll_carry.specs.Carrying.{Carrying}
 use Rattle.roll_peer.specs.Receiving.{sender_of}
 use Rattle.roll_relay.specs.Relaying.{hearing, HearsParcels}
@@ -16,17 +16,7 @@ returns-in-Ok-clause-heard g c =
       (
         found.0,
         (c.deref.result.now, c.in_ok-text.ensures.text ∙ ap Ok (sym c.deref.ensures.0), found.1.0),
-        subst (λ (from : ℕ). HearsParcels g.S.Networked.step c.args.now from
-            (record {
-              beside = record { session = g.S.Networked.seen c.args.session.now; peer = c.args.peer.now };
-              carrying = hearing c.args.peer.now (sender_of c.args.bytes.now) c.args.self.now;
-            })
-            found.0
-            (record {
-              beside = record { session = g.S.Networked.seen c.hear_parcels.new.session; peer = c.hear_parcels.new.peer };
-              carrying = c.hear_parcels.new.self;
-            })) c.byte_of-sender.ensures
-            (subst (λ (k : Carrying). HearsParcels g.S.Networked.step c.args.now c.byte_of-sender.result
+        subst (λ (k : Carrying). HearsParcels g.S.Networked.step c.args.now
             (record {
               beside = record { session = g.S.Networked.seen c.args.session.now; peer = c.args.peer.now };
               carrying = k;
@@ -35,7 +25,7 @@ returns-in-Ok-clause-heard g c =
             (record {
               beside = record { session = g.S.Networked.seen c.hear_parcels.new.session; peer = c.hear_parcels.new.peer };
               carrying = c.hear_parcels.new.self;
-            })) here raw),
+            })) here raw,
       ),
     )
 
