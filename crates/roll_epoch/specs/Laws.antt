@@ -1,8 +1,9 @@
 -- What holds of epochs: of those who know the same of an epoch's rows, and of the owners of the next one.
-use Rattle.std.specs.Prelude.{◌≡◌, ◌⊎◌, ℕ, ◌<◌, ◌≤◌, List, Option, Some, true}
+use Rattle.std.specs.Prelude.{◌≡◌, ◌⊎◌, ℕ, ◌<◌, ◌≤◌, List, Option, Some, true, length, None, slice_index_or}
 use Rattle.roll_mesh.specs.declared.limits.TheConstants.{PLAYER_LIMIT}
 use Rattle.roll_epoch.specs.Ends.{IsEnd, Told, mark_in, owner_of}
-use Rattle.roll_epoch.specs.Successions.{free_seat, kept_owners, next_owners, stays}
+use Rattle.roll_epoch.specs.Ids.{leaving_at}
+use Rattle.roll_epoch.specs.Successions.{free_seat, kept_owners, next_owners, stays, successor}
 use Rattle.roll_epoch.specs.declared.limits.TheConstants.{NO_MACHINE}
 use Rattle.roll_epoch.specs.declared.marks.Ending.{Ending}
 use Rattle.roll_epoch.specs.declared.terms.Terms.{Terms}
@@ -30,7 +31,18 @@ abbrev pub EndsStay : Type 0
 EndsStay =
     (told : Told) (settled more : ℕ) (e : Ending) → settled ≤ more → IsEnd told settled e → IsEnd told more e
 
--- ---- the owners of the next epoch
+-- ---- the next epoch
+
+-- two know the same of where players left before a frame: who left later, or hasn't left, is as one who left there
+pub record LeftAlike (end : ℕ) (left other : List (Option ℕ)) : Type 0 where
+  pub many : length left ≡ length other
+  pub places : (p : ℕ) → leaving_at end (slice_index_or left p None) ≡ leaving_at end (slice_index_or other p None)
+
+-- who knows the same of where players left before the end opens the same next epoch
+abbrev pub OfOnePastOneNext : Type 0
+OfOnePastOneNext =
+    (terms : Terms) (e : Ending) (left other : List (Option ℕ)) → LeftAlike e.frame left other
+    → successor terms e left ≡ successor terms e other
 
 -- a player's owner in the next epoch is the one that it had, if that one stays. Else nobody owns it, or whoever comes, whose number is
 -- the lowest that nobody has who stays

@@ -10,7 +10,9 @@ mod owners;
 mod terms;
 
 pub use id::key_of;
-pub use laws::{ends_are_one, ends_stay, nobody_loses_a_player, of_one_past_one_end};
+pub use laws::{
+    ends_are_one, ends_stay, nobody_loses_a_player, of_one_past_one_end, of_one_past_one_next,
+};
 pub use limits::{DELAY_MOST, FIRST_DELAY, NO_MACHINE, THRESHOLD_MOST};
 pub use marks::{Ending, Marks, is_void};
 pub use terms::Terms;
