@@ -455,9 +455,9 @@ typedef struct fazgrond_stats {
 int32_t fazgrond_peer_open(fazgrond_peer *peer, fazgrond_session *session, const fazgrond_match *match);
 
 /* The same of a peer that carries, for a match of three machines or more: where the line between two of them breaks, a third one that
- * both hear hands their datagrams on, so nobody is gone for it. fazgrond_peer_send makes what goes straight, and is
- * FAZGROND_NOTHING too while a datagram is carried alone; call fazgrond_peer_send_more after it, in each turn. A machine carries
- * with those that were opened so too. With two machines it is fazgrond_peer_open. */
+ * both hear hands their datagrams on, so nobody is gone for it. Call fazgrond_peer_send_more after fazgrond_peer_send, in each turn;
+ * the latter is FAZGROND_NOTHING too if what it has for a machine is carried, or goes with what is. A machine carries with those
+ * that were opened so too. With two machines it is fazgrond_peer_open. */
 int32_t fazgrond_peer_open_carrying(fazgrond_peer *peer, fazgrond_session *session, const fazgrond_match *match);
 
 /* Closes it. Nothing happens if it is closed. The session stays open. */

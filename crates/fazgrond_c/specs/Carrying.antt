@@ -26,7 +26,7 @@ use Rattle.fazgrond_c.specs.declared.network.Network.{Network}
 abbrev pub IsCarryingFor : Peered → Option Carrying → Type 0
 IsCarryingFor peer relay =
     relay ≡ (if peer.settings.carries
-    then Some (opened_carrying peer.settings.me peer.settings.machines (moment_of peer)) else None)
+    then Some (opened_carrying peer.settings.me peer.settings.machines) else None)
 
 -- a turn began for it, at the moment that the peer's clock shows
 abbrev pub turned_by : Peered → Option Carrying → Option Carrying

@@ -169,8 +169,8 @@ class Peer(Owned):
             return self._has_begun
 
     def send(self, machine: int, now: int) -> bytes | None:
-        """The datagram to send to a machine in this turn. None if it is gone, or this one, or there is no such machine; and while what
-        this one has for it is carried by others alone."""
+        """The datagram to send to a machine in this turn. None if it is gone, or this one, or there is no such machine; and if what
+        this one has for it goes by `send_more`."""
         with self._lock:
             peer, session, now = self._at(), self.session._at(), now & CLOCK
             return written(lambda out, room, length: lib.fazgrond_peer_send(peer, session, machine, now, out, room, length))

@@ -466,7 +466,7 @@ impl Peer {
     }
 
     /// The datagram to send to a machine in this turn. None if it is gone, or this one, or there is no such machine; and of a peer that
-    /// carries while what it has for that machine is carried alone.
+    /// carries if what it has for that machine goes by [`send_more`](Peer::send_more).
     pub fn send(&mut self, session: &impl Plays, machine: u8, now: u32) -> Result<Option<Datagram>, Error> {
         Datagram::written(|out, room, length| unsafe {
             raw::fazgrond_peer_send(self.raw(), session.raw(), machine, now, out, room, length)
