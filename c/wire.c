@@ -45,6 +45,11 @@ static const uint8_t held[33] = {
     0x03, 0x9f, 0x9c, 0x01, 0xa3, 0x9c, 0x01, 0x00, 0x02, 0x9d, 0x9c, 0x01, 0x06, 0x00, 0x00, 0x05,
     0x05,
 };
+static const uint8_t marked[41] = {
+    0x46, 0x5a, 0x47, 0x32, 0x0e, 0x2d, 0xc3, 0x2c, 0xa9, 0xa0, 0x5e, 0x00, 0x01, 0x01, 0x00, 0x00,
+    0x03, 0x77, 0x7b, 0x00, 0x02, 0x75, 0x06, 0x02, 0x79, 0x04, 0x31, 0x32, 0x33, 0x34, 0x35, 0x36,
+    0x37, 0x38, 0x02, 0x03, 0x00, 0x02, 0x05, 0x02, 0x07,
+};
 static const uint8_t bye[14] = {
     0x46, 0x5a, 0x47, 0x32, 0x9d, 0xba, 0x50, 0xef, 0x7f, 0x8f, 0x36, 0xf9, 0x01, 0x02,
 };
@@ -226,6 +231,8 @@ static void examples(void) {
     play(&one, 1, 2);
     pass(&one, &two, 1, 0, 0);
     play(&two, 2, 6); /* now both have what the example tells */
+    IS(heard(&one, marked, sizeof marked, 0), FAZGROND_NO_DATAGRAM); /* its words aren't taken without their mark */
+    has_words(&one, 117, 117);
     IS(heard(&one, turn, sizeof turn, 0), FAZGROND_OK);
     has_words(&one, 117, 123);
     play_up_to(&one, &two, 19997);
@@ -242,7 +249,7 @@ static void examples(void) {
 }
 
 /* An example isn't heard if any bit of it is another. What isn't of the other machine isn't even opened. Of who carries for nobody
- * the kinds of what is carried are opened, and refused. */
+ * the kinds of what is carried are opened, and refused, and so is a mark. */
 static void is_whole(const uint8_t *text, size_t length) {
     machine one;
     uint8_t bytes[FAZGROND_DATAGRAM];
@@ -257,7 +264,7 @@ static void is_whole(const uint8_t *text, size_t length) {
         bytes[bit / 8] ^= (uint8_t)(1 << bit % 8);
     }
     int32_t code = heard(&one, bytes, length, 0);
-    if (text[KIND] == MAP || text[KIND] == CARRIED)
+    if (text[KIND] == MAP || text[KIND] == CARRIED || text == marked)
         IS(code, FAZGROND_NO_DATAGRAM);
     else
         IS(code == FAZGROND_OK || (text[KIND] == PLAY && code == FAZGROND_OVERSTATED), 1);
@@ -394,6 +401,7 @@ int main(void) {
     is_whole(hello, sizeof hello);
     is_whole(turn, sizeof turn);
     is_whole(held, sizeof held);
+    is_whole(marked, sizeof marked);
     is_whole(bye, sizeof bye);
     is_whole(map, sizeof map);
     is_whole(carried, sizeof carried);

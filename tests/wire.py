@@ -78,13 +78,20 @@ def hello(number, sender, match, draw, echo, patience):
     return packet(number, sender, HELLO, b"".join(rest))
 
 
-def play(number, sender, counts, offers=None, words=(), clocks=None, settled=None, gone=()):
-    """A play. Counts and offers are by player; an offer is a first frame and how many words."""
+def mark(players=(), ticket=0, delays=None, threshold=0):
+    """A mark without its word's frame: for which players somebody comes, and that one's ticket; delays by player; the threshold."""
+    newcomer = mask(players) + (fixed(ticket, 8) if players else b"")
+    return newcomer + masked({player: bytes([delay]) for player, delay in (delays or {}).items()}) + bytes([threshold])
+
+
+def play(number, sender, counts, offers=None, words=(), clocks=None, settled=None, gone=(), marks=None):
+    """A play. Counts, offers and marks are by player; an offer is a first frame and how many words, a mark a frame and its bytes."""
     rest = optional(clocks and b"".join(map(short, clocks))) + mask(gone)
     rest += masked({player: short(count) for player, count in counts.items() if count})
     rest += optional(settled and short(settled[0]) + fixed(settled[1], 8))
     rest += masked({player: short(first) + bytes([count]) for player, (first, count) in (offers or {}).items()})
-    return packet(number, sender, PLAY, rest + b"\0" + runs(list(words)))
+    rest += masked({player: short(frame) + text for player, (frame, text) in (marks or {}).items()})
+    return packet(number, sender, PLAY, rest + runs(list(words)))
 
 
 def bye(number, sender):
@@ -180,11 +187,13 @@ def examples():
     turn = play(NUMBER, 1, {0: 119, 1: 123}, {1: (117, 6)}, [0, 0, 5, 5, 5, 7], first_clocks, (110, 0xFEDCBA9876543210))
     third_bye = sealed(bye(THIRD_NUMBER, 2), THIRD_DRAW, DRAWS[0])
     line_clocks = (640, 603, 603, clock(HOST, 10016), clock(GUEST, 9984), 8)
+    marks = {1: (121, mark([2], 0x3132333435363738, {1: 3}))}
     return {
         "hello": of_match(hello(NUMBER, 1, MATCH, DRAWS[1], DRAWS[0], 5000)),
         "first hello": of_match(hello(NUMBER, 1, MATCH, DRAWS[1], 0, 5000)),
         "turn": of_match(turn),
         "held": of_match(play(NUMBER, 1, {0: 19_999, 1: 20_003}, {1: (19_997, 6)}, [5] * 6)),
+        "marked": of_match(play(NUMBER, 1, {0: 119, 1: 123}, {1: (117, 6)}, [0, 0, 5, 5, 5, 7], marks=marks)),
         "bye": of_match(bye(NUMBER, 1)),
         "map": of_match(line_map(NUMBER, 1, [([0, 1], 2), ([0, 1, 2], 2), ([1, 2], 2)])),
         "carried": of_match(carried(NUMBER, 1, [(0, 6, third_bye)])),
@@ -207,7 +216,8 @@ def greatest():
     most, players = (1 << 32) - 1, range(8)
     words = [most - at % 2 for at in range(160)]
     offers = {player: (4_000_000_000, 20) for player in players}
-    return play(NUMBER, 1, dict.fromkeys(players, most), offers, words, [most] * 6, (most, (1 << 64) - 1), players)
+    marks = dict.fromkeys([6, 7], (4_000_000_019, mark(players, (1 << 64) - 1, dict.fromkeys(players, 255), 255)))
+    return play(NUMBER, 1, dict.fromkeys(players, most), offers, words, [most] * 6, (most, (1 << 64) - 1), players, marks)
 
 
 # ---- the page
@@ -337,7 +347,9 @@ def sayings(made):
         f"A hello has {len(made['hello'][1])} bytes",
         f"It has {len(made['turn'][1])} bytes:",
         f"It has {held} bytes:",
+        f"It has {len(made['marked'][1])} bytes, without clocks",
         f"The greatest play has {len(greatest()):,} bytes",
+        f"A mark has 4 to {len(short(1 << 31) + mark(range(8), 1, dict.fromkeys(range(8), 1)))} bytes",
         f"has {held} bytes at frame 20,000",
         f"{60 * held:,} bytes a second",
         f"A bye has {len(made['bye'][1])} bytes",

@@ -111,3 +111,42 @@ Numbers of players, and local players, for which there is no board.
   refused 3
   refused 11
   refused 11
+
+Inputs that go on from frames before: until a player's first word comes, the last one before them is predicted; and a local player
+begins with words of its own, one for each frame of its delay. Player 1 gave 6 last, and begins with 50 and 51; player 2 gave 7.
+
+  $ test_stage <<END
+  > board 2 1 delay 2 after 5
+  > seen
+  > row 0
+  > row 1
+  > row 2
+  > local 1 9
+  > remote 2 0 3
+  > row 1
+  > row 2
+  > row 3
+  > END
+  ok
+  frame 0 settled 0 front 0 confirmed 2 0
+  50,7
+  51,7
+  51,7
+  ok
+  taken
+  51,3
+  9,3
+  9,3
+
+Without a delay it begins with none of them.
+
+  $ test_stage <<END
+  > board 2 1 after 5
+  > row 0
+  > gone 2
+  > row 0
+  > END
+  ok
+  6,7
+  ok
+  6,x

@@ -1,6 +1,7 @@
 -- What C sees of settings, rows and requests.
 use Rattle.std.specs.Prelude.{◌≡◌, ◌⊎◌, ◌≤◌, ◌-◌, List, ◌++◌, length, map, replicate}
 use Rattle.roll_frame.specs.Packed.{bits_of}
+use Rattle.roll_frame.specs.Settings.{none_before, none_first}
 use Rattle.roll_frame.specs.Words.{word_of}
 use Rattle.roll_frame.specs.declared.profile.Profile.TheVariants.{Ggpo, Wide}
 use Rattle.roll_frame.specs.declared.entry.Entry.{Entry}
@@ -61,6 +62,8 @@ pub record AreGiven (given : SettingsIn) (settings : Settings) : Type 0 where
   pub log : settings.log ≡ given.log
   pub delays : settings.delays ≡ given.delays
   pub masks : settings.masks ≡ given.masks
+  pub before : settings.before ≡ none_before
+  pub first : settings.first ≡ none_first
 
 -- a number of them has no room where it belongs
 abbrev pub HaveNoRoom : SettingsIn → Type 0

@@ -5,7 +5,7 @@ ghost use Rattle.roll_session.specs.Logs.{logged_entry};
 ghost use Rattle.fazgrond_c.specs.Kinds.{entry_out, no_row, request_out, row_out, where_led, AreGiven, HaveNoRoom};
 ghost use Rattle.fazgrond_c.specs.Waiting.{word_out};
 
-use roll_frame::{PLAYER_LIMIT, Profile, Row, Settings};
+use roll_frame::{DELAY_LIMIT, PLAYER_LIMIT, Profile, Row, Settings};
 use roll_held::RemoteWord;
 use roll_requests::Request;
 use roll_session::{Call, Logged, Reached};
@@ -52,6 +52,8 @@ impl SettingsIn {
             local,
             delays: self.delays,
             masks: self.masks,
+            before: [0; PLAYER_LIMIT],
+            first: [[0; DELAY_LIMIT as usize]; PLAYER_LIMIT],
             threshold: self.threshold,
             limit: self.limit,
             log: self.log,

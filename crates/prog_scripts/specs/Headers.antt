@@ -5,6 +5,7 @@ use Rattle.std.specs.Fmt.{decimal}
 use Rattle.roll_frame.specs.declared.limits.TheConstants.{PLAYER_LIMIT, FRAME_LIMIT, LOG_LIMIT}
 use Rattle.roll_frame.specs.declared.profile.Profile.{Profile}
 use Rattle.roll_frame.specs.declared.profile.Profile.TheVariants.{Ggpo, Wide as WideProfile}
+use Rattle.roll_frame.specs.Settings.{none_before, none_first}
 use Rattle.roll_frame.specs.declared.settings.Settings.{Settings}
 use Rattle.roll_text.specs.Numbers.{IsWord, IsList, list_of}
 use Rattle.prog_scripts.specs.declared.header.Header.{Header}
@@ -92,6 +93,8 @@ settings_of setup =
       local = bits_of setup.local;
       delays = in_places 0 setup.delays;
       masks = in_places (2 ^ 32 - 1) setup.masks;
+      before = none_before;
+      first = none_first;
       threshold = setup.threshold;
       limit = FRAME_LIMIT;
       log = LOG_LIMIT;

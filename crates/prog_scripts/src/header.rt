@@ -7,7 +7,7 @@ ghost use Rattle.roll_text.specs.Numbers.{IsWord, list_of};
 ghost use Rattle.roll_text.specs.Text.{Reads};
 ghost use Rattle.prog_scripts.specs.Headers.{IsRising, IsSetup, Setup, bits_of, header_fields, header_of, in_places as placed, mask_count, setup_of, settings_of, version_field};
 
-use roll_frame::{FRAME_LIMIT, LOG_LIMIT, PLAYER_LIMIT, Profile, Settings};
+use roll_frame::{DELAY_LIMIT, FRAME_LIMIT, LOG_LIMIT, PLAYER_LIMIT, Profile, Settings};
 use roll_text::{fields, number, numbers, push_list, push_number};
 use std::alloc::{AllocError, Global};
 
@@ -134,6 +134,8 @@ impl Header {
             local: bits(&self.local),
             delays: in_places(0, &self.delays),
             masks: in_places(u32::MAX, &self.masks),
+            before: [0; PLAYER_LIMIT],
+            first: [[0; DELAY_LIMIT as usize]; PLAYER_LIMIT],
             threshold: self.threshold,
             limit: FRAME_LIMIT,
             log: LOG_LIMIT,

@@ -10,7 +10,7 @@ use Rattle.roll_frame.specs.declared.profile.Profile.TheVariants.{Ggpo, Wide}
 use Rattle.roll_frame.specs.declared.refusal.Refusal.{Refusal}
 use Rattle.roll_frame.specs.declared.refusal.Refusal.TheVariants.{PlayerOutOfRange, InvalidRequest}
 use Rattle.roll_frame.specs.declared.settings.Settings.{Settings}
-use Rattle.roll_frame.specs.Settings.{delay_at, is_local, most_players, most_threshold, places, start_tests}
+use Rattle.roll_frame.specs.Settings.{delay_at, is_local, most_players, most_threshold, none_before, none_first, places, start_tests}
 
 -- the number of the first player at these places of whom a test holds
 abbrev pub player_who : (ℕ → Bool) → List ℕ → Option ℕ
@@ -63,6 +63,8 @@ plain_settings players local =
       local = local;
       delays = replicate PLAYER_LIMIT 0;
       masks = replicate PLAYER_LIMIT (2 ^ 32 - 1);
+      before = none_before;
+      first = none_first;
       threshold = most_threshold Ggpo;
       limit = FRAME_LIMIT;
       log = LOG_LIMIT;

@@ -1,8 +1,8 @@
 -- What a session is opened with, when that is refused, and its players at first.
-use Rattle.std.specs.Prelude.{ℕ, ◌^◌, List, [], ◌∷◌, replicate, map, not, Bool, false, ◌&&◌, nat_lt, nat_le, ◌==◌, slice_index, Option}
+use Rattle.std.specs.Prelude.{ℕ, ◌^◌, List, [], ◌∷◌, replicate, map, not, Bool, false, ◌&&◌, nat_lt, nat_le, ◌==◌, slice_index, slice_index_or, Option}
 use Rattle.std.specs.Int.{is_in_range, bit_at}
 use Rattle.std.specs.List.{list_any, range_with_len}
-use Rattle.roll_frame.specs.declared.limits.TheConstants.{DELAY_LIMIT, FRAME_LIMIT, LOG_LIMIT}
+use Rattle.roll_frame.specs.declared.limits.TheConstants.{DELAY_LIMIT, FRAME_LIMIT, LOG_LIMIT, PLAYER_LIMIT}
 use Rattle.roll_frame.specs.declared.refusal.Refusal.{Refusal}
 use Rattle.roll_frame.specs.declared.refusal.Refusal.TheVariants.{PlayerOutOfRange, InvalidRequest}
 use Rattle.roll_frame.specs.declared.profile.Profile.{Profile}
@@ -35,10 +35,28 @@ is_local settings place = bit_at settings.local place == 1
 abbrev pub delay_at : Settings → ℕ → ℕ
 delay_at settings place = slice_index settings.delays place
 
--- a local player begins with as many zeros as its delay; others have none
+-- no frames came before: of each player there is no word before frame 0, and none to begin with
+abbrev pub none_before : List ℕ
+none_before = replicate PLAYER_LIMIT 0
+
+abbrev pub none_first : List (List ℕ)
+none_first = replicate PLAYER_LIMIT (replicate DELAY_LIMIT 0)
+
+-- the words with which a player begins: one for each frame of its delay
+abbrev pub first_words : Settings → ℕ → List ℕ
+first_words settings place = map (slice_index (slice_index_or settings.first place [])) (range_with_len 0 (delay_at settings place))
+
+-- a local player begins with the words of its delay; others have none
 abbrev pub first_player : Settings → ℕ → Player
 first_player settings place =
-    record { words = replicate (delay_at settings place) 0; mask = slice_index settings.masks place; local = is_local settings place; gone = false; given = false }
+    record {
+      words = first_words settings place;
+      before = slice_index settings.before place;
+      mask = slice_index settings.masks place;
+      local = is_local settings place;
+      gone = false;
+      given = false;
+    }
 
 abbrev pub first_players : Settings → List Player
 first_players settings = map (first_player settings) (places settings)

@@ -4,24 +4,24 @@ use Rattle.roll_frame.specs.declared.row.Cell.{Cell}
 use Rattle.roll_frame.specs.declared.row.Cell.TheVariants.{Word, Gone}
 use Rattle.roll_frame.specs.Cells.{Rows}
 
--- what is known of one player: the confirmed words from frame 0 on, which bits of a word are predicted
--- as held, whether it is local, whether it is gone, and whether its word of this frame was given
+-- what is known of one player: the confirmed words from frame 0 on, its word before frame 0, which bits of a word are
+-- predicted as held, whether it is local, whether it is gone, and whether its word of this frame was given
 pub record Player : Type 0 where
   pub words : List ℕ
+  pub before : ℕ
   pub mask : ℕ
   pub local : Bool
   pub gone : Bool
   pub given : Bool
 
--- the last confirmed word, or 0 where there is none
-abbrev pub last_word : List ℕ → ℕ
-last_word [] = 0
-last_word (word ∷ []) = word
-last_word (word ∷ next ∷ words) = last_word (next ∷ words)
+-- the last of the confirmed words, or the word before them where there is none
+abbrev pub last_word : ℕ → List ℕ → ℕ
+last_word before [] = before
+last_word before (word ∷ words) = last_word word words
 
 -- the word that a player is predicted to give
 abbrev pub predicted : Player → ℕ
-predicted player = bit_and (last_word player.words) player.mask
+predicted player = bit_and (last_word player.before player.words) player.mask
 
 -- a player's cell at frame t: confirmed, gone, or predicted
 abbrev pub cell_at : ℕ → Player → Cell

@@ -1,5 +1,5 @@
 //! What a session is opened with.
-ghost use Rattle.std.specs.Prelude.{◌≡◌, ℕ, ◌+◌, ◌-◌, ◌≤◌, ◌<◌, ◌^◌, ◌==◌, drop, not, nat_le, nat_lt, ◌&&◌, is_some, IfErr, IfOk, OnOk, None, Some, Err, slice_set, if◌then◌else◌};
+ghost use Rattle.std.specs.Prelude.{◌≡◌, ◌↔◌, IsTrue, ℕ, ◌+◌, ◌-◌, ◌≤◌, ◌<◌, ◌^◌, ◌==◌, drop, not, nat_le, nat_lt, ◌&&◌, is_some, IfErr, IfOk, OnOk, None, Some, Err, slice_set, if◌then◌else◌};
 ghost use Rattle.std.specs.Int.{bit_at, is_in_range};
 ghost use Rattle.std.specs.List.{list_any};
 ghost use Rattle.std.specs.Option.{option_map};
@@ -24,6 +24,11 @@ pub struct Settings {
     pub delays: [u32; PLAYER_LIMIT],
     /// Which bits of each player's last word are predicted as held. Places past the players are not read.
     pub masks: [u32; PLAYER_LIMIT],
+    /// Each player's word before frame 0, by which is predicted until its first one comes: 0, unless frames came before.
+    pub before: [u32; PLAYER_LIMIT],
+    /// The words with which each local player begins, from frame 0 on: zeros, unless frames came before. Those past its delay are
+    /// not read.
+    pub first: [[u32; DELAY_LIMIT as usize]; PLAYER_LIMIT],
     /// How many frames the session may run ahead of the confirmed ones.
     pub threshold: u32,
     /// The last frame, 1 to 1,048,576.
@@ -101,6 +106,22 @@ impl Settings {
         settings.checked()
     }
 
+    /// Going on from frames that came before: with each player's last word there, and the words with which each local player begins,
+    /// of which as many count as its delay has frames.
+    pub fn following(
+        self,
+        before: [u32; PLAYER_LIMIT],
+        first: [[u32; DELAY_LIMIT as usize]; PLAYER_LIMIT],
+    ) -> Settings
+        ensures { result ≡ record self { before = before; first = first } }
+    {
+        Settings {
+            before,
+            first,
+            ..self
+        }
+    }
+
     /// With this prediction threshold, in frames: 1 to 8, or to 15 in the wide profile.
     pub fn with_threshold(self, threshold: u32) -> Result<Settings, SettingsFault>
         ensures { result ≡ checked (record self { threshold = threshold }) }
@@ -137,6 +158,13 @@ impl Settings {
         ensures { result ≡ has_player self.now player }
     {
         1 <= player && player <= self.players && usize::from(player) <= PLAYER_LIMIT
+    }
+
+    /// Whether these are the same settings.
+    pub fn is_same(&self, other: &Settings) -> bool
+        ensures { IsTrue result ↔ self.now ≡ other.now }
+    {
+        self == other
     }
 
     /// What a session can't start with, the first by the order of `SettingsFault`. None where it can start.
@@ -262,6 +290,8 @@ fn plain(players: u8, local: u8) -> Settings
         local,
         delays: [0; PLAYER_LIMIT],
         masks: [u32::MAX; PLAYER_LIMIT],
+        before: [0; PLAYER_LIMIT],
+        first: [[0; DELAY_LIMIT as usize]; PLAYER_LIMIT],
         threshold: u32::from(Profile::Ggpo.threshold_limit()),
         limit: FRAME_LIMIT,
         log: LOG_LIMIT,

@@ -9,5 +9,6 @@ pub mod Changes
 mod Replies
 mod Recorded
 mod Starts
+mod Begun
 pub mod Refusals
 pub mod Told

@@ -1,16 +1,16 @@
 -- The queues at the start.
-use Rattle.std.proofs.Common.{◌≡◌, ◌⊎◌, ℕ, ◌<◌, ◌≤◌, length, get_or, map, replicate, true, false, None, refl, sym, ◌∙◌, subst, inl, inr, arith}
+use Rattle.std.proofs.Common.{◌≡◌, ◌⊎◌, ℕ, ◌<◌, ◌≤◌, length, get_or, map, true, false, None, refl, sym, ◌∙◌, subst, inl, inr, arith}
 use Rattle.std.specs.Prelude.{slice_index_or, nat_lt}
 use Rattle.std.proofs.lemmas.Bool.{false≢true, cases_Bool, not-false, ltb-false}
-use Rattle.std.proofs.lemmas.List.{length-replicate}
 use Rattle.std.proofs.lemmas.List.Elements.{All-map}
 use Rattle.std.proofs.lemmas.List.Folds.{list_any_at}
 use Rattle.std.proofs.lemmas.List.FromFn.{get_or-range_with_len, length-range_with_len, length-map-range_with_len}
-use Rattle.roll_frame.specs.Settings.{most_players, most_threshold, start_tests, start_refusal, places, delay_at}
+use Rattle.roll_frame.specs.Settings.{most_players, most_threshold, start_tests, start_refusal, places, delay_at, first_words}
 use Rattle.roll_frame.specs.declared.limits.TheConstants.{DELAY_LIMIT, FRAME_LIMIT, PLAYER_LIMIT}
 use Rattle.roll_frame.specs.declared.profile.Profile.{Profile}
 use Rattle.roll_frame.specs.declared.profile.Profile.TheVariants.{Ggpo, Wide}
 use Rattle.roll_frame.specs.declared.settings.Settings.{Settings}
+use Rattle.roll_frame.proofs.FirstWords.{long_first}
 use Rattle.roll_frame.proofs.Refused.{in_range, all_fail}
 use Rattle.roll_inputs.specs.Boards.{IsBoard, IsInStep, first_known}
 use Rattle.roll_inputs.specs.Queues.{Known}
@@ -35,7 +35,7 @@ short_delays settings e place within = by_test (cases_Bool (nat_lt DELAY_LIMIT (
 
 first_step : (settings : Settings) (place limit : ℕ) → delay_at settings place ≤ DELAY_LIMIT → IsInStep 0 0 limit (first_known settings place)
 first_step settings place limit short =
-    let long : length {A = ℕ} (replicate (delay_at settings place) 0) ≡ delay_at settings place = length-replicate (delay_at settings place) 0 in
+    let long : length (first_words settings place) ≡ delay_at settings place = long_first settings place in
     record {
       from = refl;
       ahead = λ there. omega arith;

@@ -16,11 +16,11 @@ pub record HasPast (q : Known) (past : Rows) (place : ℕ) : Type 0 where
   pub cells : (t : ℕ) → t < q.from → slice_get (slice_index_or past t []) place ≡ Some (cell_at t q.player)
 
 abbrev pub known : Inside → Known
-known q = record { player = record { words = q.history.words; mask = q.mask; local = q.local; gone = q.gone; given = q.given }; from = q.from }
+known q = record { player = record { words = q.history.words; before = q.before; mask = q.mask; local = q.local; gone = q.gone; given = q.given }; from = q.from }
 
 -- the ring has the words from that frame on, and the numbers are those of the whole list
 pub record IsQueue (q : Inside) : Type 0 where
   pub room : q.ring.capacity ≡ QUEUE_LIMIT
   pub words : q.ring.items ≡ drop q.from q.history.words
   pub count : q.count ≡ length q.history.words
-  pub last : q.last ≡ last_word q.history.words
+  pub last : q.last ≡ last_word q.before q.history.words

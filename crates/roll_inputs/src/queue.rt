@@ -23,6 +23,7 @@ pub(crate) struct Queue {
     ring: HeapCircularBuffer<u32>,
     from: u32,
     count: u32,
+    before: u32,
     last: u32,
     mask: u32,
     local: bool,
@@ -44,25 +45,27 @@ impl Model for Queue {
 impl Queue {
     ghost use Rattle.roll_inputs.specs.Queues.{HasPast};
 
-    /// A player at the start, with a zero for each frame of delay.
+    /// A player at the start, with a word for each frame of delay.
     pub(crate) fn new(alloc: Global, settings: &Settings, place: u8) -> Result<Queue, AllocError>
         requires place { place < PLAYER_LIMIT }
         requires delay { delay_at settings.now place ≤ DELAY_LIMIT }
         ensures { IfOk result (λ q. q ≡ record { player = first_player settings.now place; from = 0 }) }
     {
+        let at = usize::from(place);
         let mut queue = Queue {
             ring: HeapCircularBuffer::with_capacity(alloc, QUEUE_LIMIT)?,
             from: 0,
             count: 0,
-            last: 0,
-            mask: settings.masks[usize::from(place)],
+            before: settings.before[at],
+            last: settings.before[at],
+            mask: settings.masks[at],
             local: settings.is_local(place),
             gone: false,
             given: false,
             history: History::new(),
         };
-        for _ in 0..settings.delays[usize::from(place)] {
-            queue.hear(0);
+        for frame in 0..settings.delays[at] {
+            queue.hear(settings.first[at][frame as usize]);
         }
         Ok(queue)
     }

@@ -128,14 +128,14 @@ changed_each P change ps p x e f h =
     subst (Each P) (sym (changed_is change ps p x e)) (each_set P ps (p - 1) (change x) (f (each_at P ps (p - 1) x (at_place ps p x e) h)) h)
 
 pub later_with_words : (words : List ℕ) (x : Player) → x.gone ≡ false → Later x (with_words words x)
-later_with_words words x g = record { same_local = refl; same_mask = refl; more = words; words = refl; gone = λ h. absurd (false≢true (sym g ∙ h)) }
+later_with_words words x g = record { same_local = refl; same_mask = refl; same_before = refl; more = words; words = refl; gone = λ h. absurd (false≢true (sym g ∙ h)) }
 
 pub later_with_given : (word : ℕ) (x : Player) → x.gone ≡ false → Later x (with_given word x)
-later_with_given word x g = record { same_local = refl; same_mask = refl; more = word ∷ []; words = refl; gone = λ h. absurd (false≢true (sym g ∙ h)) }
+later_with_given word x g = record { same_local = refl; same_mask = refl; same_before = refl; more = word ∷ []; words = refl; gone = λ h. absurd (false≢true (sym g ∙ h)) }
 
 pub later_with_gone : (x : Player) → Later x (with_gone x)
-later_with_gone x = record { same_local = refl; same_mask = refl; more = []; words = sym (append-nil x.words); gone = λ h. (refl, refl) }
+later_with_gone x = record { same_local = refl; same_mask = refl; same_before = refl; more = []; words = sym (append-nil x.words); gone = λ h. (refl, refl) }
 
 pub later_none_given : (ps : List Player) → AllLater ps (map with_none_given ps)
 later_none_given [] = tt
-later_none_given (p ∷ ps) = (record { same_local = refl; same_mask = refl; more = []; words = sym (append-nil p.words); gone = λ h. (h, refl) }, later_none_given ps)
+later_none_given (p ∷ ps) = (record { same_local = refl; same_mask = refl; same_before = refl; more = []; words = sym (append-nil p.words); gone = λ h. (h, refl) }, later_none_given ps)

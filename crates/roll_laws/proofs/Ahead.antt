@@ -12,17 +12,19 @@ use Rattle.roll_laws.proofs.Known.{cell_confirmed, cell_gone, known_cases, known
 pub record Later (old new : Player) : Type 0 where
   pub same_local : new.local ≡ old.local
   pub same_mask : new.mask ≡ old.mask
+  pub same_before : new.before ≡ old.before
   pub more : List ℕ
   pub words : new.words ≡ old.words ++ more
   pub gone : old.gone ≡ true → (new.gone ≡ true) × (new.words ≡ old.words)
 
 pub later_same : (p : Player) → Later p p
-later_same p = record { same_local = refl; same_mask = refl; more = []; words = sym (append-nil p.words); gone = λ g. (g, refl) }
+later_same p = record { same_local = refl; same_mask = refl; same_before = refl; more = []; words = sym (append-nil p.words); gone = λ g. (g, refl) }
 
 pub later_trans : (a b c : Player) → Later a b → Later b c → Later a c
 later_trans a b c x y = record {
   same_local = y.same_local ∙ x.same_local;
   same_mask = y.same_mask ∙ x.same_mask;
+  same_before = y.same_before ∙ x.same_before;
   more = x.more ++ y.more;
   words = y.words ∙ ap (λ ws. ws ++ y.more) x.words ∙ append_assoc a.words x.more y.more;
   gone = λ g. let i = x.gone g in let j = y.gone i.0 in (j.0, j.1 ∙ i.1);

@@ -3,7 +3,6 @@ use Rattle.std.proofs.Common.{◌≡◌, ℕ, suc, ◌+◌, ◌-◌, ◌<◌, �
 use Rattle.std.specs.Prelude.{not, nat_lt, ◌&&◌, if◌then◌else◌}
 use Rattle.std.specs.List.{list_any}
 use Rattle.std.proofs.lemmas.Bool.{false≢true, cases_Bool, or_parts, leb-false, ltb-false}
-use Rattle.std.proofs.Math.ListN.{length-replicate}
 use Rattle.roll_frame.specs.Cells.{Rows}
 use Rattle.roll_frame.specs.Core.{Core, first_core, is_possible, settled, kept, depth, rolled_paths}
 use Rattle.roll_frame.specs.Events.{CoreEvent, tests_of, added_by, applied, played_from, played}
@@ -12,6 +11,7 @@ use Rattle.roll_frame.specs.Grafts.{Branch, whole_of, anchor_length, new_paths}
 use Rattle.roll_frame.specs.Inputs.{with_none_given}
 use Rattle.roll_frame.specs.Paths.{prefixes, contains}
 use Rattle.roll_frame.specs.Settings.{first_player, start_tests, start_refusal, places, first_players, delay_at}
+use Rattle.roll_frame.proofs.FirstWords.{long_first}
 use Rattle.roll_frame.specs.Timeline.{Player, timeline}
 use Rattle.roll_frame.specs.declared.entry.Entry.{Entry}
 use Rattle.roll_frame.specs.declared.limits.TheConstants.{DELAY_LIMIT}
@@ -124,7 +124,7 @@ first_few base frame settings [] h = tt
 first_few base frame settings (p ∷ ps) h =
     let both = or_parts (nat_lt 8 (delay_at settings p)) (list_any (λ place. nat_lt 8 (delay_at settings place)) ps) h in
     let d : delay_at settings p ≤ 8 = ltb-false 8 (delay_at settings p) both.0 in
-    let n : length (first_player settings p).words ≡ delay_at settings p = length-replicate {A = ℕ} (delay_at settings p) 0 in
+    let n : length (first_player settings p).words ≡ delay_at settings p = long_first settings p in
     ((λ e. omega arith, λ e. omega arith), first_few base frame settings ps both.1)
 
 pub first_bounded : (settings : Settings) → start_refusal settings ≡ None → Bounded settings (first_core settings)

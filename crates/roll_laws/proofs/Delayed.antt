@@ -3,13 +3,13 @@ use Rattle.std.proofs.Common.{◌≡◌, ℕ, zero, suc, ◌+◌, ◌-◌, List,
 use Rattle.std.specs.Prelude.{not, ◌&&◌, slice_get, if◌then◌else◌}
 use Rattle.std.specs.List.{list_any, range_with_len}
 use Rattle.std.proofs.lemmas.Bool.{false≢true, not-true, or_parts}
-use Rattle.std.proofs.Math.ListN.{length-replicate}
 use Rattle.roll_frame.specs.Cells.{Rows}
 use Rattle.roll_frame.specs.Core.{Core, first_core}
 use Rattle.roll_frame.specs.Events.{CoreEvent, played_from}
 use Rattle.roll_frame.specs.Games.{Game}
 use Rattle.roll_frame.specs.Inputs.{player_at, changed, with_none_given}
 use Rattle.roll_frame.specs.Settings.{delay_at, first_player}
+use Rattle.roll_frame.proofs.FirstWords.{long_first}
 use Rattle.roll_frame.specs.Timeline.{Player}
 use Rattle.roll_frame.specs.declared.settings.Settings.{Settings}
 use Rattle.roll_laws.specs.Laws.{LocalWordsAreDelayed}
@@ -80,7 +80,7 @@ first_at : (settings : Settings) (n k : ℕ) (d : ℕ → ℕ) → ((i : ℕ) �
 first_at settings n zero d e = tt
 first_at settings n (suc k) d e =
     let here : n + 0 ≡ n = omega arith in (
-      λ l. length-replicate {A = ℕ} (delay_at settings n) 0 ∙ ap (delay_at settings) (sym here) ∙ sym (e 0) ∙ omega arith,
+      λ l. long_first settings n ∙ ap (delay_at settings) (sym here) ∙ sym (e 0) ∙ omega arith,
       first_at settings (n + 1) k (λ i. d (suc i)) (λ i. let there : n + suc i ≡ n + 1 + i = omega arith in e (suc i) ∙ ap (delay_at settings) there),
     )
 

@@ -52,11 +52,14 @@ deeper_diverge core m path s d =
     false_from_ne_true (begins_with (timeline core.players m) path)
     (λ b. let l : length path ≤ depth core m = longest_at_least core.ever (timeline core.players m) path (has_in core.ever path s) b in absurd (omega arith))
 
-last_append : (vs ws : List ℕ) → 1 ≤ length ws → last_word (vs ++ ws) ≡ last_word ws
-last_append [] ws h = refl
-last_append (v ∷ []) [] h = absurd (omega arith)
-last_append (v ∷ []) (w ∷ ws) h = refl
-last_append (v ∷ u ∷ vs) ws h = last_append (u ∷ vs) ws h
+-- of some words the last doesn't depend on the one before them
+last_any : (before other : ℕ) (ws : List ℕ) → 1 ≤ length ws → last_word before ws ≡ last_word other ws
+last_any before other [] h = absurd (omega arith)
+last_any before other (w ∷ ws) h = refl
+
+last_append : (before : ℕ) (vs ws : List ℕ) → 1 ≤ length ws → last_word before (vs ++ ws) ≡ last_word before ws
+last_append before [] ws h = refl
+last_append before (v ∷ vs) ws h = last_append v vs ws h ∙ last_any v before ws h
 
 pub guessed_cells : GuessedCells
 guessed_cells player words t g n = go (cases_lt t (length player.words))
@@ -65,21 +68,21 @@ guessed_cells player words t g n = go (cases_lt t (length player.words))
     long = length-append player.words words
 
     go : (t < length player.words) ⊎ (length player.words ≤ t)
-        → cell_at t (with_words words player) ≡ (if nat_lt t (length player.words) then cell_at t player else (if nat_lt (t - length player.words) (length words) then Word (get_or words (t - length player.words) 0) else Word (bit_and (last_word words) player.mask)))
+        → cell_at t (with_words words player) ≡ (if nat_lt t (length player.words) then cell_at t player else (if nat_lt (t - length player.words) (length words) then Word (get_or words (t - length player.words) 0) else Word (bit_and (last_word player.before words) player.mask)))
     go (inl a) =
         cell_confirmed t (with_words words player) (omega (arith, long)) ∙ ap Word (get_or_append_left player.words words 0 t a) ∙ sym (cell_confirmed t player a)
-        ∙ ap (λ c. if c then cell_at t player else (if nat_lt (t - length player.words) (length words) then Word (get_or words (t - length player.words) 0) else Word (bit_and (last_word words) player.mask))) (sym (lt-ltb t (length player.words) a))
+        ∙ ap (λ c. if c then cell_at t player else (if nat_lt (t - length player.words) (length words) then Word (get_or words (t - length player.words) 0) else Word (bit_and (last_word player.before words) player.mask))) (sym (lt-ltb t (length player.words) a))
     go (inr a) = at (cases_lt (t - length player.words) (length words))
       where
         at : (t - length player.words < length words) ⊎ (length words ≤ t - length player.words)
-            → cell_at t (with_words words player) ≡ (if nat_lt t (length player.words) then cell_at t player else (if nat_lt (t - length player.words) (length words) then Word (get_or words (t - length player.words) 0) else Word (bit_and (last_word words) player.mask)))
+            → cell_at t (with_words words player) ≡ (if nat_lt t (length player.words) then cell_at t player else (if nat_lt (t - length player.words) (length words) then Word (get_or words (t - length player.words) 0) else Word (bit_and (last_word player.before words) player.mask)))
         at (inl b) =
             let place : length player.words + (t - length player.words) ≡ t = omega arith in
             let word : get_or (player.words ++ words) t 0 ≡ get_or words (t - length player.words) 0 = ap (λ k. get_or (player.words ++ words) k 0) (sym place) ∙ get_or-append-add player.words words (t - length player.words) 0 in
             cell_confirmed t (with_words words player) (omega (arith, long)) ∙ ap Word word
             ∙ ap (λ c. if c then cell_at t player else Word (get_or words (t - length player.words) 0)) (sym (le-ltb t (length player.words) a))
-            ∙ ap (λ c. if nat_lt t (length player.words) then cell_at t player else (if c then Word (get_or words (t - length player.words) 0) else Word (bit_and (last_word words) player.mask))) (sym (lt-ltb (t - length player.words) (length words) b))
+            ∙ ap (λ c. if nat_lt t (length player.words) then cell_at t player else (if c then Word (get_or words (t - length player.words) 0) else Word (bit_and (last_word player.before words) player.mask))) (sym (lt-ltb (t - length player.words) (length words) b))
         at (inr b) =
-            cell_predicted t (with_words words player) (omega (arith, long)) g ∙ ap (λ w. Word (bit_and w player.mask)) (last_append player.words words n)
-            ∙ ap (λ c. if c then cell_at t player else Word (bit_and (last_word words) player.mask)) (sym (le-ltb t (length player.words) a))
-            ∙ ap (λ c. if nat_lt t (length player.words) then cell_at t player else (if c then Word (get_or words (t - length player.words) 0) else Word (bit_and (last_word words) player.mask))) (sym (le-ltb (t - length player.words) (length words) b))
+            cell_predicted t (with_words words player) (omega (arith, long)) g ∙ ap (λ w. Word (bit_and w player.mask)) (last_append player.before player.words words n)
+            ∙ ap (λ c. if c then cell_at t player else Word (bit_and (last_word player.before words) player.mask)) (sym (le-ltb t (length player.words) a))
+            ∙ ap (λ c. if nat_lt t (length player.words) then cell_at t player else (if c then Word (get_or words (t - length player.words) 0) else Word (bit_and (last_word player.before words) player.mask))) (sym (le-ltb (t - length player.words) (length words) b))

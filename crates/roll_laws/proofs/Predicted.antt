@@ -15,12 +15,12 @@ use Rattle.roll_laws.proofs.Ahead.{Later, AllLater, longer}
 pub masked_twice : (a m : ℕ) → bit_and (bit_and a m) m ≡ bit_and a m
 masked_twice a m = same_from_bits (bit_and (bit_and a m) m) (bit_and a m) (λ i. omega (arith, bit_at_and (bit_and a m) m i, bit_at_and a m i))
 
-last_at : (ws : List ℕ) (t : ℕ) → length ws ≡ suc t → last_word ws ≡ get_or ws t 0
-last_at [] t e = absurd (omega arith)
-last_at (w ∷ []) zero e = refl
-last_at (w ∷ []) (suc t) e = absurd (omega arith)
-last_at (w ∷ v ∷ ws) zero e = absurd (omega arith)
-last_at (w ∷ v ∷ ws) (suc t) e = last_at (v ∷ ws) t (omega arith)
+last_at : (before : ℕ) (ws : List ℕ) (t : ℕ) → length ws ≡ suc t → last_word before ws ≡ get_or ws t 0
+last_at before [] t e = absurd (omega arith)
+last_at before (w ∷ []) zero e = refl
+last_at before (w ∷ []) (suc t) e = absurd (omega arith)
+last_at before (w ∷ v ∷ ws) zero e = absurd (omega arith)
+last_at before (w ∷ v ∷ ws) (suc t) e = last_at w (v ∷ ws) t (omega arith)
 
 -- where the later player is not known from frame t on, its prediction is the old one
 abbrev pub Steady : ℕ → Player → Player → Type 0
@@ -34,7 +34,7 @@ same_words : (old new : Player) → Later old new → length new.words ≤ lengt
 same_words old new l h =
     let none : length l.more ≡ 0 = omega (arith, ap length l.words, length-append old.words l.more) in
     let e : new.words ≡ old.words = l.words ∙ none_more old.words l.more none in
-    rw (e, l.same_mask) refl
+    rw (e, l.same_mask, l.same_before) refl
 
 steady_first : (old new : Player) → Later old new → Steady 0 old new
 steady_first old new l h g = same_words old new l (omega arith)
@@ -58,8 +58,8 @@ steady_next t old new l s c h g = go (cases_lt t (length new.words))
             let cells : Word (predicted old) ≡ Word (get_or new.words t 0) =
             sym (cell_predicted t old not_yet (not_gone old new l g)) ∙ c (known_confirmed t new here) ∙ cell_confirmed t new here in
             let word : predicted old ≡ get_or new.words t 0 = word_of_cell (predicted old) (get_or new.words t 0) cells in
-            let last : last_word new.words ≡ predicted old = last_at new.words t (omega arith) ∙ sym word in
-            rw (last, l.same_mask) (masked_twice (last_word old.words) old.mask)
+            let last : last_word new.before new.words ≡ predicted old = last_at new.before new.words t (omega arith) ∙ sym word in
+            rw (last, l.same_mask) (masked_twice (last_word old.before old.words) old.mask)
 
 abbrev pub AllSteady : ℕ → List Player → List Player → Type 0
 AllSteady t [] [] = Unit {0}

@@ -212,7 +212,7 @@ GuessedCells =
     → cell_at t (with_words words player)
     ≡ (if nat_lt t (length player.words) then cell_at t player
     else (if nat_lt (t - length player.words) (length words) then Word (slice_index words (t - length player.words))
-    else Word (bit_and (last_word words) player.mask)))
+    else Word (bit_and (last_word player.before words) player.mask)))
 
 -- a job: its path is the longest kept one that begins the guess, its rows are the next ones, 1 to 8
 pub record IsJobOf (core : Core) (guess : Rows) (job : Branch) : Type 0 where

@@ -10,3 +10,4 @@ pub mod Rooms
 pub mod Partings
 pub mod Holding
 pub mod Beside
+pub mod Again

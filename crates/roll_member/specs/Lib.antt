@@ -5,3 +5,4 @@ pub mod Leaving
 pub mod Telling
 pub mod Beside
 pub mod Laws
+pub mod Seam

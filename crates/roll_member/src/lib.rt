@@ -6,6 +6,7 @@ mod join;
 mod laws;
 mod leaving;
 mod member;
+mod seam;
 mod telling;
 mod words;
 
@@ -13,4 +14,5 @@ pub use join::JoinRefusal;
 pub use laws::{inputs_are_whole, own_words_are_given};
 pub use leaving::Left;
 pub use member::{Member, Taken};
+pub use seam::settings_after;
 pub use telling::Told;

@@ -47,8 +47,8 @@ impl Model for Member {
 }
 
 impl Member {
-    /// A session takes its seat. Its local players are those that the seat owns. The zeros with which a player with a delay
-    /// begins are the first words that it gives.
+    /// A session takes its seat. Its local players are those that the seat owns. The words with which a player with a delay
+    /// begins are the first ones that it gives.
     ///
     /// # Errors
     ///
@@ -86,7 +86,7 @@ impl Member {
         ensures tied { IsTrue result → IsTied (S.seen session.now) self.new.mesh }
         ensures unchanged { IsFalse result → self.new ≡ self.old }
     {
-        if *session.settings() != self.limits || !is_near(session, &self.mesh) {
+        if !session.settings().is_same(&self.limits) || !is_near(session, &self.mesh) {
             return false;
         }
         catch_up(session, &mut self.mesh);

@@ -20,3 +20,4 @@ pub mod WordSteps
 pub mod Beginnings
 pub mod HoldingUp
 pub mod Shortened
+pub mod Seams

@@ -2,6 +2,7 @@
 //! often and as late as it likes. Each is the contract of a function that makes no call.
 ghost use Rattle.roll_mesh.specs.HoldingUp.{WaitersHoldUpNobody};
 ghost use Rattle.roll_mesh.specs.Laws.{GoneStaysGone, HearsTheSame, NobodyIsBelievedBeyond, OwnersHaveMost, TheyAgree, TheyGetOn, WhoStaysHasAsMany};
+ghost use Rattle.roll_mesh.specs.Seams.{OfOneCountOnePast, TheyCloseAlike};
 ghost use Rattle.roll_mesh.specs.Words.{BeginsTheOwners, CountsAreLengths, CountsArePlayed, OwnersHaveWhatTheyGave, TheyHaveWhatWasGiven};
 
 /// If a player has left one machine, each machine that this one doesn't regard as gone has just as many words of that
@@ -64,4 +65,16 @@ pub fn shortened_is_heard_alike()
 /// a word doesn't.
 pub fn waiters_hold_up_nobody()
     ensures { WaitersHoldUpNobody }
+{}
+
+/// Two machines that know all words before a frame, and of which neither regards the other as gone, count as many words of
+/// each player before it.
+pub fn they_close_alike()
+    ensures { TheyCloseAlike }
+{}
+
+/// Two machines that know all words before a frame, and count as many of a player before it, have the same ones, whoever is
+/// gone for whom.
+pub fn of_one_count_one_past()
+    ensures { OfOneCountOnePast }
 {}

@@ -16,9 +16,10 @@ mod seat;
 
 pub use heard::Heard;
 pub use laws::{
-    counts_are_of_words, gone_stays_gone, nobody_is_believed_beyond, owners_have_most,
-    owners_have_what_they_gave, shortened_is_heard_alike, they_agree, they_get_on,
-    they_have_what_was_given, waiters_hold_up_nobody, who_stays_has_as_many,
+    counts_are_of_words, gone_stays_gone, nobody_is_believed_beyond, of_one_count_one_past,
+    owners_have_most, owners_have_what_they_gave, shortened_is_heard_alike, they_agree,
+    they_close_alike, they_get_on, they_have_what_was_given, waiters_hold_up_nobody,
+    who_stays_has_as_many,
 };
 pub use limits::{INPUT_LIMIT, MACHINE_LIMIT, PLAYER_LIMIT};
 pub use machine::Machine;

@@ -10,12 +10,12 @@ use Rattle.roll_contact.specs.Keys.{greeting_key}
 use Rattle.roll_contact.specs.Seals.{is_sealed, named, sealed, unsealed}
 use Rattle.roll_contact.specs.declared.key.Key.{Key}
 use Rattle.roll_mesh.proofs.Changes.{none_some}
-use Rattle.roll_wire.specs.Reading.{all_of}
+use Rattle.roll_wire.specs.Reading.{unmarked_of}
 use Rattle.roll_wire.specs.declared.fault.WireFault.{WireFault}
 use Rattle.roll_wire.specs.declared.limits.TheConstants.{DATAGRAM_LIMIT}
 use Rattle.roll_wire.proofs.Fields.{IsBytes-drop, IsBytes-take}
 use Rattle.roll_wire.specs.Spelling.{Content, Greets, Leaves, Message, Plays, spelling}
-use Rattle.roll_wire.proofs.Messages.{all_takes}
+use Rattle.roll_wire.proofs.Messages.{all_takes, unmarked_is}
 use Rattle.roll_peer.specs.Laws.{is_greeting, key_from, IsOfThisOpening, NothingElseIsHeard}
 use Rattle.roll_peer.specs.Peered.{contact_at}
 use Rattle.roll_peer.specs.Receiving.{byte_at, open_by, read, read_sealed, sender_of}
@@ -100,17 +100,17 @@ same : (a b : Content) → done a ≡ done b → a ≡ b
 same a b e = cc
 
 read_kind : (key : Key) (bytes text : List ℕ) (what : Content) → ByteLike bytes
-    → unsealed key bytes ≡ Some text → read (all_of text) ≡ Ok what
+    → unsealed key bytes ≡ Some text → read (unmarked_of text) ≡ Ok what
     → get_or bytes 13 0 ≡ kind_of what
-read_kind key bytes text what fits shown e = go (all_of text) refl e
+read_kind key bytes text what fits shown e = go (unmarked_of text) refl e
   where
-    go : (r : Result Message WireFault) → all_of text ≡ r → read r ≡ Ok what → get_or bytes 13 0 ≡ kind_of what
+    go : (r : Result Message WireFault) → unmarked_of text ≡ r → read r ≡ Ok what → get_or bytes 13 0 ≡ kind_of what
     go (Err fault) f e = absurd cc
     go (Ok m) f e =
         let is = text_is key bytes text shown in
         let fit : ByteLike text = subst ByteLike (sym is.1) (named_fits key.number bytes fits) in
         sym (named_kind key.number bytes is.0) ∙ ap (λ (t : List ℕ). get_or t 13 0) (sym is.1)
-        ∙ ap (λ (t : List ℕ). get_or t 13 0) (all_takes text m fit f).1
+        ∙ ap (λ (t : List ℕ). get_or t 13 0) (all_takes text m fit (unmarked_is text m f)).1
         ∙ spelled_kind m ∙ ap kind_of (same m.content what e)
 
 opened_kind : (key : Key) (bytes : List ℕ) (what : Content) → ByteLike bytes

@@ -1,5 +1,5 @@
 -- What one machine says is what another reads, whichever key opens it.
-use Rattle.std.proofs.Common.{◌≡◌, ◌∙◌, ◌<◌, ◌≤◌, ℕ, List, ◌++◌, length, get_or, take, drop, refl, sym, ap, arith, Option, Some, None, Result, Ok}
+use Rattle.std.proofs.Common.{◌≡◌, ◌∙◌, ◌<◌, ◌≤◌, ℕ, List, ◌++◌, length, get_or, take, drop, refl, sym, ap, arith, Option, Some, None, Result, Ok, Err}
 use Rattle.std.specs.Int.{w64, from_be_bytes, to_be_bytes}
 use Rattle.std.specs.Prelude.{◌^◌}
 use Rattle.std.proofs.lemmas.List.{get_or-append_right, get_or-drop, length-take-le}
@@ -7,9 +7,10 @@ use Rattle.std.proofs.lemmas.Nat.{be_bytes_8}
 use Rattle.roll_contact.specs.Seals.{message_by, named, said_by, sealed, tag, unsealed}
 use Rattle.roll_contact.specs.declared.key.Key.{Key}
 use Rattle.roll_contact.proofs.Seals.{length-tag, with_field-with_field}
-use Rattle.roll_wire.specs.Reading.{all_of}
+use Rattle.roll_wire.specs.declared.fault.WireFault.{WireFault}
+use Rattle.roll_wire.specs.Reading.{unmarked_of}
 use Rattle.roll_wire.specs.Spelling.{long, spelling, Content, Fits, Message}
-use Rattle.roll_wire.proofs.Messages.{all_again}
+use Rattle.roll_wire.proofs.Messages.{unmarked_back}
 use Rattle.roll_peer.specs.Peered.{Peered}
 use Rattle.roll_peer.specs.Receiving.{byte_at, key_of, open_by, opened, read, read_sealed, sender_of}
 use Rattle.roll_peer.specs.declared.received.Ignored.{Ignored}
@@ -58,6 +59,16 @@ done what = Ok what
 same : (a b : Content) → done a ≡ done b → a ≡ b
 same a b e = cc
 
+content_back : (m : Message) (text : List ℕ) (found : Content) → Fits m → text ≡ spelling m
+    → read (unmarked_of text) ≡ Ok found → found ≡ m.content
+content_back m text found fits is e = go (unmarked_of text) refl e
+  where
+    go : (r : Result Message WireFault) → unmarked_of text ≡ r → read r ≡ Ok found → found ≡ m.content
+    go (Err fault) u e = absurd cc
+    go (Ok n) u e =
+        sym (same n.content found e)
+        ∙ ap (λ (x : Message). x.content) (unmarked_back m n fits (sym (ap unmarked_of is) ∙ u))
+
 -- a key that opens what was said finds what was said
 read_back : (key other : Key) (sender : ℕ) (what found : Content) → Fits (message_by key sender what)
     → open_by (Some other) (said_by key sender what) ≡ Ok found → found ≡ what
@@ -77,8 +88,7 @@ read_back key other sender what found fits e = go (unsealed other (sealed key te
         let bytes : opened_text ≡ spelling (renamed (whole_of other.number) m) =
         is.1 ∙ with_field-with_field (tag key text) (to_be_bytes w64 other.number) text (length-tag key text) (spelled_long m)
         ∙ sym (named_whole other.number m) in
-        same found what (sym e ∙ ap (λ (t : List ℕ). read (all_of t)) bytes
-        ∙ ap read (all_again (renamed (whole_of other.number) m) (renamed_fits other.number m fits)))
+        content_back (renamed (whole_of other.number) m) opened_text found (renamed_fits other.number m fits) bytes e
 
 -- and bytes name who said them
 pub sender_is : (key : Key) (sender : ℕ) (what : Content) → sender_of (said_by key sender what) ≡ sender

@@ -18,3 +18,4 @@ pub mod Later
 pub mod Polling
 pub mod Mirrors
 pub mod Alike
+pub mod GoneFirst

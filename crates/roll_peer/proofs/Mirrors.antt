@@ -11,13 +11,13 @@ use Rattle.roll_mesh.specs.declared.limits.TheConstants.{PLAYER_LIMIT}
 use Rattle.roll_mesh.specs.declared.machine.Machine.{Machine}
 use Rattle.roll_mesh.specs.declared.packet.Packet.{Packet}
 use Rattle.roll_mesh.specs.declared.seat.Seat.{Seat}
-use Rattle.roll_mesh.specs.Machines.{at_places, kept_offer, owner_of, shortened, tell}
-use Rattle.roll_mesh.specs.Meshes.{is_seat, Seated}
+use Rattle.roll_mesh.specs.Machines.{at_places, kept_offer, leave, owner_of, shortened, tell}
+use Rattle.roll_mesh.specs.Meshes.{is_seat, stepped, Seated}
 use Rattle.roll_mesh.specs.Words.{first_holder, first_words, hear_words, holder_at, no_holder, tell_words, words_after, words_told, Holder, Parcel, Tells, WordWorld}
 use Rattle.roll_mesh.specs.Worlds.{first_machine, seat_of, Match}
 use Rattle.roll_session.specs.Headline.{words_of}
 use Rattle.roll_session.specs.Seen.{FollowsLog, Seen, Step}
-use Rattle.roll_member.specs.Joined.{are_fresh, are_seated, held, is_local_at, known}
+use Rattle.roll_member.specs.Joined.{are_fresh, are_seated, held, is_local_at, join_refusal, known, IsJoinedAs, IsTied}
 use Rattle.roll_member.specs.Taking.{shares, words_heard}
 use Rattle.roll_member.specs.declared.member.Taken.{Taken}
 use Rattle.roll_member.specs.Telling.{room_for}
@@ -27,7 +27,7 @@ use Rattle.roll_member.proofs.Tied.{seated_fine, seat_inputs}
 use Rattle.roll_wire.specs.Spelling.{are_offers, count_of, Content, Fits, Greets, Leaves, Plays, Turn}
 use Rattle.roll_wire.specs.declared.limits.TheConstants.{WORD_LIMIT}
 use Rattle.roll_peer.specs.PeerWorlds.{nobody, IsPlayedTo, sent_in, Acts, AreSteps, Calls, CallsHolding, Deed, Disconnects, Does, IsStep, NotesSettled, NotesStateAt, Opens, PeerWorld, Polls, Receives, SaysBye, Sends, SendsNone, TakesEvent, TakesTurn}
-use Rattle.roll_peer.specs.Peered.{beside, Peered}
+use Rattle.roll_peer.specs.Peered.{beside, without_all, Peered}
 use Rattle.roll_peer.specs.Receiving.{is_refusal, meeting, opened, packet_of, sender_of, ticking, Hears, HearsTurn, IsIgnored}
 use Rattle.roll_peer.specs.Requests.{Beside, HearsBytes}
 use Rattle.roll_peer.specs.Sending.{after_send, is_lost, key_for, text_for, IsContentFor, IsPlayFor}
@@ -461,49 +461,62 @@ module _ (match : Match) (world : WordWorld) (i : ℕ) (from : IsFrom match worl
   unfolding at_places
   first_is words = refl
 
-  opens : (old new : PeerWorld) (o : Opens match old new i) → holder_at world i ≡ first_holder
-      → Follows match world i (record { session = o.session; peer = o.peer }) []
-  opens old new o first =
-      silent match world i from there (record { session = o.session; peer = o.peer }) (record {
-        seat = ap (λ (m : Seated). m.seat) o.opened_is.member.mesh ∙ o.seat;
-        me = ap (λ (x : MatchSettings). x.me) o.opened_is.settings_are ∙ ap (λ (x : Seat). x.me) o.seat;
-        word = subst (λ (x : Seat). 1 ≤ x.words) o.seat (seat_inputs seat fine.2).word;
-        comes = subst (λ (h : Holder). Comes match world i h) (sym now)
-            (gives_all match world i (λ p. words_of s (p + 1)) first_machine (inside_of match world i from there)
-            (λ p. 0) (known s seat)
-            (λ p l. omega arith)
-            (λ p l. known_few s seat p (seat_inputs seat fine.2).word)
-            (λ p l other. sym (none p l other))
-            (subst (λ (h : Holder). Comes match world i h) (first ∙ sym (first_is (λ p. words_of s (p + 1))))
-            (comes_already match world i)));
-      })
-    where
-      s : Seen
-      s = o.session
+  -- a machine that regards others as gone
+  stands_without : (s : Seen) (gone : List ℕ) (peer after : Peered) → after.member.mesh ≡ without_all gone peer.member.mesh
+      → after.settings ≡ peer.settings → Stands match world i s peer → Stands match world i s after
+  stands_without s [] peer after mesh settings stands = stands_as match world i from there s peer after mesh settings stands
+  stands_without s (m ∷ gone) peer after mesh settings stands =
+      stands_without s gone
+      (record peer { member = record peer.member { mesh = stepped (λ seat here. leave seat m here) peer.member.mesh } })
+      after mesh settings (stands_left match world i from there s peer m stands)
 
+  -- a machine that has taken its seat
+  stands_first : (s : Seen) (settings : MatchSettings) (first : Peered)
+      → IsJoinedAs s (seat_in settings) (beside s first) → IsTied s first.member.mesh → join_refusal s (seat_in settings) ≡ None
+      → first.settings ≡ settings → seat_in settings ≡ seat_of match i → holder_at world i ≡ first_holder
+      → Stands match world i s first
+  stands_first s settings first joined tied accepted settings_are at fresh = record {
+    seat = ap (λ (m : Seated). m.seat) joined.mesh ∙ at;
+    me = ap (λ (x : MatchSettings). x.me) settings_are ∙ ap (λ (x : Seat). x.me) at;
+    word = subst (λ (x : Seat). 1 ≤ x.words) at (seat_inputs seat fine.2).word;
+    comes = subst (λ (h : Holder). Comes match world i h) (sym now)
+        (gives_all match world i (λ p. words_of s (p + 1)) first_machine (inside_of match world i from there)
+        (λ p. 0) (known s seat)
+        (λ p l. omega arith)
+        (λ p l. known_few s seat p (seat_inputs seat fine.2).word)
+        (λ p l other. sym (none p l other))
+        (subst (λ (h : Holder). Comes match world i h) (fresh ∙ sym (first_is (λ p. words_of s (p + 1))))
+        (comes_already match world i)));
+  }
+    where
       seat : Seat
-      seat = seat_in o.settings
+      seat = seat_in settings
 
       fine : (are_seated s seat ≡ true) × (are_fresh s ≡ true) × (is_seat seat ≡ true)
-      fine = seated_fine s seat o.accepted
+      fine = seated_fine s seat accepted
 
       isnt : (p : ℕ) → owner_of (seat_of match i) p ≢ i → (owner_of seat p == seat.me) ≡ false
-      isnt p other = ap (λ (x : Seat). owner_of x p == x.me) o.seat ∙ ne_eqb (owner_of (seat_of match i) p) i other
+      isnt p other = ap (λ (x : Seat). owner_of x p == x.me) at ∙ ne_eqb (owner_of (seat_of match i) p) i other
 
       local : (p : ℕ) → p < PLAYER_LIMIT → (owner_of seat p == seat.me) ≡ false → is_local_at s p ≡ false
-      local p l other =
-          (o.tied.players p l).own ∙ ap (λ (m : Seated). owner_of m.seat p == m.seat.me) o.opened_is.member.mesh ∙ other
+      local p l other = (tied.players p l).own ∙ ap (λ (m : Seated). owner_of m.seat p == m.seat.me) joined.mesh ∙ other
 
       none : (p : ℕ) → p < PLAYER_LIMIT → owner_of (seat_of match i) p ≢ i → known s seat p ≡ 0
       none p l other =
           known_other s seat p (isnt p other) ∙ no_words s p l fine.1 (local p l (isnt p other))
 
-      mesh : Seated
-      mesh = o.peer.member.mesh
+      now : held_by s first.member.mesh ≡ held_to (λ p. words_of s (p + 1)) first_machine (known s seat)
+      now = holds s first.member.mesh first_machine (known s seat) (ap (λ (m : Seated). m.machine) joined.mesh) tied.sized
+          (λ k l. joined.counts k l)
 
-      now : held_by s mesh ≡ held_to (λ p. words_of s (p + 1)) first_machine (known s seat)
-      now = holds s mesh first_machine (known s seat) (ap (λ (m : Seated). m.machine) o.opened_is.member.mesh) o.tied.sized
-          (λ k l. o.opened_is.member.counts k l)
+  opens : (old new : PeerWorld) (o : Opens match old new i) → holder_at world i ≡ first_holder
+      → Follows match world i (record { session = o.session; peer = o.peer }) []
+  opens old new o fresh =
+      let b = o.begins in
+      let first : Peered = record o.peer { member = record o.peer.member { mesh = b.first } } in
+      silent match world i from there (record { session = o.session; peer = o.peer })
+      (stands_without o.session o.gone first o.peer b.mesh refl
+      (stands_first o.session o.settings first b.joined b.tied b.accepted b.settings_are o.seat fresh))
 
 -- ---- a world of peers
 

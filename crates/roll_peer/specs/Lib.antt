@@ -7,6 +7,7 @@ pub mod Paces
 pub mod Settings
 pub mod Waiting
 pub mod Peered
+pub mod Following
 pub mod Judging
 pub mod Stalls
 pub mod Receiving

@@ -5,7 +5,6 @@ use Rattle.roll_contact.specs.Seals.{message_by}
 use Rattle.roll_frame.specs.Core.{settled}
 use Rattle.roll_frame.specs.Events.{CoreEvent}
 use Rattle.roll_member.specs.Beside.{IsOf}
-use Rattle.roll_member.specs.Joined.{join_refusal, IsTied}
 use Rattle.roll_mesh.specs.Machines.{leave}
 use Rattle.roll_mesh.specs.Meshes.{stepped}
 use Rattle.roll_mesh.specs.Worlds.{Match, seat_of}
@@ -17,7 +16,7 @@ use Rattle.roll_session.specs.declared.event.Reached.{Reached}
 use Rattle.roll_wire.specs.Spelling.{Fits, Leaves, Plays, Turn}
 use Rattle.roll_peer.specs.Digests.{noted}
 use Rattle.roll_peer.specs.Events.{popped}
-use Rattle.roll_peer.specs.Peered.{IsOpenedAs, Peered}
+use Rattle.roll_peer.specs.Peered.{BeginsAs, Peered}
 use Rattle.roll_peer.specs.Receiving.{meeting, opened, ticking}
 use Rattle.roll_peer.specs.Requests.{Beside, HearsBytes}
 use Rattle.roll_peer.specs.Sending.{after_send, key_for, text_for, IsSent}
@@ -118,15 +117,15 @@ Does step sent (NotesStateAt frame digest) old new =
 Does step sent TakesEvent old new =
     (new.peer ≡ record old.peer { waiting = popped old.peer.waiting }) × (new.session ≡ old.session)
 
--- a machine's network is opened beside its session, which it is once
+-- a machine's network is opened beside its session, which it is once: for a match, or for an epoch of one, in which it regards machines
+-- as gone from the first
 pub record Opens (match : Match) (old new : PeerWorld) (machine : ℕ) : Type 0 where
   pub session : Seen
   pub settings : MatchSettings
+  pub gone : List ℕ
   pub peer : Peered
   pub fresh : old.machines machine ≡ None
-  pub opened_is : IsOpenedAs session settings peer
-  pub tied : IsTied session peer.member.mesh
-  pub accepted : join_refusal session (seat_in settings) ≡ None
+  pub begins : BeginsAs session settings gone peer
   pub seat : seat_in settings ≡ seat_of match machine
   pub there : new.machines machine ≡ Some (record { session = session; peer = peer })
   pub sent : new.sent ≡ old.sent

@@ -2,9 +2,11 @@
 -- its clock, what it knows of each machine and for how long each has held up the match, whether the match has begun, the events that
 -- wait, the machines that were told to be gone, the digests of settled states, how far the machines are from one another, the
 -- session's frame when it was polled last; and whether it hears most of them. The session stands beside it.
-use Rattle.std.specs.Prelude.{◌≡◌, ℕ, List, [], Bool, false, true, Some, None, replicate, slice_index_or, ⊤}
+use Rattle.std.specs.Prelude.{◌≡◌, ℕ, List, [], Bool, false, true, Some, None, fold, replicate, slice_index_or, ⊤}
 use Rattle.roll_member.specs.Beside.{Membership}
-use Rattle.roll_member.specs.Joined.{join_refusal, IsJoinedAs, Joined}
+use Rattle.roll_member.specs.Joined.{join_refusal, IsJoinedAs, IsTied, Joined}
+use Rattle.roll_mesh.specs.Machines.{leave}
+use Rattle.roll_mesh.specs.Meshes.{stepped, Seated}
 use Rattle.roll_mesh.specs.declared.limits.TheConstants.{MACHINE_LIMIT}
 use Rattle.roll_session.specs.Seen.{Seen}
 use Rattle.roll_contact.specs.Clocks.{first_clock}
@@ -53,6 +55,19 @@ stall_at peer m = slice_index_or peer.stalls m first_stall
 -- it isn't known yet that this machine hears few of the others
 abbrev pub first_cut_off : CutOff
 first_cut_off = record { hears_most = true; since = None; is_over = false }
+
+-- a mesh once its machine regards these as gone
+abbrev pub without_all : List ℕ → Seated → Seated
+without_all gone mesh = fold (λ before m. stepped (λ seat here. leave seat m here) before) mesh gone
+
+-- how the network of any epoch of a match begins beside a session: it has taken its seat, and regards these machines as gone
+pub record BeginsAs (s : Seen) (settings : MatchSettings) (gone : List ℕ) (peer : Peered) : Type 0 where
+  pub first : Seated
+  pub joined : IsJoinedAs s (seat_of settings) (record { session = s; mesh = first })
+  pub tied : IsTied s first
+  pub accepted : join_refusal s (seat_of settings) ≡ None
+  pub mesh : peer.member.mesh ≡ without_all gone first
+  pub settings_are : peer.settings ≡ settings
 
 -- a network that was just opened beside a session: nothing was heard
 pub record IsOpenedAs (s : Seen) (settings : MatchSettings) (peer : Peered) : Type 0 where

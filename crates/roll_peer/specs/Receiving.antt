@@ -18,7 +18,7 @@ use Rattle.roll_wire.specs.declared.datagram.Body.{Body}
 use Rattle.roll_wire.specs.declared.datagram.Clocks.{Clocks}
 use Rattle.roll_wire.specs.declared.datagram.Hello.{Hello}
 use Rattle.roll_wire.specs.declared.fault.WireFault.{WireFault}
-use Rattle.roll_wire.specs.Reading.{all_of}
+use Rattle.roll_wire.specs.Reading.{unmarked_of}
 use Rattle.roll_wire.specs.declared.limits.TheConstants.{DATAGRAM_LIMIT}
 use Rattle.roll_wire.specs.Spelling.{content as content_of, Content, Greets, Leaves, Message, Plays, Turn}
 use Rattle.roll_peer.specs.Judging.{are_no_more, is_inside}
@@ -64,7 +64,7 @@ read (Err fault) = Err (NoDatagram fault)
 
 abbrev pub read_sealed : Option (List ℕ) → Result Content Ignored
 read_sealed None = Err NotSealed
-read_sealed (Some text) = read (all_of text)
+read_sealed (Some text) = read (unmarked_of text)
 
 abbrev pub open_by : Option Key → List ℕ → Result Content Ignored
 open_by None bytes = Err NotSealed

@@ -4,6 +4,7 @@
 mod cut_off;
 mod digests;
 mod event;
+mod following;
 mod judging;
 mod keys;
 mod laws;
@@ -23,6 +24,7 @@ mod turning;
 
 pub use cut_off::CutOff;
 pub use event::PeerEvent;
+pub use following::Seating;
 pub use laws::{events_name_machines, nothing_else_is_heard, two_peers_one_match};
 pub use peer::Peer;
 pub use received::{Ignored, Received};

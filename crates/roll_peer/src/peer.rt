@@ -1,5 +1,5 @@
 //! The network of a match at one machine: the datagrams that it hears and sends, and what it knows by them.
-ghost use Rattle.std.specs.Prelude.{◌≡◌, ◌≢◌, true, false, None, Some, IfErr, IfOk, OnErr, OnOk, slice_get};
+ghost use Rattle.std.specs.Prelude.{◌≡◌, ◌≢◌, [], true, false, None, Some, IfErr, IfOk, OnErr, OnOk, slice_get};
 ghost use Rattle.roll_member.specs.Beside.{IsOf};
 ghost use Rattle.roll_member.specs.Joined.{join_refusal, IsTied};
 ghost use Rattle.roll_mesh.specs.Machines.{leave};
@@ -8,7 +8,7 @@ ghost use Rattle.roll_mesh.specs.declared.limits.TheConstants.{MACHINE_LIMIT};
 ghost use Rattle.roll_frame.specs.Core.{settled};
 ghost use Rattle.roll_peer.specs.Digests.{noted};
 ghost use Rattle.roll_peer.specs.Events.{popped};
-ghost use Rattle.roll_peer.specs.Peered.{contact_at, IsOpenedAs, IsWhyNot};
+ghost use Rattle.roll_peer.specs.Peered.{contact_at, BeginsAs, IsOpenedAs, IsWhyNot};
 ghost use Rattle.roll_peer.specs.Receiving.{meeting, IsOther};
 ghost use Rattle.roll_peer.specs.Settings.{seat_of};
 
@@ -92,6 +92,7 @@ impl Peer {
     ) -> Result<Peer, OpenRefusal>
         ensures opened { IfOk result (IsOpenedAs (S.seen session.now) settings) }
         ensures tied { IfOk result (λ peer. IsTied (S.seen session.now) peer.member.mesh) }
+        ensures begins { IfOk result (BeginsAs (S.seen session.now) settings []) }
         ensures accepted { OnOk result (join_refusal (S.seen session.now) (seat_of settings) ≡ None) }
         ensures drawn { OnOk result (settings.draw ≢ 0) }
         ensures refused { IfErr result (IsWhyNot (S.seen session.now) settings) }

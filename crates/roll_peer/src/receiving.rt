@@ -18,7 +18,7 @@ use roll_contact::{Contact, Key};
 use roll_member::Taken;
 use roll_mesh::Packet;
 use roll_session::Networked;
-use roll_wire::{Body, Clocks, DATAGRAM_LIMIT, Hello, Play, decode};
+use roll_wire::{Body, Clocks, DATAGRAM_LIMIT, Hello, Play, decode_unmarked};
 
 /// Where a datagram has its sender's number, and its kind.
 const SENDER_AT: usize = 12;
@@ -367,7 +367,7 @@ fn open_by(key: &Key, bytes: &[u8]) -> Result<Body, Ignored>
     let Some(text) = unseal(bytes, key) else {
         return Err(Ignored::NotSealed);
     };
-    match decode(&text) {
+    match decode_unmarked(&text) {
         Ok(datagram) => Ok(datagram.body),
         Err(fault) => Err(Ignored::NoDatagram(fault)),
     }

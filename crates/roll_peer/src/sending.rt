@@ -17,7 +17,7 @@ use arrayvec::ArrayVec;
 use roll_contact::seal::say;
 use roll_contact::{Contact, Key};
 use roll_member::Told;
-use roll_mesh::Packet;
+use roll_mesh::{PLAYER_LIMIT, Packet};
 use roll_session::Networked;
 use roll_wire::{Body, Clocks, DATAGRAM_LIMIT, Head, Play, Settled};
 
@@ -165,7 +165,11 @@ impl Peer {
             settled: self.settled_for(&contact),
             offers,
         };
-        Play { head, words }
+        Play {
+            head,
+            marks: [None; PLAYER_LIMIT],
+            words,
+        }
     }
 
     /// What was counted and measured of a machine. None if there is none of this number.

@@ -47,10 +47,10 @@ module _ (old new : Player) (word : ℕ) (h : HasGiven old new word) where
 
       still : predicted new ≡ predicted old
       still =
-          ap (λ (ws : List ℕ). bit_and (last_word ws) new.mask) h.words
-          ∙ ap (λ w. bit_and w new.mask) (last_word-push old.words word ∙ sym was)
+          ap (λ (ws : List ℕ). bit_and (last_word new.before ws) new.mask) h.words
+          ∙ ap (λ w. bit_and w new.mask) (last_word-push new.before old.words word ∙ sym was)
           ∙ ap (bit_and (predicted old)) h.mask
-          ∙ masked_twice (last_word old.words) old.mask
+          ∙ masked_twice (last_word old.before old.words) old.mask
 
       past : (length old.words < t) ⊎ (t ≤ length old.words) → length old.words ≤ t → cell_at t new ≡ cell_at t old
       past (inl later) i = cell_predicted t new (omega (arith, later, more)) h.there ∙ ap Word still ∙ sym (cell_predicted t old i h.here)

@@ -1,21 +1,31 @@
 -- What a host says in a turn is heard by a viewer who believes its draw, and whose draw it believes.
-use Rattle.std.proofs.Common.{◌≡◌, ◌∙◌, ◌≤◌, ◌+◌, ◌++◌, ℕ, List, length, get_or, take, drop, refl, sym, ap, arith, Bool, true, false, Some, None, Ok}
+use Rattle.std.proofs.Common.{◌≡◌, ◌∙◌, ◌≤◌, ◌+◌, ◌++◌, ℕ, List, length, get_or, take, drop, refl, sym, ap, arith, Bool, true, false, Option, Some, None, Ok}
 use Rattle.std.specs.Prelude.{◌==◌, nat_le, nat_lt, slice_index_or, if◌then◌else◌}
 use Rattle.std.proofs.lemmas.Bool.{and_from, eq-eqb, le-leb, le-ltb}
 use Rattle.std.proofs.lemmas.List.{get_or-append_right, get_or-drop, length-take}
 use Rattle.roll_contact.specs.Seals.{message_by, said_by, sealed, tag, unsealed}
 use Rattle.roll_contact.specs.declared.key.Key.{Key}
 use Rattle.roll_contact.proofs.Seals.{again, length-sealed, length-tag}
+use Rattle.roll_frame.specs.Core.{Core}
+use Rattle.roll_wire.specs.Reading.{is_unmarked}
+use Rattle.roll_wire.specs.declared.datagram.Clocks.{Clocks}
 use Rattle.roll_wire.specs.Spelling.{spelling, Fits, Plays, Turn}
 use Rattle.roll_wire.specs.declared.limits.TheConstants.{DATAGRAM_LIMIT}
-use Rattle.roll_wire.proofs.Messages.{all_again}
+use Rattle.roll_wire.proofs.Messages.{unmarked_again}
 use Rattle.roll_viewer.specs.Ends.{unread, Viewing}
 use Rattle.roll_viewer.specs.Lines.{are_enough, came, key_of_both, message_of, opened, own_key, players_of, read, read_sealed, said, their_key}
 use Rattle.roll_viewer.specs.Rows.{are_rows, first_row}
 use Rattle.roll_viewer.specs.Seeing.{CanHear}
+use Rattle.roll_viewer.specs.Telling.{told_to, with_clocks}
 use Rattle.roll_viewer.specs.declared.line.Line.{Line}
 use Rattle.roll_viewer.specs.declared.line.TheConstants.{KIND_AT, SENDER_AT}
 use Rattle.roll_viewer.proofs.ReadBack.{has_number, long}
+
+-- no word that a host tells has a mark
+pub unmarked_told : (core : Core) (had : ℕ) (clocks : Option Clocks)
+    → is_unmarked (Plays (with_clocks clocks (told_to core had))) ≡ true
+unfolding told_to
+unmarked_told core had clocks = refl
 
 module _ (key : Key) (sender : ℕ) (t : Turn) where
   abbrev text : List ℕ
@@ -42,9 +52,9 @@ module _ (key : Key) (sender : ℕ) (t : Turn) where
 
 module _ (from to : Line) (t : Turn) (bytes : List ℕ) (can : CanHear from to) where
   pub turn_opened : bytes ≡ said from from.settings.host (Plays t) → Fits (message_of from from.settings.host (Plays t))
-      → length bytes ≤ DATAGRAM_LIMIT → opened to to.settings.host bytes ≡ Ok (Plays t)
+      → length bytes ≤ DATAGRAM_LIMIT → is_unmarked (Plays t) ≡ true → opened to to.settings.host bytes ≡ Ok (Plays t)
   unfolding opened said said_by
-  turn_opened is fits most =
+  turn_opened is fits most none =
       let key : Key = own_key from in
       let words : List ℕ = spelling (message_by key from.settings.host (Plays t)) in
       let size : length bytes ≡ length words = ap (λ (bs : List ℕ). length bs) is ∙ length-sealed key words (long key from.settings.host (Plays t)) in
@@ -64,7 +74,7 @@ module _ (from to : Line) (t : Turn) (bytes : List ℕ) (can : CanHear from to) 
       ap (unsealed key) is
       ∙ again key words (long key from.settings.host (Plays t)) (omega (arith, size, most)) (has_number key from.settings.host (Plays t)) in
       let came_is : came to to.settings.host bytes ≡ Ok words = rw (can.going_on, enough, of_host, by_key, opens) refl in
-      ap read_sealed came_is ∙ ap read (all_again (message_of from from.settings.host (Plays t)) fits)
+      ap read_sealed came_is ∙ ap read (unmarked_again (message_of from from.settings.host (Plays t)) fits none)
 
 -- and it isn't refused
 pub not_refused : (viewer : Viewing) (t : Turn) → are_rows (players_of viewer.line.settings) t ≡ true

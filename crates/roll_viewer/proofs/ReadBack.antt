@@ -7,9 +7,10 @@ use Rattle.roll_contact.specs.Keys.{greeting_key}
 use Rattle.roll_contact.specs.Seals.{is_sealed, message_by, named, said_by, sealed, unsealed, HasNumber}
 use Rattle.roll_contact.specs.declared.key.Key.{Key}
 use Rattle.roll_contact.proofs.Seals.{named-sealed}
-use Rattle.roll_wire.specs.Reading.{all_of}
-use Rattle.roll_wire.specs.Spelling.{spelling, Content, Fits, Greets, Leaves, Plays}
-use Rattle.roll_wire.proofs.Messages.{all_again}
+use Rattle.roll_wire.specs.declared.fault.WireFault.{WireFault}
+use Rattle.roll_wire.specs.Reading.{unmarked_of}
+use Rattle.roll_wire.specs.Spelling.{spelling, Content, Fits, Greets, Leaves, Message, Plays}
+use Rattle.roll_wire.proofs.Messages.{unmarked_back}
 use Rattle.roll_viewer.specs.Lines.{are_enough, came, key_for, key_of_both, message_of, opened, or_not_sealed, read, read_sealed, said, their_key, unsealed_by}
 use Rattle.roll_viewer.specs.declared.line.Line.{Line}
 use Rattle.roll_viewer.specs.declared.line.TheConstants.{HELLO, KIND_AT, SENDER_AT}
@@ -101,6 +102,22 @@ came_is line sender bytes text e = ended line.ended e
 
 -- ---- both
 
+abbrev content_is : Content → Result Content LineRefusal
+content_is x = Ok x
+
+content_back : (m : Message) (text : List ℕ) (found : Content) → Fits m → text ≡ spelling m
+    → read (unmarked_of text) ≡ Ok found → found ≡ m.content
+content_back m text found fits is e = go (unmarked_of text) refl e
+  where
+    same : (x y : Content) → content_is x ≡ content_is y → x ≡ y
+    same x y e = cc e
+
+    go : (r : Result Message WireFault) → unmarked_of text ≡ r → read r ≡ Ok found → found ≡ m.content
+    go (Err fault) u e = absurd (cc e)
+    go (Ok n) u e =
+        sym (same n.content found e)
+        ∙ ap (λ (x : Message). x.content) (unmarked_back m n fits (sym (ap unmarked_of is) ∙ u))
+
 module _ (from to : Line) (sender named_as : ℕ) (what heard : Content) (bytes : List ℕ) where
   pub read_back : bytes ≡ said from sender what → Fits (message_of from sender what)
       → from.settings.number ≡ to.settings.number → opened to named_as bytes ≡ Ok heard → heard ≡ what
@@ -113,7 +130,4 @@ module _ (from to : Line) (sender named_as : ℕ) (what heard : Content) (bytes 
           let t : text ≡ spelling (message_of from sender what) =
           came_is to named_as bytes text c
           ∙ ap (λ (n : ℕ). named n bytes) (sym same) ∙ ap (named from.settings.number) is ∙ named_said from sender what in
-          let read_is : read (all_of text) ≡ Ok what =
-          ap (λ (bs : List ℕ). read (all_of bs)) t ∙ ap read (all_again (message_of from sender what) fits) in
-          let both : Ok heard ≡ Ok what = sym e ∙ read_is in
-          cc both
+          content_back (message_of from sender what) text heard fits t e

@@ -14,6 +14,7 @@ use Rattle.roll_frame.specs.declared.settings.Settings.{Settings}
 use Rattle.roll_laws.specs.Sessions.{IsLog}
 use Rattle.roll_session.specs.Standing.{settled_rows}
 use Rattle.roll_spectate.specs.Sent.{IsFirstPart}
+use Rattle.roll_wire.specs.Reading.{is_unmarked}
 use Rattle.roll_wire.specs.Spelling.{Content, Fits, Greets, Leaves, Plays, Turn}
 use Rattle.roll_wire.specs.declared.datagram.Clocks.{Clocks}
 use Rattle.roll_wire.specs.declared.limits.TheConstants.{DATAGRAM_LIMIT}
@@ -25,7 +26,7 @@ use Rattle.roll_viewer.specs.Seeing.{AreCalls, CanHear, ChangesLine, GivesRows, 
 use Rattle.roll_viewer.specs.Telling.{room_after, told_to, with_clocks}
 use Rattle.roll_viewer.specs.declared.line.Line.{Line}
 use Rattle.roll_viewer.specs.declared.refusal.LineRefusal.TheVariants.{Gap, NoRows}
-use Rattle.roll_viewer.proofs.Hearing.{not_refused, turn_opened}
+use Rattle.roll_viewer.proofs.Hearing.{not_refused, turn_opened, unmarked_told}
 use Rattle.roll_viewer.proofs.ReadBack.{read_back}
 use Rattle.roll_viewer.proofs.Told.{first_if, many_told, more_first, part_short, told_first, told_rows}
 
@@ -270,9 +271,10 @@ module _ (settings : Settings) (game : Game) (log : List Entry) (l : IsLog setti
       said_in s.host core s.now bytes s.sent ∙ ap (said s.host.line s.host.line.settings.host) says in
       let fits : Fits (message_of s.host.line s.host.line.settings.host (Plays t)) =
       subst (λ (what : Content). Fits (message_of s.host.line s.host.line.settings.host what)) says s.fits in
+      let none : is_unmarked (Plays t) ≡ true = unmarked_told core s.host.had clocks in
       let are : are_rows (players_of viewer.line.settings) t ≡ true =
       ap (λ (n : ℕ). are_rows n t) players ∙ told_rows settings game log s.earlier s.later s.parts l s.host.had in
-      ap (ignored_by_viewer viewer) (turn_opened s.host.line viewer.line t bytes can is fits most)
+      ap (ignored_by_viewer viewer) (turn_opened s.host.line viewer.line t bytes can is fits most none)
       ∙ not_refused viewer t are (told_first settings game log s.earlier s.later s.parts l s.host.had viewer.rows.count low)
 
 -- ---- the law

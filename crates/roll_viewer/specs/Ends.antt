@@ -147,6 +147,7 @@ acknowledged players rows clocks = record {
     settled = None;
     offers = replicate PLAYER_LIMIT none_offered;
   };
+  marks = replicate PLAYER_LIMIT None;
   words = [];
 }
 

@@ -10,7 +10,7 @@ use Rattle.roll_contact.specs.declared.contact.Opening.{Opening}
 use Rattle.roll_contact.specs.declared.key.Key.{Key}
 use Rattle.roll_contact.specs.declared.terms.Terms.{Terms}
 use Rattle.roll_mesh.specs.declared.limits.TheConstants.{MACHINE_LIMIT}
-use Rattle.roll_wire.specs.Reading.{all_of}
+use Rattle.roll_wire.specs.Reading.{unmarked_of}
 use Rattle.roll_wire.specs.Spelling.{Content, Greets, Leaves, Message, Plays}
 use Rattle.roll_wire.specs.declared.datagram.Clocks.{Clocks}
 use Rattle.roll_wire.specs.declared.datagram.Hello.{Hello}
@@ -115,7 +115,7 @@ read (Err fault) = Err (NoDatagram fault)
 
 abbrev pub read_sealed : Result (List ℕ) LineRefusal → Result Content LineRefusal
 read_sealed (Err why) = Err why
-read_sealed (Ok text) = read (all_of text)
+read_sealed (Ok text) = read (unmarked_of text)
 
 -- what bytes say, if the other end sent them
 unfoldable pub opened : Line → ℕ → List ℕ → Result Content LineRefusal

@@ -68,6 +68,7 @@ told_to core had = record {
     settled = None;
     offers = offers_to core had;
   };
+  marks = replicate PLAYER_LIMIT None;
   words = words_in core.players (spans_to core had);
 }
 

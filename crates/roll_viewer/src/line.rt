@@ -9,7 +9,7 @@ use crate::settings::LineSettings;
 use arrayvec::ArrayVec;
 use roll_contact::seal::{say, unseal};
 use roll_contact::{Clock, Contact, Key};
-use roll_wire::{Body, Clocks, DATAGRAM_LIMIT, Hello, Play, decode};
+use roll_wire::{Body, Clocks, DATAGRAM_LIMIT, Hello, Play, decode_unmarked};
 
 /// Whom a viewer names as the sender: no machine of a match has this number.
 pub(crate) const VIEWER: u8 = 255;
@@ -57,7 +57,7 @@ impl Line {
         ensures rest { IfErr result (λ why. self.new ≡ after_unread why self.old) }
     {
         let text = self.unseal(sender, bytes)?;
-        match decode(&text) {
+        match decode_unmarked(&text) {
             Ok(datagram) => Ok(datagram.body),
             Err(fault) => {
                 self.refuse();

@@ -158,6 +158,7 @@ pub(crate) fn told_to<S: Settling>(session: &S, had: u32, clocks: Option<Clocks>
             settled: None,
             offers: said_once(&spans),
         },
+        marks: [None; PLAYER_LIMIT],
         words: words_in(session, &spans),
     }
 }
@@ -182,6 +183,7 @@ pub(crate) fn acknowledged(players: usize, rows: u32, clocks: Option<Clocks>) ->
             settled: None,
             offers: [NONE; PLAYER_LIMIT],
         },
+        marks: [None; PLAYER_LIMIT],
         words: ArrayVec::new(),
     }
 }

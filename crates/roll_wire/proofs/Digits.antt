@@ -30,6 +30,13 @@ pub limit_of_short : digits_limit 4 ≡ 2 ^ 32
 unfolding digits_limit
 limit_of_short = refl
 
+-- a fault in the first byte
+pub digits_short : (more : ℕ) (bytes : List ℕ) (fault : WireFault) → byte_at bytes ≡ Err fault
+    → digits_at more bytes ≡ Err fault
+unfolding digits_at
+digits_short zero bytes fault e = rw e refl
+digits_short (suc more) bytes fault e = rw e refl
+
 -- a fault in a later byte
 pub digits_end : (more : ℕ) (bytes : List ℕ) (byte : ℕ) (rest : List ℕ) (fault : WireFault)
     → 1 ≤ more → byte_at bytes ≡ Ok (byte, rest) → 128 ≤ byte

@@ -1,8 +1,8 @@
 -- The groups of fields that a datagram has.
-use Rattle.std.proofs.Common.{◌≡◌, ℕ, ◌+◌, ◌-◌, ◌^◌, ◌≤◌, Bool, true, false, not, cond, eqb, ltb, List, ◌++◌, length, Option, Result, Ok, Err, refl, sym, ap, subst, ◌∙◌, arith}
-use Rattle.std.specs.Prelude.{IfSome}
+use Rattle.std.proofs.Common.{◌≡◌, ℕ, ◌+◌, ◌-◌, ◌^◌, ◌≤◌, Bool, true, false, not, cond, eqb, ltb, List, [], ◌∷◌, ◌++◌, length, Option, Result, Ok, Err, refl, sym, ap, subst, ◌∙◌, arith}
+use Rattle.std.specs.Prelude.{Some, None, is_some, IfSome}
 use Rattle.std.specs.Int.{w32, w64}
-use Rattle.std.specs.List.{flat_map, AllByRecursion}
+use Rattle.std.specs.List.{flat_map, list_any, AllByRecursion}
 use Rattle.std.proofs.lemmas.Bool.{eqb-true, lt-ltb, ltb-true}
 use Rattle.roll_mesh.specs.declared.limits.TheConstants.{MACHINE_LIMIT, PLAYER_LIMIT}
 use Rattle.roll_mesh.specs.declared.packet.Offer.{Offer}
@@ -11,12 +11,15 @@ use Rattle.roll_wire.specs.declared.datagram.Clocks.{Clocks}
 use Rattle.roll_wire.specs.declared.datagram.Envelope.{Envelope}
 use Rattle.roll_wire.specs.declared.datagram.Head.{Head}
 use Rattle.roll_wire.specs.declared.datagram.Hello.{Hello}
+use Rattle.roll_wire.specs.declared.datagram.Mark.{Mark}
+use Rattle.roll_wire.specs.declared.datagram.Marked.{Marked}
+use Rattle.roll_wire.specs.declared.datagram.Newcomer.{Newcomer}
 use Rattle.roll_wire.specs.declared.datagram.Settled.{Settled}
 use Rattle.roll_wire.specs.declared.fault.WireFault.{WireFault}
 use Rattle.roll_wire.specs.declared.fault.WireFault.TheVariants.{Zero, TooFar}
-use Rattle.roll_wire.specs.Spelling.{number, long, short, byte, mask, optional, masked, envelope, hello, clocks, view, settled, offer, head, is_counted, is_offered, IsByte, IsNumber, IsLong, IsOffer, IsEnvelope, IsHead, IsHello, IsClocks, IsSettled}
-use Rattle.roll_wire.specs.Reading.{◌>>=◌, number_at, byte_at, short_at, mask_at, optional_at, masked_at, repeated, envelope_at, hello_at, clocks_at, settled_at, counted_at, offered, offer_at, no_offer, view_at, head_at}
-use Rattle.roll_wire.proofs.Fields.{IsBytes, IsField, IsMasked, Takes, bind_ok, guard_ok, both_at, both_field, seen_at, seen_field, repeated_field, optional_field, masked_field, number_field, long_field, short_field, byte_field, mask_field}
+use Rattle.roll_wire.specs.Spelling.{number, long, short, byte, mask, optional, masked, envelope, hello, clocks, view, settled, offer, head, is_counted, is_offered, newcomer, within, mark, marked, marks, IsByte, IsNumber, IsLong, IsOffer, IsEnvelope, IsHead, IsHello, IsClocks, IsSettled, IsNewcomer, IsMark, IsMarked}
+use Rattle.roll_wire.specs.Reading.{◌>>=◌, number_at, byte_at, short_at, mask_at, optional_at, masked_at, repeated, envelope_at, hello_at, clocks_at, settled_at, bits, counted_at, offered, offer_at, no_offer, view_at, head_at, newcomer_at, within_at, mark_at, marked_at}
+use Rattle.roll_wire.proofs.Fields.{IsBytes, IsField, IsMasked, Takes, Takes-then, bind_ok, guard_ok, ok_is, both_at, both_field, seen_at, seen_field, repeated_field, optional_field, masked_field, number_field, long_field, short_field, byte_field, mask_field}
 
 bind_assoc : {A B C : Type 0} (r : Result A WireFault) (f : A → Result B WireFault)
     (g : B → Result C WireFault) → ((r >>= f) >>= g) ≡ (r >>= λ x. f x >>= g)
@@ -402,3 +405,149 @@ head_field = record {
   again = λ h rest f.
       parts_of_head.again h rest (f.clocks, ((f.gone, f.has), (f.settled, f.offers)));
 }
+
+-- ---- marks
+
+module _ {A : Type 0} (fits : A → Type 0) (text : A → List ℕ)
+    (read : List ℕ → Result (A × List ℕ) WireFault) (f : IsField fits text read) where
+  within_takes : (bytes : List ℕ) (x : Option A) (rest : List ℕ) → IsBytes bytes
+      → within_at read bytes ≡ Ok (x, rest) → Takes bytes (within text x) rest
+      × (IfSome x fits × (is_some x ≡ true))
+  unfolding within_at
+  within_takes bytes x rest b e =
+      let p = bind_ok (read bytes) (λ y. Ok (Some y.0, y.1)) (x, rest) e in
+      let t = f.takes bytes p.0.0 p.0.1 b p.1 in
+      subst (λ (y : Option A × List ℕ). Takes bytes (within text y.0) y.1
+      × (IfSome y.0 fits × (is_some y.0 ≡ true))) (ok_is (Some p.0.0, p.0.1) (x, rest) p.2)
+      (t.0, (t.1, refl))
+
+  within_again : (x : Option A) (rest : List ℕ) → IfSome x fits × (is_some x ≡ true)
+      → within_at read (within text x ++ rest) ≡ Ok (x, rest)
+  unfolding within_at
+  within_again None rest h = absurd cc
+  within_again (Some x) rest h = rw (f.again x rest h.0) refl
+
+  within_field : IsField (λ (x : Option A). IfSome x fits × (is_some x ≡ true)) (within text)
+      (within_at read)
+  within_field = record { takes = within_takes; again = within_again }
+
+  is_nothing : (x : Option A) → is_some x ≡ false → x ≡ None
+  is_nothing None e = refl
+  is_nothing (Some x) e = absurd cc
+
+  within_masked : IsMasked (λ (x : Option A). IfSome x fits) is_some None
+  within_masked = record {
+    fits_none = tt;
+    none_not = refl;
+    only_none = λ x h e. is_nothing x e;
+  }
+
+  -- of each place what is there, if something is
+  pub places_field : IsField (λ (xs : List (Option A)). (length xs ≡ 8)
+      × AllByRecursion (λ x. IfSome x fits) xs) (λ (xs : List (Option A)). masked is_some (within text) xs)
+      (masked_at None (within_at read))
+  places_field = masked_field (λ (x : Option A). IfSome x fits) is_some None (within text)
+      (within_at read) within_masked within_field
+
+none_set : (bs : List Bool) → list_any (λ b. b) bs ≡ false → mask bs ≡ 0
+unfolding mask
+none_set [] e = refl
+none_set (true ∷ bs) e = absurd cc
+none_set (false ∷ bs) e = rw (none_set bs e) refl
+
+abbrev coming : List Bool → ℕ × List ℕ → Result (Option Newcomer × List ℕ) WireFault
+coming players ticket = Ok (Some (record { players = players; ticket = ticket.0 }), ticket.1)
+
+abbrev comes : Bool → List Bool → List ℕ → Result (Option Newcomer × List ℕ) WireFault
+comes any players then = cond any (number_at w64 then >>= coming players) (Ok (None, then))
+
+abbrev Comes : List ℕ → Option Newcomer × List ℕ → Type 0
+Comes bytes x = Takes bytes (newcomer x.0) x.1 × IfSome x.0 IsNewcomer
+
+comes_takes : (bytes : List ℕ) (players : List Bool) (then : List ℕ) (x : Option Newcomer × List ℕ)
+    (any : Bool) → list_any (λ b. b) players ≡ any → Takes bytes (byte (mask players)) then
+    → length players ≡ 8 → comes any players then ≡ Ok x → Comes bytes x
+comes_takes bytes players then x true some t len e =
+    let q = bind_ok (number_at w64 then) (coming players) x e in
+    let u = long_field.takes then q.0.0 q.0.1 t.rest_fits q.1 in
+    let who : Newcomer = record { players = players; ticket = q.0.0 } in
+    subst (Comes bytes) (ok_is (Some who, q.0.1) x q.2)
+    (Takes-then bytes (byte (mask players)) then (long q.0.0) q.0.1 t u.0, ((len, some), u.1))
+comes_takes bytes players then x false none t len e =
+    subst (Comes bytes) (ok_is (None, then) x e)
+    (subst (λ (n : ℕ). Takes bytes (byte n) then) (none_set players none) t, tt)
+
+newcomer_takes : (bytes : List ℕ) (o : Option Newcomer) (rest : List ℕ) → IsBytes bytes
+    → newcomer_at bytes ≡ Ok (o, rest) → Takes bytes (newcomer o) rest × IfSome o IsNewcomer
+unfolding newcomer_at
+newcomer_takes bytes o rest b e =
+    let p = bind_ok (mask_at bytes) (λ m. comes (list_any (λ b. b) m.0) m.0 m.1) (o, rest) e in
+    let t = mask_field.takes bytes p.0.0 p.0.1 b p.1 in
+    comes_takes bytes p.0.0 p.0.1 (o, rest) (list_any (λ b. b) p.0.0) refl t.0 t.1 p.2
+
+nobody_again : (rest : List ℕ) → newcomer_at (newcomer None ++ rest) ≡ Ok (None, rest)
+unfolding newcomer_at mask_at byte_at bits
+nobody_again rest = refl
+
+newcomer_again : (o : Option Newcomer) (rest : List ℕ) → IfSome o IsNewcomer
+    → newcomer_at (newcomer o ++ rest) ≡ Ok (o, rest)
+unfolding newcomer_at
+newcomer_again None rest h = nobody_again rest
+newcomer_again (Some n) rest h =
+    rw (
+      mask_field.again n.players (long n.ticket ++ rest) h.0.0,
+      h.0.1,
+      long_field.again n.ticket rest h.1,
+    ) refl
+
+newcomer_field : IsField (λ (o : Option Newcomer). IfSome o IsNewcomer) newcomer newcomer_at
+newcomer_field = record { takes = newcomer_takes; again = newcomer_again }
+
+abbrev AreDelays : List (Option ℕ) → Type 0
+AreDelays ds = (length ds ≡ PLAYER_LIMIT) × AllByRecursion (λ d. IfSome d IsByte) ds
+
+abbrev delays_at : List ℕ → Result (List (Option ℕ) × List ℕ) WireFault
+delays_at = masked_at None (within_at byte_at)
+
+abbrev mark_parts : List ℕ → Result ((Option Newcomer × (List (Option ℕ) × ℕ)) × List ℕ) WireFault
+mark_parts = both_at newcomer_at (both_at delays_at byte_at)
+
+abbrev mark_of : Option Newcomer × (List (Option ℕ) × ℕ) → Mark
+mark_of x = record { newcomer = x.0; delays = x.1.0; threshold = x.1.1 }
+
+mark_same : (bytes : List ℕ) → mark_at bytes ≡ seen_at mark_of mark_parts bytes
+unfolding mark_at
+mark_same bytes = sym (simp bind_assoc)
+
+mark_field : IsField IsMark mark mark_at
+mark_field =
+    same_field IsMark mark mark_at (seen_at mark_of mark_parts) mark_same
+    (seen_field mark_of (λ m. (m.newcomer, (m.delays, m.threshold)))
+    (λ x. IfSome x.0 IsNewcomer × (AreDelays x.1.0 × IsByte x.1.1))
+    (λ x. newcomer x.0 ++ (masked is_some (within byte) x.1.0 ++ byte x.1.1)) mark_parts
+    (λ x. refl) (λ m. refl)
+    (both_field (λ o. IfSome o IsNewcomer) newcomer newcomer_at (λ x. AreDelays x.0 × IsByte x.1)
+    (λ x. masked is_some (within byte) x.0 ++ byte x.1) (both_at delays_at byte_at) newcomer_field
+    (both_field AreDelays (λ ds. masked is_some (within byte) ds) delays_at IsByte byte byte_at
+    (places_field IsByte byte byte_at byte_field) byte_field)))
+
+abbrev marked_parts : List ℕ → Result ((ℕ × Mark) × List ℕ) WireFault
+marked_parts = both_at short_at mark_at
+
+abbrev marked_of : ℕ × Mark → Marked
+marked_of x = record { frame = x.0; mark = x.1 }
+
+marked_same : (bytes : List ℕ) → marked_at bytes ≡ seen_at marked_of marked_parts bytes
+unfolding marked_at
+marked_same bytes = sym (simp bind_assoc)
+
+marked_field : IsField IsMarked marked marked_at
+marked_field =
+    same_field IsMarked marked marked_at (seen_at marked_of marked_parts) marked_same
+    (seen_field marked_of (λ m. (m.frame, m.mark)) (λ x. IsNumber x.0 × IsMark x.1)
+    (λ x. short x.0 ++ mark x.1) marked_parts (λ x. refl) (λ m. refl)
+    (both_field IsNumber short short_at IsMark mark mark_at short_field mark_field))
+
+pub marks_field : IsField (λ (ms : List (Option Marked)). (length ms ≡ PLAYER_LIMIT)
+    × AllByRecursion (λ m. IfSome m IsMarked) ms) marks (masked_at None (within_at marked_at))
+marks_field = places_field IsMarked marked marked_at marked_field

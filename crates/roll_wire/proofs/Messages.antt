@@ -1,20 +1,23 @@
 -- The two laws: what is read is spelled so, and what is spelled so is read.
 use Rattle.std.proofs.Common.{◌≡◌, ℕ, zero, suc, true, cond, eqb, leb, List, [], ◌∷◌, ◌++◌, length, None, Result, Ok, Err, refl, sym, ap, subst, ◌∙◌, append_assoc, arith}
-use Rattle.std.specs.Prelude.{IfOk}
+use Rattle.std.specs.List.{AllByRecursion}
+use Rattle.std.specs.Prelude.{Option, IfOk, IfSome}
 use Rattle.std.specs.Int.{w32}
 use Rattle.std.proofs.lemmas.Bool.{eqb-true, leb-true, le-leb}
 use Rattle.std.proofs.lemmas.List.{append-nil, nil_from_length}
+use Rattle.roll_mesh.specs.declared.limits.TheConstants.{PLAYER_LIMIT}
 use Rattle.roll_mesh.specs.declared.packet.Offer.{Offer}
 use Rattle.roll_wire.specs.declared.datagram.Datagram.{Datagram}
 use Rattle.roll_wire.specs.declared.datagram.Envelope.{Envelope}
 use Rattle.roll_wire.specs.declared.datagram.Head.{Head}
+use Rattle.roll_wire.specs.declared.datagram.Marked.{Marked}
 use Rattle.roll_wire.specs.declared.fault.WireFault.{WireFault}
-use Rattle.roll_wire.specs.declared.fault.WireFault.TheVariants.{Magic, TooMany, Trailing}
+use Rattle.roll_wire.specs.declared.fault.WireFault.TheVariants.{Magic, Misplaced, TooMany, Trailing, Mark as MarkFault}
 use Rattle.roll_wire.specs.declared.limits.TheConstants.{MAGIC, WORD_LIMIT}
-use Rattle.roll_wire.specs.Spelling.{Content, Greets, Plays, Leaves, Message, Turn, body, byte, envelope, hello, message, number, head, runs, spelling, count_of, Fits, IsContent, IsTurn}
-use Rattle.roll_wire.specs.Reading.{◌>>=◌, Gives, number_at, magic_at, envelope_at, hello_at, head_at, mark_at, words_at, turn_at, content_at, all_of}
+use Rattle.roll_wire.specs.Spelling.{Content, Greets, Plays, Leaves, Message, Turn, body, byte, envelope, hello, message, number, head, marks, runs, spelling, are_marks, count_of, Fits, IsContent, IsMarked, IsTurn}
+use Rattle.roll_wire.specs.Reading.{◌>>=◌, Gives, number_at, magic_at, envelope_at, hello_at, head_at, is_unmarked, marked_at, marks_at, masked_at, placed, unmarked, unmarked_of, within_at, words_at, turn_at, content_at, all_of}
 use Rattle.roll_wire.proofs.Fields.{IsBytes, IsBytes-rest, Takes, Takes-then, bind_ok, passed_ok, ok_is, number_field}
-use Rattle.roll_wire.proofs.Groups.{envelope_field, head_field, hello_field}
+use Rattle.roll_wire.proofs.Groups.{envelope_field, head_field, hello_field, marks_field}
 use Rattle.roll_wire.proofs.Words.{words_take, words_again}
 
 -- ---- what a datagram begins with
@@ -36,24 +39,31 @@ magic_again rest = rw (number_field.again MAGIC rest (omega arith)) refl
 
 -- ---- a turn
 
-mark_takes : (bytes rest : List ℕ) → IsBytes bytes → mark_at bytes ≡ Ok rest
-    → Takes bytes (byte 0) rest
-unfolding mark_at
-mark_takes [] rest b e = absurd cc
-mark_takes (zero ∷ bytes) rest b e =
-    subst (λ (x : List ℕ). Takes (0 ∷ bytes) (byte 0) x) (ok_is bytes rest e)
-    (record { parts = refl; rest_fits = IsBytes-rest 0 bytes b })
-mark_takes (suc mark ∷ bytes) rest b e = absurd cc
+abbrev AreMarks : List Offer → List (Option Marked) → Type 0
+AreMarks offers ms = ((length ms ≡ PLAYER_LIMIT) × AllByRecursion (λ m. IfSome m IsMarked) ms)
+    × (are_marks offers ms ≡ true)
 
-mark_again : (rest : List ℕ) → mark_at (byte 0 ++ rest) ≡ Ok rest
-unfolding mark_at
-mark_again rest = refl
+marks_take : (offers : List Offer) (bytes : List ℕ) (ms : List (Option Marked)) (rest : List ℕ)
+    → IsBytes bytes → marks_at offers bytes ≡ Ok (ms, rest)
+    → Takes bytes (marks ms) rest × AreMarks offers ms
+unfolding marks_at
+marks_take offers bytes ms rest b e =
+    let p = bind_ok (masked_at None (within_at marked_at) bytes) (placed offers) (ms, rest) e in
+    let g = passed_ok (are_marks offers p.0.0) Misplaced p.0 (ms, rest) p.2 in
+    let t = marks_field.takes bytes p.0.0 p.0.1 b p.1 in
+    subst (λ (x : List (Option Marked) × List ℕ). Takes bytes (marks x.0) x.1 × AreMarks offers x.0)
+    g.1 (t.0, (t.1, g.0))
+
+marks_again : (offers : List Offer) (ms : List (Option Marked)) (rest : List ℕ)
+    → AreMarks offers ms → marks_at offers (marks ms ++ rest) ≡ Ok (ms, rest)
+unfolding marks_at
+marks_again offers ms rest h = rw (marks_field.again ms rest h.0, h.1) refl
 
 abbrev turn_text : Turn → List ℕ
-turn_text t = head t.head ++ (byte 0 ++ runs t.words)
+turn_text t = head t.head ++ (marks t.marks ++ runs t.words)
 
-abbrev with_words : Head → List ℕ × List ℕ → Result (Turn × List ℕ) WireFault
-with_words h words = Ok (record { head = h; words = words.0 }, words.1)
+abbrev with_words : Head → List (Option Marked) → List ℕ × List ℕ → Result (Turn × List ℕ) WireFault
+with_words h ms words = Ok (record { head = h; marks = ms; words = words.0 }, words.1)
 
 abbrev counted : List Offer → Result ℕ WireFault
 counted offers = cond (leb (count_of offers) WORD_LIMIT) (Ok (count_of offers)) (Err TooMany)
@@ -63,25 +73,28 @@ turn_takes : (bytes : List ℕ) (t : Turn) (rest : List ℕ) → IsBytes bytes
 unfolding turn_at
 turn_takes bytes t rest b e =
     let q = bind_ok (head_at bytes) (λ h. counted h.0.offers >>=
-    λ count. mark_at h.1 >>= λ behind. words_at count 0 None behind >>= with_words h.0) (t, rest) e
-    in
-    let r = bind_ok (counted q.0.0.offers) (λ count. mark_at q.0.1 >>=
-    λ behind. words_at count 0 None behind >>= with_words q.0.0) (t, rest) q.2 in
-    let m = bind_ok (mark_at q.0.1) (λ behind. words_at r.0 0 None behind >>= with_words q.0.0)
-    (t, rest) r.2 in
-    let s = bind_ok (words_at r.0 0 None m.0) (with_words q.0.0) (t, rest) m.2 in
+    λ count. marks_at h.0.offers h.1 >>= λ ms. words_at count 0 None ms.1 >>= with_words h.0 ms.0)
+    (t, rest) e in
+    let r = bind_ok (counted q.0.0.offers) (λ count. marks_at q.0.0.offers q.0.1 >>=
+    λ ms. words_at count 0 None ms.1 >>= with_words q.0.0 ms.0) (t, rest) q.2 in
+    let m = bind_ok (marks_at q.0.0.offers q.0.1)
+    (λ ms. words_at r.0 0 None ms.1 >>= with_words q.0.0 ms.0) (t, rest) r.2 in
+    let s = bind_ok (words_at r.0 0 None m.0.1) (with_words q.0.0 m.0.0) (t, rest) m.2 in
     let c = passed_ok (leb (count_of q.0.0.offers) WORD_LIMIT) TooMany (count_of q.0.0.offers) r.0
     r.1 in
     let u = head_field.takes bytes q.0.0 q.0.1 b q.1 in
-    let k = mark_takes q.0.1 m.0 u.0.rest_fits m.1 in
-    let v = words_take r.0 m.0 s.0.0 s.0.1 k.rest_fits s.1 in
-    let marked = Takes-then q.0.1 (byte 0) m.0 (runs s.0.0) s.0.1 k v.takes in
-    let made : Turn × List ℕ = (record { head = q.0.0; words = s.0.0 }, s.0.1) in
+    let k = marks_take q.0.0.offers q.0.1 m.0.0 m.0.1 u.0.rest_fits m.1 in
+    let v = words_take r.0 m.0.1 s.0.0 s.0.1 k.0.rest_fits s.1 in
+    let with_marks = Takes-then q.0.1 (marks m.0.0) m.0.1 (runs s.0.0) s.0.1 k.0 v.takes in
+    let made : Turn × List ℕ =
+    (record { head = q.0.0; marks = m.0.0; words = s.0.0 }, s.0.1) in
     subst (λ (x : Turn × List ℕ). Takes bytes (turn_text x.0) x.1 × IsTurn x.0)
     (ok_is made (t, rest) s.2) (
-      Takes-then bytes (head q.0.0) q.0.1 (byte 0 ++ runs s.0.0) s.0.1 u.0 marked,
+      Takes-then bytes (head q.0.0) q.0.1 (marks m.0.0 ++ runs s.0.0) s.0.1 u.0 with_marks,
       record {
         head = u.1;
+        marks = k.1.0;
+        are_marks = k.1.1;
         words = v.all ∙ sym c.1;
         few = leb-true (count_of q.0.0.offers) WORD_LIMIT c.0;
         are_words = v.fits;
@@ -97,11 +110,12 @@ turn_again t rest f =
     =
     subst (λ (n : ℕ). words_at n 0 None (runs t.words ++ rest) ≡ Ok (t.words, rest)) f.words
     (words_again t.words rest f.are_words) in
-    ap turn_at (append_assoc (head t.head) (byte 0 ++ runs t.words) rest)
+    ap turn_at (append_assoc (head t.head) (marks t.marks ++ runs t.words) rest
+    ∙ ap (λ (bs : List ℕ). head t.head ++ bs) (append_assoc (marks t.marks) (runs t.words) rest))
     ∙ rw (
-      head_field.again t.head (byte 0 ++ (runs t.words ++ rest)) f.head,
+      head_field.again t.head (marks t.marks ++ (runs t.words ++ rest)) f.head,
       few,
-      mark_again (runs t.words ++ rest),
+      marks_again t.head.offers t.marks (runs t.words ++ rest) (f.marks, f.are_marks),
       words,
     ) refl
 
@@ -180,6 +194,25 @@ all_again m f =
       envelope_field.again m.envelope (body m.content) f.envelope,
       content,
     ) refl
+
+-- ---- who can't take marks
+
+pub unmarked_is : (bytes : List ℕ) (m : Message) → unmarked_of bytes ≡ Ok m → all_of bytes ≡ Ok m
+unfolding unmarked_of
+unmarked_is bytes m e =
+    let p = bind_ok (all_of bytes) unmarked m e in
+    let g = passed_ok (is_unmarked p.0.content) MarkFault p.0 m p.2 in
+    p.1 ∙ ap (λ (x : Message). Ok x) g.1
+
+-- what is read of a datagram's text is that datagram
+pub unmarked_back : (m n : Message) → Fits m → unmarked_of (spelling m) ≡ Ok n → n ≡ m
+unmarked_back m n f e = ok_is n m (sym (unmarked_is (spelling m) n e) ∙ all_again m f)
+
+-- the text of a datagram in which no word has a mark is read as that datagram
+pub unmarked_again : (m : Message) → Fits m → is_unmarked m.content ≡ true
+    → unmarked_of (spelling m) ≡ Ok m
+unfolding unmarked_of
+unmarked_again m f none = rw (all_again m f, none) refl
 
 -- ---- what a caller is told
 

@@ -1,6 +1,7 @@
 -- Reading from left to right, with the first fault that is met.
-use Rattle.std.specs.Prelude.{◌≡◌, ℕ, zero, suc, ◌+◌, ◌-◌, ◌*◌, ◌/◌, ◌%◌, ◌^◌, List, [], ◌∷◌, length, take, drop, Bool, true, false, Option, Some, None, Result, Ok, Err, nat_lt, nat_le, ◌==◌, if◌then◌else◌}
+use Rattle.std.specs.Prelude.{◌≡◌, ℕ, zero, suc, ◌+◌, ◌-◌, ◌*◌, ◌/◌, ◌%◌, ◌^◌, List, [], ◌∷◌, length, take, drop, Bool, true, false, Option, Some, None, Result, Ok, Err, nat_lt, nat_le, ◌==◌, is_none, if◌then◌else◌}
 use Rattle.std.specs.Int.{Width, w32, w64, byte_len, from_be_bytes}
+use Rattle.std.specs.List.{list_all, list_any}
 use Rattle.roll_mesh.specs.declared.limits.TheConstants.{PLAYER_LIMIT}
 use Rattle.roll_mesh.specs.declared.packet.Offer.{Offer}
 use Rattle.roll_mesh.specs.declared.packet.View.{View}
@@ -8,11 +9,14 @@ use Rattle.roll_wire.specs.declared.datagram.Clocks.{Clocks}
 use Rattle.roll_wire.specs.declared.datagram.Envelope.{Envelope}
 use Rattle.roll_wire.specs.declared.datagram.Head.{Head}
 use Rattle.roll_wire.specs.declared.datagram.Hello.{Hello}
+use Rattle.roll_wire.specs.declared.datagram.Mark.{Mark}
+use Rattle.roll_wire.specs.declared.datagram.Marked.{Marked}
+use Rattle.roll_wire.specs.declared.datagram.Newcomer.{Newcomer}
 use Rattle.roll_wire.specs.declared.datagram.Settled.{Settled}
 use Rattle.roll_wire.specs.declared.fault.WireFault.{WireFault}
-use Rattle.roll_wire.specs.declared.fault.WireFault.TheVariants.{Short, Magic, Kind, Flag, Long, Zero, TooFar, TooMany, Mark, Run, Trailing}
+use Rattle.roll_wire.specs.declared.fault.WireFault.TheVariants.{Short, Magic, Kind, Flag, Long, Zero, TooFar, TooMany, Misplaced, Mark as MarkFault, Run, Trailing}
 use Rattle.roll_wire.specs.declared.limits.TheConstants.{MAGIC, WORD_LIMIT}
-use Rattle.roll_wire.specs.Spelling.{Content, Greets, Plays, Leaves, Fits, Message, Turn, count_of, spelling}
+use Rattle.roll_wire.specs.Spelling.{Content, Greets, Plays, Leaves, Fits, Message, Turn, are_marks, count_of, spelling}
 
 infixl 10 ◌>>=◌
 abbrev pub ◌>>=◌ : {A B : Type 0} → Result A WireFault → (A → Result B WireFault)
@@ -242,19 +246,55 @@ magic_at bytes = do
 abbrev pub fitting : ℕ → Result ℕ WireFault
 fitting count = if nat_le count WORD_LIMIT then Ok count else Err TooMany
 
--- the byte of marks, of which there are none
-unfoldable pub mark_at : List ℕ → Result (List ℕ) WireFault
-mark_at [] = Err Short
-mark_at (zero ∷ rest) = Ok rest
-mark_at (suc mark ∷ rest) = Err Mark
+-- who comes: nobody, if no player is to be its own
+unfoldable pub newcomer_at : List ℕ → Result (Option Newcomer × List ℕ) WireFault
+newcomer_at bytes = do
+  players ← mask_at bytes
+  if list_any (λ b. b) players.0 then (do
+    ticket ← number_at w64 players.1
+    Ok (Some (record { players = players.0; ticket = ticket.0 }), ticket.1))
+      else Ok (None, players.1)
+
+-- what is at a place where something is
+unfoldable pub within_at : {A : Type 0} → (List ℕ → Result (A × List ℕ) WireFault) → List ℕ
+    → Result (Option A × List ℕ) WireFault
+within_at read bytes = do
+  field ← read bytes
+  Ok (Some field.0, field.1)
+
+unfoldable pub mark_at : List ℕ → Result (Mark × List ℕ) WireFault
+mark_at bytes = do
+  newcomer ← newcomer_at bytes
+  delays ← masked_at None (within_at byte_at) newcomer.1
+  threshold ← byte_at delays.1
+  Ok (
+    record { newcomer = newcomer.0; delays = delays.0; threshold = threshold.0 },
+    threshold.1,
+  )
+
+unfoldable pub marked_at : List ℕ → Result (Marked × List ℕ) WireFault
+marked_at bytes = do
+  frame ← short_at bytes
+  mark ← mark_at frame.1
+  Ok (record { frame = frame.0; mark = mark.0 }, mark.1)
+
+-- marks of words that are offered so
+abbrev pub placed : List Offer → List (Option Marked) × List ℕ
+    → Result (List (Option Marked) × List ℕ) WireFault
+placed offers marks = if are_marks offers marks.0 then Ok marks else Err Misplaced
+
+unfoldable pub marks_at : List Offer → List ℕ → Result (List (Option Marked) × List ℕ) WireFault
+marks_at offers bytes = do
+  marks ← masked_at None (within_at marked_at) bytes
+  placed offers marks
 
 unfoldable pub turn_at : List ℕ → Result (Turn × List ℕ) WireFault
 turn_at bytes = do
   head ← head_at bytes
   count ← fitting (count_of head.0.offers)
-  behind ← mark_at head.1
-  words ← words_at count 0 None behind
-  Ok (record { head = head.0; words = words.0 }, words.1)
+  marks ← marks_at head.0.offers head.1
+  words ← words_at count 0 None marks.1
+  Ok (record { head = head.0; marks = marks.0; words = words.0 }, words.1)
 
 -- the kind, and what follows it
 unfoldable pub content_at : List ℕ → Result (Content × List ℕ) WireFault
@@ -276,6 +316,21 @@ all_of bytes = do
   content ← content_at envelope.1
   if length content.1 == 0 then Ok (record { envelope = envelope.0; content = content.0 })
       else Err Trailing
+
+-- whether no word has a mark
+abbrev pub is_unmarked : Content → Bool
+is_unmarked (Greets h) = true
+is_unmarked (Plays t) = list_all is_none t.marks
+is_unmarked Leaves = true
+
+-- the whole of the bytes, if no word has a mark
+abbrev pub unmarked : Message → Result Message WireFault
+unmarked m = if is_unmarked m.content then Ok m else Err MarkFault
+
+unfoldable pub unmarked_of : List ℕ → Result Message WireFault
+unmarked_of bytes = do
+  m ← all_of bytes
+  unmarked m
 
 -- the text of a datagram is read as that datagram
 abbrev pub ReadAgain : Type 0

@@ -1,6 +1,6 @@
 -- What a datagram says, and its one spelling: fixed numbers with the highest byte first, short ones with the lowest.
-use Rattle.std.specs.Prelude.{◌≡◌, ℕ, zero, suc, ◌+◌, ◌-◌, ◌*◌, ◌/◌, ◌%◌, ◌<◌, ◌≤◌, ◌^◌, ◌==◌, List, [], ◌∷◌, ◌++◌, length, map, Bool, ◌&&◌, not, nat_lt, nat_le, if◌then◌else◌, true, false, Option, Some, None, IfSome, ⊤}
-use Rattle.std.specs.List.{flat_map, list_all, sum_by, AllByRecursion}
+use Rattle.std.specs.Prelude.{◌≡◌, ℕ, zero, suc, ◌+◌, ◌-◌, ◌*◌, ◌/◌, ◌%◌, ◌<◌, ◌≤◌, ◌^◌, ◌==◌, List, [], ◌∷◌, ◌++◌, length, map, Bool, ◌&&◌, not, nat_lt, nat_le, if◌then◌else◌, true, false, Option, Some, None, is_some, IfSome, count_by, slice_index_or, ⊤}
+use Rattle.std.specs.List.{flat_map, list_all, list_any, range_with_len, sum_by, AllByRecursion}
 use Rattle.std.specs.Int.{w32, w64, to_be_bytes, from_bool}
 use Rattle.roll_mesh.specs.declared.limits.TheConstants.{MACHINE_LIMIT, PLAYER_LIMIT}
 use Rattle.roll_mesh.specs.declared.packet.Offer.{Offer}
@@ -12,13 +12,17 @@ use Rattle.roll_wire.specs.declared.datagram.Datagram.{Datagram}
 use Rattle.roll_wire.specs.declared.datagram.Envelope.{Envelope}
 use Rattle.roll_wire.specs.declared.datagram.Head.{Head}
 use Rattle.roll_wire.specs.declared.datagram.Hello.{Hello}
+use Rattle.roll_wire.specs.declared.datagram.Mark.{Mark}
+use Rattle.roll_wire.specs.declared.datagram.Marked.{Marked}
+use Rattle.roll_wire.specs.declared.datagram.Newcomer.{Newcomer}
 use Rattle.roll_wire.specs.declared.datagram.Play.{Play}
 use Rattle.roll_wire.specs.declared.datagram.Settled.{Settled}
-use Rattle.roll_wire.specs.declared.limits.TheConstants.{MAGIC, WORD_LIMIT}
+use Rattle.roll_wire.specs.declared.limits.TheConstants.{MAGIC, MARK_LIMIT, WORD_LIMIT}
 
 -- a turn's words as a list
 pub record Turn : Type 0 where
   pub head : Head
+  pub marks : List (Option Marked)
   pub words : List ℕ
 
 pub data Content : Type 0 where
@@ -31,7 +35,7 @@ pub record Message : Type 0 where
   pub content : Content
 
 abbrev pub turn : Play → Turn
-turn p = record { head = p.head; words = p.words.items }
+turn p = record { head = p.head; marks = p.marks; words = p.words.items }
 
 abbrev pub content : Body → Content
 content (HelloBody h) = Greets h
@@ -125,6 +129,27 @@ head h =
     optional clocks h.clocks
     ++ (view h.view ++ (optional settled h.settled ++ masked is_offered offer h.offers))
 
+-- the players of a newcomer and its ticket, or no players if nobody comes
+abbrev pub newcomer : Option Newcomer → List ℕ
+newcomer None = byte 0
+newcomer (Some n) = byte (mask n.players) ++ long n.ticket
+
+-- the field of a place where something is
+abbrev pub within : {A : Type 0} → (A → List ℕ) → Option A → List ℕ
+within text None = []
+within text (Some x) = text x
+
+-- a mark, but for its word's frame
+abbrev pub mark : Mark → List ℕ
+mark m =
+    newcomer m.newcomer ++ (masked is_some (within byte) m.delays ++ byte m.threshold)
+
+abbrev pub marked : Marked → List ℕ
+marked m = short m.frame ++ mark m.mark
+
+abbrev pub marks : List (Option Marked) → List ℕ
+marks ms = masked is_some (within marked) ms
+
 -- how often the words begin with the one before them
 abbrev pub repeats : ℕ → List ℕ → ℕ
 repeats before [] = 0
@@ -150,10 +175,10 @@ pending inside before ws = if inside then rest_of before ws else lead before ws 
 abbrev pub runs : List ℕ → List ℕ
 runs ws = lead 0 ws ++ rest_of 0 ws
 
--- the kind, and what follows it: the byte before a turn's words is for marks, of which there are none
+-- the kind, and what follows it
 abbrev pub body : Content → List ℕ
 body (Greets h) = byte 0 ++ hello h
-body (Plays t) = byte 1 ++ (head t.head ++ (byte 0 ++ runs t.words))
+body (Plays t) = byte 1 ++ (head t.head ++ (marks t.marks ++ runs t.words))
 body Leaves = byte 2
 
 -- the bytes of a datagram
@@ -171,11 +196,42 @@ is_offer o = nat_le o.first o.end && nat_lt (o.end - o.first) 256
 abbrev pub are_offers : List Offer → Bool
 are_offers offers = list_all is_offer offers
 
--- whether a turn has the words that it offers, and no more than fit
+-- whether somebody who comes is to own a player
+abbrev pub has_players : Option Newcomer → Bool
+has_players None = true
+has_players (Some n) = list_any (λ b. b) n.players
+
+-- whether each mark's newcomer has a player
+abbrev pub is_spelled : Option Marked → Bool
+is_spelled None = true
+is_spelled (Some m) = has_players m.mark.newcomer
+
+abbrev pub are_spelled : List (Option Marked) → Bool
+are_spelled ms = list_all is_spelled ms
+
+-- whether a mark is of a word that is offered
+abbrev pub is_of : Offer → Option Marked → Bool
+is_of o None = true
+is_of o (Some m) = nat_le o.first m.frame && nat_lt m.frame o.end
+
+-- whether a player's mark is, if it has one
+abbrev pub is_placed : List Offer → List (Option Marked) → ℕ → Bool
+is_placed offers ms p =
+    is_of (slice_index_or offers p (record { first = 0; end = 0 })) (slice_index_or ms p None)
+
+unfoldable pub are_placed : List Offer → List (Option Marked) → Bool
+are_placed offers ms = list_all (is_placed offers ms) (range_with_len 0 PLAYER_LIMIT)
+
+-- whether marks are of words that are offered, and no more than a turn has
+abbrev pub are_marks : List Offer → List (Option Marked) → Bool
+are_marks offers ms = nat_le (count_by is_some ms) MARK_LIMIT && are_placed offers ms
+
+-- whether a turn has the words that it offers, and no more than fit, and marks of them that have a spelling
 abbrev pub is_turn : Turn → Bool
 is_turn t =
     are_offers t.head.offers && (count_of t.head.offers == length t.words)
     && nat_le (length t.words) WORD_LIMIT
+    && (are_marks t.head.offers t.marks && are_spelled t.marks)
 
 abbrev pub is_whole : Content → Bool
 is_whole (Greets h) = true
@@ -221,9 +277,24 @@ pub record IsHead (h : Head) : Type 0 where
   pub settled : IfSome h.settled IsSettled
   pub offers : (length h.offers ≡ PLAYER_LIMIT) × AllByRecursion IsOffer h.offers
 
+abbrev pub IsNewcomer : Newcomer → Type 0
+IsNewcomer n =
+    ((length n.players ≡ PLAYER_LIMIT) × (list_any (λ b. b) n.players ≡ true)) × IsLong n.ticket
+
+abbrev pub IsMark : Mark → Type 0
+IsMark m =
+    IfSome m.newcomer IsNewcomer
+    × (((length m.delays ≡ PLAYER_LIMIT) × AllByRecursion (λ d. IfSome d IsByte) m.delays)
+    × IsByte m.threshold)
+
+abbrev pub IsMarked : Marked → Type 0
+IsMarked m = IsNumber m.frame × IsMark m.mark
+
 -- a turn that has a spelling
 pub record IsTurn (t : Turn) : Type 0 where
   pub head : IsHead t.head
+  pub marks : (length t.marks ≡ PLAYER_LIMIT) × AllByRecursion (λ m. IfSome m IsMarked) t.marks
+  pub are_marks : are_marks t.head.offers t.marks ≡ true
   pub words : length t.words ≡ count_of t.head.offers
   pub few : count_of t.head.offers ≤ WORD_LIMIT
   pub are_words : AllByRecursion IsNumber t.words

@@ -62,7 +62,37 @@ pub struct Settled {
     pub digest: u64,
 }
 
-/// What a turn tells, but for its words.
+/// Who comes with the next epoch.
+#[derive(Clone, Copy, Debug)]
+pub struct Newcomer {
+    /// The players that it is to own, player 0 first: one or more.
+    pub players: [bool; PLAYER_LIMIT],
+    /// By what the program knows who comes: whatever is agreed upon.
+    pub ticket: u64,
+}
+
+/// What a word may carry beside its 32 bits: what is to be otherwise in the next epoch. An epoch is a part of a match whose machines,
+/// owners, delays and threshold stay the same.
+#[derive(Clone, Copy, Debug)]
+pub struct Mark {
+    /// Who comes, if somebody does.
+    pub newcomer: Option<Newcomer>,
+    /// Each player's new input delay in frames, if it is to have another, player 0 first.
+    pub delays: [Option<u8>; PLAYER_LIMIT],
+    /// The new threshold: how many frames a session goes on without another's words. 0: as before.
+    pub threshold: u8,
+}
+
+/// A word's mark.
+#[derive(Clone, Copy, Debug)]
+pub struct Marked {
+    /// The word's frame.
+    pub frame: u32,
+    /// What it carries.
+    pub mark: Mark,
+}
+
+/// What a turn tells, but for its words and their marks.
 #[derive(Clone, Copy, Debug)]
 pub struct Head {
     /// How far the sender is, and when it sent, if that is told.
@@ -78,8 +108,10 @@ pub struct Head {
 /// What a machine sends in a turn of a match.
 #[derive(Debug, Drop)]
 pub struct Play {
-    /// All but the words.
+    /// All but the words and their marks.
     pub head: Head,
+    /// Of each player the mark of one of its words that are offered here, player 0 first: two of them at most.
+    pub marks: [Option<Marked>; PLAYER_LIMIT],
     /// The words that are offered, 160 at most: player by player, each player's from frame to frame.
     pub words: ArrayVec<u32, WORD_LIMIT>,
 }

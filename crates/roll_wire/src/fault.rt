@@ -28,7 +28,10 @@ pub enum WireFault {
     /// More than 160 words are offered.
     #[error("too many words")]
     TooMany,
-    /// A mark isn't 0: nobody reads marks yet.
+    /// A mark isn't of a word that is offered with it, or there are more than two.
+    #[error("a mark without its word, or more than two marks")]
+    Misplaced,
+    /// A mark, where none is read.
     #[error("a mark, which nobody reads yet")]
     Mark,
     /// A run is longer than the words that are left, or a word that is said to change doesn't.

@@ -8,9 +8,11 @@ mod limits;
 mod reading;
 mod writing;
 
-pub use datagram::{Body, Clocks, Datagram, Envelope, Head, Hello, Play, Settled};
+pub use datagram::{
+    Body, Clocks, Datagram, Envelope, Head, Hello, Mark, Marked, Newcomer, Play, Settled,
+};
 pub use fault::WireFault;
 pub use laws::{one_text, read_again};
-pub use limits::{DATAGRAM_LIMIT, MAGIC, WORD_LIMIT};
-pub use reading::{count_of, decode};
-pub use writing::encode;
+pub use limits::{DATAGRAM_LIMIT, MAGIC, MARK_LIMIT, WORD_LIMIT};
+pub use reading::{count_of, decode, decode_unmarked};
+pub use writing::{encode, spell_mark};

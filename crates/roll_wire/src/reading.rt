@@ -1,15 +1,18 @@
 //! Bytes to datagrams.
-ghost use Rattle.std.specs.Prelude.{◌≡◌, ◌≢◌, ◌<◌, ◌≤◌, ◌^◌, List, length, None, Ok, IfOk};
+ghost use Rattle.std.specs.Prelude.{◌≡◌, ◌≢◌, ◌<◌, ◌≤◌, ◌^◌, List, length, count_by, is_none, is_some, None, Ok, IfOk};
+ghost use Rattle.std.specs.List.{list_all, list_any};
 ghost use Rattle.std.specs.Int.{w32, w64};
 ghost use Rattle.roll_mesh.specs.declared.limits.TheConstants.{PLAYER_LIMIT};
 ghost use Rattle.roll_mesh.specs.declared.packet.Offer.{Offer};
-ghost use Rattle.roll_wire.specs.Spelling.{Fits, Message, content, count_of, digits_limit, message, spelling, turn};
-ghost use Rattle.roll_wire.specs.Reading.{Gives, all_of, bits, byte_at, clocks_at, content_at, counted_at, digits_at, envelope_at, flag_at, head_at, hello_at, is_over, magic_at, mark_at, mask_at, masked_at, no_offer, number_at, offer_at, optional_at, place_at, repeated, run_at, settled_at, short_at, turn_at, view_at, word_at, words_at};
+ghost use Rattle.roll_wire.specs.Spelling.{Fits, Message, are_marks, are_placed, content, count_of, digits_limit, is_of, is_placed, message, spelling, turn};
+ghost use Rattle.roll_wire.specs.Reading.{Gives, all_of, bits, byte_at, clocks_at, content_at, counted_at, digits_at, envelope_at, flag_at, head_at, hello_at, is_over, is_unmarked, magic_at, mark_at, marked_at, marks_at, mask_at, masked_at, newcomer_at, no_offer, number_at, offer_at, optional_at, place_at, repeated, run_at, settled_at, short_at, turn_at, unmarked_of, view_at, within_at, word_at, words_at};
 ghost use Rattle.roll_wire.specs.declared.limits.TheConstants.{WORD_LIMIT};
 
-use crate::datagram::{Body, Clocks, Datagram, Envelope, Head, Hello, Play, Settled};
+use crate::datagram::{
+    Body, Clocks, Datagram, Envelope, Head, Hello, Mark, Marked, Newcomer, Play, Settled,
+};
 use crate::fault::WireFault;
-use crate::limits::{MAGIC, WORD_LIMIT};
+use crate::limits::{MAGIC, MARK_LIMIT, WORD_LIMIT};
 use arrayvec::ArrayVec;
 use roll_mesh::{Offer, PLAYER_LIMIT, View};
 
@@ -394,15 +397,158 @@ fn words_of(count: usize, bytes: &[u8]) -> Result<(ArrayVec<u32, WORD_LIMIT>, &[
     Ok((words, rest))
 }
 
-#[tactic(auto, unfolding(crate::specs::Reading::mark_at))]
-fn mark_of(bytes: &[u8]) -> Result<&[u8], WireFault>
-    ensures { Gives (λ x. x.now) result (mark_at bytes.now) }
+#[tactic(auto, unfolding(crate::specs::Reading::newcomer_at))]
+fn newcomer_of(bytes: &[u8]) -> Result<(Option<Newcomer>, &[u8]), WireFault>
+    ensures { Gives (λ x. (x.0, x.1.now)) result (newcomer_at bytes.now) }
 {
-    match bytes {
-        [] => Err(WireFault::Short),
-        [0, rest @ ..] => Ok(rest),
-        [_, ..] => Err(WireFault::Mark),
+    let (players, rest) = mask_of(bytes)?;
+    if !has_any(&players) {
+        return Ok((None, rest));
     }
+    let (ticket, rest) = u64_at(rest)?;
+    Ok((Some(Newcomer { players, ticket }), rest))
+}
+
+/// Whether one of these is set.
+pub(crate) fn has_any(places: &[bool; PLAYER_LIMIT]) -> bool
+    ensures { result ≡ list_any (λ b. b) places.now }
+{
+    places.iter().any(|is_set| *is_set)
+}
+
+/// A player's new delay, if its place says that there is one.
+#[tactic(auto, unfolding(crate::specs::Reading::within_at))]
+fn player_delay_of(is_there: bool, bytes: &[u8]) -> Result<(Option<u8>, &[u8]), WireFault>
+    ensures { Gives (λ x. (x.0, x.1.now)) result (place_at None (within_at byte_at) is_there bytes.now) }
+{
+    if !is_there {
+        return Ok((None, bytes));
+    }
+    let (delay, rest) = byte_of(bytes)?;
+    Ok((Some(delay), rest))
+}
+
+#[tactic(auto, unfolding(crate::specs::Reading::masked_at))]
+fn delays_of(bytes: &[u8]) -> Result<([Option<u8>; PLAYER_LIMIT], &[u8]), WireFault>
+    ensures { Gives (λ x. (x.0, x.1.now)) result (masked_at None (within_at byte_at) bytes.now) }
+{
+    let (places, mut rest) = mask_of(bytes)?;
+    let mut delays = [None; PLAYER_LIMIT];
+    for player in 0..PLAYER_LIMIT {
+        let (delay, after) = player_delay_of(places[player], rest)?;
+        delays[player] = delay;
+        rest = after;
+    }
+    Ok((delays, rest))
+}
+
+#[tactic(auto, unfolding(crate::specs::Reading::mark_at))]
+fn mark_of(bytes: &[u8]) -> Result<(Mark, &[u8]), WireFault>
+    ensures { Gives (λ x. (x.0, x.1.now)) result (mark_at bytes.now) }
+{
+    let (newcomer, rest) = newcomer_of(bytes)?;
+    let (delays, rest) = delays_of(rest)?;
+    let (threshold, rest) = byte_of(rest)?;
+    let mark = Mark {
+        newcomer,
+        delays,
+        threshold,
+    };
+    Ok((mark, rest))
+}
+
+#[tactic(auto, unfolding(crate::specs::Reading::marked_at))]
+fn marked_of(bytes: &[u8]) -> Result<(Marked, &[u8]), WireFault>
+    ensures { Gives (λ x. (x.0, x.1.now)) result (marked_at bytes.now) }
+{
+    let (frame, rest) = short_of(bytes)?;
+    let (mark, rest) = mark_of(rest)?;
+    Ok((Marked { frame, mark }, rest))
+}
+
+/// The mark of a player's word, if its place says that there is one.
+#[tactic(auto, unfolding(crate::specs::Reading::within_at))]
+fn player_mark_of(is_there: bool, bytes: &[u8]) -> Result<(Option<Marked>, &[u8]), WireFault>
+    ensures { Gives (λ x. (x.0, x.1.now)) result (place_at None (within_at marked_at) is_there bytes.now) }
+{
+    if !is_there {
+        return Ok((None, bytes));
+    }
+    let (marked, rest) = marked_of(bytes)?;
+    Ok((Some(marked), rest))
+}
+
+#[tactic(auto, unfolding(crate::specs::Reading::masked_at))]
+fn all_marks_of(bytes: &[u8]) -> Result<([Option<Marked>; PLAYER_LIMIT], &[u8]), WireFault>
+    ensures { Gives (λ x. (x.0, x.1.now)) result (masked_at None (within_at marked_at) bytes.now) }
+{
+    let (places, mut rest) = mask_of(bytes)?;
+    let mut marks = [None; PLAYER_LIMIT];
+    for player in 0..PLAYER_LIMIT {
+        let (marked, after) = player_mark_of(places[player], rest)?;
+        marks[player] = marked;
+        rest = after;
+    }
+    Ok((marks, rest))
+}
+
+/// Whether a mark is of a word that is offered.
+fn is_of(offer: Offer, marked: Option<Marked>) -> bool
+    ensures { result ≡ is_of offer marked }
+{
+    match marked {
+        None => true,
+        Some(marked) => offer.first <= marked.frame && marked.frame < offer.end,
+    }
+}
+
+/// Whether all marks are.
+fn are_placed(offers: &[Offer; PLAYER_LIMIT], marks: &[Option<Marked>; PLAYER_LIMIT]) -> bool
+    ensures { result ≡ are_placed offers.now marks.now }
+{
+    for player in 0..PLAYER_LIMIT {
+        if !is_of(offers[player], marks[player]) {
+            return false;
+        }
+    }
+    true
+}
+
+/// How many words have marks.
+fn marks_in(marks: &[Option<Marked>; PLAYER_LIMIT]) -> usize
+    ensures { result ≡ count_by is_some marks.now }
+{
+    let mut count = 0;
+    for marked in marks {
+        if marked.is_some() {
+            count += 1;
+        }
+    }
+    count
+}
+
+/// Whether marks are of words that are offered, and no more than a turn has.
+pub(crate) fn are_marks(
+    offers: &[Offer; PLAYER_LIMIT],
+    marks: &[Option<Marked>; PLAYER_LIMIT],
+) -> bool
+    ensures { result ≡ are_marks offers.now marks.now }
+{
+    marks_in(marks) <= MARK_LIMIT && are_placed(offers, marks)
+}
+
+#[tactic(auto, unfolding(crate::specs::Reading::marks_at))]
+fn marks_of<'a>(
+    offers: &[Offer; PLAYER_LIMIT],
+    bytes: &'a [u8],
+) -> Result<([Option<Marked>; PLAYER_LIMIT], &'a [u8]), WireFault>
+    ensures { Gives (λ x. (x.0, x.1.now)) result (marks_at offers.now bytes.now) }
+{
+    let (marks, rest) = all_marks_of(bytes)?;
+    if !are_marks(offers, &marks) {
+        return Err(WireFault::Misplaced);
+    }
+    Ok((marks, rest))
 }
 
 #[tactic(auto, unfolding(crate::specs::Reading::turn_at))]
@@ -414,9 +560,10 @@ fn play_of(bytes: &[u8]) -> Result<(Play, &[u8]), WireFault>
     if count > WORD_LIMIT {
         return Err(WireFault::TooMany);
     }
-    let rest = mark_of(rest)?;
+    let (marks, rest) = marks_of(&head.offers, rest)?;
     let (words, rest) = words_of(count, rest)?;
-    Ok((Play { head, words }, rest))
+    let play = Play { head, marks, words };
+    Ok((play, rest))
 }
 
 #[tactic(auto, unfolding(crate::specs::Reading::content_at))]
@@ -465,4 +612,36 @@ pub fn decode(bytes: &[u8]) -> Result<Datagram, WireFault>
     ensures exact { Gives message result (all_of bytes.now) }
 {
     all(bytes)
+}
+
+/// The datagram that the bytes spell, if no word in it has a mark: for who can't take marks, and so mustn't take such words.
+///
+/// # Errors
+///
+/// The first fault from left to right, if they spell none; else `Mark`, if a word has one.
+#[tactic(auto, unfolding(crate::specs::Reading::unmarked_of))]
+pub fn decode_unmarked(bytes: &[u8]) -> Result<Datagram, WireFault>
+    ensures found { IfOk result (λ d. Fits (message d) × (bytes.now ≡ spelling (message d))) }
+    ensures exact { Gives message result (unmarked_of bytes.now) }
+{
+    let datagram = decode(bytes)?;
+    if !is_unmarked(&datagram.body) {
+        return Err(WireFault::Mark);
+    }
+    Ok(datagram)
+}
+
+fn is_unmarked(body: &Body) -> bool
+    ensures { result ≡ is_unmarked (content body.now) }
+{
+    match body {
+        Body::Play(play) => are_none(&play.marks),
+        Body::Hello(_) | Body::Bye => true,
+    }
+}
+
+fn are_none(marks: &[Option<Marked>; PLAYER_LIMIT]) -> bool
+    ensures { result ≡ list_all is_none marks.now }
+{
+    marks.iter().all(|marked| marked.is_none())
 }

@@ -1,14 +1,16 @@
 //! Datagrams to bytes.
-ghost use Rattle.std.specs.Prelude.{◌≡◌, ℕ, ◌+◌, ◌*◌, ◌<◌, ◌≤◌, ◌^◌, slice_index, [], ◌∷◌, ◌++◌, length, map, drop, true, false, IfSome, IfNone};
+ghost use Rattle.std.specs.Prelude.{◌≡◌, ℕ, ◌+◌, ◌*◌, ◌<◌, ◌≤◌, ◌^◌, slice_index, [], ◌∷◌, ◌++◌, length, map, drop, true, false, count_by, is_some, IfSome, IfNone, if◌then◌else◌};
 ghost use Rattle.std.specs.List.{AllByRecursion, flat_map};
 ghost use Rattle.arrayvec.specs.ArrayVec.{array_vec_len};
-ghost use Rattle.roll_wire.specs.Spelling.{Fits, IsByte, IsClocks, IsContent, IsEnvelope, IsHead, IsHello, IsLong, IsNumber, IsOffer, IsSettled, IsTurn, are_offers, body, byte, clocks, content, count_of, digits, digits_limit, envelope, flag, head, hello, is_counted, is_offer, is_offered, is_turn, is_whole, long, mask, masked, message, number, offer, optional, pending, present, repeats, rest_of, runs, settled, short, spelling, turn, view};
-ghost use Rattle.roll_wire.specs.declared.limits.TheConstants.{DATAGRAM_LIMIT, WORD_LIMIT};
+ghost use Rattle.roll_wire.specs.Spelling.{Fits, IsByte, IsClocks, IsContent, IsEnvelope, IsHead, IsHello, IsLong, IsMark, IsMarked, IsNewcomer, IsNumber, IsOffer, IsSettled, IsTurn, are_marks, are_offers, are_spelled, body, byte, clocks, content, count_of, digits, digits_limit, envelope, flag, has_players, head, hello, is_counted, is_offer, is_offered, is_spelled, is_turn, is_whole, long, mark, marked, marks, mask, masked, message, newcomer, number, offer, optional, pending, present, repeats, rest_of, runs, settled, short, spelling, turn, view, within};
+ghost use Rattle.roll_wire.specs.declared.limits.TheConstants.{DATAGRAM_LIMIT, MARK_LIMIT, WORD_LIMIT};
 ghost use Rattle.roll_mesh.specs.declared.limits.TheConstants.{MACHINE_LIMIT, PLAYER_LIMIT};
 
-use crate::datagram::{Body, Clocks, Datagram, Envelope, Head, Hello, Play, Settled};
+use crate::datagram::{
+    Body, Clocks, Datagram, Envelope, Head, Hello, Mark, Marked, Newcomer, Play, Settled,
+};
 use crate::limits::{DATAGRAM_LIMIT, MAGIC, WORD_LIMIT};
-use crate::reading::count_of;
+use crate::reading::{are_marks, count_of, has_any};
 use arrayvec::ArrayVec;
 use roll_mesh::{MACHINE_LIMIT, Offer, PLAYER_LIMIT, View};
 
@@ -317,6 +319,120 @@ fn put_hello(out: &mut Bytes, h: &Hello)
     put_byte(out, h.abilities);
 }
 
+/// Who comes, and for which players.
+fn put_newcomer(out: &mut Bytes, n: &Option<Newcomer>)
+    requires { length out.old.items + 9 ≤ DATAGRAM_LIMIT }
+    ensures items { out.new.items ≡ out.old.items ++ newcomer n.now }
+    ensures len { length out.new.items ≤ length out.old.items + 9 }
+    ensures fits { has_players n.now ≡ true → IfSome n.now IsNewcomer }
+{
+    match n {
+        None => put_byte(out, 0),
+        Some(n) => {
+            put_mask(out, &n.players);
+            put_u64(out, n.ticket);
+        }
+    }
+}
+
+/// A player's new delay, if it is to have one.
+fn put_player_delay(out: &mut Bytes, d: Option<u8>)
+    requires { length out.old.items + 1 ≤ DATAGRAM_LIMIT }
+    ensures items { out.new.items ≡ out.old.items ++ present is_some (within byte) d }
+    ensures len { length out.new.items ≤ length out.old.items + 1 }
+    ensures fits { IfSome d IsByte }
+{
+    if let Some(d) = d {
+        put_byte(out, d);
+    }
+}
+
+/// Whether each player is to have another delay.
+fn delayed(delays: &[Option<u8>; PLAYER_LIMIT]) -> [bool; PLAYER_LIMIT]
+    ensures { result ≡ map is_some delays.now }
+{
+    let mut places = [false; PLAYER_LIMIT];
+    for player in 0..PLAYER_LIMIT {
+        places[player] = delays[player].is_some();
+    }
+    places
+}
+
+fn put_delays(out: &mut Bytes, delays: &[Option<u8>; PLAYER_LIMIT])
+    requires { length out.old.items + 9 ≤ DATAGRAM_LIMIT }
+    ensures items { out.new.items ≡ out.old.items ++ masked is_some (within byte) delays.now }
+    ensures len { length out.new.items ≤ length out.old.items + 9 }
+    ensures fits { (length delays.now ≡ PLAYER_LIMIT)
+        × AllByRecursion (λ d. IfSome d IsByte) delays.now }
+{
+    put_mask(out, &delayed(delays));
+    for d in delays {
+        put_player_delay(out, *d);
+    }
+}
+
+fn put_mark(out: &mut Bytes, m: &Mark)
+    requires { length out.old.items + 19 ≤ DATAGRAM_LIMIT }
+    ensures items { out.new.items ≡ out.old.items ++ mark m.now }
+    ensures len { length out.new.items ≤ length out.old.items + 19 }
+    ensures fits { has_players m.now.newcomer ≡ true → IsMark m.now }
+{
+    put_newcomer(out, &m.newcomer);
+    put_delays(out, &m.delays);
+    put_byte(out, m.threshold);
+}
+
+fn put_marked(out: &mut Bytes, m: &Marked)
+    requires { length out.old.items + 24 ≤ DATAGRAM_LIMIT }
+    ensures items { out.new.items ≡ out.old.items ++ marked m.now }
+    ensures len { length out.new.items ≤ length out.old.items + 24 }
+    ensures fits { has_players m.now.mark.newcomer ≡ true → IsMarked m.now }
+{
+    put_short(out, m.frame);
+    put_mark(out, &m.mark);
+}
+
+/// The mark of a player's word, if it has one.
+fn put_player_mark(out: &mut Bytes, m: &Option<Marked>)
+    requires spelled { is_spelled m.now ≡ true }
+    requires room { length out.old.items + 24 * (if is_some m.now then 1 else 0)
+        ≤ DATAGRAM_LIMIT }
+    ensures items { out.new.items ≡ out.old.items ++ present is_some (within marked) m.now }
+    ensures len { length out.new.items
+        ≤ length out.old.items + 24 * (if is_some m.now then 1 else 0) }
+    ensures fits { IfSome m.now IsMarked }
+{
+    if let Some(m) = m {
+        put_marked(out, m);
+    }
+}
+
+/// Whether a word of each player has a mark.
+fn has_marks(marks: &[Option<Marked>; PLAYER_LIMIT]) -> [bool; PLAYER_LIMIT]
+    ensures { result ≡ map is_some marks.now }
+{
+    let mut places = [false; PLAYER_LIMIT];
+    for player in 0..PLAYER_LIMIT {
+        places[player] = marks[player].is_some();
+    }
+    places
+}
+
+fn put_marks(out: &mut Bytes, ms: &[Option<Marked>; PLAYER_LIMIT])
+    requires spelled { are_spelled ms.now ≡ true }
+    requires few { count_by is_some ms.now ≤ MARK_LIMIT }
+    requires room { length out.old.items + 49 ≤ DATAGRAM_LIMIT }
+    ensures items { out.new.items ≡ out.old.items ++ marks ms.now }
+    ensures len { length out.new.items ≤ length out.old.items + 49 }
+    ensures fits { (length ms.now ≡ PLAYER_LIMIT)
+        × AllByRecursion (λ m. IfSome m IsMarked) ms.now }
+{
+    put_mask(out, &has_marks(ms));
+    for m in ms {
+        put_player_mark(out, m);
+    }
+}
+
 /// The length of the run that the words begin with, unless it stands already.
 fn put_lead(out: &mut Bytes, inside: bool, before: u32, words: &[u32])
     requires some { 1 ≤ length words.now }
@@ -367,19 +483,19 @@ fn put_words(out: &mut Bytes, words: &[u32])
 
 fn put_play(out: &mut Bytes, play: &Play)
     requires whole { is_turn (turn play.now) ≡ true }
-    requires room { length out.old.items + (137 + 6 * WORD_LIMIT) ≤ DATAGRAM_LIMIT }
+    requires room { length out.old.items + (185 + 6 * WORD_LIMIT) ≤ DATAGRAM_LIMIT }
     ensures items { out.new.items
-        ≡ out.old.items ++ (head play.now.head ++ (byte 0 ++ runs play.now.words.items)) }
+        ≡ out.old.items ++ (head play.now.head ++ (marks play.now.marks ++ runs play.now.words.items)) }
     ensures fits { IsTurn (turn play.now) }
 {
     put_head(out, &play.head);
-    put_byte(out, 0);
+    put_marks(out, &play.marks);
     put_words(out, play.words.as_slice());
 }
 
 fn put_body(out: &mut Bytes, b: &Body)
     requires whole { is_whole (content b.now) ≡ true }
-    requires room { length out.old.items + (138 + 6 * WORD_LIMIT) ≤ DATAGRAM_LIMIT }
+    requires room { length out.old.items + (186 + 6 * WORD_LIMIT) ≤ DATAGRAM_LIMIT }
     ensures items { out.new.items ≡ out.old.items ++ body (content b.now) }
     ensures fits { IsContent (content b.now) }
 {
@@ -396,11 +512,55 @@ fn put_body(out: &mut Bytes, b: &Body)
     }
 }
 
-/// Whether a turn's offers are in order, and as many words are offered as there are.
+/// Whether a turn's offers are in order, as many words are offered as there are, and marks are of such words and have a
+/// spelling.
 fn is_turn(play: &Play) -> bool
     ensures { result ≡ is_turn (turn play.now) }
 {
-    are_offers(&play.head.offers) && count_of(&play.head.offers) == play.words.len()
+    are_offers(&play.head.offers)
+        && count_of(&play.head.offers) == play.words.len()
+        && are_marks(&play.head.offers, &play.marks)
+        && are_spelled(&play.marks)
+}
+
+/// Whether somebody who comes is to own a player.
+fn has_players(n: &Option<Newcomer>) -> bool
+    ensures { result ≡ has_players n.now }
+{
+    match n {
+        None => true,
+        Some(n) => has_any(&n.players),
+    }
+}
+
+/// Whether a mark's newcomer is.
+fn is_spelled(m: &Option<Marked>) -> bool
+    ensures { result ≡ is_spelled m.now }
+{
+    match m {
+        None => true,
+        Some(m) => has_players(&m.mark.newcomer),
+    }
+}
+
+fn are_spelled(ms: &[Option<Marked>; PLAYER_LIMIT]) -> bool
+    ensures { result ≡ are_spelled ms.now }
+{
+    for m in ms {
+        if !is_spelled(m) {
+            return false;
+        }
+    }
+    true
+}
+
+/// The spelling of a mark, but for its word's frame: what the number of the next epoch is made of.
+pub fn spell_mark(m: &Mark) -> ArrayVec<u8, DATAGRAM_LIMIT>
+    ensures { result.items ≡ mark m.now }
+{
+    let mut out = ArrayVec::new();
+    put_mark(&mut out, m);
+    out
 }
 
 fn is_whole(b: &Body) -> bool
@@ -430,8 +590,9 @@ fn are_offers(offers: &[Offer; PLAYER_LIMIT]) -> bool
     true
 }
 
-/// The one spelling of a datagram, 1,200 bytes at most: the greatest has 1,111. None if it has none: if it is a turn
-/// that has another number of words than it offers, or that offers words that end before they begin.
+/// The one spelling of a datagram, 1,200 bytes at most: the greatest has 1,159. None if it has none: if it is a turn
+/// that has another number of words than it offers, that offers words that end before they begin, or that has more than two marks, one
+/// of a word that it doesn't offer, or one by which somebody is to come who is to own no player.
 pub fn encode(datagram: &Datagram) -> Option<ArrayVec<u8, DATAGRAM_LIMIT>>
     ensures spelled { IfSome result (λ bytes. Fits (message datagram.now)
         × (bytes.items ≡ spelling (message datagram.now))) }

@@ -2,8 +2,8 @@
 use arrayvec::ArrayVec;
 use roll_mesh::{Offer, PLAYER_LIMIT, View};
 use roll_wire::{
-    Body, Clocks, DATAGRAM_LIMIT, Datagram, Envelope, Head, Hello, Play, Settled, WORD_LIMIT,
-    WireFault, decode, encode,
+    Body, Clocks, DATAGRAM_LIMIT, Datagram, Envelope, Head, Hello, Mark, Marked, Newcomer, Play,
+    Settled, WORD_LIMIT, WireFault, decode, decode_unmarked, encode,
 };
 use std::test::Fail;
 
@@ -25,6 +25,12 @@ const HELD: [u8; 33] = [
     0x46, 0x5a, 0x47, 0x32, 0x11, 0x22, 0x33, 0x44, 0x55, 0x66, 0x77, 0x88, 0x01, 0x01, 0x00, 0x00,
     0x03, 0x9f, 0x9c, 0x01, 0xa3, 0x9c, 0x01, 0x00, 0x02, 0x9d, 0x9c, 0x01, 0x06, 0x00, 0x00, 0x05,
     0x05,
+];
+
+const MARKED: [u8; 41] = [
+    0x46, 0x5a, 0x47, 0x32, 0x11, 0x22, 0x33, 0x44, 0x55, 0x66, 0x77, 0x88, 0x01, 0x01, 0x00, 0x00,
+    0x03, 0x77, 0x7b, 0x00, 0x02, 0x75, 0x06, 0x02, 0x79, 0x04, 0x31, 0x32, 0x33, 0x34, 0x35, 0x36,
+    0x37, 0x38, 0x02, 0x03, 0x00, 0x02, 0x05, 0x02, 0x07,
 ];
 
 const BYE: [u8; 14] = [
@@ -51,6 +57,8 @@ const ANSWER: [u8; 24] = [
 ];
 
 const NO_OFFER: Offer = Offer { first: 0, end: 0 };
+
+const NO_MARKS: [Option<Marked>; PLAYER_LIMIT] = [None; PLAYER_LIMIT];
 
 type Words = ArrayVec<u32, WORD_LIMIT>;
 
@@ -87,8 +95,37 @@ fn plain(has: [u32; 2], first: u32, end: u32, words: Words) -> Body {
         settled: None,
         offers,
     };
-    Body::Play(Play { head, words })
+    Body::Play(Play {
+        head,
+        marks: NO_MARKS,
+        words,
+    })
 }
+
+/// A turn of words of player 1 from frame 117 on, of which the one at a frame has a mark: somebody comes who is to own these players,
+/// and player 1 gets a delay of 3 frames.
+fn marked_at(frame: u32, players: [bool; PLAYER_LIMIT]) -> Body {
+    let Body::Play(mut play) = plain([119, 123], 117, 123, words_of(&[0, 0, 5, 5, 5, 7])) else {
+        return Body::Bye;
+    };
+    let mut delays = [None; PLAYER_LIMIT];
+    delays[1] = Some(3);
+    play.marks[1] = Some(Marked {
+        frame,
+        mark: Mark {
+            newcomer: Some(Newcomer {
+                players,
+                ticket: 0x3132_3334_3536_3738,
+            }),
+            delays,
+            threshold: 0,
+        },
+    });
+    Body::Play(play)
+}
+
+/// Player 2 alone.
+const THIRD: [bool; PLAYER_LIMIT] = [false, false, true, false, false, false, false, false];
 
 /// The turn of the example at frame 120.
 fn full() -> Body {
@@ -117,7 +154,11 @@ fn full() -> Body {
         offers,
     };
     let words = words_of(&[0, 0, 5, 5, 5, 7]);
-    Body::Play(Play { head, words })
+    Body::Play(Play {
+        head,
+        marks: NO_MARKS,
+        words,
+    })
 }
 
 /// A datagram of the viewer's line of the examples.
@@ -147,7 +188,11 @@ fn line_turn(
         settled: None,
         offers,
     };
-    Body::Play(Play { head, words })
+    Body::Play(Play {
+        head,
+        marks: NO_MARKS,
+        words,
+    })
 }
 
 /// The host's rows of the examples.
@@ -205,8 +250,24 @@ fn greatest() -> Body {
         }),
         offers: [offer; PLAYER_LIMIT],
     };
+    let mark = Mark {
+        newcomer: Some(Newcomer {
+            players: [true; PLAYER_LIMIT],
+            ticket: u64::MAX,
+        }),
+        delays: [Some(255); PLAYER_LIMIT],
+        threshold: 255,
+    };
+    let marked = Some(Marked {
+        frame: 4_000_000_019,
+        mark,
+    });
+    let mut marks = NO_MARKS;
+    marks[6] = marked;
+    marks[7] = marked;
     Body::Play(Play {
         head,
+        marks,
         words: changing(160),
     })
 }
@@ -238,6 +299,7 @@ fn the_examples(rt: HostRuntime) -> Result<(), Fail> {
     assert!(rt; is_text(&datagram(Body::Hello(hello)), HELLO.as_slice()));
     assert!(rt; is_text(&datagram(full()), PLAY.as_slice()));
     assert!(rt; is_text(&datagram(held), HELD.as_slice()));
+    assert!(rt; is_text(&datagram(marked_at(121, THIRD)), MARKED.as_slice()));
     assert!(rt; is_text(&datagram(Body::Bye), BYE.as_slice()));
     Ok(())
 }
@@ -265,7 +327,7 @@ fn the_examples_of_a_line(rt: HostRuntime) -> Result<(), Fail> {
 fn the_greatest(rt: HostRuntime) -> Result<(), Fail> {
     let greatest = datagram(greatest());
     let text = encode(&greatest).ok_or("it has a text")?;
-    assert_eq!(rt; text.len(), 1_111);
+    assert_eq!(rt; text.len(), 1_159);
     assert!(rt; text.len() <= DATAGRAM_LIMIT);
     assert!(rt; is_text(&greatest, text.as_slice()));
     Ok(())
@@ -277,6 +339,9 @@ fn has_no_text(rt: HostRuntime) -> Result<(), Fail> {
     assert!(rt; encode(&datagram(plain([0, 0], 0, 161, changing(160)))).is_none());
     assert!(rt; encode(&datagram(plain([0, 0], 0, 416, changing(160)))).is_none());
     assert!(rt; encode(&datagram(plain([0, 0], 1, 0, changing(0)))).is_none());
+    assert!(rt; encode(&datagram(marked_at(122, THIRD))).is_some());
+    assert!(rt; encode(&datagram(marked_at(123, THIRD))).is_none());
+    assert!(rt; encode(&datagram(marked_at(121, [false; PLAYER_LIMIT]))).is_none());
     Ok(())
 }
 
@@ -313,9 +378,27 @@ fn refuses_marks(rt: HostRuntime) -> Result<(), Fail> {
     let mut many = PLAY;
     many[45] = 161;
     assert_eq!(rt; decode(&PLAY[..46]).err(), Some(WireFault::Short));
-    assert_eq!(rt; fault_of(PLAY, 46, 1), Some(WireFault::Mark));
-    assert_eq!(rt; fault_of(PLAY, 46, 128), Some(WireFault::Mark));
+    assert_eq!(rt; fault_of(PLAY, 46, 128), Some(WireFault::Short));
     assert_eq!(rt; fault_of(many, 46, 1), Some(WireFault::TooMany));
+    assert_eq!(rt; decode(&MARKED[..37]).err(), Some(WireFault::Short));
+    assert_eq!(rt; fault_of(MARKED, 24, 116), Some(WireFault::Misplaced));
+    assert_eq!(rt; fault_of(MARKED, 24, 117), None);
+    assert_eq!(rt; fault_of(MARKED, 24, 123), Some(WireFault::Misplaced));
+    Ok(())
+}
+
+#[test]
+fn who_takes_no_marks_refuses_them(rt: HostRuntime) -> Result<(), Fail> {
+    assert_eq!(rt;
+        decode_unmarked(MARKED.as_slice()).err(),
+        Some(WireFault::Mark)
+    );
+    assert_eq!(rt;
+        decode_unmarked(&MARKED[..40]).err(),
+        Some(WireFault::Short)
+    );
+    assert!(rt; decode_unmarked(PLAY.as_slice()).is_ok());
+    assert!(rt; decode_unmarked(HELLO.as_slice()).is_ok());
     Ok(())
 }
 

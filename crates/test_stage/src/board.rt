@@ -1,4 +1,5 @@
-//! `board PLAYERS LOCAL`: the inputs of so many players, of whom the one of this number is local.
+//! `board PLAYERS LOCAL [delay D] [after W]`: the inputs of so many players, of whom the one of this number is local, with this delay. With
+//! `after` they go on from frames before: the last word of player P was W + P, and it begins with 10 * W, 10 * W + 1 and so on.
 //!
 //! `local P W`, `remote P F W` and `gone P` are answered `ok`, `taken`, `repeated` or `refused N`; `next` begins a frame,
 //! and `settle F` settles the rows below one, where either can be; `row F`, `word P F` and `source P F` tell the
@@ -8,7 +9,7 @@ use crate::fault::{Answer, Fault};
 use crate::line::{Line, Lines, Subject, perform_all};
 use crate::out::Out;
 use crate::rows::put_row;
-use roll_frame::{PLAYER_LIMIT, Settings};
+use roll_frame::{DELAY_LIMIT, PLAYER_LIMIT, Settings, SettingsFault};
 use roll_inputs::{Board, Heard, Record, Source};
 use std::alloc::Global;
 
@@ -44,13 +45,40 @@ const ASKS: [(&[u8], usize, Ask); 9] = [
 ];
 
 pub fn tell(alloc: Global, line: &Line<'_>, lines: &mut Lines<'_>, out: &mut Out) -> Answer {
-    match Settings::new(line.player(1)?, &[line.player(2)?]) {
+    match settings_of(line)? {
         Ok(settings) => open(alloc, &settings, lines, out),
         Err(fault) => {
             out.refuses(fault.refusal());
             Ok(())
         },
     }
+}
+
+/// The settings that the line asks for.
+fn settings_of(line: &Line<'_>) -> Result<Result<Settings, SettingsFault>, Fault> {
+    let local = line.player(2)?;
+    let delay = line.option(b"delay")?.unwrap_or(0);
+    let after = line.option(b"after")?;
+    Ok(match Settings::new(line.player(1)?, &[local]) {
+        Ok(settings) => after_frames(settings, after).with_delay(local, delay),
+        Err(fault) => Err(fault),
+    })
+}
+
+/// Settings that go on from frames before.
+fn after_frames(settings: Settings, last: Option<u32>) -> Settings {
+    let Some(last) = last else {
+        return settings;
+    };
+    let mut before = [last; PLAYER_LIMIT];
+    for (place, word) in before.iter_mut().enumerate() {
+        *word = last.wrapping_add(place as u32).wrapping_add(1);
+    }
+    let mut first = [0; DELAY_LIMIT as usize];
+    for (frame, word) in first.iter_mut().enumerate() {
+        *word = last.wrapping_mul(10).wrapping_add(frame as u32);
+    }
+    settings.following(before, [first; PLAYER_LIMIT])
 }
 
 fn open(alloc: Global, settings: &Settings, lines: &mut Lines<'_>, out: &mut Out) -> Answer {

@@ -4,7 +4,7 @@ ghost use Rattle.roll_host.specs.Hosted.{places_of};
 
 use crate::serial::{Serial, word};
 use crate::slow::Slow;
-use roll_frame::{FRAME_LIMIT, LOG_LIMIT, PLAYER_LIMIT, Profile, Refusal, Settings};
+use roll_frame::{DELAY_LIMIT, FRAME_LIMIT, LOG_LIMIT, PLAYER_LIMIT, Profile, Refusal, Settings};
 use roll_game::Tally;
 use roll_host::Host;
 use roll_session::Session;
@@ -21,6 +21,8 @@ pub const TWO: Settings = Settings {
     local: 1,
     delays: [0; PLAYER_LIMIT],
     masks: [u32::MAX; PLAYER_LIMIT],
+    before: [0; PLAYER_LIMIT],
+    first: [[0; DELAY_LIMIT as usize]; PLAYER_LIMIT],
     threshold: 8,
     limit: FRAME_LIMIT,
     log: LOG_LIMIT,

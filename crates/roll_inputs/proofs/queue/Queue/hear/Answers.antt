@@ -16,5 +16,5 @@ invariant_of-self c =
       room = ap (λ (b : Buffer ℕ). b.capacity) c.push_back.ensures.items ∙ c.self.invariant.room;
       words = ap (λ (b : Buffer ℕ). b.items) c.push_back.ensures.items ∙ (rw (c.self.invariant.room, whole) (keep_last-push q.ring.items q.history.words q.from QUEUE_LIMIT c.args.word c.self.invariant.words (omega (arith, c.requires.ahead)) (omega (arith, c.requires.room))));
       count = rw whole (omega (arith, c.self.invariant.count, length-append {A = ℕ}));
-      last = rw whole (sym (last_word-push q.history.words c.args.word));
+      last = rw whole (sym (last_word-push q.before q.history.words c.args.word));
     }

@@ -1,5 +1,5 @@
-use Rattle.std.proofs.Common.{refl, subst}
-use Rattle.roll_member.specs.Joined.{IsJoinedAs}
+use Rattle.std.proofs.Common.{◌≡◌, None, refl, subst}
+use Rattle.roll_member.specs.Joined.{join_refusal, IsJoinedAs}
 use Rattle.roll_mesh.specs.declared.seat.Seat.{Seat}
 use Rattle.roll_peer.proofs.peer.Peer.open.Goals as goal
 
@@ -20,4 +20,15 @@ returns-in-Ok-join-clause-opened g c = record {
   digests = c.new-in-Ok-join-5.ensures;
   pace = c.in-Ok.ensures;
   frame = c.frame.ensures;
+}
+
+pub returns-in-Ok-join-clause-begins : goal.returns-in-Ok-join-clause-begins
+returns-in-Ok-join-clause-begins g c = record {
+  first = c.in-Ok-join.member.mesh;
+  joined = (returns-in-Ok-join-clause-opened g c).member;
+  tied = c.in-Ok-join.ensures.tied;
+  accepted = subst (λ (seat : Seat). join_refusal (g.S.Networked.seen c.args.session.now) seat ≡ None)
+      c.seat.ensures c.in-Ok-join.ensures.accepted;
+  mesh = refl;
+  settings_are = refl;
 }
