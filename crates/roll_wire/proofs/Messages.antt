@@ -14,7 +14,7 @@ use Rattle.roll_wire.specs.declared.datagram.Marked.{Marked}
 use Rattle.roll_wire.specs.declared.fault.WireFault.{WireFault}
 use Rattle.roll_wire.specs.declared.fault.WireFault.TheVariants.{Magic, Misplaced, TooMany, Trailing, Mark as MarkFault}
 use Rattle.roll_wire.specs.declared.limits.TheConstants.{MAGIC, WORD_LIMIT}
-use Rattle.roll_wire.specs.Spelling.{Content, Greets, Plays, Leaves, Message, Turn, body, byte, envelope, hello, message, number, head, marks, runs, spelling, are_marks, count_of, Fits, IsContent, IsMarked, IsTurn}
+use Rattle.roll_wire.specs.Spelling.{Content, Greets, Plays, Leaves, Message, Turn, body, envelope, hello, message, number, head, marks, runs, spelling, are_marks, count_of, Fits, IsContent, IsMarked, IsTurn}
 use Rattle.roll_wire.specs.Reading.{◌>>=◌, Gives, number_at, magic_at, envelope_at, hello_at, head_at, is_unmarked, marked_at, marks_at, masked_at, placed, unmarked, unmarked_of, within_at, words_at, turn_at, content_at, all_of}
 use Rattle.roll_wire.proofs.Fields.{IsBytes, IsBytes-rest, Takes, Takes-then, bind_ok, passed_ok, ok_is, number_field}
 use Rattle.roll_wire.proofs.Groups.{envelope_field, head_field, hello_field, marks_field}

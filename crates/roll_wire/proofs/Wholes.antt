@@ -1,7 +1,7 @@
 -- A turn that has the words that it offers, and no more than fit, has a spelling.
 use Rattle.std.proofs.Common.{◌≡◌, ℕ, suc, ◌-◌, ◌<◌, ◌^◌, Bool, true, List, [], ◌∷◌, ◌≤◌, length, get_or, refl, sym, arith}
 use Rattle.std.specs.List.{AllByRecursion}
-use Rattle.std.specs.Prelude.{Option, Some, None, IfSome, count_by, is_some, nat_le, nat_lt, ◌&&◌, ◌==◌, slice_index}
+use Rattle.std.specs.Prelude.{Option, Some, None, IfSome, count_by, is_some, replicate, nat_le, nat_lt, ◌&&◌, ◌==◌, slice_index}
 use Rattle.std.proofs.lemmas.Bool.{and_parts, and_from, eqb-true, eq-eqb, leb-true, le-leb, lt-ltb}
 use Rattle.roll_mesh.specs.declared.limits.TheConstants.{PLAYER_LIMIT}
 use Rattle.roll_mesh.specs.declared.packet.Offer.{Offer}
@@ -67,6 +67,20 @@ parts_of t h =
       marks = marks.0;
       spelled = marks.1;
     }
+
+no_marks : (offers : List Offer) → are_placed offers (replicate PLAYER_LIMIT None) ≡ true
+unfolding are_placed
+no_marks offers = refl
+
+-- a turn without marks is one if its offers and its words are well
+pub unmarked_whole : (offers : List Offer) (words : List ℕ)
+    → (are_offers offers && (count_of offers == length words) && nat_le (length words) WORD_LIMIT) ≡ true
+    → (are_offers offers && (count_of offers == length words) && nat_le (length words) WORD_LIMIT
+    && (are_marks offers (replicate PLAYER_LIMIT None) && are_spelled (replicate PLAYER_LIMIT None))) ≡ true
+unmarked_whole offers words h =
+    and_from (are_offers offers && (count_of offers == length words) && nat_le (length words) WORD_LIMIT)
+    (are_marks offers (replicate PLAYER_LIMIT None) && are_spelled (replicate PLAYER_LIMIT None)) h
+    (rw (no_marks offers) refl)
 
 pub few_marks : (t : Turn) → is_turn t ≡ true → count_by is_some t.marks ≤ MARK_LIMIT
 few_marks t h =

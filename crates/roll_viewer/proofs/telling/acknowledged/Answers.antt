@@ -5,6 +5,7 @@ use Rattle.roll_mesh.specs.declared.limits.TheConstants.{MACHINE_LIMIT, PLAYER_L
 use Rattle.roll_mesh.specs.Machines.{none_offered}
 use Rattle.roll_wire.specs.Spelling.{Turn}
 use Rattle.roll_wire.specs.declared.datagram.Clocks.{Clocks}
+use Rattle.roll_wire.proofs.Wholes.{unmarked_whole}
 use Rattle.roll_viewer.proofs.Padding.{filled_up, one_more}
 use Rattle.roll_viewer.proofs.telling.acknowledged.Goals as goal
 
@@ -16,6 +17,7 @@ said_of clocks has words = record {
     settled = None;
     offers = replicate PLAYER_LIMIT none_offered;
   };
+  marks = replicate PLAYER_LIMIT None;
   words = words;
 }
 
@@ -42,3 +44,6 @@ loop-place-preserved c =
       done = one_more (λ k. rows) has place rows 0 (omega (arith, c.loop-place.invariant.all, c.loop-place-test.true, c.requires)) c.loop-place.invariant.done refl;
       left = λ k l. (let ne : k ≢ place = omega (arith, l) in get_or-set_other has place k rows 0 ne) ∙ c.loop-place.invariant.left k (omega (arith, l));
     }
+
+pub returns-clause-whole : goal.returns-clause-whole
+returns-clause-whole c = rw c.new.ensures (unmarked_whole (replicate PLAYER_LIMIT none_offered) [] refl)

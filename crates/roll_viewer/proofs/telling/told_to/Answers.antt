@@ -3,7 +3,8 @@ use Rattle.roll_mesh.specs.declared.packet.Offer.{Offer}
 use Rattle.roll_session.specs.Seen.{game_of}
 use Rattle.roll_wire.specs.Spelling.{count_of}
 use Rattle.roll_wire.specs.declared.limits.TheConstants.{WORD_LIMIT}
-use Rattle.roll_viewer.specs.Telling.{told_to}
+use Rattle.roll_wire.proofs.Wholes.{unmarked_whole}
+use Rattle.roll_viewer.specs.Telling.{offers_to, spans_to, told_to, words_in}
 use Rattle.roll_viewer.proofs.Settled.{known_log, told_fits, told_whole, Known}
 use Rattle.roll_viewer.proofs.telling.told_to.Goals as goal
 
@@ -26,4 +27,6 @@ returns-clause-whole g c =
     let known : Known s.core =
     subst Known (sym c.laws.ensures.core)
     (known_log s.settings (game_of g.S.Networked.step s) s.log c.laws.ensures.log) in
-    rw (c.words_in.ensures, c.said_once.ensures, c.spans_to-spans.ensures) (told_whole s.core c.args.had known)
+    rw (c.words_in.ensures, c.said_once.ensures, c.spans_to-spans.ensures)
+    (unmarked_whole (offers_to s.core c.args.had) (words_in s.core.players (spans_to s.core c.args.had))
+    (told_whole s.core c.args.had known))

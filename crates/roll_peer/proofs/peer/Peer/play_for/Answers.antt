@@ -1,7 +1,9 @@
 use Rattle.std.proofs.Common.{◌≡◌, ◌∙◌, ap, refl}
-use Rattle.std.specs.Prelude.{slice_index_or}
+use Rattle.std.specs.Prelude.{map, slice_index_or}
 use Rattle.roll_contact.specs.Contacts.{opened_contact}
+use Rattle.roll_mesh.specs.Machines.{kept_offer}
 use Rattle.roll_mesh.specs.declared.packet.Packet.{Packet}
+use Rattle.roll_wire.proofs.Wholes.{unmarked_whole}
 use Rattle.roll_peer.specs.Peered.{contact_at, Peered}
 use Rattle.roll_peer.specs.Sending.{clocks_in, settled_in}
 use Rattle.roll_peer.proofs.Sent.{still_whole}
@@ -24,4 +26,6 @@ returns-clause-told g c =
 
 pub returns-clause-whole : goal.returns-clause-whole
 returns-clause-whole g c =
-    rw (c.shortened.ensures) (still_whole c.tell-words.result.packet.offers c.tell-words.result.words.items c.tell-words.ensures.whole)
+    rw (c.shortened.ensures)
+    (unmarked_whole (map kept_offer c.tell-words.result.packet.offers) c.tell-words.result.words.items
+    (still_whole c.tell-words.result.packet.offers c.tell-words.result.words.items c.tell-words.ensures.whole))

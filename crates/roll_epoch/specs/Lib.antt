@@ -1,0 +1,4 @@
+pub mod Ends
+pub mod Ids
+pub mod Laws
+pub mod Successions

@@ -1,0 +1,18 @@
+//! Epochs: parts of a match whose machines, owners, delays and threshold stay the same. When one ends, and what the next one is: pure
+//! rules, which take no memory.
+#![tactic(auto)]
+
+mod id;
+mod laws;
+mod limits;
+mod marks;
+mod owners;
+mod terms;
+
+pub use id::key_of;
+pub use laws::{
+    ends_are_one, ends_stay, nobody_loses_a_player, of_one_past_one_end, of_one_past_one_next,
+};
+pub use limits::{DELAY_MOST, FIRST_DELAY, NO_MACHINE, THRESHOLD_MOST};
+pub use marks::{Ending, Marks, is_void};
+pub use terms::Terms;

@@ -1,0 +1,10 @@
+//! The limits of epochs, each named once.
+
+/// Who owns a player that nobody owns.
+pub const NO_MACHINE: u8 = 255;
+/// The greatest threshold.
+pub const THRESHOLD_MOST: u8 = 15;
+/// The greatest input delay, in frames.
+pub const DELAY_MOST: u8 = 8;
+/// The input delay of a player whose owner is another than before, in frames, if no mark says otherwise.
+pub const FIRST_DELAY: u8 = 2;
