@@ -260,12 +260,15 @@ public static unsafe class Fazgrond
     [DllImport(Library)] public static extern int fazgrond_frames_ahead(Session* session, uint* frames);
     [DllImport(Library)] public static extern int fazgrond_claim(Session* session, byte* @out, UIntPtr room, UIntPtr* length);
     [DllImport(Library)] public static extern int fazgrond_peer_open(Peer* peer, Session* session, Match* match);
+    [DllImport(Library)] public static extern int fazgrond_peer_open_carrying(Peer* peer, Session* session, Match* match);
     [DllImport(Library)] public static extern int fazgrond_peer_receive(Peer* peer, Session* session, byte* bytes,
                                                                         UIntPtr length, uint now);
     [DllImport(Library)] public static extern int fazgrond_peer_poll(Peer* peer, Session* session, uint now);
     [DllImport(Library)] public static extern int fazgrond_peer_is_running(Peer* peer, uint* flag);
     [DllImport(Library)] public static extern int fazgrond_peer_send(Peer* peer, Session* session, byte machine, uint now,
                                                                      byte* @out, UIntPtr room, UIntPtr* length);
+    [DllImport(Library)] public static extern int fazgrond_peer_send_more(Peer* peer, byte* machine, byte* @out, UIntPtr room,
+                                                                          UIntPtr* length);
     [DllImport(Library)] public static extern int fazgrond_peer_bye(Peer* peer, byte machine, byte* @out, UIntPtr room,
                                                                     UIntPtr* length);
     [DllImport(Library)] public static extern int fazgrond_peer_disconnect(Peer* peer, byte machine);

@@ -302,7 +302,8 @@ int32_t fazgrond_claim(fazgrond_session *session, uint8_t *out, size_t room, siz
  *   fazgrond_peer_is_running: until it says 1, give no words, and skip the next two lines;
  *   fazgrond_add_local_input for each player of this machine; if all are accepted, fazgrond_advance_frame, and else, if
  *   fazgrond_has_news says 1, fazgrond_synchronize_input. Then carry out the requests;
- *   fazgrond_peer_event until there is none, and fazgrond_peer_send for each other machine.
+ *   fazgrond_peer_event until there is none, and fazgrond_peer_send for each other machine. If the peer carries, then
+ *   fazgrond_peer_send_more until there is nothing.
  *
  * Always give a peer the session that it was opened with. The peer alone tells that session of the other machines: a program that
  * calls fazgrond_remote_input or fazgrond_disconnect_player itself ends the match for this machine, since from then on each call
@@ -453,6 +454,12 @@ typedef struct fazgrond_stats {
  * words of another machine's player already, or a player has left it. */
 int32_t fazgrond_peer_open(fazgrond_peer *peer, fazgrond_session *session, const fazgrond_match *match);
 
+/* The same of a peer that carries, for a match of three machines or more: where the line between two of them breaks, a third one that
+ * both hear hands their datagrams on, so nobody is gone for it. fazgrond_peer_send makes what goes straight, and is
+ * FAZGROND_NOTHING too while a datagram is carried alone; call fazgrond_peer_send_more after it, in each turn. A machine carries
+ * with those that were opened so too. With two machines it is fazgrond_peer_open. */
+int32_t fazgrond_peer_open_carrying(fazgrond_peer *peer, fazgrond_session *session, const fazgrond_match *match);
+
 /* Closes it. Nothing happens if it is closed. The session stays open. */
 static inline void fazgrond_peer_close(fazgrond_peer *peer) {
     fazgrond_close((fazgrond_session *)(void *)peer);
@@ -478,7 +485,13 @@ int32_t fazgrond_peer_is_running(fazgrond_peer *peer, uint32_t *flag);
 int32_t fazgrond_peer_send(fazgrond_peer *peer, fazgrond_session *session, uint8_t machine, uint32_t now, uint8_t *out,
                            size_t room, size_t *length);
 
-/* The datagram that says to a machine that this one leaves the match: another one for each machine. Send each a few times.
+/* Once fazgrond_peer_send was called for each other machine, what a peer that carries has to send besides in this turn: a datagram, and
+ * to which machine it goes. It says who hears whom, or holds what machines send each other over this one. Call it until it is
+ * FAZGROND_NOTHING: of a peer that was opened by fazgrond_peer_open it always is. The room, as for fazgrond_peer_send. */
+int32_t fazgrond_peer_send_more(fazgrond_peer *peer, uint8_t *machine, uint8_t *out, size_t room, size_t *length);
+
+/* The datagram that says to a machine that this one leaves the match: another one for each machine. Send each a few times. A peer that
+ * carries has it carried too, if the line is broken: so call fazgrond_peer_send_more after it.
  * FAZGROND_NOTHING: the machine is gone, or this one, or none, or it and this one haven't heard each other. */
 int32_t fazgrond_peer_bye(fazgrond_peer *peer, uint8_t machine, uint8_t *out, size_t room, size_t *length);
 

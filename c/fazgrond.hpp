@@ -315,6 +315,11 @@ public:
         return Code(fazgrond_peer_open(handle.get(), session.handle.get(), &match));
     }
 
+    // The same of a peer that carries, for three machines or more whose lines may break: call send_more after send, in each turn.
+    Code open_carrying(Session &session, const Match &match) {
+        return Code(fazgrond_peer_open_carrying(handle.get(), session.handle.get(), &match));
+    }
+
     void close() { fazgrond_peer_close(handle.get()); }
 
     Code receive(Session &session, const std::uint8_t *bytes, std::size_t length, std::uint32_t now) {
@@ -332,6 +337,11 @@ public:
     Code send(Session &session, std::uint8_t machine, std::uint32_t now, Datagram &out) {
         return Code(fazgrond_peer_send(handle.get(), session.handle.get(), machine, now, out.bytes.data(), out.bytes.size(),
                                        &out.length));
+    }
+
+    // What a peer that carries has to send besides in this turn, and to which machine. The answer is nothing if there is no more.
+    Code send_more(std::uint8_t &machine, Datagram &out) {
+        return Code(fazgrond_peer_send_more(handle.get(), &machine, out.bytes.data(), out.bytes.size(), &out.length));
     }
 
     // The datagram that says to a machine that this one leaves. The answer is nothing if there is none to send.

@@ -601,7 +601,8 @@ end
 
 -- ---- The network of a match at one of its machines, beside a session. `now` is this machine's clock in milliseconds.
 
-local MATCH = set_of [[me machines owners number numbers draw digest silent_after notify_after stalled_after words held_turns]]
+local MATCH = set_of [[me machines owners number numbers draw digest silent_after notify_after stalled_after words held_turns
+    carries]]
 
 local function set_owners(owners, given)
     for player = 1, PLAYERS do
@@ -630,11 +631,13 @@ end
 
 -- Opens the network of a match: `me`, `machines` and `owners` (the machine of each player, player 1's first), `number` (or
 -- `numbers`, by machines from 0), and if they are to be others `digest`, `silent_after` (5000), `notify_after` (750),
--- `stalled_after` (0), `words` (1), `held_turns` (0) and `draw` (random bits).
+-- `stalled_after` (0), `words` (1), `held_turns` (0) and `draw` (random bits). With `carries`, in a match of three machines or more, it
+-- hands on what two others send each other whose line is broken, and they for it: see `send_more`.
 function fazgrond.peer(session, match)
     check_options(match, MATCH, "matches")
     local handle = new_handle "peer"
-    local peer, name, code = opened(Peer, handle, lib.fazgrond_peer_open(handle, open(session), match_of(match)))
+    local opening = match.carries and lib.fazgrond_peer_open_carrying or lib.fazgrond_peer_open
+    local peer, name, code = opened(Peer, handle, opening(handle, open(session), match_of(match)))
     if not peer then
         return nil, name, code
     end
@@ -661,6 +664,16 @@ end
 function Peer:send(machine, now)
     local session = open(self.session)
     return written(lib.fazgrond_peer_send(open(self), session, u8(machine), milliseconds(now), bytes_out, DATAGRAM, size))
+end
+
+-- Once `send` was called for each other machine, what a peer that carries has to send besides in this turn: a machine, and the
+-- datagram for it; nil and "nothing" if there is no more. `for machine, bytes in peer.send_more, peer do` has all of it.
+function Peer:send_more()
+    local more, name, code = written(lib.fazgrond_peer_send_more(open(self), machine_out, bytes_out, DATAGRAM, size))
+    if not more then
+        return nil, name, code
+    end
+    return machine_out[0], more
 end
 
 -- The datagram that says to a machine that this one leaves. Send it a few times.

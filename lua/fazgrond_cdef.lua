@@ -203,11 +203,13 @@ typedef struct fazgrond_stats {
 } fazgrond_stats;
 static const int FAZGROND_DATAGRAM = 1200;
 int32_t fazgrond_peer_open(fazgrond_peer *peer, fazgrond_session *session, const fazgrond_match *match);
+int32_t fazgrond_peer_open_carrying(fazgrond_peer *peer, fazgrond_session *session, const fazgrond_match *match);
 int32_t fazgrond_peer_receive(fazgrond_peer *peer, fazgrond_session *session, const uint8_t *bytes, size_t length, uint32_t now);
 int32_t fazgrond_peer_poll(fazgrond_peer *peer, fazgrond_session *session, uint32_t now);
 int32_t fazgrond_peer_is_running(fazgrond_peer *peer, uint32_t *flag);
 int32_t fazgrond_peer_send(fazgrond_peer *peer, fazgrond_session *session, uint8_t machine, uint32_t now, uint8_t *out, size_t
     room, size_t *length);
+int32_t fazgrond_peer_send_more(fazgrond_peer *peer, uint8_t *machine, uint8_t *out, size_t room, size_t *length);
 int32_t fazgrond_peer_bye(fazgrond_peer *peer, uint8_t machine, uint8_t *out, size_t room, size_t *length);
 int32_t fazgrond_peer_disconnect(fazgrond_peer *peer, uint8_t machine);
 int32_t fazgrond_peer_note_settled(fazgrond_peer *peer, fazgrond_session *session, uint64_t digest);

@@ -12,6 +12,7 @@ import random
 import socket
 import sys
 import time
+from collections.abc import Iterator
 from pathlib import Path
 
 sys.path.insert(0, str(Path(__file__).resolve().parent / "out/package"))
@@ -88,7 +89,8 @@ class Play:
         digest = digest_of("duel", count, 4)
         self.session = Session(Settings(count, self.local, 8, delays={player: options.delay for player in self.local}), self.game)
         self.peer = Peer(self.session, Match(me, len(places), [places.index(it) for it in options.players],
-                                             options.match or digest, digest, silent_after=options.timeout))
+                                             options.match or digest, digest, silent_after=options.timeout,
+                                             carries=True))
         self.wait = self.again = 0
         self.noted = -1
         self.told: dict[str, str] = {}
@@ -113,7 +115,16 @@ class Play:
             datagram = self.peer.send(machine, int(now)) if address else None
             if address and datagram:
                 self.line.send(datagram, address, now)
+        for address, datagram in self.more():
+            self.line.send(datagram, address, now)
         self.line.deliver(now)
+
+    def more(self) -> Iterator[tuple[Address, bytes]]:
+        """What this machine carries for others, or has carried."""
+        while (more := self.peer.send_more()) is not None:
+            machine, datagram = more
+            if (address := self.machines[machine]) is not None:
+                yield address, datagram
 
     def give(self, words: list[int]) -> None:
         """A word for each ship of this machine, unless it is too far ahead."""
@@ -150,6 +161,8 @@ class Play:
             if address and datagram:
                 for _ in range(BYES):
                     self.line.send_now(datagram, address)
+        for address, datagram in self.more():
+            self.line.send_now(datagram, address)
         self.peer.close()
         self.session.close()
 

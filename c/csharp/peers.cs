@@ -1,5 +1,5 @@
 // Two machines of a match in one process, and a viewer of it, by the calls of fazgrond.cs: a struct that isn't the library's, or an
-// argument in a wrong place, and they don't come to play.
+// argument in a wrong place, and they don't come to play. Then three that carry for each other.
 using System;
 using System.Runtime.InteropServices;
 using static Fazgrond;
@@ -140,6 +140,90 @@ public static unsafe class Peers
             Must(code);
     }
 
+    // Three machines with a player each, two of which don't hear each other from a turn on, for longer than the time of silence.
+    static Machine Carrier(byte me)
+    {
+        var machine = new Machine { Me = me, Session = (Session*)Handle(), Peer = (Peer*)Handle() };
+        var settings = fazgrond_settings_for(3);
+        settings.Local = 1u << me;
+        Must(fazgrond_open(machine.Session, &settings));
+        var match = fazgrond_match_for(3, me);
+        fazgrond_one_number(&match, Number);
+        for (uint at = 0; at < 3; at++)
+            match.Owners[at] = at;
+        match.Draw = 7ul + me;
+        match.SilentAfter = 500;
+        Must(fazgrond_peer_open_carrying(machine.Peer, machine.Session, &match));
+        return machine;
+    }
+
+    static void CarrierPlays(Machine machine, uint now)
+    {
+        uint isRunning, frame, hasNews;
+        Row row;
+        Reached reached;
+        Event told;
+        Must(fazgrond_peer_poll(machine.Peer, machine.Session, now));
+        Must(fazgrond_peer_is_running(machine.Peer, &isRunning));
+        Must(fazgrond_frame(machine.Session, &frame));
+        Must(fazgrond_has_news(machine.Session, &hasNews));
+        if (isRunning != 0 && frame < Frames
+            && fazgrond_add_local_input(machine.Session, (byte)(machine.Me + 1), Pressed(machine.Me, frame)) == Ok)
+            Must(fazgrond_advance_frame(machine.Session, &reached));
+        else if (hasNews != 0)
+            Must(fazgrond_synchronize_input(machine.Session, &row));
+        CarryOutAll(machine);
+        while (fazgrond_peer_event(machine.Peer, &told) == Ok)
+            Is("who is gone", told.Code == Left || told.Code == Dropped || told.Code == CutOff ? 1ul : 0, 0);
+    }
+
+    static void CarrierSends(Machine[] all, Machine machine, uint now)
+    {
+        UIntPtr length;
+        byte to;
+        for (to = 0; to < 3; to++)
+            if (fazgrond_peer_send(machine.Peer, machine.Session, to, now, bytes, (UIntPtr)Datagram, &length) == Ok)
+                Arrives(all, machine.Me, to, length, now);
+        while (fazgrond_peer_send_more(machine.Peer, &to, bytes, (UIntPtr)Datagram, &length) == Ok)
+            Arrives(all, machine.Me, to, length, now);
+    }
+
+    // The line between machines 0 and 1 is broken from the 40th turn on.
+    static void Arrives(Machine[] all, byte from, byte to, UIntPtr length, uint now)
+    {
+        if (now < 16 * 40 || from + to != 1)
+            fazgrond_peer_receive(all[to].Peer, all[to].Session, bytes, length, now);
+    }
+
+    static void Carry()
+    {
+        var all = new[] { Carrier(0), Carrier(1), Carrier(2) };
+        for (uint turn = 0; turn < 600; turn++)
+            foreach (var machine in all)
+            {
+                CarrierPlays(machine, 16 * turn);
+                CarrierSends(all, machine, 16 * turn);
+            }
+        ulong state = 0;
+        Row row;
+        row.Count = 3;
+        for (uint frame = 0; frame < Frames; frame++)
+        {
+            for (uint at = 0; at < 3; at++)
+                row.Words[at] = Pressed(at, frame);
+            state = Stepped(state, &row);
+        }
+        foreach (var machine in all)
+        {
+            uint settled;
+            Must(fazgrond_settled(machine.Session, &settled));
+            Is("settled frames", settled, Frames);
+            Is("a machine that carries", machine.State, state);
+            fazgrond_peer_close(machine.Peer);
+            fazgrond_close(machine.Session);
+        }
+    }
+
     // The state after all frames, without a network.
     static ulong Due()
     {
@@ -200,6 +284,7 @@ public static unsafe class Peers
             fazgrond_close(machine.Session);
             Is("a closed handle", (ulong)FrameOf(machine.Session), (ulong)IsClosed);
         }
+        Carry();
     }
 
     static int FrameOf(Session* session)

@@ -106,7 +106,8 @@ static void open_peer(subject *self, input *in) {
     match.notify_after = take_some(in, 50) * 32;
     match.stalled_after = take_some(in, 50) * 32;
     match.held_turns = take_byte(in) % 11;
-    int32_t code = fazgrond_peer_open(&self->peer, &self->session, &match);
+    bool carries = take_byte(in) % 2 == 0;
+    int32_t code = (carries ? fazgrond_peer_open_carrying : fazgrond_peer_open)(&self->peer, &self->session, &match);
     MUST(code != FAZGROND_OK || (match.size == sizeof match && match.held_turns <= 8));
 }
 
@@ -462,6 +463,7 @@ static void call_of_peer(subject *self, input *in) {
     uint32_t what = take_byte(in), flag, frame, slot;
     uint8_t bytes[1300];
     size_t room = take_some(in, 8) * 200 % sizeof bytes, length = 0;
+    uint8_t to;
     fazgrond_event event;
     fazgrond_stats stats;
     switch (what % 16) {
@@ -474,6 +476,8 @@ static void call_of_peer(subject *self, input *in) {
     case 6:
         fazgrond_peer_bye(&self->peer, (uint8_t)take_some(in, 4), bytes, room, &length);
         MUST(length <= room);
+        if (fazgrond_peer_send_more(&self->peer, &to, bytes, room, &length) == FAZGROND_OK)
+            MUST(length <= room && to < FAZGROND_MACHINES);
         break;
     case 7: fazgrond_peer_disconnect(&self->peer, (uint8_t)take_some(in, 4)); break;
     case 8: fazgrond_peer_event(&self->peer, &event); break;

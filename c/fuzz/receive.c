@@ -1,6 +1,7 @@
 /* A fuzzer of fazgrond_peer_receive: two or three peers play, and hear packets of each other that are late, twice there,
  * changed, or made up. Half of what is changed or made up is sealed as what its sender sends, so that it is read. Now and then a
- * machine is opened anew, or the clock jumps. The input says all that happens.
+ * machine is opened anew, the clock jumps, or a line breaks, and in half of the matches machines carry for each other. The input says
+ * all that happens.
  *
  * What is refused must have changed nothing. Requests must be such that a game can carry them out, and the settled state must
  * be that of the settled rows. Where nothing came, nothing is rolled back. If nothing made up was taken and nobody has left, all
@@ -28,7 +29,7 @@ typedef struct match {
     machine machine[PEERS];
     uint32_t machines, players, now, how;
     packet held[HELD];
-    bool is_forged;
+    bool is_forged, carries, is_broken; /* the line between machines 0 and 1 is */
 } match;
 
 /* Opens a machine, or opens it anew. */
@@ -52,7 +53,7 @@ static void open_machine(match *self, uint32_t me) {
     made.notify_after = how & 64 ? 750 : 0;
     made.stalled_after = how & 128 ? 3000 : 0;
     MUST(fazgrond_open(&at->session, &settings) == FAZGROND_OK);
-    MUST(fazgrond_peer_open(&at->peer, &at->session, &made) == FAZGROND_OK);
+    MUST((self->carries ? fazgrond_peer_open_carrying : fazgrond_peer_open)(&at->peer, &at->session, &made) == FAZGROND_OK);
     begin_game(&at->game);
     at->draw = made.draw;
     at->settled_rows = 0;
@@ -62,6 +63,7 @@ static void open_machine(match *self, uint32_t me) {
 static void open_match(match *self, input *in) {
     memset(self, 0, sizeof *self);
     self->how = take_byte(in);
+    self->carries = take_byte(in) % 2 == 0;
     self->machines = 2 + (self->how & 1);
     self->players = self->how & 2 ? PLAYERS : self->machines;
     self->now = self->how & 4 ? UINT32_MAX - 500 : 1;
@@ -129,6 +131,15 @@ static bool make_packet(match *self, uint32_t from, uint32_t to, packet *made) {
     int32_t code = fazgrond_peer_send(&sender->peer, &sender->session, (uint8_t)(to % self->machines), self->now, made->bytes,
                                       sizeof made->bytes, &made->length);
     MUST(code == FAZGROND_OK || code == FAZGROND_NOTHING);
+    MUST(code != FAZGROND_OK || (made->length >= 14 && made->length <= sizeof made->bytes));
+    return code == FAZGROND_OK;
+}
+
+/* What a machine carries for others, or has carried. */
+static bool make_more(match *self, uint32_t from, uint8_t *to, packet *made) {
+    int32_t code = fazgrond_peer_send_more(&self->machine[from].peer, to, made->bytes, sizeof made->bytes, &made->length);
+    MUST(code == FAZGROND_OK || code == FAZGROND_NOTHING);
+    MUST(code != FAZGROND_OK || (self->carries && *to < self->machines && *to != from));
     MUST(code != FAZGROND_OK || (made->length >= 14 && made->length <= sizeof made->bytes));
     return code == FAZGROND_OK;
 }
@@ -214,6 +225,9 @@ static void leave(match *self, uint32_t who, uint32_t whom) {
     for (uint32_t to = 0; to < self->machines && whom % 2 == 1; to++)
         if (fazgrond_peer_bye(&at->peer, (uint8_t)to, bye.bytes, sizeof bye.bytes, &bye.length) == FAZGROND_OK)
             hear(self, to, &bye, false);
+    uint8_t next;
+    while (make_more(self, who % self->machines, &next, &bye))
+        hear(self, next, &bye, false);
 }
 
 /* Each hears what the others have to say, and plays. */
@@ -222,9 +236,14 @@ static void turn(match *self, input *in) {
     for (uint32_t who = 0; who < self->machines; who++) {
         for (uint32_t to = 0; to < self->machines; to++) {
             packet made;
-            if (make_packet(self, who, to, &made))
+            if (make_packet(self, who, to, &made) && !(self->is_broken && who + to == 1))
                 hear(self, to, &made, false);
         }
+        packet more;
+        uint8_t next;
+        while (make_more(self, who, &next, &more))
+            if (!(self->is_broken && who + next == 1))
+                hear(self, next, &more, false);
         poll(self, who);
         play(self, who, in);
     }
@@ -234,6 +253,7 @@ static void one_thing(match *self, input *in) {
     uint32_t what = take_byte(in), who = take_byte(in);
     packet *held = &self->held[who >> 4];
     packet made;
+    uint8_t to;
     switch (what % 16) {
     case 0:
     case 1:
@@ -258,7 +278,15 @@ static void one_thing(match *self, input *in) {
             seal_for(self, &made, who);
         hear(self, who, &made, true);
         break;
-    case 11: play(self, who, in); break;
+    case 11:
+        play(self, who, in);
+        if (what & 16 && make_more(self, who % self->machines, &to, &made)) {
+            change(in, &made);
+            if (what & 32)
+                seal_for(self, &made, to);
+            hear(self, to, &made, true);
+        }
+        break;
     case 12: ask(self, who); break;
     case 13:
         self->now += take_byte(in);
@@ -277,6 +305,8 @@ static void one_thing(match *self, input *in) {
             self->now += 6000;
         else if (what & 32 && (who & 7) == 1)
             self->now = take_number(in);
+        else if ((who & 7) == 2)
+            self->is_broken = !self->is_broken;
     }
 }
 

@@ -66,6 +66,32 @@ static void close_both(GGPOSession *session) {
     fazgrond_close(&session->rollback);
 }
 
+/* How a datagram goes out: by the line, or at once. */
+typedef void by_line(GGPOSession *session, int to, const uint8_t *bytes, size_t length);
+
+/* Three machines or more carry for each other where a line breaks. A library before 0.1.1 can't. */
+#if FAZGROND_VERSION >= 0x000101
+static int32_t open_peer(GGPOSession *session, const fazgrond_match *match) {
+    return fazgrond_peer_open_carrying(&session->peer, &session->rollback, match);
+}
+
+static void send_more(GGPOSession *session, by_line *send) {
+    uint8_t bytes[FAZGROND_DATAGRAM], to;
+    size_t length;
+    while (fazgrond_peer_send_more(&session->peer, &to, bytes, sizeof bytes, &length) == FAZGROND_OK)
+        send(session, to, bytes, length);
+}
+#else
+static int32_t open_peer(GGPOSession *session, const fazgrond_match *match) {
+    return fazgrond_peer_open(&session->peer, &session->rollback, match);
+}
+
+static void send_more(GGPOSession *session, by_line *send) {
+    (void)session;
+    (void)send;
+}
+#endif
+
 /* Opens the session and its peer. */
 static GGPOErrorCode open_both(GGPOSession *session) {
     fazgrond_settings settings = the_settings(session);
@@ -74,7 +100,7 @@ static GGPOErrorCode open_both(GGPOSession *session) {
         return ggponet_no_draw(session);
     int32_t answer = fazgrond_open(&session->rollback, &settings);
     if (answer == FAZGROND_OK)
-        answer = fazgrond_peer_open(&session->peer, &session->rollback, &match);
+        answer = open_peer(session, &match);
     return ggponet_refused(session, answer);
 }
 
@@ -111,6 +137,7 @@ void ggponet_send_to_machines(GGPOSession *session) {
                                   &length)
                 == FAZGROND_OK)
             ggponet_send_to(session, to, bytes, length);
+    send_more(session, ggponet_send_to);
 }
 
 void ggponet_send_bye(GGPOSession *session, int to, const uint8_t *bytes, size_t length) {
@@ -125,6 +152,7 @@ static void say_bye(GGPOSession *session) {
     for (int at = 0; at < session->machines; at++)
         if (fazgrond_peer_bye(&session->peer, (uint8_t)at, bytes, sizeof bytes, &length) == FAZGROND_OK)
             ggponet_send_bye(session, at, bytes, length);
+    send_more(session, ggponet_send_bye);
 }
 
 void ggponet_close_match(GGPOSession *session) {

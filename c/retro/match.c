@@ -47,6 +47,26 @@ static void must(match *self, int32_t code) {
 
 /* The beginning. */
 
+/* Three machines or more carry for each other where a line breaks. A library before 0.1.1 can't. */
+#if FAZGROND_VERSION >= 0x000101
+static int32_t open_peer(match *self, const fazgrond_match *match) {
+    return fazgrond_peer_open_carrying(&self->peer, &self->session, match);
+}
+
+static void send_more(match *self) {
+    uint8_t bytes[FAZGROND_DATAGRAM], to;
+    size_t length;
+    while (fazgrond_peer_send_more(&self->peer, &to, bytes, sizeof bytes, &length) == FAZGROND_OK)
+        net_send(self->meeting->net, &self->meeting->all.machine[to], bytes, length);
+}
+#else
+static int32_t open_peer(match *self, const fazgrond_match *match) {
+    return fazgrond_peer_open(&self->peer, &self->session, match);
+}
+
+static void send_more(match *self) { (void)self; }
+#endif
+
 static bool open_session(match *self) {
     const agreement *all = &self->meeting->all;
     fazgrond_settings settings = fazgrond_settings_for(all->players);
@@ -73,7 +93,7 @@ static bool open_session(match *self) {
     match.held_turns = self->wish->hold;
     must(self, fazgrond_open(&self->session, &settings));
     must(self, fazgrond_limit_slots(&self->session, SLOTS));
-    must(self, fazgrond_peer_open(&self->peer, &self->session, &match));
+    must(self, open_peer(self, &match));
     return !self->has_failed;
 }
 
@@ -273,7 +293,9 @@ static void react(match *self, const fazgrond_event *event) {
     case FAZGROND_STALLED: say(self, "machine %" PRIu32 " gives no words", event->machine); break;
     case FAZGROND_RESUMED: say(self, "machine %" PRIu32 " is heard again", event->machine); break;
     case FAZGROND_MISSING: say(self, "machine %" PRIu32 " isn't there", event->machine); break;
+#if FAZGROND_VERSION >= 0x000101
     case FAZGROND_CUT_OFF: say(self, "too few of the others are heard: over in %" PRIu32 " ms", event->disconnect_in); break;
+#endif
     case FAZGROND_RESTARTED: say(self, "machine %" PRIu32 " was begun anew, and can't come back", event->machine); break;
     case FAZGROND_DISCONNECTED:
         say(self, "player %" PRIu32 " has left", event->player);
@@ -294,6 +316,7 @@ static void send_all(match *self, uint32_t now) {
     for (uint32_t at = 0; at < self->meeting->all.machines; at++)
         if (fazgrond_peer_send(&self->peer, &self->session, (uint8_t)at, now, bytes, sizeof bytes, &length) == FAZGROND_OK)
             net_send(self->meeting->net, &self->meeting->all.machine[at], bytes, length);
+    send_more(self);
     for (uint32_t at = 0; at < self->open_lines; at++) {
         fazgrond_line_state seen;
         if (fazgrond_line_send(&self->lines[at], &self->session, now, bytes, sizeof bytes, &length) == FAZGROND_OK)
@@ -310,6 +333,7 @@ static void say_bye(match *self) {
         for (int times = 0; times < BYES; times++)
             if (fazgrond_peer_bye(&self->peer, (uint8_t)at, bytes, sizeof bytes, &length) == FAZGROND_OK)
                 net_send(self->meeting->net, &self->meeting->all.machine[at], bytes, length);
+    send_more(self);
     for (uint32_t at = 0; at < self->open_lines; at++)
         for (int times = 0; times < BYES; times++)
             if (fazgrond_line_bye(&self->lines[at], bytes, sizeof bytes, &length) == FAZGROND_OK)

@@ -8,7 +8,7 @@
 static const char usage[] =
     "trials                          all trials, a few cases of each; the last line is `N passed, M failed`\n"
     "trials NAME [COUNT [SEED]]      one of them: rematches, restarts, copies, clocks, stalls, standing, honest, lies,\n"
-    "                                viewers, sessions, guesses, habits\n"
+    "                                viewers, sessions, guesses, habits, lines\n"
     "trials shares [COUNT [SEED]]    what guesses by habits save: frames run again, those of GGPO, jobs, and\n"
     "                                those for whose states there was no room\n"
     "trials play [OPTIONS] [FAULT..] a match, and what its machines are told; without more it says how\n";
@@ -110,7 +110,7 @@ static const struct {
     { "clocks", trial_clocks, 1 },       { "stalls", trial_stalls, 1 },     { "standing", trial_standing, 1 },
     { "honest", trial_honest, 8 },       { "lies", trial_lies, 1 },         { "viewers", trial_viewers, 2 },
     { "sessions", trial_sessions, 2 },   { "guesses", trial_guesses, 1 },
-    { "habits", trial_habits, 1 },
+    { "habits", trial_habits, 1 },       { "lines", trial_lines, 4 },
 };
 
 int main(int count, char **words) {

@@ -11,6 +11,7 @@ static const char usage[] =
     "  --delay MS --jitter MS --loss PERCENT --copies PERCENT    the line; delay is one way\n"
     "  --silent MS --notify MS --stalled MS --input-delay FRAMES --last FRAME (no words from it on)\n"
     "  --pairs    each two machines have a number of their own\n"
+    "  --carries  machines hand on what others send each other   --held TURNS (for which others' words wait)\n"
     "  --buttons  all words are 0 or 1   --guesses  each machine guesses the others' words (with buttons)\n"
     "A fault is MS:WHAT:MACHINE or MS:WHAT:MACHINE:NUMBER, with the milliseconds since the beginning, in their order:\n"
     "  kill  open (anew)  leave (with byes)  mute  deaf  stall (it gives no words)  heal (of these three)\n"
@@ -19,8 +20,8 @@ static const char usage[] =
     "as in: trials play --machines 3 --seconds 12 2000:kill:2 3000:open:2\n";
 
 static struct {
-    long machines, players, rate, seconds, seed, delay, jitter, loss, copies, silent, notify, stalled, input_delay, last;
-    bool is_idle, has_pairs, has_buttons, has_guesses;
+    long machines, players, rate, seconds, seed, delay, jitter, loss, copies, silent, notify, stalled, input_delay, last, held;
+    bool carries, is_idle, has_pairs, has_buttons, has_guesses;
 } self = { .machines = 2, .rate = 60, .seconds = 10, .seed = 1, .delay = 20, .silent = 5000, .notify = 750 };
 
 static const option options[] = {
@@ -31,6 +32,7 @@ static const option options[] = {
     { "--copies", &self.copies, NULL, NULL },     { "--silent", &self.silent, NULL, NULL },
     { "--notify", &self.notify, NULL, NULL },     { "--stalled", &self.stalled, NULL, NULL },
     { "--input-delay", &self.input_delay, NULL, NULL }, { "--last", &self.last, NULL, NULL },
+    { "--held", &self.held, NULL, NULL },         { "--carries", NULL, NULL, &self.carries },
     { "--idle", NULL, NULL, &self.is_idle },      { "--pairs", NULL, NULL, &self.has_pairs },
     { "--buttons", NULL, NULL, &self.has_buttons }, { "--guesses", NULL, NULL, &self.has_guesses },
     { NULL, NULL, NULL, NULL },
@@ -42,7 +44,7 @@ static setup setup_of(void) {
                     .copies = (uint32_t)self.copies, .silent_after = (uint32_t)self.silent,
                     .notify_after = (uint32_t)self.notify, .stalled_after = (uint32_t)self.stalled,
                     .input_delay = (uint32_t)self.input_delay, .last_frame = (uint32_t)self.last,
-                    .has_pair_numbers = self.has_pairs, .is_idle = self.is_idle,
+                    .held_turns = (uint32_t)self.held, .carries = self.carries, .has_pair_numbers = self.has_pairs, .is_idle = self.is_idle,
                     .is_button = self.has_buttons, .seed = (uint64_t)self.seed };
 }
 

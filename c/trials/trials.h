@@ -44,6 +44,7 @@ void trial_viewers(uint32_t count, uint32_t seed);
 void trial_sessions(uint32_t count, uint32_t seed);
 void trial_guesses(uint32_t count, uint32_t seed);
 void trial_habits(uint32_t count, uint32_t seed);
+void trial_lines(uint32_t count, uint32_t seed);
 
 /* From now on each machine guesses the others' words in each turn. */
 void trial_let_guess(world *self);

@@ -208,6 +208,7 @@ static fazgrond_match match_of(const world *self, uint32_t who) {
     made.silent_after = who == 0 && with->silent_first != 0 ? with->silent_first : with->silent_after;
     made.notify_after = with->notify_after;
     made.stalled_after = with->stalled_after;
+    made.held_turns = with->held_turns;
     return made;
 }
 
@@ -235,7 +236,9 @@ void world_open(world *self, uint32_t who) {
     fazgrond_match match = match_of(self, who);
     empty(at);
     world_open_session(self, who);
-    if (fazgrond_peer_open(&at->peer, &at->session, &match) != FAZGROND_OK)
+    if ((self->setup.carries ? fazgrond_peer_open_carrying(&at->peer, &at->session, &match)
+                             : fazgrond_peer_open(&at->peer, &at->session, &match))
+        != FAZGROND_OK)
         is_wrong(self, "a machine doesn't open");
     at->frame = at->wait = at->rolled_back = at->steps = 0;
     keep_history(at, 0, 0);
@@ -250,6 +253,16 @@ void world_open_all(world *self) {
         world_open(self, who);
 }
 
+/* What it carries for others, or has carried. */
+static void send_more(world *self, uint32_t who) {
+    datagram sent = { .from = who };
+    uint8_t to;
+    while (fazgrond_peer_send_more(&self->machine[who].peer, &to, sent.bytes, FAZGROND_DATAGRAM, &sent.length) == FAZGROND_OK) {
+        sent.to = to;
+        post(self, &sent);
+    }
+}
+
 void world_leave(world *self, uint32_t who) {
     machine *at = &self->machine[who];
     datagram said = { .from = who };
@@ -257,6 +270,7 @@ void world_leave(world *self, uint32_t who) {
         if (fazgrond_peer_bye(&at->peer, (uint8_t)said.to, said.bytes, FAZGROND_DATAGRAM, &said.length) == FAZGROND_OK)
             for (int times = 0; times < BYES; times++)
                 post(self, &said);
+    send_more(self, who);
     fazgrond_peer_close(&at->peer);
     fazgrond_close(&at->session);
     at->is_open = false;
@@ -351,6 +365,20 @@ static void send_all(world *self, uint32_t who) {
                                &sent.length)
             == FAZGROND_OK)
             post(self, &sent);
+    send_more(self, who);
+}
+
+/* The session is given the words that have waited, if any are held back. */
+static void hand_over(world *self, uint32_t who) {
+    machine *at = &self->machine[who];
+    uint32_t is_pressed = 0, handed;
+    if (self->setup.held_turns == 0)
+        return;
+    fazgrond_peer_is_pressed(&at->peer, &at->session, &is_pressed);
+    if (is_pressed != 0)
+        fazgrond_peer_hand_over(&at->peer, &at->session, FAZGROND_HELD_WORDS);
+    if (fazgrond_peer_hand_over_due(&at->peer, &at->session, &handed) != FAZGROND_OK)
+        is_wrong(self, "words aren't handed over");
 }
 
 /* A turn of the main loop, as docs/C.md has it. */
@@ -361,6 +389,7 @@ static void turn(world *self, uint32_t who) {
     hear(self, who);
     if (fazgrond_peer_poll(&at->peer, &at->session, world_clock(self, who)) != FAZGROND_OK)
         is_wrong(self, "a poll is refused");
+    hand_over(self, who);
     fazgrond_peer_is_running(&at->peer, &is_running);
     fazgrond_frame(&at->session, &at->frame);
     int32_t code = is_running != 0 ? play(self, who) : FAZGROND_OK;
@@ -492,6 +521,17 @@ bool world_agree(const world *self, uint32_t one, uint32_t other, uint32_t frame
     const machine *first = &self->machine[one], *second = &self->machine[other];
     uint32_t both = first->settled < second->settled ? first->settled : second->settled;
     return both >= frames && memcmp(first->history, second->history, (both + 1) * sizeof *first->history) == 0;
+}
+
+bool world_is_serial(const world *self, uint32_t who, uint32_t frames) {
+    uint64_t state = 0;
+    for (uint32_t frame = 0; frame < frames; frame++) {
+        fazgrond_row row = { .count = players_of(&self->setup) };
+        for (uint32_t player = 0; player < row.count; player++)
+            row.words[player] = word_of(self, player, frame);
+        state = world_state_after(state, &row);
+    }
+    return self->machine[who].settled >= frames && self->machine[who].history[frames] == state;
 }
 
 size_t world_log(world *self, uint32_t who) {

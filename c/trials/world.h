@@ -21,6 +21,8 @@ typedef struct setup {
     uint32_t input_delay;   /* frames by which all words count later */
     uint32_t slots;         /* room for so many states; 0: for more than are ever needed */
     uint32_t last_frame;    /* nobody gives words from this frame on; 0: no such frame */
+    uint32_t held_turns;    /* for how many turns others' words wait beside the sessions */
+    bool carries;           /* machines hand on what others send each other whose line is broken */
     bool has_pair_numbers;  /* each two machines have a number of their own */
     bool is_idle;           /* all words are 0 */
     bool is_button;         /* or 0 and 1: a button that is held or not */
@@ -147,6 +149,9 @@ uint32_t world_told_at(const world *self, uint32_t who, uint32_t code, uint32_t 
 
 /* Whether two machines have the same state after each row that both have settled, and at least so many. */
 bool world_agree(const world *self, uint32_t one, uint32_t other, uint32_t frames);
+
+/* Whether a machine's state after so many rows is that of the game which is run once over the words of all, of whom nobody has left. */
+bool world_is_serial(const world *self, uint32_t who, uint32_t frames);
 
 size_t world_log(world *self, uint32_t who);
 

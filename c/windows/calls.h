@@ -35,6 +35,8 @@ CALL(int32_t, fazgrond_claim, (fazgrond_session *session, uint8_t *out, size_t r
      (session, out, room, length))
 CALL(int32_t, fazgrond_peer_open, (fazgrond_peer *peer, fazgrond_session *session, const fazgrond_match *match),
      (peer, session, match))
+CALL(int32_t, fazgrond_peer_open_carrying, (fazgrond_peer *peer, fazgrond_session *session, const fazgrond_match *match),
+     (peer, session, match))
 CALL(int32_t, fazgrond_peer_receive,
      (fazgrond_peer *peer, fazgrond_session *session, const uint8_t *bytes, size_t length, uint32_t now),
      (peer, session, bytes, length, now))
@@ -43,6 +45,9 @@ CALL(int32_t, fazgrond_peer_is_running, (fazgrond_peer *peer, uint32_t *flag), (
 CALL(int32_t, fazgrond_peer_send,
      (fazgrond_peer *peer, fazgrond_session *session, uint8_t machine, uint32_t now, uint8_t *out, size_t room, size_t *length),
      (peer, session, machine, now, out, room, length))
+CALL(int32_t, fazgrond_peer_send_more,
+     (fazgrond_peer *peer, uint8_t *machine, uint8_t *out, size_t room, size_t *length),
+     (peer, machine, out, room, length))
 CALL(int32_t, fazgrond_peer_bye, (fazgrond_peer *peer, uint8_t machine, uint8_t *out, size_t room, size_t *length),
      (peer, machine, out, room, length))
 CALL(int32_t, fazgrond_peer_disconnect, (fazgrond_peer *peer, uint8_t machine), (peer, machine))

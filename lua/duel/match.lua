@@ -69,6 +69,7 @@ function Match.new(options, line, word_of, told)
     peer, why = fazgrond.peer(session, {
         me = me, machines = options.count, owners = options.owners, digest = digest,
         number = options.match > 0 and options.match or digest, silent_after = options.timeout,
+        carries = true,
     })
     if not peer then
         return nil, why
@@ -123,6 +124,9 @@ function Match:turn(now)
             self.line:send(machine, bytes, now)
         end
     end
+    for machine, bytes in self.peer.send_more, self.peer do
+        self.line:send(machine, bytes, now)
+    end
     return frame
 end
 
@@ -138,6 +142,9 @@ function Match:close()
         for _ = 1, bytes and BYES or 0 do
             self.line:send_now(machine, bytes)
         end
+    end
+    for machine, bytes in self.peer.send_more, self.peer do
+        self.line:send_now(machine, bytes)
     end
     self.peer:close()
     self.session:close()

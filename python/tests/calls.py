@@ -605,6 +605,59 @@ def inputs_of_two_words_and_a_viewer():
     close(*both)
 
 
+# ---- lines that break
+
+def carrier(me, carries=True, machines=3):
+    session = session_of(me + 1, machines)
+    of = Match(me, machines, list(range(machines)), 7, draw=70 + me, silent_after=500, carries=carries)
+    return session, Peer(session, of)
+
+
+def told_and_sent(session, peer, me, now, frames):
+    """A turn of a machine: what it was told, and what it sends to whom."""
+    if peer.is_running and session.frame < frames:
+        try:
+            session.add_local_input(me + 1, pressed(me, session.frame))
+        except Refused as why:
+            assert why.answer == Answer.PREDICTION_THRESHOLD
+    peer.turn(now)
+    sent = [(to, datagram) for to in range(3) if (datagram := peer.send(to, now)) is not None]
+    while (more := peer.send_more()) is not None:
+        sent.append(more)
+    return [event.code for event in peer.events()], sent
+
+
+@test
+def nobody_is_gone_whose_line_breaks():
+    """As rust/fazgrond/tests/lines.rs has it."""
+    frames, machines, ways = 200, [carrier(me) for me in range(3)], [[], [], []]
+    for turn in range(600):
+        came, ways = ways, [[], [], []]
+        for me, (session, peer) in enumerate(machines):
+            for datagram in came[me]:
+                peer.hear(datagram, 16 * turn)
+            told, sent = told_and_sent(session, peer, me, 16 * turn, frames)
+            assert not {Happened.LEFT, Happened.DROPPED, Happened.CUT_OFF} & set(told)
+            for to, datagram in sent:
+                if turn < 40 or me + to != 1:
+                    ways[to].append(datagram)
+    due = Sum()
+    for frame in range(frames):
+        due.advance(Row(tuple(pressed(me, frame) for me in range(3))))
+    assert [(it.frame, it.settled, it.game.state) for it, _ in machines] == 3 * [(frames, frames, due.state)]
+    close(*machines)
+
+
+@test
+def who_does_not_carry_has_nothing_more_to_send():
+    for carries, machines in [(False, 3), (True, 2)]:
+        session, peer = carrier(0, carries, machines)
+        for turn in range(40):
+            peer.poll(16 * turn)
+            assert peer.send_more() is None
+        close((session, peer))
+
+
 # ---- states in pieces
 
 @test

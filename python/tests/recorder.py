@@ -21,7 +21,7 @@ class Recorder:
 
         def noted(*words):
             called[name] += 1
-            kind, _, what = name.removeprefix("fazgrond_").rpartition("_")
+            kind, _, what = name.removeprefix("fazgrond_").removesuffix("_carrying").rpartition("_")  # a peer is opened by two calls
             if what == "close" and words[0].full:
                 closed[kind or "session"] += 1
             answer = call(*words)

@@ -55,6 +55,8 @@ export interface MatchSettings {
   words?: number;
   /** For how many turns at most the others' words wait beside the session. */
   heldTurns?: number;
+  /** Of three machines or more: hand on what two others send each other whose line is broken. */
+  carries?: boolean;
 }
 
 export interface LineSettings {
@@ -145,6 +147,7 @@ export class Peer extends Handle {
   poll(now: number): number;
   get isRunning(): boolean;
   send(machine: number, now: number): Uint8Array | null;
+  sendMore(): { machine: number; bytes: Uint8Array } | null;
   bye(machine: number): Uint8Array | null;
   disconnect(machine: number): number;
   noteSettled(): number;

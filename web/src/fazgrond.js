@@ -573,7 +573,8 @@ export class Peer extends Sealed {
       words: match.words ?? 1,
       heldTurns: match.heldTurns ?? 0,
     });
-    this.opened(library.calls.peer_open(this.at, session.open, library.room));
+    const { peer_open, peer_open_carrying } = library.calls;
+    this.opened((match.carries ? peer_open_carrying : peer_open)(this.at, session.open, library.room));
   }
 
   /** Takes a datagram that came. */
@@ -596,6 +597,14 @@ export class Peer extends Sealed {
   send(machine, now) {
     const { calls, bytes, room } = this.library;
     return this.written(calls.peer_send(this.open, this.session.open, machine, now >>> 0, bytes, raw.DATAGRAM, room));
+  }
+
+  /** After `send` to each other machine, what a peer that carries has to send besides, and to which machine; null if there is no more. */
+  sendMore() {
+    const { calls, bytes, room } = this.library;
+    const machine = room + 8; // beside the length
+    const more = this.written(calls.peer_send_more(this.open, machine, bytes, raw.DATAGRAM, room));
+    return more && { machine: this.library.u8()[machine], bytes: more };
   }
 
   /** The datagram that says to a machine that this one leaves, or null. Send it a few times. */

@@ -7,7 +7,7 @@ const name = options.get("name");
 
 async function run() {
   const library = await Fazgrond.load();
-  const printed = Object.fromEntries(["twoPeers", "watch", "guess", "refused"].map((one) => [one, examples[one](library)]));
+  const printed = Object.fromEntries(["twoPeers", "watch", "guess", "refused", "lines"].map((one) => [one, examples[one](library)]));
   const turns = Number(options.get("turns") ?? 0);
   return { printed, cost: turns > 0 ? examples.turnsOf(library, turns) : null, memory: library.memory.buffer.byteLength };
 }

@@ -5,6 +5,7 @@ const TURN = 16;
 const UNDER_WAY = 64;
 
 const { LEFT, DESYNC, TIME_SYNC } = { LEFT: 1101, DESYNC: 1102, TIME_SYNC: 1005 };
+const GONE = [LEFT, 1104, 1109]; // gone, dropped, cut off
 
 function must(code, answer = 0) {
   if (code !== answer) throw new Error(`the answer was ${code}`);
@@ -223,6 +224,38 @@ export function refused(library) {
   session.close();
   const kept = [...late.states, ...forgotten.states].filter((state) => !state.isFreed).length;
   return `graft ${code}, ${late.states.length} and ${forgotten.states.length} states, ${kept} not given back\n`;
+}
+
+const pressedOf = (me, frame) => Math.floor((frame * (me + 3)) / 7) % 4;
+
+/** Three machines that carry for each other, of which two don't hear each other from a turn on: nobody is gone. */
+export function lines(library) {
+  const frames = 200;
+  const all = [0, 1, 2].map((me) => {
+    const session = library.session({ players: 3, local: [me + 1] }, new Sum());
+    const match = { me, machines: 3, owners: [0, 1, 2], number: 7n, draw: 70 + me, silentAfter: 500, carries: true };
+    return { me, session, peer: library.peer(session, match), here: [], coming: [], gone: 0 };
+  });
+  const post = (from, to, turn, bytes) => {
+    if (bytes !== null && (turn < 40 || from + to !== 1)) all[to].coming.push(bytes);
+  };
+  for (let turn = 0; turn < 600; turn++) {
+    for (const it of all) [it.here, it.coming] = [it.coming, []];
+    for (const { me, session, peer, here } of all) {
+      for (const bytes of here) peer.receive(bytes, turn * TURN);
+      must(peer.poll(turn * TURN));
+      if (peer.isRunning) session.turn(session.frame < frames ? [pressedOf(me, session.frame)] : null);
+      for (let event = peer.event(); event !== null; event = peer.event()) all[me].gone += GONE.includes(event.code);
+      for (let to = 0; to < 3; to++) post(me, to, turn, peer.send(to, turn * TURN));
+      for (let more = peer.sendMore(); more !== null; more = peer.sendMore()) post(me, more.machine, turn, more.bytes);
+    }
+  }
+  const told = all.map(({ session, gone }) => `settled ${session.settled} state ${session.game.state}, ${gone} told of\n`);
+  for (const { peer, session } of all) {
+    peer.close();
+    session.close();
+  }
+  return told.join("");
 }
 
 /** Nanoseconds of a turn of one of two machines, with a datagram that comes and one that goes: the least of some runs. */

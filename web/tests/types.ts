@@ -36,6 +36,10 @@ export async function play(channel: RTCDataChannel, me: 0 | 1): Promise<number> 
     if (event.code === Code.TIME_SYNC) console.log(event.framesAhead + 1);
   const bytes: Uint8Array | null = peer.send(1 - me, 16);
   if (bytes !== null) channel.send(bytes);
+  const more: { machine: number; bytes: Uint8Array } | null = library.peer(session, {
+    me, machines: 3, owners: [0, 1, 2], number: 7n, carries: true,
+  }).sendMore();
+  if (more !== null && more.machine === 1 - me) channel.send(more.bytes);
   const job: Job<Int32Array> | null = session.guess(2, [3], 3);
   job?.run(new Places());
   const row: Row | null = session.settledRow(0);

@@ -6,7 +6,7 @@ use Rattle.roll_state.specs.States.{giver_fault, name_of}
 use Rattle.roll_state.specs.declared.refusal.StateFault.{StateFault}
 use Rattle.roll_state.specs.declared.refusal.StateFault.TheVariants.{NoMemory}
 use Rattle.roll_state.specs.declared.refusal.StateRefusal.{StateRefusal}
-use Rattle.fazgrond_c.specs.Peers.{AreWritten}
+use Rattle.fazgrond_c.specs.Written.{AreWritten}
 use Rattle.fazgrond_c.specs.StateKinds.{code_of_end, code_of_state, AreCopied}
 use Rattle.fazgrond_c.specs.declared.open.Open.{Open}
 use Rattle.fazgrond_c.specs.declared.open.Open.TheVariants.{Giver}

@@ -5,8 +5,10 @@ pub mod Handles
 pub mod Made
 pub mod Jobs
 pub mod PeerKinds
-pub mod Peers
 pub mod Waiting
+pub mod Written
+pub mod Carrying
+pub mod Peers
 pub mod LineKinds
 pub mod Lines
 pub mod Viewers

@@ -10,7 +10,8 @@ use Rattle.roll_viewer.specs.declared.refusal.LineFault.{LineFault}
 use Rattle.roll_viewer.specs.declared.refusal.LineRefusal.{LineRefusal}
 use Rattle.roll_viewer.specs.declared.settings.LineSettings.{LineSettings}
 use Rattle.fazgrond_c.specs.LineKinds.{code_of_fault, code_of_line, AreTold, HasNoRoom}
-use Rattle.fazgrond_c.specs.Peers.{code_unless, AreWritten}
+use Rattle.fazgrond_c.specs.Peers.{code_unless}
+use Rattle.fazgrond_c.specs.Written.{AreWritten}
 use Rattle.fazgrond_c.specs.declared.line_kinds.LineIn.{LineIn}
 use Rattle.fazgrond_c.specs.declared.line_kinds.LineState.{LineState}
 

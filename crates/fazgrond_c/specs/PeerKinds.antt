@@ -1,5 +1,5 @@
 -- What C sees of a match and of what a peer tells, and the numbers of its refusals.
-use Rattle.std.specs.Prelude.{◌≡◌, ℕ, false, is_some, unwrap_or, if◌then◌else◌, ◌⊎◌, ◌≤◌, ◌<◌, slice_index}
+use Rattle.std.specs.Prelude.{◌≡◌, ℕ, Bool, ◌&&◌, nat_lt, is_some, unwrap_or, if◌then◌else◌, ◌⊎◌, ◌≤◌, ◌<◌, slice_index}
 use Rattle.roll_frame.specs.Codes.{code_of}
 use Rattle.roll_contact.specs.declared.terms.Field.{Field}
 use Rattle.roll_contact.specs.declared.terms.Field.TheVariants.{Machines, Owners, Settings, Words}
@@ -22,8 +22,8 @@ use Rattle.fazgrond_c.specs.declared.peer_kinds.EventOut.{EventOut}
 use Rattle.fazgrond_c.specs.declared.peer_kinds.MatchIn.{MatchIn}
 use Rattle.fazgrond_c.specs.declared.peer_kinds.StatsOut.{StatsOut}
 
--- the match that was given
-pub record AreMatched (given : MatchIn) (settings : MatchSettings) : Type 0 where
+-- the match that was given, in which machines carry for each other if that is asked for, and there are more than two
+pub record AreMatched (given : MatchIn) (asked : Bool) (settings : MatchSettings) : Type 0 where
   pub me : settings.me ≡ given.me
   pub machines : settings.machines ≡ given.machines
   pub owners : settings.owners ≡ given.owners
@@ -33,7 +33,7 @@ pub record AreMatched (given : MatchIn) (settings : MatchSettings) : Type 0 wher
   pub silent_after : settings.silent_after ≡ given.silent_after
   pub notify_after : settings.notify_after ≡ given.notify_after
   pub stalled_after : settings.stalled_after ≡ given.stalled_after
-  pub carries : settings.carries ≡ false
+  pub carries : settings.carries ≡ (asked && nat_lt 2 given.machines)
   pub words : settings.words ≡ given.words
   pub held : given.held_turns ≤ TURN_LIMIT
 

@@ -1,6 +1,7 @@
 -- What a call of a peer through a handle comes to.
-use Rattle.std.specs.Prelude.{◌≡◌, ◌≢◌, ◌⊎◌, ℕ, ℤ, pos, List, ◌++◌, drop, length, slice_get, not, nat_lt, ◌&&◌, ◌||◌, is_none, Option, Some, None, IfNone, IfSome, IsSome, IsSomeAnd, MatchOption, Result, Ok, Err, IfErr, IfOk, OnErr, OnOk, if◌then◌else◌}
+use Rattle.std.specs.Prelude.{◌≡◌, ◌≢◌, ◌⊎◌, ℕ, ℤ, pos, List, slice_get, not, Bool, nat_lt, ◌&&◌, ◌||◌, is_none, Option, Some, None, IfNone, IfSome, IsSome, IsSomeAnd, MatchOption, Result, Ok, Err, IfErr, IfOk, OnErr, OnOk, if◌then◌else◌}
 use Rattle.std.specs.Option.{option_map}
+use Rattle.roll_carry.specs.Carrying.{Carrying}
 use Rattle.roll_contact.specs.Contacts.{is_playing}
 use Rattle.roll_frame.specs.Core.{settled}
 use Rattle.roll_held.specs.Heard.{beside, HearsHeld, PollsHeld}
@@ -17,7 +18,7 @@ use Rattle.roll_peer.specs.Digests.{noted}
 use Rattle.roll_peer.specs.Events.{popped}
 use Rattle.roll_peer.specs.Peered.{contact_at, IsOpenedAs, IsWhyNot, Peered}
 use Rattle.roll_peer.specs.Receiving.{ignored, meeting, ticking, IsIgnored, IsOther, Receives}
-use Rattle.roll_peer.specs.Sending.{after_send, is_lost, stats_of, text_for, IsSent}
+use Rattle.roll_peer.specs.Sending.{after_send, is_lost, stats_of, IsSent}
 use Rattle.roll_peer.specs.Settings.{seat_of}
 use Rattle.roll_peer.specs.Turning.{IsPolled}
 use Rattle.roll_peer.specs.declared.received.Ignored.{Ignored}
@@ -29,10 +30,11 @@ use Rattle.roll_peer.specs.declared.settings.MatchSettings.{MatchSettings}
 use Rattle.roll_requests.specs.Made.{Keeps}
 use Rattle.roll_session.specs.Gameless.{still}
 use Rattle.roll_session.specs.Seen.{Seen}
-use Rattle.roll_wire.specs.Spelling.{Leaves}
+use Rattle.fazgrond_c.specs.Carrying.{turned_by, IsCarryingFor, IsHeardAheadBy, IsHeardBy, IsNextOf, IsSentAheadBy, IsSentBy, SaysByeBy}
 use Rattle.fazgrond_c.specs.Handles.{network_in, session_in, IsNothing, Opens}
-use Rattle.fazgrond_c.specs.PeerKinds.{code_of_ignored, code_of_mesh, code_of_open, code_of_refusal, event_out, stats_out, AreMatched, HasNoRoom}
+use Rattle.fazgrond_c.specs.PeerKinds.{code_of_mesh, code_of_open, code_of_refusal, event_out, stats_out, AreMatched, HasNoRoom}
 use Rattle.fazgrond_c.specs.Waiting.{code_if_told, code_of_fault, IsHeldFor}
+use Rattle.fazgrond_c.specs.Written.{code_of_receipt, AreSent, AreWritten}
 use Rattle.fazgrond_c.specs.declared.live.Live.{Live}
 use Rattle.fazgrond_c.specs.declared.network.Network.{Network}
 use Rattle.fazgrond_c.specs.declared.open.Open.{Open}
@@ -43,48 +45,45 @@ use Rattle.fazgrond_c.specs.declared.peer_kinds.TheConstants.{MATCH_SIZE}
 
 -- ---- opening
 
--- a peer of this match, opened beside a session, that has heard nothing, and nothing waits
-pub record IsOpened (given : MatchIn) (s : Seen) (network : Network) : Type 0 where
+-- a peer of this match, opened beside a session, that has heard nothing, nothing waits, and it carries nothing yet
+pub record IsOpened (given : MatchIn) (carries : Bool) (s : Seen) (network : Network) : Type 0 where
   pub matched : MatchSettings
-  pub are_matched : AreMatched given matched
+  pub are_matched : AreMatched given carries matched
   pub accepted : join_refusal s (seat_of matched) ≡ None
   pub drawn : matched.draw ≢ 0
   pub opened : IsOpenedAs s matched network.peer
   pub tied : IsTied s network.peer.member.mesh
   pub held : IsHeldFor given.held_turns network.held
+  pub carrying : IsCarryingFor network.peer network.relay
 
 -- there is no such match, or the session can't take its seat in it
-pub record IsFaulty (given : MatchIn) (s : Seen) (code : ℤ) : Type 0 where
+pub record IsFaulty (given : MatchIn) (carries : Bool) (s : Seen) (code : ℤ) : Type 0 where
   pub matched : MatchSettings
-  pub are_matched : AreMatched given matched
+  pub are_matched : AreMatched given carries matched
   pub fault : OpenRefusal
   pub why : IsWhyNot s matched fault
   pub code_is : code ≡ pos (code_of_open fault)
 
 -- why no peer is opened beside a session: the match is another version's, a number has no room where it belongs, or the numbers
 -- are no match for it, or memory ran out
-abbrev pub IsWhyClosed : MatchIn → Seen → ℤ → Type 0
-IsWhyClosed given s code =
+abbrev pub IsWhyClosed : MatchIn → (carries : Bool) → Seen → ℤ → Type 0
+IsWhyClosed given carries s code =
     ((code ≡ pos 205) × (given.size ≢ MATCH_SIZE))
-    ⊎ (((code ≡ pos 11) × HasNoRoom given) ⊎ (IsFaulty given s code ⊎ (code ≡ pos 107)))
+    ⊎ (((code ≡ pos 11) × HasNoRoom given) ⊎ (IsFaulty given carries s code ⊎ (code ≡ pos 107)))
 
 -- a peer was opened beside a session in the place of what was open before, or nothing is changed
-pub record OpensBeside (given : MatchIn) (s : Seen) (old new : Option Open) (code : ℤ)
+pub record OpensBeside (given : MatchIn) (carries : Bool) (s : Seen) (old new : Option Open) (code : ℤ)
     : Type 0 where
-  pub opens : Opens network_in (IsOpened given s) old new code
-  pub why : code ≢ pos 0 → IsWhyClosed given s code
+  pub opens : Opens network_in (IsOpened given carries s) old new code
+  pub why : code ≢ pos 0 → IsWhyClosed given carries s code
   pub version : given.size ≢ MATCH_SIZE → code ≡ pos 205
 
 -- the same beside what a handle has open
-pub record IsOpenedBy (given : MatchIn) (lent old new : Option Open) (code : ℤ) : Type 0 where
+pub record IsOpenedBy (given : MatchIn) (carries : Bool) (lent old new : Option Open) (code : ℤ) : Type 0 where
   pub alone : session_in lent ≡ None → (code ≡ pos 201) × (new ≡ old)
-  pub beside : IfSome (session_in lent) (λ live. OpensBeside given live.session.seen old new code)
+  pub beside : IfSome (session_in lent) (λ live. OpensBeside given carries live.session.seen old new code)
 
 -- ---- hearing and sending
-
-abbrev pub code_of_receipt : Result Received Ignored → ℤ
-code_of_receipt (Ok received) = pos 0
-code_of_receipt (Err why) = pos (code_of_ignored why)
 
 -- bytes are heard for a session, or they aren't, and nothing is changed but the clock; what their sender sealed is counted and told
 pub record IsHeard (bytes : List ℕ) (now : ℕ) (old new : Peered) (before after : Live) (code : ℤ)
@@ -115,10 +114,24 @@ pub record IsHeardAhead (bytes : List ℕ) (now : ℕ) (old new : Peered) (held 
   pub code_is : code ≡ code_if_told code_of_receipt result
 
 -- whether it holds words back or not
-abbrev pub IsReceived : (bytes : List ℕ) → (now : ℕ) → (old new : Network) → (before after : Live) → ℤ → Type 0
-IsReceived bytes now old new before after code = MatchOption old.held
+abbrev pub IsHeardStraight : (bytes : List ℕ) → (now : ℕ) → (old new : Network) → (before after : Live) → ℤ → Type 0
+IsHeardStraight bytes now old new before after code = MatchOption old.held
     ((new.held ≡ None) × IsHeard bytes now old.peer new.peer before after code)
     (λ held. IsSomeAnd new.held (λ later. IsHeardAhead bytes now old.peer new.peer held later before after code))
+
+-- the same of one that carries
+abbrev pub IsHeardCarried : (bytes : List ℕ) → (now : ℕ) → (old new : Network) → (here there : Carrying) → (before after : Live) → ℤ
+    → Type 0
+IsHeardCarried bytes now old new here there before after code = MatchOption old.held
+    ((new.held ≡ None) × IsHeardBy bytes now old.peer new.peer here there before after code)
+    (λ held. IsSomeAnd new.held
+    (λ later. IsHeardAheadBy bytes now old.peer new.peer here there held later before after code))
+
+-- whether it carries or not
+abbrev pub IsReceived : (bytes : List ℕ) → (now : ℕ) → (old new : Network) → (before after : Live) → ℤ → Type 0
+IsReceived bytes now old new before after code = MatchOption old.relay
+    ((new.relay ≡ None) × IsHeardStraight bytes now old new before after code)
+    (λ here. IsSomeAnd new.relay (λ there. IsHeardCarried bytes now old new here there before after code))
 
 abbrev pub code_unless : {T : Type 0} → (T → ℕ) → Option T → ℤ
 code_unless number None = pos 0
@@ -149,10 +162,15 @@ pub record IsPolledAhead (now : ℕ) (old new : Peered) (held later : Held) (bef
   pub keeps : Keeps before.session after.session
   pub code_is : code ≡ code_if_told code_of_poll result
 
-abbrev pub IsPolledFor : (now : ℕ) → (old new : Network) → (before after : Live) → ℤ → Type 0
-IsPolledFor now old new before after code = MatchOption old.held
+abbrev pub IsPolledBeside : (now : ℕ) → (old new : Network) → (before after : Live) → ℤ → Type 0
+IsPolledBeside now old new before after code = MatchOption old.held
     ((new.held ≡ None) × IsPolledAtOnce now old.peer new.peer before after code)
     (λ held. IsSomeAnd new.held (λ later. IsPolledAhead now old.peer new.peer held later before after code))
+
+-- and a turn begins for what is carried
+abbrev pub IsPolledFor : (now : ℕ) → (old new : Network) → (before after : Live) → ℤ → Type 0
+IsPolledFor now old new before after code =
+    (new.relay ≡ turned_by new.peer old.relay) × IsPolledBeside now old new before after code
 
 -- a peer for which a machine is gone
 abbrev pub without : ℕ → Peered → Peered
@@ -171,26 +189,8 @@ pub record IsPutOut (machine : ℕ) (old new : Peered) (code : ℤ) : Type 0 whe
   pub code_is : code ≡ code_unless code_of_mesh why
 
 abbrev pub IsPutOutBy : (machine : ℕ) → (old new : Network) → ℤ → Type 0
-IsPutOutBy machine old new code = IsPutOut machine old.peer new.peer code × (new.held ≡ old.held)
-
--- bytes are written to the front of a buffer, and how many they are; or there are none, and nothing is written
-abbrev pub AreWritten : Option (List ℕ) → (before after : List ℕ) → (had size : ℕ) → ℤ → Type 0
-AreWritten None before after had size code =
-    (code ≡ pos 203) × ((after ≡ before) × (size ≡ had))
-AreWritten (Some bytes) before after had size code =
-    (code ≡ pos 0) × ((after ≡ bytes ++ drop (length bytes) before) × (size ≡ length bytes))
-
--- what there is to send is written; or the session is another
-abbrev pub AreSent : Result (Option (List ℕ)) OtherSession → (before after : List ℕ) → (had size : ℕ)
-    → ℤ → Type 0
-AreSent (Ok bytes) before after had size code = AreWritten bytes before after had size code
-AreSent (Err other) before after had size code =
-    (code ≡ pos 313) × ((after ≡ before) × (size ≡ had))
-
--- the bytes of a datagram, if there are any
-abbrev pub bytes_of : {A : Type 0} → (A → List ℕ) → Result (Option A) OtherSession → Result (Option (List ℕ)) OtherSession
-bytes_of items (Ok said) = Ok (option_map items said)
-bytes_of items (Err other) = Err other
+IsPutOutBy machine old new code =
+    IsPutOut machine old.peer new.peer code × (new.held ≡ old.held) × (new.relay ≡ old.relay)
 
 -- what is sent to a machine in a turn of a session is written, and counted; nothing is sent to one that is gone, to this one, or
 -- where there is none; or the session is another, and nothing is changed but the clock
@@ -218,23 +218,41 @@ pub record IsSentAhead (machine now : ℕ) (old new : Peered) (held : Held) (liv
   pub rest : after ≡ record live { session = after.session }
   pub keeps : Keeps live.session after.session
 
-abbrev pub IsSentTo : (machine now : ℕ) → (old new : Network × Live) → (before wrote : List ℕ) → (had size : ℕ) → ℤ → Type 0
-IsSentTo machine now old new before wrote had size code =
-    (new.0.held ≡ old.0.held)
-    × MatchOption old.0.held
+abbrev pub IsSentStraight : (machine now : ℕ) → (old new : Network × Live) → (before wrote : List ℕ) → (had size : ℕ) → ℤ → Type 0
+IsSentStraight machine now old new before wrote had size code = MatchOption old.0.held
     ((new.1 ≡ old.1)
     × IsSentFor old.1.session.seen machine now old.0.peer new.0.peer before wrote had size code)
     (λ held. IsSentAhead machine now old.0.peer new.0.peer held old.1 new.1 before wrote had size code)
 
--- the bytes by which this machine says to another that it leaves are written; there are none for one to which nothing is sent, or
--- that hasn't said this opening's draw
-pub record IsFarewell (machine : ℕ) (old new : Peered) (before after : List ℕ) (had size : ℕ)
-    (code : ℤ) : Type 0 where
-  pub kept : new ≡ old
+-- the same of one that carries
+abbrev pub IsSentCarried : (machine now : ℕ) → (old new : Network × Live) → (here there : Carrying) → (before wrote : List ℕ)
+    → (had size : ℕ) → ℤ → Type 0
+IsSentCarried machine now old new here there before wrote had size code = MatchOption old.0.held
+    ((new.1 ≡ old.1)
+    × IsSentBy old.1.session.seen machine now old.0.peer new.0.peer here there before wrote had size code)
+    (λ held. IsSentAheadBy machine now old.0.peer new.0.peer here there held old.1 new.1 before wrote had size code)
+
+abbrev pub IsSentTo : (machine now : ℕ) → (old new : Network × Live) → (before wrote : List ℕ) → (had size : ℕ) → ℤ → Type 0
+IsSentTo machine now old new before wrote had size code =
+    (new.0.held ≡ old.0.held)
+    × MatchOption old.0.relay
+    ((new.0.relay ≡ None) × IsSentStraight machine now old new before wrote had size code)
+    (λ here. IsSomeAnd new.0.relay (λ there. IsSentCarried machine now old new here there before wrote had size code))
+
+-- what goes out beside that is written, and to which machine it goes; or there is nothing more
+pub record IsSentMore (to : ℕ) (old new : Network) (before after : List ℕ) (had size : ℕ) (code : ℤ) : Type 0 where
   pub bytes : Option (List ℕ)
-  pub said : IfSome bytes (λ text. text ≡ text_for old machine Leaves)
+  pub next : IsNextOf old new (option_map (λ text. (to, text)) bytes)
+  pub written : AreWritten bytes before after had size code
+
+-- the bytes by which this machine says to another that it leaves are written, and carried too if the line is broken; there are none
+-- for one to which nothing is sent, or that hasn't said this opening's draw
+pub record IsFarewell (machine : ℕ) (old new : Network) (before after : List ℕ) (had size : ℕ)
+    (code : ℤ) : Type 0 where
+  pub bytes : Option (List ℕ)
+  pub said : SaysByeBy machine old new bytes
   pub none : is_none bytes
-      ≡ (is_lost old machine || not (is_playing (contact_at old machine).stage))
+      ≡ (is_lost old.peer machine || not (is_playing (contact_at old.peer machine).stage))
   pub written : AreWritten bytes before after had size code
 
 -- ---- what waits, and what is read
@@ -252,7 +270,8 @@ code_of_note (Err other) = pos 313
 
 -- the same of a peer of which nothing else is changed, nor what it holds back
 abbrev pub IsToldBy : (old new : Network) → (before after : EventOut) → ℤ → Type 0
-IsToldBy old new before after code = IsTold old.peer new.peer before after code × (new.held ≡ old.held)
+IsToldBy old new before after code =
+    IsTold old.peer new.peer before after code × (new.held ≡ old.held) × (new.relay ≡ old.relay)
 
 -- the digest of a session's settled state is noted; or the session is another, and nothing is changed
 pub record IsNoted (digest : ℕ) (s : Seen) (old new : Peered) (code : ℤ) : Type 0 where
@@ -267,7 +286,7 @@ pub record IsNoted (digest : ℕ) (s : Seen) (old new : Peered) (code : ℤ) : T
 
 -- where words are held back, it is noted for the frame that the session has settled, which is less than the peer knows
 abbrev pub IsNotedFor : (digest : ℕ) → Seen → (old new : Network) → ℤ → Type 0
-IsNotedFor digest s old new code = MatchOption old.held
+IsNotedFor digest s old new code = (new.relay ≡ old.relay) × MatchOption old.held
     ((new.held ≡ None) × IsNoted digest s old.peer new.peer code)
     (λ held. (code ≡ pos 0) × (new ≡ record old {
       peer = record old.peer { digests = noted (settled s.core) digest old.peer.digests };

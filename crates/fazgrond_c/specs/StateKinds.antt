@@ -12,7 +12,7 @@ use Rattle.roll_state.specs.declared.refusal.StateFault.{StateFault}
 use Rattle.roll_state.specs.declared.refusal.StateFault.TheVariants.{Empty, NoMemory, TooLong}
 use Rattle.roll_state.specs.declared.refusal.StateRefusal.{StateRefusal}
 use Rattle.roll_state.specs.declared.refusal.StateRefusal.TheVariants.{Barred, NoDatagram, NotNow, NotSealed, OtherKind, OtherState, PastTheEnd, Stranger, WrongLength}
-use Rattle.fazgrond_c.specs.Peers.{AreWritten}
+use Rattle.fazgrond_c.specs.Written.{AreWritten}
 use Rattle.fazgrond_c.specs.declared.state_kinds.HeardOut.{HeardOut}
 use Rattle.fazgrond_c.specs.declared.state_kinds.NameOut.{NameOut}
 

@@ -8,7 +8,7 @@ use Rattle.roll_state.specs.Taking.{after_ask, after_received, is_allowed, left_
 use Rattle.roll_state.specs.declared.heard.Heard.{Heard}
 use Rattle.roll_state.specs.declared.refusal.StateFault.{StateFault}
 use Rattle.roll_state.specs.declared.refusal.StateRefusal.{StateRefusal}
-use Rattle.fazgrond_c.specs.Peers.{AreWritten}
+use Rattle.fazgrond_c.specs.Written.{AreWritten}
 use Rattle.fazgrond_c.specs.StateKinds.{code_of_end, code_of_state, heard_out, name_in, AreCopied}
 use Rattle.fazgrond_c.specs.declared.open.Open.{Open}
 use Rattle.fazgrond_c.specs.declared.open.Open.TheVariants.{Taker}

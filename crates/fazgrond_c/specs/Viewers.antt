@@ -9,7 +9,7 @@ use Rattle.roll_viewer.specs.declared.settings.LineSettings.{LineSettings}
 use Rattle.fazgrond_c.specs.Kinds.{row_out}
 use Rattle.fazgrond_c.specs.LineKinds.{code_of_line, AreTold}
 use Rattle.fazgrond_c.specs.Lines.{state_of, VIEWER}
-use Rattle.fazgrond_c.specs.Peers.{AreWritten}
+use Rattle.fazgrond_c.specs.Written.{AreWritten}
 use Rattle.fazgrond_c.specs.declared.kinds.RowOut.{RowOut}
 use Rattle.fazgrond_c.specs.declared.line_kinds.LineIn.{LineIn}
 use Rattle.fazgrond_c.specs.declared.line_kinds.LineState.{LineState}

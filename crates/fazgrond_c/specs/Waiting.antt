@@ -99,6 +99,7 @@ pub record AreToldFirst (count : ℕ) (old new : Held) (before after : Live) (co
 abbrev pub AreHandedFirst : ℕ → (old new : Network) → (before after : Live) → ℤ → Type 0
 AreHandedFirst count old new before after code =
     (new.peer ≡ old.peer)
+    × (new.relay ≡ old.relay)
     × MatchOption old.held
     ((new.held ≡ None) × ((after ≡ before) × (code ≡ pos 0)))
     (λ held. IsSomeAnd new.held (λ now. AreToldFirst count held now before after code))
@@ -129,6 +130,7 @@ pub record AreToldDue (old new : Held) (before after : Live) (had wrote : ℕ) (
 abbrev pub AreHandedDue : (old new : Network) → (before after : Live) → (had wrote : ℕ) → ℤ → Type 0
 AreHandedDue old new before after had wrote code =
     (new.peer ≡ old.peer)
+    × (new.relay ≡ old.relay)
     × MatchOption old.held
     ((new.held ≡ None) × ((after ≡ before) × ((code ≡ pos 0) × (wrote ≡ 0))))
     (λ held. IsSomeAnd new.held (λ now. AreToldDue held now before after had wrote code))

@@ -4,6 +4,7 @@
 ghost use Rattle.std.specs.Prelude.{◌≡◌, ◌++◌, drop, length, take, None};
 
 mod calls;
+mod carrying;
 mod giver_calls;
 mod givers;
 mod habits;

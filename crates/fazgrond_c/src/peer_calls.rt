@@ -1,9 +1,12 @@
-//! Calls of an open peer, some of them lent the session that it stands beside.
-ghost use Rattle.std.specs.Prelude.{◌≡◌, ◌≤◌, ◌++◌, drop, length};
+//! Calls of an open peer, some of them lent the session that it stands beside. Those of one that carries are in `carrying`.
+ghost use Rattle.std.specs.Prelude.{◌≡◌, ◌≢◌, ◌≤◌, ◌++◌, drop, length, pos};
 ghost use Rattle.fazgrond_c.specs.Handles.{Fills};
-ghost use Rattle.fazgrond_c.specs.Peers.{bytes_of, code_of_poll, code_of_receipt, stats_at, AreSent, IsFarewell, IsHeard, IsHeardAhead, IsNoted, IsNotedFor, IsPolledAhead, IsPolledAtOnce, IsPolledFor, IsPutOutBy, IsReceived, IsSentAhead, IsSentTo, IsToldBy};
+ghost use Rattle.fazgrond_c.specs.Written.{code_of_receipt, AreSent};
+ghost use Rattle.roll_held.specs.Relayed.{bytes_of};
+ghost use Rattle.fazgrond_c.specs.Peers.{code_of_poll, stats_at, IsFarewell, IsHeard, IsHeardAhead, IsNoted, IsNotedFor, IsPolledAhead, IsPolledAtOnce, IsPolledBeside, IsPolledFor, IsPutOutBy, IsReceived, IsSentAhead, IsSentMore, IsSentTo, IsToldBy};
 
 use crate::calls::{NOTHING, TOO_SHORT};
+use crate::carrying;
 use crate::live::Live;
 use crate::network::Network;
 use crate::peer_kinds::{EventOut, StatsOut};
@@ -12,7 +15,7 @@ use crate::peer_refusal::{
 };
 use arrayvec::ArrayVec;
 use roll_held::Held;
-use roll_peer::{Ignored, OtherSession, Peer, PeerRefusal, Received};
+use roll_peer::{Ignored, OtherSession, Peer, PeerRefusal};
 use roll_session::Settling;
 use roll_wire::DATAGRAM_LIMIT;
 
@@ -20,10 +23,12 @@ use roll_wire::DATAGRAM_LIMIT;
 pub fn receive(network: &mut Network, live: &mut Live, bytes: &[u8], now: u32) -> i32
     ensures { IsReceived bytes.now now network.old network.new live.old live.new result }
 {
-    let Network { peer, held } = network;
-    match held {
-        Some(held) => hear_ahead(held, peer, live, bytes, now),
-        None => hear(peer, live, bytes, now),
+    let Network { peer, held, relay } = network;
+    match (held, relay) {
+        (None, None) => hear(peer, live, bytes, now),
+        (Some(held), None) => hear_ahead(held, peer, live, bytes, now),
+        (None, Some(relay)) => carrying::hear(relay, peer, live, bytes, now),
+        (Some(held), Some(relay)) => carrying::hear_ahead(relay, held, peer, live, bytes, now),
     }
 }
 
@@ -44,7 +49,8 @@ fn hear_ahead(held: &mut Held, peer: &mut Peer, live: &mut Live, bytes: &[u8], n
     }
 }
 
-fn code_of_receipt(said: Result<Received, Ignored>) -> i32
+/// The number of what came of bytes.
+pub fn code_of_receipt<T: Copy>(said: Result<T, Ignored>) -> i32
     ensures { result ≡ code_of_receipt said }
 {
     match said {
@@ -57,7 +63,17 @@ fn code_of_receipt(said: Result<Received, Ignored>) -> i32
 pub fn poll(network: &mut Network, live: &mut Live, now: u32) -> i32
     ensures { IsPolledFor now network.old network.new live.old live.new result }
 {
-    let Network { peer, held } = network;
+    let code = poll_beside(network, live, now);
+    network.begin_turn();
+    code
+}
+
+/// What it does beside the session.
+fn poll_beside(network: &mut Network, live: &mut Live, now: u32) -> i32
+    ensures polled { IsPolledBeside now network.old network.new live.old live.new result }
+    ensures relay { network.new.relay ≡ network.old.relay }
+{
+    let Network { peer, held, .. } = network;
     match held {
         Some(held) => poll_ahead(held, peer, live, now),
         None => poll_at_once(peer, live, now),
@@ -94,7 +110,7 @@ fn code_of_poll(said: Result<(), PeerRefusal>) -> i32
 pub fn note_settled(network: &mut Network, live: &Live, digest: u64) -> i32
     ensures { IsNotedFor digest live.now.session.seen network.old network.new result }
 {
-    let Network { peer, held } = network;
+    let Network { peer, held, .. } = network;
     match held {
         Some(_) => {
             peer.note_state_at(live.session.settled(), digest);
@@ -139,10 +155,14 @@ pub fn send(
     if out.len() < DATAGRAM_LIMIT {
         return TOO_SHORT;
     }
-    let Network { peer, held } = network;
-    match held {
-        Some(held) => send_ahead(held, peer, live, machine, now, out, size),
-        None => write_sent(out, size, peer.send(&live.session, machine, now)),
+    let Network { peer, held, relay } = network;
+    match (held, relay) {
+        (None, None) => write_sent(out, size, peer.send(&live.session, machine, now)),
+        (Some(held), None) => send_ahead(held, peer, live, machine, now, out, size),
+        (None, Some(relay)) => carrying::send(relay, peer, live, machine, now, out, size),
+        (Some(held), Some(relay)) => {
+            carrying::send_ahead(relay, held, peer, live, machine, now, out, size)
+        }
     }
 }
 
@@ -168,7 +188,7 @@ fn send_ahead(
 }
 
 /// Writes what there is to send, if anything is.
-fn write_sent(
+pub fn write_sent(
     out: &mut [u8],
     size: &mut usize,
     said: Result<Option<ArrayVec<u8, DATAGRAM_LIMIT>>, OtherSession>,
@@ -186,15 +206,32 @@ fn write_sent(
     }
 }
 
+/// Writes what goes out beside that, and to which machine.
+pub fn send_more(network: &mut Network, machine: &mut u8, out: &mut [u8], size: &mut usize) -> i32
+    ensures sent { Fills (IsSentMore machine.new) network.old network.new out.old out.new
+        size.old size.new result }
+    ensures unnamed { result ≢ pos 0 → machine.new ≡ machine.old }
+{
+    if out.len() < DATAGRAM_LIMIT {
+        return TOO_SHORT;
+    }
+    let Some((to, bytes)) = carrying::next(network) else {
+        return NOTHING;
+    };
+    *machine = to;
+    write(out, size, &bytes);
+    0
+}
+
 /// Writes what says to a machine that this one leaves.
-pub fn bye(peer: &Peer, machine: u8, out: &mut [u8], size: &mut usize) -> i32
-    ensures { Fills (IsFarewell machine) peer.now peer.now out.old out.new size.old size.new
+pub fn bye(network: &mut Network, machine: u8, out: &mut [u8], size: &mut usize) -> i32
+    ensures { Fills (IsFarewell machine) network.old network.new out.old out.new size.old size.new
         result }
 {
     if out.len() < DATAGRAM_LIMIT {
         return TOO_SHORT;
     }
-    match peer.bye(machine) {
+    match carrying::bye(network, machine) {
         Some(bytes) => {
             write(out, size, &bytes);
             0

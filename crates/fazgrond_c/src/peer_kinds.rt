@@ -33,9 +33,9 @@ pub struct MatchIn {
 }
 
 impl MatchIn {
-    /// The match, if each number has room where it belongs.
-    pub fn settings(&self) -> Option<MatchSettings>
-        ensures matched { IfSome result (AreMatched self.now) }
+    /// The match, if each number has room where it belongs. With two machines nobody carries.
+    pub fn settings(&self, carries: bool) -> Option<MatchSettings>
+        ensures matched { IfSome result (AreMatched self.now carries) }
         ensures none { IfNone result (HasNoRoom self.now) }
     {
         let (Ok(me), Ok(machines)) = (u8::try_from(self.me), u8::try_from(self.machines)) else {
@@ -58,7 +58,7 @@ impl MatchIn {
             silent_after: self.silent_after,
             notify_after: self.notify_after,
             stalled_after: self.stalled_after,
-            carries: false,
+            carries: carries && machines > 2,
             words,
         })
     }

@@ -1,7 +1,8 @@
 //! Peers for games in other languages. The session stands beside its peer, under a handle of its own.
-ghost use Rattle.std.specs.Prelude.{◌≡◌, if◌then◌else◌};
+ghost use Rattle.std.specs.Prelude.{◌≡◌, ◌≢◌, pos, IfOk, false, true, if◌then◌else◌};
 ghost use Rattle.fazgrond_c.specs.Handles.{network_in, peer_in, FillsBeside, FillsBy, Makes, MakesBeside, MakesFor, Reads, ReadsOr, Writes};
-ghost use Rattle.fazgrond_c.specs.Peers.{stats_at, IsFarewell, IsNotedFor, IsOpenedBy, IsPolledFor, IsPutOutBy, IsReceived, IsSentTo, IsToldBy, OpensBeside};
+ghost use Rattle.fazgrond_c.specs.Carrying.{IsCarryingFor};
+ghost use Rattle.fazgrond_c.specs.Peers.{stats_at, IsFarewell, IsNotedFor, IsOpenedBy, IsPolledFor, IsPutOutBy, IsReceived, IsSentMore, IsSentTo, IsToldBy, OpensBeside};
 
 use crate::calls::{CLOSED, OTHER_VERSION, open_in};
 use crate::handle::Handle;
@@ -13,7 +14,8 @@ use crate::peer_kinds::{EventOut, MATCH_SIZE, MatchIn, StatsOut};
 use crate::peer_refusal::code_of_open;
 use roll_frame::Refusal;
 use roll_peer::Peer;
-use std::alloc::Global;
+use roll_relay::Relay;
+use std::alloc::{AllocError, Global};
 
 /// There is no such machine in the match.
 const INVALID_MACHINE: i32 = 303;
@@ -26,7 +28,37 @@ pub extern "C" fn fazgrond_peer_open(
     session: &mut Handle,
     given: &MatchIn,
 ) -> i32
-    ensures opened { IsOpenedBy given.now session.old.hold.value handle.old.hold.value
+    ensures opened { IsOpenedBy given.now false session.old.hold.value handle.old.hold.value
+        handle.new.hold.value result }
+    ensures session { session.new.hold.value ≡ session.old.hold.value }
+{
+    open(alloc, handle, session, given, false)
+}
+
+/// Opens a peer that carries for the others, and is carried for, beside a session, which is only read.
+#[unsafe(no_mangle)]
+pub extern "C" fn fazgrond_peer_open_carrying(
+    alloc: Global,
+    handle: &mut Handle,
+    session: &mut Handle,
+    given: &MatchIn,
+) -> i32
+    ensures opened { IsOpenedBy given.now true session.old.hold.value handle.old.hold.value
+        handle.new.hold.value result }
+    ensures session { session.new.hold.value ≡ session.old.hold.value }
+{
+    open(alloc, handle, session, given, true)
+}
+
+/// Opens a peer beside what a handle has open.
+fn open(
+    alloc: Global,
+    handle: &mut Handle,
+    session: &mut Handle,
+    given: &MatchIn,
+    carries: bool,
+) -> i32
+    ensures opened { IsOpenedBy given.now carries session.old.hold.value handle.old.hold.value
         handle.new.hold.value result }
     ensures session { session.new.hold.value ≡ session.old.hold.value }
 {
@@ -37,31 +69,51 @@ pub extern "C" fn fazgrond_peer_open(
         session.put(lent);
         return CLOSED;
     };
-    let code = open_beside(alloc, handle, live, given);
+    let code = open_beside(alloc, handle, live, given, carries);
     session.put(lent);
     code
 }
 
 /// Opens a peer beside an open session.
-fn open_beside(alloc: Global, handle: &mut Handle, live: &Live, given: &MatchIn) -> i32
-    ensures { OpensBeside given.now live.now.session.seen handle.old.hold.value handle.new.hold.value
-        result }
+fn open_beside(
+    alloc: Global,
+    handle: &mut Handle,
+    live: &Live,
+    given: &MatchIn,
+    carries: bool,
+) -> i32
+    ensures { OpensBeside given.now carries live.now.session.seen handle.old.hold.value
+        handle.new.hold.value result }
 {
     if given.size != MATCH_SIZE {
         return OTHER_VERSION;
     }
-    let Some(settings) = given.settings() else {
+    let Some(settings) = given.settings(carries) else {
         return Refusal::InvalidRequest.code();
     };
     let peer = match Peer::open(alloc, &live.session, settings) {
         Ok(peer) => peer,
         Err(why) => return code_of_open(why),
     };
+    let Ok(relay) = relay_of(alloc, &peer) else {
+        return Refusal::NoMemory.code();
+    };
     open_in(
         alloc,
         handle,
-        Open::Peer(Network::new(peer, given.held_turns)),
+        Open::Peer(Network::new(peer, given.held_turns, relay)),
     )
+}
+
+/// What carries beside the network of a match, if it is to.
+fn relay_of(alloc: Global, peer: &Peer) -> Result<Option<Relay>, AllocError>
+    ensures { IfOk result (IsCarryingFor peer.now) }
+{
+    if peer.settings().carries {
+        Ok(Some(Relay::open(alloc, peer)?))
+    } else {
+        Ok(None)
+    }
 }
 
 /// Hears a datagram that came: words that it holds become words of the session.
@@ -193,6 +245,31 @@ pub extern "C" fn fazgrond_peer_send(
     code
 }
 
+/// What goes out beside that in this turn, and to which machine.
+#[unsafe(no_mangle)]
+pub extern "C" fn fazgrond_peer_send_more(
+    alloc: Global,
+    handle: &mut Handle,
+    machine: &mut u8,
+    out: &mut [u8],
+    size: &mut usize,
+) -> i32
+    ensures sent { FillsBy network_in (IsSentMore machine.new) handle.old.hold.value
+        handle.new.hold.value out.old out.new size.old size.new result }
+    ensures unnamed { result ≢ pos 0 → machine.new ≡ machine.old }
+{
+    let Some(mut held) = handle.take(alloc) else {
+        return CLOSED;
+    };
+    let Open::Peer(network) = &mut *held else {
+        handle.put(held);
+        return CLOSED;
+    };
+    let code = peer_calls::send_more(network, machine, out, size);
+    handle.put(held);
+    code
+}
+
 /// Notes the digest of the session's settled state.
 #[unsafe(no_mangle)]
 pub extern "C" fn fazgrond_peer_note_settled(
@@ -243,18 +320,17 @@ pub extern "C" fn fazgrond_peer_bye(
     out: &mut [u8],
     size: &mut usize,
 ) -> i32
-    ensures said { FillsBy peer_in (IsFarewell machine) handle.old.hold.value handle.new.hold.value
+    ensures { FillsBy network_in (IsFarewell machine) handle.old.hold.value handle.new.hold.value
         out.old out.new size.old size.new result }
-    ensures kept { handle.new.hold.value ≡ handle.old.hold.value }
 {
-    let Some(held) = handle.take(alloc) else {
+    let Some(mut held) = handle.take(alloc) else {
         return CLOSED;
     };
-    let Open::Peer(network) = &*held else {
+    let Open::Peer(network) = &mut *held else {
         handle.put(held);
         return CLOSED;
     };
-    let code = peer_calls::bye(&network.peer, machine, out, size);
+    let code = peer_calls::bye(network, machine, out, size);
     handle.put(held);
     code
 }

@@ -5,3 +5,4 @@ pub mod Ahead
 pub mod OneMatch
 pub mod Fronts
 pub mod Pressed
+pub mod Carried

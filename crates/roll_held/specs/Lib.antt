@@ -4,3 +4,4 @@ pub mod Pressed
 pub mod Laws
 pub mod Heard
 pub mod OneMatch
+pub mod Relayed

@@ -6,6 +6,7 @@ mod front;
 mod held;
 mod laws;
 mod network;
+mod relayed;
 mod session;
 mod words;
 

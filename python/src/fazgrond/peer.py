@@ -47,6 +47,7 @@ class Match:
     stalled_after: int = 0  # after which a machine is gone that gives no words; 0: it never is
     words: int = 1  # of how many words a player's input is, 1 to 4
     held_turns: int = 0  # for how many turns others' words wait beside the session, 1 to 8; 0: they don't
+    carries: bool = False  # of three machines or more: hand on what two others send each other whose line is broken (`send_more`)
     draw: int | None = None
 
     def _raw(self) -> Any:
@@ -109,17 +110,19 @@ class Peer(Owned):
     `now` is this machine's clock in milliseconds, from a moment of its own choice; it may wrap, and it may jump.
 
     In each turn hear what came by `receive`, give the session its own players' words once `is_running` says that the match has
-    begun, make a `turn`, and `send` to each other machine.
+    begun, make a `turn`, and `send` to each other machine; with `carries` in the match, send what `send_more` has too.
     """
 
     def __init__(self, session: Plays, match: Match) -> None:
         super().__init__("peer", session._lock)
         self.session = session
         self._word = ffi.new("uint32_t *")
+        self._machine = ffi.new("uint8_t *")
         self._event = ffi.new("fazgrond_event *")
         self._has_begun = False  # that never ends
         with self._lock:
-            said(lib.fazgrond_peer_open(self._at(), session._at(), match._raw()))
+            opening = lib.fazgrond_peer_open_carrying if match.carries else lib.fazgrond_peer_open
+            said(opening(self._at(), session._at(), match._raw()))
 
     def receive(self, datagram: bytes, now: int) -> None:
         """Takes a datagram that came, and gives the session the words in it. What is refused has changed nothing but what is
@@ -166,10 +169,19 @@ class Peer(Owned):
             return self._has_begun
 
     def send(self, machine: int, now: int) -> bytes | None:
-        """The datagram to send to a machine in this turn. None if it is gone, or this one, or there is no such machine."""
+        """The datagram to send to a machine in this turn. None if it is gone, or this one, or there is no such machine; and while what
+        this one has for it is carried by others alone."""
         with self._lock:
             peer, session, now = self._at(), self.session._at(), now & CLOCK
             return written(lambda out, room, length: lib.fazgrond_peer_send(peer, session, machine, now, out, room, length))
+
+    def send_more(self) -> tuple[int, bytes] | None:
+        """Once `send` was called for each other machine, what a peer that carries has to send besides in this turn: a machine, and the
+        datagram for it. Call it until there is none."""
+        with self._lock:
+            peer, to = self._at(), self._machine
+            more = written(lambda out, room, length: lib.fazgrond_peer_send_more(peer, to, out, room, length))
+            return None if more is None else (int(to[0]), more)
 
     def bye(self, machine: int) -> bytes | None:
         """The datagram that says to a machine that this one leaves the match. Send each a few times. None if there is nobody to

@@ -416,6 +416,15 @@ impl Peer {
         Ok(peer)
     }
 
+    /// The same of a peer that carries, for a match of three machines or more: where the line between two of them breaks, a third one
+    /// that both hear hands their datagrams on. In each turn send what [`send_more`](Peer::send_more) has too. A machine carries with
+    /// those that were opened so too.
+    pub fn open_carrying(session: &mut impl Plays, of: &Match) -> Result<Peer, Error> {
+        let peer = Peer { owned: Owned::closed() };
+        said(unsafe { raw::fazgrond_peer_open_carrying(peer.raw(), session.raw(), of) })?;
+        Ok(peer)
+    }
+
     fn raw(&self) -> *mut raw::Peer {
         self.owned.raw()
     }
@@ -456,15 +465,26 @@ impl Peer {
         answered(|out| unsafe { raw::fazgrond_peer_is_running(self.raw(), out) }).unwrap_or(0u32) != 0
     }
 
-    /// The datagram to send to a machine in this turn. None if it is gone, or this one, or there is no such machine.
+    /// The datagram to send to a machine in this turn. None if it is gone, or this one, or there is no such machine; and of a peer that
+    /// carries while what it has for that machine is carried alone.
     pub fn send(&mut self, session: &impl Plays, machine: u8, now: u32) -> Result<Option<Datagram>, Error> {
         Datagram::written(|out, room, length| unsafe {
             raw::fazgrond_peer_send(self.raw(), session.raw(), machine, now, out, room, length)
         })
     }
 
+    /// Once [`send`](Peer::send) was called for each other machine, what a peer that carries has to send besides in this turn, and to
+    /// which machine. Call it until there is none.
+    pub fn send_more(&mut self) -> Option<(u8, Datagram)> {
+        let mut machine = 0;
+        let made = Datagram::written(|out, room, length| unsafe {
+            raw::fazgrond_peer_send_more(self.raw(), &mut machine, out, room, length)
+        });
+        made.unwrap_or(None).map(|datagram| (machine, datagram))
+    }
+
     /// The datagram that says to a machine that this one leaves the match: another one for each machine. Send each a few times.
-    /// None if there is nobody to tell.
+    /// None if there is nobody to tell. A peer that carries has [`send_more`](Peer::send_more) after it too.
     pub fn bye(&self, machine: u8) -> Option<Datagram> {
         let made = Datagram::written(|out, room, length| unsafe {
             raw::fazgrond_peer_bye(self.raw(), machine, out, room, length)

@@ -233,6 +233,7 @@ unsafe extern "C" {
     pub fn fazgrond_frames_ahead(session: *mut Session, frames: *mut u32) -> i32;
     pub fn fazgrond_claim(session: *mut Session, out: *mut u8, room: usize, length: *mut usize) -> i32;
     pub fn fazgrond_peer_open(peer: *mut Peer, session: *mut Session, of: *const Match) -> i32;
+    pub fn fazgrond_peer_open_carrying(peer: *mut Peer, session: *mut Session, of: *const Match) -> i32;
     pub fn fazgrond_peer_receive(
         peer: *mut Peer,
         session: *mut Session,
@@ -247,6 +248,13 @@ unsafe extern "C" {
         session: *mut Session,
         machine: u8,
         now: u32,
+        out: *mut u8,
+        room: usize,
+        length: *mut usize,
+    ) -> i32;
+    pub fn fazgrond_peer_send_more(
+        peer: *mut Peer,
+        machine: *mut u8,
         out: *mut u8,
         room: usize,
         length: *mut usize,

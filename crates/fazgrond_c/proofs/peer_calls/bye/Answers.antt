@@ -5,7 +5,6 @@ pub returns-in-Some : goal.returns-in-Some
 returns-in-Some c = record {
   short = λ less. absurd (omega (arith, less));
   filled = λ room. record {
-    kept = refl;
     bytes = Some c.in-Some.bytes.items;
     said = c.in-Some.ensures.said;
     none = c.in-Some.ensures.none;
