@@ -6,7 +6,7 @@ use Rattle.roll_held.proofs.front.front.Goals.{in-Some, in_default}
 use Rattle.roll_held.proofs.front.front.Goals as goal
 
 abbrev nobody : Player
-nobody = record { words = []; mask = 0; local = false; gone = false; given = false }
+nobody = record { words = []; before = 0; mask = 0; local = false; gone = false; given = false }
 
 pub loop-place-preserved : goal.loop-place-preserved
 loop-place-preserved g c =
