@@ -1,7 +1,7 @@
 -- Worked examples, by computation.
 use Rattle.std.proofs.Common.{◌≡◌, ℕ, zero, suc, List, [], ◌∷◌, ◌++◌, refl, Some, None}
 use Rattle.roll_frame.specs.Cells.{Rows}
-use Rattle.roll_frame.specs.Settings.{start_refusal}
+use Rattle.roll_frame.specs.Settings.{start_refusal, none_before, none_first}
 use Rattle.roll_frame.specs.declared.settings.Settings.{Settings}
 use Rattle.roll_frame.specs.declared.profile.Profile.TheVariants.{Ggpo, Wide}
 use Rattle.roll_frame.specs.declared.refusal.Refusal.TheVariants.{InvalidRequest, PlayerOutOfRange}
@@ -141,7 +141,7 @@ pub full_log : lines (record (two 0 full) { log = 2 }) (L 1 0 ∷ A ∷ S ∷ []
 full_log = refl
 
 abbrev five : Settings
-five = record { profile = Wide; players = 5; local = 1; delays = []; masks = full ∷ full ∷ full ∷ full ∷ full ∷ []; threshold = 15; limit = 1048576; log = 16777216 }
+five = record { profile = Wide; players = 5; local = 1; delays = []; masks = full ∷ full ∷ full ∷ full ∷ full ∷ []; before = none_before; first = none_first; threshold = 15; limit = 1048576; log = 16777216 }
 
 -- settings out of range: five players, two hundred, none; a threshold of 9, of 0; a delay of player 2, a
 -- delay of 9; no local player, a local player 3 of two; too many frames and entries, and none

@@ -25,6 +25,7 @@ use Rattle.roll_frame.specs.declared.settings.Settings.{Settings}
 use Rattle.roll_frame.specs.declared.row.Cell.TheVariants.{Word}
 use Rattle.roll_frame.specs.declared.profile.Profile.TheVariants.{Ggpo}
 use Rattle.roll_frame.specs.declared.entry.Entry.TheVariants.{Local, Remote, Disconnect, Sync, Advance, Graft, Partial}
+use Rattle.roll_frame.specs.Settings.{none_before, none_first}
 
 abbrev pub tally : Game
 tally = record { opening = 0 ∷ []; step = tally_step }
@@ -122,7 +123,7 @@ full = 4294967295
 
 -- two players, of whom the first is local
 abbrev pub two : ℕ → ℕ → Settings
-two delay mask = record { profile = Ggpo; players = 2; local = 1; delays = delay ∷ 0 ∷ []; masks = full ∷ mask ∷ []; threshold = 8; limit = 1048576; log = 16777216 }
+two delay mask = record { profile = Ggpo; players = 2; local = 1; delays = delay ∷ 0 ∷ []; masks = full ∷ mask ∷ []; before = none_before; first = none_first; threshold = 8; limit = 1048576; log = 16777216 }
 
 abbrev pub L : ℕ → ℕ → Command
 L p word = Do (Local p word)
