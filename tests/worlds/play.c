@@ -396,6 +396,30 @@ static uint64_t digest_of(const world *self, machine *at) {
     return sha256_end(&sum);
 }
 
+/* Whether two machines have settled the same, as far as both have settled it. */
+static bool are_alike(const world *self, machine *one, machine *other) {
+    uint32_t rows = one->rows < other->rows ? one->rows : other->rows;
+    for (uint32_t frame = 0; frame < rows; frame++)
+        for (uint32_t player = 0; player < player_count(self); player++) {
+            uint32_t first = 0, second = 0;
+            int32_t is_there = fazgrond_confirmed_word(&one->session, (uint8_t)(player + 1), frame, &first);
+            if (fazgrond_confirmed_word(&other->session, (uint8_t)(player + 1), frame, &second) != is_there || first != second)
+                return false;
+        }
+    return true;
+}
+
+/* Those of which neither regards the other as gone have to have settled the same. */
+static void print_differences(world *self) {
+    for (uint32_t one = 0; one < self->machines; one++)
+        for (uint32_t other = one + 1; other < self->machines; other++) {
+            machine *first = &self->machine[one], *second = &self->machine[other];
+            if (first->is_open && second->is_open && !(first->gone >> other & 1) && !(second->gone >> one & 1)
+                && !are_alike(self, first, second))
+                printf("machines %u and %u have settled other rows\n", one, other);
+        }
+}
+
 static void print_outcome(world *self) {
     static const char *const endings[] = { [PLAYS] = "plays", [STOPPED] = "stopped", [CUT_OFF] = "cut off" };
     for (uint32_t who = 0; who < self->machines; who++) {
@@ -421,5 +445,6 @@ int main(int count, char **words) {
     fclose(from);
     play(&self);
     print_outcome(&self);
+    print_differences(&self);
     return 0;
 }
