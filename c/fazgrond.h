@@ -436,7 +436,7 @@ typedef struct fazgrond_stats {
     uint32_t sent;
     uint32_t received;
     uint32_t lost;               /* or late */
-    uint32_t words_queued;       /* words that it hasn't said that it has, at most 160 of each player; 0 if nothing is sent to it */
+    uint32_t words_queued;       /* words that it hasn't said that it has, at most 140 of each player; 0 if nothing is sent to it */
     int32_t frames_behind;       /* by how many frames this machine is behind the other: negative if it is ahead */
     int32_t their_frames_behind; /* and the other, as it says, behind this one */
     uint32_t refused;            /* how many datagrams that it sealed were refused, or had words that were */

@@ -12,7 +12,7 @@ import re
 import sys
 from pathlib import Path
 
-MAGIC = b"FZG2"
+MAGIC = b"FZG3"
 HELLO, PLAY, BYE, MAP, CARRIED, PIECE, ASK = 0, 1, 2, 3, 4, 5, 6
 VIEWER = 255
 BLOCK = 64  # of SHA-256, in bytes
@@ -214,9 +214,9 @@ def room():
 def greatest():
     """The play that has the most bytes."""
     most, players = (1 << 32) - 1, range(8)
-    words = [most - at % 2 for at in range(160)]
-    offers = {player: (4_000_000_000, 20) for player in players}
-    marks = dict.fromkeys([6, 7], (4_000_000_019, mark(players, (1 << 64) - 1, dict.fromkeys(players, 255), 255)))
+    words = [most - at % 2 for at in range(140)]
+    offers = {player: (4_000_000_000, 21 if player == 7 else 17) for player in players}
+    marks = dict.fromkeys(players, (4_000_000_016, mark(players, (1 << 64) - 1, dict.fromkeys(players, 255), 255)))
     return play(NUMBER, 1, dict.fromkeys(players, most), offers, words, [most] * 6, (most, (1 << 64) - 1), players, marks)
 
 
@@ -342,7 +342,7 @@ def sayings(made):
     """What the page has to say of sizes, and of the numbers behind the examples."""
     held = len(made["held"][1])
     return [
-        f"`{hexed(MAGIC)}`: the letters `FZG`, and the version, `2`",
+        f"`{hexed(MAGIC)}`: the letters `FZG`, and the version, `3`",
         *(f"0x{number:016x}" for number in [NUMBER, *DRAWS, MATCH["digest"], THIRD_NUMBER, THIRD_DRAW, LINE, HOST, GUEST]),
         f"A hello has {len(made['hello'][1])} bytes",
         f"It has {len(made['turn'][1])} bytes:",

@@ -9,7 +9,7 @@
 #include <time.h>
 
 int main(int count, char **words) {
-    static const uint8_t head[] = { 0x46, 0x5a, 0x47, 0x32 };
+    static const uint8_t head[] = { 0x46, 0x5a, 0x47, 0x33 };
     struct sockaddr_in to = { .sin_family = AF_INET };
     uint64_t random = 0x9e3779b97f4a7c15u;
     int made = socket(AF_INET, SOCK_DGRAM, 0);

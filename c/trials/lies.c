@@ -144,7 +144,7 @@ static void empty_offer_of_nothing(world *self, packet *made, uint32_t to) {
 static void too_many_words(world *self, packet *made, uint32_t to) {
     (void)self, (void)to;
     made->offered |= 1 << LIAR;
-    made->count[LIAR] = 161;
+    made->count[LIAR] = 141;
 }
 
 static void words_past_all_frames(world *self, packet *made, uint32_t to) {
@@ -345,7 +345,7 @@ static size_t other_flag(world *self, uint8_t *bytes, size_t length) {
 
 static size_t other_version(world *self, uint8_t *bytes, size_t length) {
     (void)self;
-    bytes[3] = '1';
+    bytes[3] = '2';
     return length;
 }
 

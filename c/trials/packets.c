@@ -86,7 +86,7 @@ static void put_play(writer *out, const packet *made) {
 
 size_t packet_write(const packet *made, uint8_t *out) {
     writer to = { out, 0 };
-    put_fixed(&to, 0x465a4732, 4);
+    put_fixed(&to, 0x465a4733, 4);
     put_fixed(&to, 0, 8);
     put(&to, made->sender);
     put(&to, made->kind);

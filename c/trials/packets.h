@@ -8,7 +8,7 @@
 #include <fazgrond.h>
 #include <stdbool.h>
 
-enum { PACKET_TAG = 4, PACKET_SENDER = 12, PACKET_KIND = 13, PACKET_BODY = 14, PACKET_WORDS = 160 };
+enum { PACKET_TAG = 4, PACKET_SENDER = 12, PACKET_KIND = 13, PACKET_BODY = 14, PACKET_WORDS = 140 };
 
 enum { HELLO = 0, PLAY = 1, BYE = 2 };
 

@@ -44,7 +44,7 @@ void faz_id(char *out, const char *match, faz_kind kind, uint32_t frame) {
 
 /* A run begins with its first frame, which is less than these letters are as a number. */
 faz_kind faz_kind_of(const uint8_t *bytes, size_t length) {
-    return length > KIND && memcmp(bytes, "FZG2", 4) == 0 ? (faz_kind)bytes[KIND] : FAZ_ROWS;
+    return length > KIND && memcmp(bytes, "FZG3", 4) == 0 ? (faz_kind)bytes[KIND] : FAZ_ROWS;
 }
 
 /* Numbers: the highest byte first. */
@@ -71,14 +71,14 @@ uint32_t faz_frame_of(const uint8_t *bytes, size_t length) {
 
 /* The first bytes of a packet, without its tag; the sender is 0. */
 static void begin(uint8_t *out, faz_kind kind) {
-    memcpy(out, "FZG2", 4);
+    memcpy(out, "FZG3", 4);
     memset(out + 4, 0, HEAD - 4);
     out[KIND] = (uint8_t)kind;
 }
 
 /* Whether this is a packet of such a kind, with so many bytes behind the first ones at least. */
 static bool is_packet(const uint8_t *bytes, size_t length, faz_kind kind, size_t least, uint64_t number) {
-    return length >= HEAD + least && memcmp(bytes, "FZG2", 4) == 0 && bytes[12] == 0 && bytes[KIND] == kind
+    return length >= HEAD + least && memcmp(bytes, "FZG3", 4) == 0 && bytes[12] == 0 && bytes[KIND] == kind
         && is_sealed(bytes, length, key_of(number));
 }
 

@@ -35,7 +35,7 @@ static bool is_same(const fazgrond_row *one, const fazgrond_row *other) {
 /* The words of docs/WIRE.md's first example, as it writes them, of one player. */
 static void bytes_of_rows(void) {
     static const uint32_t words[] = { 0, 0, 5, 5, 5, 7 };
-    static const uint8_t wanted[] = { 0, 0, 0, 15, 'F', 'Z', 'G', '2', 0, 0, 0, 0, 0, 0, 0, 0, 0, 1, /* the first frame; a play */
+    static const uint8_t wanted[] = { 0, 0, 0, 15, 'F', 'Z', 'G', '3', 0, 0, 0, 0, 0, 0, 0, 0, 0, 1, /* the first frame; a play */
                                       0, 0, 1, 6, 0, 1, 0, 6, 0,                                    /* counts, offers, no marks */
                                       2, 5, 2, 7 };
     fazgrond_row rows[6] = { 0 };

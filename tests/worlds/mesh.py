@@ -20,7 +20,7 @@ from typing import NamedTuple
 from rules import holds
 
 PLAYERS = 8
-WORDS_IN_A_PLAY = 160
+WORDS_IN_A_PLAY = 140
 
 
 class View(NamedTuple):

@@ -12,7 +12,7 @@ const PATIENCE = 60; // turns until less than the cushion is played, and until a
 const SILENCE = 1000;
 const KINDS = { ROWS: 1, HEAD: 16, SNAP: 17, SUM: 18, END: 19 };
 const KIND_AT = 13;
-const MARK = "FZG2";
+const MARK = "FZG3";
 
 const pause = (time) => new Promise((resolve) => setTimeout(resolve, time));
 

@@ -14,7 +14,7 @@ use Rattle.roll_wire.specs.declared.datagram.Marked.{Marked}
 use Rattle.roll_wire.specs.declared.fault.WireFault.{WireFault}
 use Rattle.roll_wire.specs.declared.fault.WireFault.TheVariants.{Magic, Misplaced, TooMany, Trailing, Mark as MarkFault}
 use Rattle.roll_wire.specs.declared.limits.TheConstants.{MAGIC, WORD_LIMIT}
-use Rattle.roll_wire.specs.Spelling.{Content, Greets, Plays, Leaves, Message, Turn, body, envelope, hello, message, number, head, marks, runs, spelling, are_marks, count_of, Fits, IsContent, IsMarked, IsTurn}
+use Rattle.roll_wire.specs.Spelling.{Content, Greets, Plays, Leaves, Message, Turn, body, envelope, hello, message, number, head, marks, runs, spelling, are_placed, count_of, Fits, IsContent, IsMarked, IsTurn}
 use Rattle.roll_wire.specs.Reading.{◌>>=◌, Gives, number_at, magic_at, envelope_at, hello_at, head_at, is_unmarked, marked_at, marks_at, masked_at, placed, unmarked, unmarked_of, within_at, words_at, turn_at, content_at, all_of}
 use Rattle.roll_wire.proofs.Fields.{IsBytes, IsBytes-rest, Takes, Takes-then, bind_ok, passed_ok, ok_is, number_field}
 use Rattle.roll_wire.proofs.Groups.{envelope_field, head_field, hello_field, marks_field}
@@ -41,7 +41,7 @@ magic_again rest = rw (number_field.again MAGIC rest (omega arith)) refl
 
 abbrev AreMarks : List Offer → List (Option Marked) → Type 0
 AreMarks offers ms = ((length ms ≡ PLAYER_LIMIT) × AllByRecursion (λ m. IfSome m IsMarked) ms)
-    × (are_marks offers ms ≡ true)
+    × (are_placed offers ms ≡ true)
 
 marks_take : (offers : List Offer) (bytes : List ℕ) (ms : List (Option Marked)) (rest : List ℕ)
     → IsBytes bytes → marks_at offers bytes ≡ Ok (ms, rest)
@@ -49,7 +49,7 @@ marks_take : (offers : List Offer) (bytes : List ℕ) (ms : List (Option Marked)
 unfolding marks_at
 marks_take offers bytes ms rest b e =
     let p = bind_ok (masked_at None (within_at marked_at) bytes) (placed offers) (ms, rest) e in
-    let g = passed_ok (are_marks offers p.0.0) Misplaced p.0 (ms, rest) p.2 in
+    let g = passed_ok (are_placed offers p.0.0) Misplaced p.0 (ms, rest) p.2 in
     let t = marks_field.takes bytes p.0.0 p.0.1 b p.1 in
     subst (λ (x : List (Option Marked) × List ℕ). Takes bytes (marks x.0) x.1 × AreMarks offers x.0)
     g.1 (t.0, (t.1, g.0))
@@ -94,7 +94,7 @@ turn_takes bytes t rest b e =
       record {
         head = u.1;
         marks = k.1.0;
-        are_marks = k.1.1;
+        are_placed = k.1.1;
         words = v.all ∙ sym c.1;
         few = leb-true (count_of q.0.0.offers) WORD_LIMIT c.0;
         are_words = v.fits;
@@ -115,7 +115,7 @@ turn_again t rest f =
     ∙ rw (
       head_field.again t.head (marks t.marks ++ (runs t.words ++ rest)) f.head,
       few,
-      marks_again t.head.offers t.marks (runs t.words ++ rest) (f.marks, f.are_marks),
+      marks_again t.head.offers t.marks (runs t.words ++ rest) (f.marks, f.are_placed),
       words,
     ) refl
 

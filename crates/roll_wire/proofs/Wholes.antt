@@ -1,14 +1,14 @@
 -- A turn that has the words that it offers, and no more than fit, has a spelling.
 use Rattle.std.proofs.Common.{◌≡◌, ℕ, suc, ◌-◌, ◌<◌, ◌^◌, Bool, true, List, [], ◌∷◌, ◌≤◌, length, get_or, refl, sym, arith}
 use Rattle.std.specs.List.{AllByRecursion}
-use Rattle.std.specs.Prelude.{Option, Some, None, IfSome, count_by, is_some, replicate, nat_le, nat_lt, ◌&&◌, ◌==◌, slice_index}
+use Rattle.std.specs.Prelude.{Option, Some, None, IfSome, replicate, nat_le, nat_lt, ◌&&◌, ◌==◌, slice_index}
 use Rattle.std.proofs.lemmas.Bool.{and_parts, and_from, eqb-true, eq-eqb, leb-true, le-leb, lt-ltb}
 use Rattle.roll_mesh.specs.declared.limits.TheConstants.{PLAYER_LIMIT}
 use Rattle.roll_mesh.specs.declared.packet.Offer.{Offer}
 use Rattle.roll_wire.specs.declared.datagram.Marked.{Marked}
 use Rattle.roll_wire.specs.declared.datagram.Newcomer.{Newcomer}
-use Rattle.roll_wire.specs.declared.limits.TheConstants.{MARK_LIMIT, WORD_LIMIT}
-use Rattle.roll_wire.specs.Spelling.{Content, Greets, Plays, Leaves, Turn, IsContent, IsHead, IsMarked, IsNewcomer, IsNumber, IsOffer, IsTurn, are_marks, are_offers, are_placed, are_spelled, count_of, has_players, is_offer, is_spelled, is_turn, is_whole}
+use Rattle.roll_wire.specs.declared.limits.TheConstants.{WORD_LIMIT}
+use Rattle.roll_wire.specs.Spelling.{Content, Greets, Plays, Leaves, Turn, IsContent, IsHead, IsMarked, IsNewcomer, IsNumber, IsOffer, IsTurn, are_offers, are_placed, are_spelled, count_of, has_players, is_offer, is_spelled, is_turn, is_whole}
 
 all_numbers : (ws : List ℕ) → ((i : ℕ) → i < length ws → get_or ws i 0 < 2 ^ 32)
     → AllByRecursion IsNumber ws
@@ -43,14 +43,14 @@ abbrev has_few : Turn → Bool
 has_few t = are_and_count t && nat_le (length t.words) WORD_LIMIT
 
 abbrev has_marks : Turn → Bool
-has_marks t = are_marks t.head.offers t.marks && are_spelled t.marks
+has_marks t = are_placed t.head.offers t.marks && are_spelled t.marks
 
 -- what a turn has that is one
 pub record Parts (t : Turn) : Type 0 where
   pub offers : are_offers t.head.offers ≡ true
   pub count : count_of t.head.offers ≡ length t.words
   pub few : length t.words ≤ WORD_LIMIT
-  pub marks : are_marks t.head.offers t.marks ≡ true
+  pub marks : are_placed t.head.offers t.marks ≡ true
   pub spelled : are_spelled t.marks ≡ true
 
 pub parts_of : (t : Turn) → is_turn t ≡ true → Parts t
@@ -59,7 +59,7 @@ parts_of t h =
     let outer = and_parts (are_and_count t) (nat_le (length t.words) WORD_LIMIT) whole.0 in
     let inner = and_parts (are_offers t.head.offers) (count_of t.head.offers == length t.words)
     outer.0 in
-    let marks = and_parts (are_marks t.head.offers t.marks) (are_spelled t.marks) whole.1 in
+    let marks = and_parts (are_placed t.head.offers t.marks) (are_spelled t.marks) whole.1 in
     record {
       offers = inner.0;
       count = eqb-true (count_of t.head.offers) (length t.words) inner.1;
@@ -76,17 +76,11 @@ no_marks offers = refl
 pub unmarked_whole : (offers : List Offer) (words : List ℕ)
     → (are_offers offers && (count_of offers == length words) && nat_le (length words) WORD_LIMIT) ≡ true
     → (are_offers offers && (count_of offers == length words) && nat_le (length words) WORD_LIMIT
-    && (are_marks offers (replicate PLAYER_LIMIT None) && are_spelled (replicate PLAYER_LIMIT None))) ≡ true
+    && (are_placed offers (replicate PLAYER_LIMIT None) && are_spelled (replicate PLAYER_LIMIT None))) ≡ true
 unmarked_whole offers words h =
     and_from (are_offers offers && (count_of offers == length words) && nat_le (length words) WORD_LIMIT)
-    (are_marks offers (replicate PLAYER_LIMIT None) && are_spelled (replicate PLAYER_LIMIT None)) h
+    (are_placed offers (replicate PLAYER_LIMIT None) && are_spelled (replicate PLAYER_LIMIT None)) h
     (rw (no_marks offers) refl)
-
-pub few_marks : (t : Turn) → is_turn t ≡ true → count_by is_some t.marks ≤ MARK_LIMIT
-few_marks t h =
-    leb-true (count_by is_some t.marks) MARK_LIMIT
-    (and_parts (nat_le (count_by is_some t.marks) MARK_LIMIT) (are_placed t.head.offers t.marks)
-    (parts_of t h).marks).0
 
 abbrev AreMarked : List (Option Marked) → Type 0
 AreMarked ms = (length ms ≡ PLAYER_LIMIT) × AllByRecursion (λ m. IfSome m IsMarked) ms
@@ -98,7 +92,7 @@ turn_fits t head marks numbers h =
     record {
       head = head;
       marks = marks;
-      are_marks = p.marks;
+      are_placed = p.marks;
       words = sym p.count;
       few = omega (arith, p.count, p.few);
       are_words = all_numbers t.words (λ i l. numbers i);
@@ -112,7 +106,7 @@ fits_turn t f =
     (in_order t.head.offers f.head.offers.1) (eq-eqb (count_of t.head.offers) (length t.words)
     (sym f.words)))
     (le-leb (length t.words) WORD_LIMIT (omega (arith, f.words, f.few))))
-    (and_from (are_marks t.head.offers t.marks) (are_spelled t.marks) f.are_marks
+    (and_from (are_placed t.head.offers t.marks) (are_spelled t.marks) f.are_placed
     (spelled t.marks f.marks.1))
 
 pub fits_whole : (c : Content) → IsContent c → is_whole c ≡ true

@@ -16,7 +16,7 @@ use Rattle.roll_wire.specs.declared.datagram.Settled.{Settled}
 use Rattle.roll_wire.specs.declared.fault.WireFault.{WireFault}
 use Rattle.roll_wire.specs.declared.fault.WireFault.TheVariants.{Short, Magic, Kind, Flag, Long, Zero, TooFar, TooMany, Misplaced, Mark as MarkFault, Run, Trailing}
 use Rattle.roll_wire.specs.declared.limits.TheConstants.{MAGIC, WORD_LIMIT}
-use Rattle.roll_wire.specs.Spelling.{Content, Greets, Plays, Leaves, Fits, Message, Turn, are_marks, count_of, spelling}
+use Rattle.roll_wire.specs.Spelling.{Content, Greets, Plays, Leaves, Fits, Message, Turn, are_placed, count_of, spelling}
 
 infixl 10 ◌>>=◌
 abbrev pub ◌>>=◌ : {A B : Type 0} → Result A WireFault → (A → Result B WireFault)
@@ -281,7 +281,7 @@ marked_at bytes = do
 -- marks of words that are offered so
 abbrev pub placed : List Offer → List (Option Marked) × List ℕ
     → Result (List (Option Marked) × List ℕ) WireFault
-placed offers marks = if are_marks offers marks.0 then Ok marks else Err Misplaced
+placed offers marks = if are_placed offers marks.0 then Ok marks else Err Misplaced
 
 unfoldable pub marks_at : List Offer → List ℕ → Result (List (Option Marked) × List ℕ) WireFault
 marks_at offers bytes = do

@@ -1,5 +1,5 @@
 -- What a datagram says, and its one spelling: fixed numbers with the highest byte first, short ones with the lowest.
-use Rattle.std.specs.Prelude.{◌≡◌, ℕ, zero, suc, ◌+◌, ◌-◌, ◌*◌, ◌/◌, ◌%◌, ◌<◌, ◌≤◌, ◌^◌, ◌==◌, List, [], ◌∷◌, ◌++◌, length, map, Bool, ◌&&◌, not, nat_lt, nat_le, if◌then◌else◌, true, false, Option, Some, None, is_some, IfSome, count_by, slice_index_or, ⊤}
+use Rattle.std.specs.Prelude.{◌≡◌, ℕ, zero, suc, ◌+◌, ◌-◌, ◌*◌, ◌/◌, ◌%◌, ◌<◌, ◌≤◌, ◌^◌, ◌==◌, List, [], ◌∷◌, ◌++◌, length, map, Bool, ◌&&◌, not, nat_lt, nat_le, if◌then◌else◌, true, false, Option, Some, None, is_some, IfSome, slice_index_or, ⊤}
 use Rattle.std.specs.List.{flat_map, list_all, list_any, range_with_len, sum_by, AllByRecursion}
 use Rattle.std.specs.Int.{w32, w64, to_be_bytes, from_bool}
 use Rattle.roll_mesh.specs.declared.limits.TheConstants.{MACHINE_LIMIT, PLAYER_LIMIT}
@@ -17,7 +17,7 @@ use Rattle.roll_wire.specs.declared.datagram.Marked.{Marked}
 use Rattle.roll_wire.specs.declared.datagram.Newcomer.{Newcomer}
 use Rattle.roll_wire.specs.declared.datagram.Play.{Play}
 use Rattle.roll_wire.specs.declared.datagram.Settled.{Settled}
-use Rattle.roll_wire.specs.declared.limits.TheConstants.{MAGIC, MARK_LIMIT, WORD_LIMIT}
+use Rattle.roll_wire.specs.declared.limits.TheConstants.{MAGIC, WORD_LIMIT}
 
 -- a turn's words as a list
 pub record Turn : Type 0 where
@@ -219,19 +219,16 @@ abbrev pub is_placed : List Offer → List (Option Marked) → ℕ → Bool
 is_placed offers ms p =
     is_of (slice_index_or offers p (record { first = 0; end = 0 })) (slice_index_or ms p None)
 
+-- whether all marks are of words that are offered
 unfoldable pub are_placed : List Offer → List (Option Marked) → Bool
 are_placed offers ms = list_all (is_placed offers ms) (range_with_len 0 PLAYER_LIMIT)
-
--- whether marks are of words that are offered, and no more than a turn has
-abbrev pub are_marks : List Offer → List (Option Marked) → Bool
-are_marks offers ms = nat_le (count_by is_some ms) MARK_LIMIT && are_placed offers ms
 
 -- whether a turn has the words that it offers, and no more than fit, and marks of them that have a spelling
 abbrev pub is_turn : Turn → Bool
 is_turn t =
     are_offers t.head.offers && (count_of t.head.offers == length t.words)
     && nat_le (length t.words) WORD_LIMIT
-    && (are_marks t.head.offers t.marks && are_spelled t.marks)
+    && (are_placed t.head.offers t.marks && are_spelled t.marks)
 
 abbrev pub is_whole : Content → Bool
 is_whole (Greets h) = true
@@ -294,7 +291,7 @@ IsMarked m = IsNumber m.frame × IsMark m.mark
 pub record IsTurn (t : Turn) : Type 0 where
   pub head : IsHead t.head
   pub marks : (length t.marks ≡ PLAYER_LIMIT) × AllByRecursion (λ m. IfSome m IsMarked) t.marks
-  pub are_marks : are_marks t.head.offers t.marks ≡ true
+  pub are_placed : are_placed t.head.offers t.marks ≡ true
   pub words : length t.words ≡ count_of t.head.offers
   pub few : count_of t.head.offers ≤ WORD_LIMIT
   pub are_words : AllByRecursion IsNumber t.words

@@ -110,9 +110,9 @@ pub struct Head {
 pub struct Play {
     /// All but the words and their marks.
     pub head: Head,
-    /// Of each player the mark of one of its words that are offered here, player 0 first: two of them at most.
+    /// Of each player the mark of one of its words that are offered here, player 0 first.
     pub marks: [Option<Marked>; PLAYER_LIMIT],
-    /// The words that are offered, 160 at most: player by player, each player's from frame to frame.
+    /// The words that are offered, 140 at most: player by player, each player's from frame to frame.
     pub words: ArrayVec<u32, WORD_LIMIT>,
 }
 

@@ -25,11 +25,11 @@ pub enum WireFault {
     /// The frame after a player's last word has more than 32 bits.
     #[error("words past the last frame")]
     TooFar,
-    /// More than 160 words are offered.
+    /// More than 140 words are offered.
     #[error("too many words")]
     TooMany,
-    /// A mark isn't of a word that is offered with it, or there are more than two.
-    #[error("a mark without its word, or more than two marks")]
+    /// A mark isn't of a word that is offered with it.
+    #[error("a mark without its word")]
     Misplaced,
     /// A mark, where none is read.
     #[error("a mark, which nobody reads yet")]

@@ -13,6 +13,6 @@ pub use datagram::{
 };
 pub use fault::WireFault;
 pub use laws::{one_text, read_again};
-pub use limits::{DATAGRAM_LIMIT, MAGIC, MARK_LIMIT, WORD_LIMIT};
+pub use limits::{DATAGRAM_LIMIT, MAGIC, WORD_LIMIT};
 pub use reading::{count_of, decode, decode_unmarked};
-pub use writing::{encode, spell_mark};
+pub use writing::{encode, has_players, spell_mark};

@@ -1,10 +1,10 @@
 //! Bytes to datagrams.
-ghost use Rattle.std.specs.Prelude.{◌≡◌, ◌≢◌, ◌<◌, ◌≤◌, ◌^◌, List, length, count_by, is_none, is_some, None, Ok, IfOk};
+ghost use Rattle.std.specs.Prelude.{◌≡◌, ◌≢◌, ◌<◌, ◌≤◌, ◌^◌, List, length, is_none, None, Ok, IfOk};
 ghost use Rattle.std.specs.List.{list_all, list_any};
 ghost use Rattle.std.specs.Int.{w32, w64};
 ghost use Rattle.roll_mesh.specs.declared.limits.TheConstants.{PLAYER_LIMIT};
 ghost use Rattle.roll_mesh.specs.declared.packet.Offer.{Offer};
-ghost use Rattle.roll_wire.specs.Spelling.{Fits, Message, are_marks, are_placed, content, count_of, digits_limit, is_of, is_placed, message, spelling, turn};
+ghost use Rattle.roll_wire.specs.Spelling.{Fits, Message, are_placed, content, count_of, digits_limit, is_of, is_placed, message, spelling, turn};
 ghost use Rattle.roll_wire.specs.Reading.{Gives, all_of, bits, byte_at, clocks_at, content_at, counted_at, digits_at, envelope_at, flag_at, head_at, hello_at, is_over, is_unmarked, magic_at, mark_at, marked_at, marks_at, mask_at, masked_at, newcomer_at, no_offer, number_at, offer_at, optional_at, place_at, repeated, run_at, settled_at, short_at, turn_at, unmarked_of, view_at, within_at, word_at, words_at};
 ghost use Rattle.roll_wire.specs.declared.limits.TheConstants.{WORD_LIMIT};
 
@@ -12,7 +12,7 @@ use crate::datagram::{
     Body, Clocks, Datagram, Envelope, Head, Hello, Mark, Marked, Newcomer, Play, Settled,
 };
 use crate::fault::WireFault;
-use crate::limits::{MAGIC, MARK_LIMIT, WORD_LIMIT};
+use crate::limits::{MAGIC, WORD_LIMIT};
 use arrayvec::ArrayVec;
 use roll_mesh::{Offer, PLAYER_LIMIT, View};
 
@@ -503,7 +503,10 @@ fn is_of(offer: Offer, marked: Option<Marked>) -> bool
 }
 
 /// Whether all marks are.
-fn are_placed(offers: &[Offer; PLAYER_LIMIT], marks: &[Option<Marked>; PLAYER_LIMIT]) -> bool
+pub(crate) fn are_placed(
+    offers: &[Offer; PLAYER_LIMIT],
+    marks: &[Option<Marked>; PLAYER_LIMIT],
+) -> bool
     ensures { result ≡ are_placed offers.now marks.now }
 {
     for player in 0..PLAYER_LIMIT {
@@ -514,29 +517,6 @@ fn are_placed(offers: &[Offer; PLAYER_LIMIT], marks: &[Option<Marked>; PLAYER_LI
     true
 }
 
-/// How many words have marks.
-fn marks_in(marks: &[Option<Marked>; PLAYER_LIMIT]) -> usize
-    ensures { result ≡ count_by is_some marks.now }
-{
-    let mut count = 0;
-    for marked in marks {
-        if marked.is_some() {
-            count += 1;
-        }
-    }
-    count
-}
-
-/// Whether marks are of words that are offered, and no more than a turn has.
-pub(crate) fn are_marks(
-    offers: &[Offer; PLAYER_LIMIT],
-    marks: &[Option<Marked>; PLAYER_LIMIT],
-) -> bool
-    ensures { result ≡ are_marks offers.now marks.now }
-{
-    marks_in(marks) <= MARK_LIMIT && are_placed(offers, marks)
-}
-
 #[tactic(auto, unfolding(crate::specs::Reading::marks_at))]
 fn marks_of<'a>(
     offers: &[Offer; PLAYER_LIMIT],
@@ -545,7 +525,7 @@ fn marks_of<'a>(
     ensures { Gives (λ x. (x.0, x.1.now)) result (marks_at offers.now bytes.now) }
 {
     let (marks, rest) = all_marks_of(bytes)?;
-    if !are_marks(offers, &marks) {
+    if !are_placed(offers, &marks) {
         return Err(WireFault::Misplaced);
     }
     Ok((marks, rest))

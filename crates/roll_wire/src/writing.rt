@@ -1,16 +1,16 @@
 //! Datagrams to bytes.
-ghost use Rattle.std.specs.Prelude.{◌≡◌, ℕ, ◌+◌, ◌*◌, ◌<◌, ◌≤◌, ◌^◌, slice_index, [], ◌∷◌, ◌++◌, length, map, drop, true, false, count_by, is_some, IfSome, IfNone, if◌then◌else◌};
+ghost use Rattle.std.specs.Prelude.{◌≡◌, ℕ, ◌+◌, ◌*◌, ◌<◌, ◌≤◌, ◌^◌, slice_index, [], ◌∷◌, ◌++◌, length, map, drop, true, false, is_some, IfSome, IfNone};
 ghost use Rattle.std.specs.List.{AllByRecursion, flat_map};
 ghost use Rattle.arrayvec.specs.ArrayVec.{array_vec_len};
-ghost use Rattle.roll_wire.specs.Spelling.{Fits, IsByte, IsClocks, IsContent, IsEnvelope, IsHead, IsHello, IsLong, IsMark, IsMarked, IsNewcomer, IsNumber, IsOffer, IsSettled, IsTurn, are_marks, are_offers, are_spelled, body, byte, clocks, content, count_of, digits, digits_limit, envelope, flag, has_players, head, hello, is_counted, is_offer, is_offered, is_spelled, is_turn, is_whole, long, mark, marked, marks, mask, masked, message, newcomer, number, offer, optional, pending, present, repeats, rest_of, runs, settled, short, spelling, turn, view, within};
-ghost use Rattle.roll_wire.specs.declared.limits.TheConstants.{DATAGRAM_LIMIT, MARK_LIMIT, WORD_LIMIT};
+ghost use Rattle.roll_wire.specs.Spelling.{Fits, IsByte, IsClocks, IsContent, IsEnvelope, IsHead, IsHello, IsLong, IsMark, IsMarked, IsNewcomer, IsNumber, IsOffer, IsSettled, IsTurn, are_offers, are_placed, are_spelled, body, byte, clocks, content, count_of, digits, digits_limit, envelope, flag, has_players, head, hello, is_counted, is_offer, is_offered, is_spelled, is_turn, is_whole, long, mark, marked, marks, mask, masked, message, newcomer, number, offer, optional, pending, present, repeats, rest_of, runs, settled, short, spelling, turn, view, within};
+ghost use Rattle.roll_wire.specs.declared.limits.TheConstants.{DATAGRAM_LIMIT, WORD_LIMIT};
 ghost use Rattle.roll_mesh.specs.declared.limits.TheConstants.{MACHINE_LIMIT, PLAYER_LIMIT};
 
 use crate::datagram::{
     Body, Clocks, Datagram, Envelope, Head, Hello, Mark, Marked, Newcomer, Play, Settled,
 };
 use crate::limits::{DATAGRAM_LIMIT, MAGIC, WORD_LIMIT};
-use crate::reading::{are_marks, count_of, has_any};
+use crate::reading::{are_placed, count_of, has_any};
 use arrayvec::ArrayVec;
 use roll_mesh::{MACHINE_LIMIT, Offer, PLAYER_LIMIT, View};
 
@@ -395,11 +395,9 @@ fn put_marked(out: &mut Bytes, m: &Marked)
 /// The mark of a player's word, if it has one.
 fn put_player_mark(out: &mut Bytes, m: &Option<Marked>)
     requires spelled { is_spelled m.now ≡ true }
-    requires room { length out.old.items + 24 * (if is_some m.now then 1 else 0)
-        ≤ DATAGRAM_LIMIT }
+    requires room { length out.old.items + 24 ≤ DATAGRAM_LIMIT }
     ensures items { out.new.items ≡ out.old.items ++ present is_some (within marked) m.now }
-    ensures len { length out.new.items
-        ≤ length out.old.items + 24 * (if is_some m.now then 1 else 0) }
+    ensures len { length out.new.items ≤ length out.old.items + 24 }
     ensures fits { IfSome m.now IsMarked }
 {
     if let Some(m) = m {
@@ -420,10 +418,9 @@ fn has_marks(marks: &[Option<Marked>; PLAYER_LIMIT]) -> [bool; PLAYER_LIMIT]
 
 fn put_marks(out: &mut Bytes, ms: &[Option<Marked>; PLAYER_LIMIT])
     requires spelled { are_spelled ms.now ≡ true }
-    requires few { count_by is_some ms.now ≤ MARK_LIMIT }
-    requires room { length out.old.items + 49 ≤ DATAGRAM_LIMIT }
+    requires room { length out.old.items + 193 ≤ DATAGRAM_LIMIT }
     ensures items { out.new.items ≡ out.old.items ++ marks ms.now }
-    ensures len { length out.new.items ≤ length out.old.items + 49 }
+    ensures len { length out.new.items ≤ length out.old.items + 193 }
     ensures fits { (length ms.now ≡ PLAYER_LIMIT)
         × AllByRecursion (λ m. IfSome m IsMarked) ms.now }
 {
@@ -483,7 +480,7 @@ fn put_words(out: &mut Bytes, words: &[u32])
 
 fn put_play(out: &mut Bytes, play: &Play)
     requires whole { is_turn (turn play.now) ≡ true }
-    requires room { length out.old.items + (185 + 6 * WORD_LIMIT) ≤ DATAGRAM_LIMIT }
+    requires room { length out.old.items + (329 + 6 * WORD_LIMIT) ≤ DATAGRAM_LIMIT }
     ensures items { out.new.items
         ≡ out.old.items ++ (head play.now.head ++ (marks play.now.marks ++ runs play.now.words.items)) }
     ensures fits { IsTurn (turn play.now) }
@@ -495,7 +492,7 @@ fn put_play(out: &mut Bytes, play: &Play)
 
 fn put_body(out: &mut Bytes, b: &Body)
     requires whole { is_whole (content b.now) ≡ true }
-    requires room { length out.old.items + (186 + 6 * WORD_LIMIT) ≤ DATAGRAM_LIMIT }
+    requires room { length out.old.items + (330 + 6 * WORD_LIMIT) ≤ DATAGRAM_LIMIT }
     ensures items { out.new.items ≡ out.old.items ++ body (content b.now) }
     ensures fits { IsContent (content b.now) }
 {
@@ -519,12 +516,12 @@ fn is_turn(play: &Play) -> bool
 {
     are_offers(&play.head.offers)
         && count_of(&play.head.offers) == play.words.len()
-        && are_marks(&play.head.offers, &play.marks)
+        && are_placed(&play.head.offers, &play.marks)
         && are_spelled(&play.marks)
 }
 
-/// Whether somebody who comes is to own a player.
-fn has_players(n: &Option<Newcomer>) -> bool
+/// Whether somebody who comes is to own a player; so it is too if nobody comes.
+pub fn has_players(n: &Option<Newcomer>) -> bool
     ensures { result ≡ has_players n.now }
 {
     match n {
@@ -590,9 +587,9 @@ fn are_offers(offers: &[Offer; PLAYER_LIMIT]) -> bool
     true
 }
 
-/// The one spelling of a datagram, 1,200 bytes at most: the greatest has 1,159. None if it has none: if it is a turn
-/// that has another number of words than it offers, that offers words that end before they begin, or that has more than two marks, one
-/// of a word that it doesn't offer, or one by which somebody is to come who is to own no player.
+/// The one spelling of a datagram, 1,200 bytes at most: the greatest has 1,183. None if it has none: if it is a turn
+/// that has another number of words than it offers, that offers words that end before they begin, or that has a mark of a word that it
+/// doesn't offer, or one by which somebody is to come who is to own no player.
 pub fn encode(datagram: &Datagram) -> Option<ArrayVec<u8, DATAGRAM_LIMIT>>
     ensures spelled { IfSome result (λ bytes. Fits (message datagram.now)
         × (bytes.items ≡ spelling (message datagram.now))) }

@@ -298,7 +298,7 @@ pub struct Stats {
     pub received: u32,
     /// How many were lost, or late.
     pub lost: u32,
-    /// How many words it hasn't said that it has, at most 160 of each player.
+    /// How many words it hasn't said that it has, at most 140 of each player.
     pub words_queued: u32,
     /// By how many frames this machine is behind the other: negative if it is ahead.
     pub frames_behind: i32,

@@ -2,7 +2,7 @@ use Rattle.std.proofs.Common.{◌≡◌, ℕ, ◌<◌, ◌^◌, List, ◌++◌, 
 use Rattle.std.specs.Prelude.{slice_index}
 use Rattle.roll_wire.specs.Spelling.{head, marks, runs, turn}
 use Rattle.roll_wire.proofs.Appends.{joined}
-use Rattle.roll_wire.proofs.Wholes.{few_marks, parts_of, turn_fits}
+use Rattle.roll_wire.proofs.Wholes.{parts_of, turn_fits}
 use Rattle.roll_wire.proofs.writing.put_play.Goals as goal
 
 pub put_head-requires-clause-offers : goal.put_head-requires-clause-offers
@@ -10,9 +10,6 @@ put_head-requires-clause-offers c = (parts_of (turn c.args.play.now) c.requires.
 
 pub put_marks-requires-clause-spelled : goal.put_marks-requires-clause-spelled
 put_marks-requires-clause-spelled c = (parts_of (turn c.args.play.now) c.requires.whole).spelled
-
-pub put_marks-requires-clause-few : goal.put_marks-requires-clause-few
-put_marks-requires-clause-few c = few_marks (turn c.args.play.now) c.requires.whole
 
 pub returns-clause-items : goal.returns-clause-items
 returns-clause-items c =
