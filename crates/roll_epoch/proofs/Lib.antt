@@ -1,3 +1,4 @@
 pub mod EndLaws
 pub mod NextLaws
 pub mod OwnerLaws
+pub mod SeatLaws

@@ -1,6 +1,6 @@
 -- Who knows the same of where players left before the end opens the same next epoch.
 use Rattle.std.proofs.Common.{◌≡◌, ℕ, suc, ◌+◌, ◌%◌, ◌^◌, ◌<◌, ◌≤◌, List, [], ◌∷◌, ◌++◌, Bool, length, refl, sym, ap, ◌∙◌, arith, inl, inr, Option, Some, None}
-use Rattle.std.specs.Prelude.{◌⊎◌, ◌&&◌, ◌==◌, min, not, nat_lt, if◌then◌else◌, slice_index_or}
+use Rattle.std.specs.Prelude.{◌⊎◌, ◌&&◌, ◌||◌, ◌==◌, min, not, nat_lt, if◌then◌else◌, slice_index_or}
 use Rattle.std.specs.Int.{w32, w64, to_be_bytes}
 use Rattle.std.specs.List.{list_all, range_with_len}
 use Rattle.std.proofs.lemmas.Bool.{cases_lt, le-ltb, lt-ltb}
@@ -12,7 +12,7 @@ use Rattle.roll_epoch.specs.Ends.{owner_of}
 use Rattle.roll_epoch.specs.Ids.{first_number, leaving_at, leavings, next_id}
 use Rattle.roll_epoch.specs.Laws.{LeftAlike, OfOnePastOneNext}
 use Rattle.roll_epoch.specs.Successions.{come, each_player, has_left_before, is_no_loss_at, kept_owner, kept_owners, next_delays, next_owners, next_threshold, stays, successor}
-use Rattle.roll_epoch.specs.declared.limits.TheConstants.{NO_MACHINE}
+use Rattle.roll_epoch.specs.declared.limits.TheConstants.{FREE, NO_MACHINE}
 use Rattle.roll_epoch.specs.declared.marks.Ending.{Ending}
 use Rattle.roll_epoch.specs.declared.terms.Terms.{Terms}
 
@@ -42,7 +42,8 @@ module _ (end : ℕ) (left other : List (Option ℕ)) (alike : LeftAlike end lef
 
   kept_at : (owners : List ℕ) (p : ℕ) → kept_owner owners left end p ≡ kept_owner owners other end p
   kept_at owners p =
-      ap (λ (b : Bool). if b then owner_of owners p else NO_MACHINE) (stays_same owners (owner_of owners p))
+      ap (λ (b : Bool). if (owner_of owners p == NO_MACHINE) || b then owner_of owners p else FREE)
+      (stays_same owners (owner_of owners p))
 
   kept_same : (owners : List ℕ) → kept_owners owners left end ≡ kept_owners owners other end
   kept_same owners = ap (λ (f : ℕ → ℕ). each_player f) (λ k p. kept_at owners p k)
@@ -72,7 +73,7 @@ id_same id e left other alike =
 owners_same : (terms : Terms) (e : Ending) (left other : List (Option ℕ)) → LeftAlike e.frame left other
     → next_owners terms e left ≡ next_owners terms e other
 unfolding next_owners
-owners_same terms e left other alike = ap (come e.mark.newcomer) (kept_same e.frame left other alike terms.owners)
+owners_same terms e left other alike = ap (come terms.words e.mark.newcomer) (kept_same e.frame left other alike terms.owners)
 
 pub of_one_past_one_next : OfOnePastOneNext
 unfolding successor
@@ -86,4 +87,5 @@ of_one_past_one_next terms e left other alike =
       owners = owners k;
       delays = next_delays terms e.mark (kept k) (owners k);
       threshold = next_threshold terms e.mark;
+      words = terms.words;
     }

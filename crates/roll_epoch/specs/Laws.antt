@@ -1,10 +1,12 @@
 -- What holds of epochs: of those who know the same of an epoch's rows, and of the owners of the next one.
-use Rattle.std.specs.Prelude.{◌≡◌, ◌⊎◌, ℕ, ◌<◌, ◌≤◌, List, Option, Some, true, length, None, slice_index_or}
+use Rattle.std.specs.Prelude.{◌≡◌, ◌⊎◌, ℕ, ◌<◌, ◌≤◌, List, Option, Some, true, false, length, is_some, None, slice_index_or}
+use Rattle.roll_mesh.specs.Groups.{AreAlike as AreWhole}
 use Rattle.roll_mesh.specs.declared.limits.TheConstants.{PLAYER_LIMIT}
 use Rattle.roll_epoch.specs.Ends.{IsEnd, Told, mark_in, owner_of}
 use Rattle.roll_epoch.specs.Ids.{leaving_at}
+use Rattle.roll_epoch.specs.Seats.{absent}
 use Rattle.roll_epoch.specs.Successions.{free_seat, kept_owners, next_owners, stays, successor}
-use Rattle.roll_epoch.specs.declared.limits.TheConstants.{NO_MACHINE}
+use Rattle.roll_epoch.specs.declared.limits.TheConstants.{FREE, NO_MACHINE}
 use Rattle.roll_epoch.specs.declared.marks.Ending.{Ending}
 use Rattle.roll_epoch.specs.declared.terms.Terms.{Terms}
 
@@ -44,18 +46,45 @@ OfOnePastOneNext =
     (terms : Terms) (e : Ending) (left other : List (Option ℕ)) → LeftAlike e.frame left other
     → successor terms e left ≡ successor terms e other
 
--- a player's owner in the next epoch is the one that it had, if that one stays. Else nobody owns it, or whoever comes, whose number is
--- the lowest that nobody has who stays
+-- a player's owner in the next epoch is the one that it had, if that one stays. Else it is free, or that of whoever comes, whose number
+-- is the lowest that nobody has who stays; and so is a player that was free
 pub record AreNext (terms : Terms) (e : Ending) (left : List (Option ℕ)) : Type 0 where
   pub kept : (p : ℕ) → p < PLAYER_LIMIT → stays terms.owners left e.frame (owner_of terms.owners p) ≡ true
-      → (owner_of terms.owners p ≡ NO_MACHINE → ⊥)
+      → (owner_of terms.owners p ≡ FREE → ⊥)
       → owner_of (next_owners terms e left) p ≡ owner_of terms.owners p
+  pub lost : (p : ℕ) → p < PLAYER_LIMIT → stays terms.owners left e.frame (owner_of terms.owners p) ≡ false
+      → (owner_of terms.owners p ≡ NO_MACHINE → ⊥)
+      → owner_of (kept_owners terms.owners left e.frame) p ≡ FREE
+  pub free : (p : ℕ) → p < PLAYER_LIMIT → owner_of terms.owners p ≡ FREE
+      → owner_of (kept_owners terms.owners left e.frame) p ≡ FREE
   pub others : (p : ℕ) → p < PLAYER_LIMIT
       → (owner_of (next_owners terms e left) p ≡ owner_of (kept_owners terms.owners left e.frame) p)
-      ⊎ ((owner_of (kept_owners terms.owners left e.frame) p ≡ NO_MACHINE)
+      ⊎ ((owner_of (kept_owners terms.owners left e.frame) p ≡ FREE)
       × (free_seat (kept_owners terms.owners left e.frame) ≡ Some (owner_of (next_owners terms e left) p)))
   pub apart : (seat p : ℕ) → free_seat (kept_owners terms.owners left e.frame) ≡ Some seat → p < PLAYER_LIMIT
       → owner_of (kept_owners terms.owners left e.frame) p ≡ seat → ⊥
 
 abbrev pub NobodyLosesAPlayer : Type 0
 NobodyLosesAPlayer = (terms : Terms) (e : Ending) (left : List (Option ℕ)) → AreNext terms e left
+
+-- a match has the same players in each epoch
+pub record HasSamePlayer (terms : Terms) (e : Ending) (left : List (Option ℕ)) (p : ℕ) : Type 0 where
+  pub none : owner_of terms.owners p ≡ NO_MACHINE → owner_of (next_owners terms e left) p ≡ NO_MACHINE
+  pub some : owner_of (next_owners terms e left) p ≡ NO_MACHINE → owner_of terms.owners p ≡ NO_MACHINE
+
+abbrev pub PlayersStay : Type 0
+PlayersStay =
+    (terms : Terms) (e : Ending) (left : List (Option ℕ)) (p : ℕ) → p < PLAYER_LIMIT
+    → HasSamePlayer terms e left p
+
+-- if each input has one owner, each has one in the next epoch
+abbrev pub InputsStayWhole : Type 0
+InputsStayWhole =
+    (terms : Terms) (e : Ending) (left : List (Option ℕ)) → AreWhole terms.words (owner_of terms.owners)
+    → AreWhole terms.words (owner_of (next_owners terms e left))
+
+-- if a player is free, there is a machine that owns none
+abbrev pub SomebodyIsAbsent : Type 0
+SomebodyIsAbsent =
+    (terms : Terms) (p : ℕ) → length terms.owners ≤ PLAYER_LIMIT → p < length terms.owners
+    → owner_of terms.owners p ≡ FREE → is_some (absent terms.owners) ≡ true

@@ -1,4 +1,5 @@
 pub mod Ends
 pub mod Ids
 pub mod Laws
+pub mod Seats
 pub mod Successions

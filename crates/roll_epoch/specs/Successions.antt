@@ -1,12 +1,13 @@
 -- What the next epoch is.
-use Rattle.std.specs.Prelude.{ℕ, zero, suc, ◌+◌, ◌%◌, ◌^◌, ◌==◌, List, map, filter, Bool, false, ◌&&◌, not, nat_lt, Option, Some, None, if◌then◌else◌, slice_get, slice_index, slice_index_or, slice_set}
+use Rattle.std.specs.Prelude.{ℕ, zero, suc, ◌+◌, ◌%◌, ◌^◌, ◌==◌, List, map, filter, Bool, false, ◌&&◌, ◌||◌, not, nat_lt, Option, Some, None, if◌then◌else◌, slice_get, slice_index, slice_index_or}
 use Rattle.std.specs.List.{list_all, range_with_len}
+use Rattle.roll_mesh.specs.Groups.{first_of}
 use Rattle.roll_mesh.specs.declared.limits.TheConstants.{MACHINE_LIMIT, PLAYER_LIMIT}
 use Rattle.roll_wire.specs.declared.datagram.Mark.{Mark}
 use Rattle.roll_wire.specs.declared.datagram.Newcomer.{Newcomer}
 use Rattle.roll_epoch.specs.Ends.{owner_of}
 use Rattle.roll_epoch.specs.Ids.{next_id}
-use Rattle.roll_epoch.specs.declared.limits.TheConstants.{FIRST_DELAY, NO_MACHINE}
+use Rattle.roll_epoch.specs.declared.limits.TheConstants.{FIRST_DELAY, FREE, NO_MACHINE}
 use Rattle.roll_epoch.specs.declared.marks.Ending.{Ending}
 use Rattle.roll_epoch.specs.declared.terms.Terms.{Terms}
 
@@ -34,10 +35,11 @@ unfoldable pub stays : List ℕ → List (Option ℕ) → (end machine : ℕ) �
 stays owners left end machine =
     list_all (is_no_loss_at owners left end machine) (range_with_len 0 PLAYER_LIMIT)
 
--- who owns a player still: nobody, if its owner doesn't stay
+-- who owns a player still: it is free, if its owner doesn't stay; a player that isn't there never is
 abbrev pub kept_owner : List ℕ → List (Option ℕ) → (end : ℕ) → ℕ → ℕ
 kept_owner owners left end p =
-    if stays owners left end (owner_of owners p) then owner_of owners p else NO_MACHINE
+    if (owner_of owners p == NO_MACHINE) || stays owners left end (owner_of owners p) then owner_of owners p
+    else FREE
 
 abbrev pub kept_owners : List ℕ → List (Option ℕ) → (end : ℕ) → List ℕ
 kept_owners owners left end = each_player (kept_owner owners left end)
@@ -51,44 +53,60 @@ is_free_seat owners machine = list_all (λ owner. not (owner == machine)) owners
 abbrev pub free_seat : List ℕ → Option ℕ
 free_seat owners = slice_get (filter (is_free_seat owners) (range_with_len 0 MACHINE_LIMIT)) 0
 
--- the lowest player that nobody owns
+-- whether a player is an input's first one, where each input has so many words
+abbrev pub is_first : (words : ℕ) → ℕ → Bool
+is_first words p = first_of words p == p
+
+-- the first player of the lowest input that is free
 abbrev pub is_free_player : List ℕ → ℕ → Bool
-is_free_player owners p = owner_of owners p == NO_MACHINE
+is_free_player owners p = owner_of owners p == FREE
 
-abbrev pub free_player : List ℕ → Option ℕ
-free_player owners = slice_get (filter (is_free_player owners) (range_with_len 0 PLAYER_LIMIT)) 0
+abbrev pub is_free_input : (words : ℕ) → List ℕ → ℕ → Bool
+is_free_input words owners p = is_free_player owners p && is_first words p
 
--- which player somebody gets who asks for one: that one if nobody owns it, else the lowest that nobody owns
-abbrev pub place_for : List ℕ → ℕ → Option ℕ
-place_for owners p = if is_free_player owners p then Some p else free_player owners
+abbrev pub free_input : (words : ℕ) → List ℕ → Option ℕ
+free_input words owners = slice_get (filter (is_free_input words owners) (range_with_len 0 PLAYER_LIMIT)) 0
 
-abbrev pub given_at : (seat : ℕ) → List ℕ → Option ℕ → List ℕ
-given_at seat owners None = owners
-given_at seat owners (Some place) = slice_set owners place seat
+-- which input somebody gets who asks for one, by their first players: that one if it is free, else the lowest that is
+abbrev pub place_for : (words : ℕ) → List ℕ → ℕ → Option ℕ
+place_for words owners p = if is_free_player owners p then Some p else free_input words owners
 
-abbrev pub given : (seat : ℕ) → List ℕ → ℕ → List ℕ
-given seat owners p = given_at seat owners (place_for owners p)
+-- who owns a player once an input was given to a machine: that one, if it is a word of this input; only what is free is given
+abbrev pub owner_with : (seat words : ℕ) → List ℕ → (place : ℕ) → ℕ → ℕ
+owner_with seat words owners place p =
+    if is_free_player owners p && (first_of words p == place) then seat else owner_of owners p
 
-abbrev pub given_if : (is_asked : Bool) → (seat : ℕ) → List ℕ → ℕ → List ℕ
-given_if is_asked seat owners p = if is_asked then given seat owners p else owners
+abbrev pub given_at : (seat words : ℕ) → List ℕ → Option ℕ → List ℕ
+given_at seat words owners None = owners
+given_at seat words owners (Some place) = each_player (owner_with seat words owners place)
 
--- the owners once a machine was given a player for each of the first ones that it asks for, in their order
-abbrev pub given_to : (seat : ℕ) → (asked : List Bool) → List ℕ → (players : ℕ) → List ℕ
-given_to seat asked owners zero = owners
-given_to seat asked owners (suc p) =
-    given_if (slice_index_or asked p false) seat (given_to seat asked owners p) p
+abbrev pub given : (seat words : ℕ) → List ℕ → ℕ → List ℕ
+given seat words owners p = given_at seat words owners (place_for words owners p)
 
-abbrev pub seated : Option ℕ → List Bool → List ℕ → List ℕ
-seated None asked owners = owners
-seated (Some seat) asked owners = given_to seat asked owners PLAYER_LIMIT
+abbrev pub given_if : (is_asked : Bool) → (seat words : ℕ) → List ℕ → ℕ → List ℕ
+given_if is_asked seat words owners p = if is_asked then given seat words owners p else owners
+
+-- whether it asks for the input whose first player this is; of another word of an input nothing counts
+abbrev pub is_asked_at : (words : ℕ) → (asked : List Bool) → ℕ → Bool
+is_asked_at words asked p = slice_index_or asked p false && is_first words p
+
+-- the owners once a machine was given an input for each that it asks for among the first players, in their order
+abbrev pub given_to : (seat words : ℕ) → (asked : List Bool) → List ℕ → (players : ℕ) → List ℕ
+given_to seat words asked owners zero = owners
+given_to seat words asked owners (suc p) =
+    given_if (is_asked_at words asked p) seat words (given_to seat words asked owners p) p
+
+abbrev pub seated : Option ℕ → (words : ℕ) → List Bool → List ℕ → List ℕ
+seated None words asked owners = owners
+seated (Some seat) words asked owners = given_to seat words asked owners PLAYER_LIMIT
 
 -- somebody comes, with the lowest number that nobody has who stays: nobody, if there is none
-abbrev pub come : Option Newcomer → List ℕ → List ℕ
-come None owners = owners
-come (Some n) owners = seated (free_seat owners) n.players owners
+abbrev pub come : (words : ℕ) → Option Newcomer → List ℕ → List ℕ
+come words None owners = owners
+come words (Some n) owners = seated (free_seat owners) words n.players owners
 
 unfoldable pub next_owners : Terms → Ending → List (Option ℕ) → List ℕ
-next_owners terms e left = come e.mark.newcomer (kept_owners terms.owners left e.frame)
+next_owners terms e left = come terms.words e.mark.newcomer (kept_owners terms.owners left e.frame)
 
 -- ---- the rest
 
@@ -123,4 +141,5 @@ successor terms e left =
       owners = owners;
       delays = next_delays terms e.mark (kept_owners terms.owners left e.frame) owners;
       threshold = next_threshold terms e.mark;
+      words = terms.words;
     }

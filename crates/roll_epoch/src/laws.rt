@@ -1,5 +1,5 @@
 //! Laws of epochs, each the contract of a function that makes no call.
-ghost use Rattle.roll_epoch.specs.Laws.{EndsAreOne, EndsStay, NobodyLosesAPlayer, OfOnePastOneEnd, OfOnePastOneNext};
+ghost use Rattle.roll_epoch.specs.Laws.{EndsAreOne, EndsStay, InputsStayWhole, NobodyLosesAPlayer, OfOnePastOneEnd, OfOnePastOneNext, PlayersStay, SomebodyIsAbsent};
 
 /// Of what is known there is one end.
 pub fn ends_are_one()
@@ -24,4 +24,19 @@ pub fn of_one_past_one_next()
 /// A machine that stays keeps its players and its number; whoever comes has a number that nobody has who stays, and no player of them.
 pub fn nobody_loses_a_player()
     ensures { NobodyLosesAPlayer }
+{}
+
+/// A match has the same players in each epoch: none comes that wasn't there, and of those that are there none goes.
+pub fn players_stay()
+    ensures { PlayersStay }
+{}
+
+/// If each input has one owner, each has one in the next epoch: whoever comes gets whole inputs.
+pub fn inputs_stay_whole()
+    ensures { InputsStayWhole }
+{}
+
+/// If a player is free, there is a machine that owns none, of 8.
+pub fn somebody_is_absent()
+    ensures { SomebodyIsAbsent }
 {}

@@ -1,7 +1,9 @@
 //! The limits of epochs, each named once.
 
-/// Who owns a player that nobody owns.
+/// Who owns a player that isn't in the match: no such player is in any of its epochs.
 pub const NO_MACHINE: u8 = 255;
+/// Who owns a player that is free: nobody owns it now, and somebody who comes may get it.
+pub const FREE: u8 = 254;
 /// The greatest threshold.
 pub const THRESHOLD_MOST: u8 = 15;
 /// The greatest input delay, in frames.

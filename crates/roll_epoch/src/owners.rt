@@ -1,10 +1,11 @@
 //! Who owns which player in the next epoch.
-ghost use Rattle.std.specs.Prelude.{◌≡◌, ◌<◌, IfSome, slice_get, filter, not, ◌==◌};
+ghost use Rattle.std.specs.Prelude.{◌≡◌, ◌<◌, IfSome, Some, slice_get, filter, not, ◌==◌};
 ghost use Rattle.std.specs.List.{list_all, range_with_len};
+ghost use Rattle.roll_mesh.specs.Groups.{first_of};
 ghost use Rattle.roll_mesh.specs.declared.limits.TheConstants.{PLAYER_LIMIT, MACHINE_LIMIT};
-ghost use Rattle.roll_epoch.specs.Successions.{come, free_player, free_seat, given, given_if, given_to, has_left_before, is_free_player, is_free_seat, is_no_loss, kept_owner, kept_owners, place_for, stays};
+ghost use Rattle.roll_epoch.specs.Successions.{come, free_input, free_seat, given, given_at, given_if, given_to, has_left_before, is_asked_at, is_first, is_free_input, is_free_seat, is_no_loss, kept_owner, kept_owners, owner_with, place_for, stays};
 
-use crate::limits::NO_MACHINE;
+use crate::limits::{FREE, NO_MACHINE};
 use roll_mesh::{MACHINE_LIMIT, PLAYER_LIMIT};
 use roll_wire::Newcomer;
 
@@ -29,7 +30,12 @@ fn is_no_loss(end: u32, machine: u8, owner: u8, left: Option<u32>) -> bool
 }
 
 /// Whether no player of a machine left before the end.
-fn stays(owners: &Owners, left: &[Option<u32>; PLAYER_LIMIT], end: u32, machine: u8) -> bool
+pub(crate) fn stays(
+    owners: &Owners,
+    left: &[Option<u32>; PLAYER_LIMIT],
+    end: u32,
+    machine: u8,
+) -> bool
     ensures { result ≡ stays owners.now left.now end machine }
 {
     for player in 0..PLAYER_LIMIT {
@@ -40,15 +46,16 @@ fn stays(owners: &Owners, left: &[Option<u32>; PLAYER_LIMIT], end: u32, machine:
     true
 }
 
-/// Who owns a player still.
+/// Who owns a player still: it is free if its owner doesn't stay.
 fn kept_owner(owners: &Owners, left: &[Option<u32>; PLAYER_LIMIT], end: u32, player: usize) -> u8
     requires { player < PLAYER_LIMIT }
     ensures { result ≡ kept_owner owners.now left.now end player }
 {
-    if stays(owners, left, end, owners[player]) {
-        owners[player]
+    let owner = owners[player];
+    if owner == NO_MACHINE || stays(owners, left, end, owner) {
+        owner
     } else {
-        NO_MACHINE
+        FREE
     }
 }
 
@@ -71,7 +78,7 @@ fn is_free_seat(owners: &Owners, machine: u8) -> bool
 }
 
 /// The lowest number that nobody has.
-fn free_seat(owners: &Owners) -> Option<u8>
+pub(crate) fn free_seat(owners: &Owners) -> Option<u8>
     ensures { result ≡ free_seat owners.now }
 {
     for machine in 0..MACHINE_LIMIT {
@@ -82,76 +89,134 @@ fn free_seat(owners: &Owners) -> Option<u8>
     None
 }
 
-/// The lowest player that nobody owns.
-fn free_player(owners: &Owners) -> Option<usize>
-    ensures first { result ≡ free_player owners.now }
+/// The first player of the input that a player is a word of, where each input has so many.
+fn first_of(words: u8, player: usize) -> usize
+    ensures { result ≡ first_of words player }
+{
+    let words = usize::from(words);
+    if words == 0 {
+        0
+    } else {
+        player / words * words
+    }
+}
+
+/// Whether a player is an input's first one.
+fn is_first(words: u8, player: usize) -> bool
+    ensures { result ≡ is_first words player }
+{
+    first_of(words, player) == player
+}
+
+/// Whether a player is the first one of an input that is free.
+fn is_free_input(owners: &Owners, words: u8, player: usize) -> bool
+    requires { player < PLAYER_LIMIT }
+    ensures { result ≡ is_free_input words owners.now player }
+{
+    owners[player] == FREE && is_first(words, player)
+}
+
+/// The lowest input that is free, by its first player.
+fn free_input(owners: &Owners, words: u8) -> Option<usize>
+    ensures first { result ≡ free_input words owners.now }
     ensures inside { IfSome result (λ p. p < PLAYER_LIMIT) }
 {
     for player in 0..PLAYER_LIMIT {
-        if owners[player] == NO_MACHINE {
+        if is_free_input(owners, words, player) {
             return Some(player);
         }
     }
     None
 }
 
-/// Which player somebody gets who asks for one: that one if nobody owns it, else the lowest that nobody owns.
-fn place_for(owners: &Owners, player: usize) -> Option<usize>
+/// Which input somebody gets who asks for one, by their first players: that one if it is free, else the lowest that is.
+fn place_for(owners: &Owners, words: u8, player: usize) -> Option<usize>
     requires { player < PLAYER_LIMIT }
-    ensures place { result ≡ place_for owners.now player }
+    ensures place { result ≡ place_for words owners.now player }
     ensures inside { IfSome result (λ p. p < PLAYER_LIMIT) }
 {
-    if owners[player] == NO_MACHINE {
+    if owners[player] == FREE {
         Some(player)
     } else {
-        free_player(owners)
+        free_input(owners, words)
     }
 }
 
-/// The owners once that one was given to a machine, if there is one.
-fn given(owners: &Owners, seat: u8, player: usize) -> Owners
+/// Who owns a player once an input was given to a machine: that one, if it is a word of this input. Only what is free is given.
+fn owner_with(owners: &Owners, seat: u8, words: u8, place: usize, player: usize) -> u8
     requires { player < PLAYER_LIMIT }
-    ensures { result ≡ given seat owners.now player }
+    ensures { result ≡ owner_with seat words owners.now place player }
+{
+    if owners[player] == FREE && first_of(words, player) == place {
+        seat
+    } else {
+        owners[player]
+    }
+}
+
+/// The owners then.
+fn given_input(owners: &Owners, seat: u8, words: u8, place: usize) -> Owners
+    ensures { result ≡ given_at seat words owners.now (Some place) }
 {
     let mut others = *owners;
-    if let Some(place) = place_for(owners, player) {
-        others[place] = seat;
+    for player in 0..PLAYER_LIMIT {
+        others[player] = owner_with(owners, seat, words, place, player);
     }
     others
 }
 
-/// The same, if it asks for one.
-fn given_if(is_asked: bool, owners: &Owners, seat: u8, player: usize) -> Owners
+/// The owners once that input was given to a machine, if there is one.
+fn given(owners: &Owners, seat: u8, words: u8, player: usize) -> Owners
     requires { player < PLAYER_LIMIT }
-    ensures { result ≡ given_if is_asked seat owners.now player }
+    ensures { result ≡ given seat words owners.now player }
+{
+    match place_for(owners, words, player) {
+        Some(place) => given_input(owners, seat, words, place),
+        None => *owners,
+    }
+}
+
+/// The same, if it asks for one.
+fn given_if(is_asked: bool, owners: &Owners, seat: u8, words: u8, player: usize) -> Owners
+    requires { player < PLAYER_LIMIT }
+    ensures { result ≡ given_if is_asked seat words owners.now player }
 {
     if is_asked {
-        given(owners, seat, player)
+        given(owners, seat, words, player)
     } else {
         *owners
     }
 }
 
-/// The owners once a machine was given a player for each that it asks for, the lowest first.
-fn given_all(owners: &Owners, seat: u8, asked: &[bool; PLAYER_LIMIT]) -> Owners
-    ensures { result ≡ given_to seat asked.now owners.now PLAYER_LIMIT }
+/// Whether somebody asks for the input whose first player this is. Of another word of an input nothing counts.
+fn is_asked_at(asked: &[bool; PLAYER_LIMIT], words: u8, player: usize) -> bool
+    requires { player < PLAYER_LIMIT }
+    ensures { result ≡ is_asked_at words asked.now player }
+{
+    asked[player] && is_first(words, player)
+}
+
+/// The owners once a machine was given an input for each that it asks for, the lowest first.
+fn given_all(owners: &Owners, seat: u8, words: u8, asked: &[bool; PLAYER_LIMIT]) -> Owners
+    ensures { result ≡ given_to seat words asked.now owners.now PLAYER_LIMIT }
 {
     let mut all = *owners;
     for player in 0..PLAYER_LIMIT {
-        all = given_if(asked[player], &all, seat, player);
+        let is_asked = is_asked_at(asked, words, player);
+        all = given_if(is_asked, &all, seat, words, player);
     }
     all
 }
 
 /// The owners once somebody came, if somebody does and there is a number for it.
-pub(crate) fn come(owners: &Owners, newcomer: &Option<Newcomer>) -> Owners
-    ensures { result ≡ come newcomer.now owners.now }
+pub(crate) fn come(owners: &Owners, words: u8, newcomer: &Option<Newcomer>) -> Owners
+    ensures { result ≡ come words newcomer.now owners.now }
 {
     let Some(newcomer) = newcomer else {
         return *owners;
     };
     match free_seat(owners) {
-        Some(seat) => given_all(owners, seat, &newcomer.players),
+        Some(seat) => given_all(owners, seat, words, &newcomer.players),
         None => *owners,
     }
 }

@@ -18,12 +18,16 @@ pub struct Terms {
     pub id: u64,
     /// How many frames of the match came before its first one, modulo 2^64.
     pub base: u64,
-    /// The machine that owns each player, player 0 first; [`NO_MACHINE`](crate::NO_MACHINE) if nobody does.
+    /// The machine that owns each player, player 0 first: [`FREE`](crate::FREE) if nobody does now, and
+    /// [`NO_MACHINE`](crate::NO_MACHINE) if there is no such player in the match.
     pub owners: [u8; PLAYER_LIMIT],
     /// Each player's input delay in frames.
     pub delays: [u8; PLAYER_LIMIT],
     /// How many frames a session goes on without another's words.
     pub threshold: u8,
+    /// How many words an input has, 1 to 4: the same in all epochs of a match. Each so many players in a row, from player 0 on, are the
+    /// words of one input, which has one owner; players behind the last whole one aren't in the match.
+    pub words: u8,
 }
 
 impl Terms {
@@ -34,13 +38,14 @@ impl Terms {
         ensures { result ≡ successor self.now ending.now left.now }
     {
         let kept = kept_owners(&self.owners, left, ending.frame);
-        let owners = come(&kept, &ending.mark.newcomer);
+        let owners = come(&kept, self.words, &ending.mark.newcomer);
         Terms {
             id: next_id(self.id, ending, left),
             base: self.base.wrapping_add(u64::from(ending.frame)),
             owners,
             delays: self.next_delays(&ending.mark, &kept, &owners),
             threshold: self.next_threshold(&ending.mark),
+            words: self.words,
         }
     }
 

@@ -1,5 +1,4 @@
-use Rattle.std.proofs.Common.{ℕ, List, false, ◌∙◌, ap, add-one}
-use Rattle.std.specs.Prelude.{slice_index_or}
+use Rattle.std.proofs.Common.{◌∙◌, add-one}
 use Rattle.roll_epoch.specs.Successions.{given_if}
 use Rattle.roll_epoch.proofs.owners.given_all.Goals as goal
 
@@ -7,5 +6,4 @@ pub loop-player-preserved : goal.loop-player-preserved
 loop-player-preserved c =
     rw add-one
     (c.given_if-all.ensures
-    ∙ ap (λ (owners : List ℕ). given_if (slice_index_or c.args.asked.now c.loop-player.player false) c.args.seat owners c.loop-player.player)
-    c.loop-player.invariant)
+    ∙ (λ k. given_if (c.is_asked_at-is_asked.ensures k) c.args.seat c.args.words (c.loop-player.invariant k) c.loop-player.player))
