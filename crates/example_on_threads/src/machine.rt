@@ -66,6 +66,7 @@ pub fn the_match(me: u8) -> MatchSettings {
         stalled_after: 0,
         // Two machines have nobody between them.
         carries: false,
+        takes_marks: false,
         words: 1,
     }
 }

@@ -34,6 +34,7 @@ pub record AreMatched (given : MatchIn) (asked : Bool) (settings : MatchSettings
   pub notify_after : settings.notify_after ≡ given.notify_after
   pub stalled_after : settings.stalled_after ≡ given.stalled_after
   pub carries : settings.carries ≡ (asked && nat_lt 2 given.machines)
+  pub takes_marks : settings.takes_marks ≡ false
   pub words : settings.words ≡ given.words
   pub held : given.held_turns ≤ TURN_LIMIT
 

@@ -59,6 +59,7 @@ impl MatchIn {
             notify_after: self.notify_after,
             stalled_after: self.stalled_after,
             carries: carries && machines > 2,
+            takes_marks: false,
             words,
         })
     }

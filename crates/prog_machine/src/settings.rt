@@ -47,6 +47,7 @@ pub fn match_settings(options: &PeersOptions, me: u8) -> MatchSettings {
         notify_after: NOTIFY_AFTER,
         stalled_after: 0,
         carries: options.breaks_lines(),
+        takes_marks: false,
         words: 1,
     }
 }

@@ -21,9 +21,9 @@ use Rattle.roll_session.specs.Headline.{words_of}
 use Rattle.roll_session.specs.Seen.{Seen, Step}
 use Rattle.roll_wire.specs.Spelling.{count_of as offered_of}
 use Rattle.roll_member.specs.Joined.{is_gone_at, is_local_at, AreCounts, IsTied}
-use Rattle.roll_member.specs.Taking.{news, news_at, shares, words_heard, Hearing, IsFair, TakesAll}
+use Rattle.roll_member.specs.Taking.{news, news_at, shares, up_to, words_heard, Hearing, IsFair, TakesAll}
 use Rattle.roll_member.proofs.Known.{known_other}
-use Rattle.roll_member.proofs.Tied.{heard_step, taken_left, taken_own, taken_up, IsHeardUpTo}
+use Rattle.roll_member.proofs.Tied.{heard_step, taken_left, taken_own, taken_up, up_to_at, IsHeardUpTo}
 use Rattle.roll_member.proofs.Taking.{news_length}
 
 abbrev size : Offer → ℕ
@@ -94,14 +94,14 @@ remote_too s mesh tied p lt first =
 
 -- ---- a packet
 
-module _ (s : Seen) (mesh : Seated) (packet : Packet) (words : List ℕ) where
+module _ (s : Seen) (mesh : Seated) (packet : Packet) (words : List ℕ) (end : ℕ) where
   abbrev pub heard_of : Hearing
   heard_of = record {
     input = mesh.seat.words;
     offers = packet.offers;
     words = shares packet.offers (words_heard mesh.seat.words packet.offers words);
     has = mesh.machine.has;
-    most = (taken mesh.seat packet mesh.machine).has;
+    most = up_to end mesh.machine.has (taken mesh.seat packet mesh.machine).has;
   }
 
   pub fair_of : IsTied s mesh → hear_refusal mesh packet ≡ None → IsFair heard_of s
@@ -119,11 +119,22 @@ module _ (s : Seen) (mesh : Seated) (packet : Packet) (words : List ℕ) where
       has : List ℕ
       has = mesh.machine.has
 
+      all_of : List ℕ
+      all_of = (taken mesh.seat packet mesh.machine).has
+
       most : List ℕ
-      most = (taken mesh.seat packet mesh.machine).has
+      most = up_to end has all_of
 
       up : (p : ℕ) → p < PLAYER_LIMIT → slice_index has p ≤ slice_index most p
-      up p lt = taken_up mesh.seat packet mesh.machine p (omega (arith, lt, tied.sized))
+      up p lt = omega (arith, up_to_at end has all_of p lt)
+
+      under : (p : ℕ) → p < PLAYER_LIMIT → slice_index most p ≤ slice_index all_of p
+      under p lt =
+          omega (
+            arith,
+            up_to_at end has all_of p lt,
+            taken_up mesh.seat packet mesh.machine p (omega (arith, lt, tied.sized)),
+          )
 
       short : (p : ℕ) → p < PLAYER_LIMIT
           → length (news_at heard_of p) ≤ slice_index most p - slice_index has p
@@ -138,6 +149,7 @@ module _ (s : Seen) (mesh : Seated) (packet : Packet) (words : List ℕ) where
         arith,
         some,
         short p lt,
+        under p lt,
         taken_own mesh packet p (omega (arith, lt, tied.sized)) tied.here fine mine,
       ))
       next p lt some (inr isnt) = (tied.players p lt).count ∙ known_other s mesh.seat p isnt
@@ -154,6 +166,7 @@ module _ (s : Seen) (mesh : Seated) (packet : Packet) (words : List ℕ) where
             arith,
             some,
             short p lt,
+            under p lt,
             taken_left mesh.seat packet mesh.machine p n (omega (arith, lt, tied.sized)) e,
           ))
 
@@ -205,6 +218,16 @@ module _ (s : Seen) (mesh : Seated) (packet : Packet) (words : List ℕ) where
           even : Evenly mesh.seat packet
           even = evenly mesh.seat packet (heard_even mesh packet fine)
 
+          most_alike : slice_index most p ≡ slice_index most q
+          most_alike = omega (
+            arith,
+            tied.whole.counts p lt,
+            up_to_at end has all_of p lt,
+            up_to_at end has all_of q (first_below mesh.seat.words p lt),
+            taken_alike mesh.seat mesh.machine packet tied.whole.grouped (omega (arith, tied.sized))
+                tied.whole.counts tied.whole.parts (heard_even mesh packet fine) p lt,
+          )
+
           alike : min (slice_index most p - (offer_at packet p).first)
               ((offer_at packet p).end - (offer_at packet p).first)
               - (slice_index has p - (offer_at packet p).first)
@@ -216,19 +239,18 @@ module _ (s : Seen) (mesh : Seated) (packet : Packet) (words : List ℕ) where
             even.firsts p lt,
             even.ends p lt,
             tied.whole.counts p lt,
-            taken_alike mesh.seat mesh.machine packet tied.whole.grouped (omega (arith, tied.sized))
-                tied.whole.counts tied.whole.parts (heard_even mesh packet fine) p lt,
+            most_alike,
           )
 
 -- what the session took of it, the mesh hears
-pub heard_all : (step : Step) (s new : Seen) (mesh : Seated) (packet : Packet) (words : List ℕ)
+pub heard_all : (step : Step) (s new : Seen) (mesh : Seated) (packet : Packet) (words : List ℕ) (end : ℕ)
     (why : Option Refusal) (reached : List ℕ) (led : ℕ) → IsTied s mesh
     → hear_refusal mesh packet ≡ None → length reached ≡ PLAYER_LIMIT
-    → TakesAll step (heard_of s mesh packet words) s PLAYER_LIMIT new led why
+    → TakesAll step (heard_of s mesh packet words end) s PLAYER_LIMIT new led why
     → AreCounts new mesh.seat reached
     → IsHeardUpTo step s new mesh packet
-    (shares packet.offers (words_heard mesh.seat.words packet.offers words)) why reached
-heard_all step s new mesh packet words why reached led tied fine many takes counts =
+    (shares packet.offers (words_heard mesh.seat.words packet.offers words)) end why reached
+heard_all step s new mesh packet words end why reached led tied fine many takes counts =
     heard_step step s new mesh packet
-    (shares packet.offers (words_heard mesh.seat.words packet.offers words)) why reached led tied fine
-    tied.sized many (fair_of s mesh packet words tied fine) takes counts
+    (shares packet.offers (words_heard mesh.seat.words packet.offers words)) end why reached led tied fine
+    tied.sized many (fair_of s mesh packet words end tied fine) takes counts

@@ -1,6 +1,6 @@
 -- What keeps a session tied to its mesh.
 use Rattle.std.proofs.Common.{◌≡◌, ◌∙◌, ◌⊎◌, ℕ, ◌+◌, ◌<◌, ◌≤◌, List, [], ◌∷◌, ◌++◌, drop, take, append-nil, cond, length-append, arith, length, refl, ap, sym, subst, Bool, true, false, Option, Some, None, Result, Ok, Err, inl, inr}
-use Rattle.std.specs.Prelude.{is_none, is_some, not, nat_lt, ◌-◌, ◌||◌, OnOk, OnErr, max, nat_le, slice_index, slice_index_or, slice_set, ◌==◌, ◌&&◌, if◌then◌else◌}
+use Rattle.std.specs.Prelude.{is_none, is_some, not, nat_lt, ◌-◌, ◌||◌, OnOk, OnErr, max, min, nat_le, slice_index, slice_index_or, slice_set, ◌==◌, ◌&&◌, if◌then◌else◌}
 use Rattle.roll_frame.specs.Inputs.{local_tests, of_player, player_at, with_given}
 use Rattle.roll_frame.specs.Timeline.{Player}
 use Rattle.roll_session.specs.Changes.{after_local, local_refusal}
@@ -23,6 +23,7 @@ use Rattle.roll_mesh.specs.declared.refusal.MeshRefusal.TheVariants.{InvalidMach
 use Rattle.roll_mesh.proofs.Changes.{give_changes, gone_not_self, hear_changes, leave_changes, leave_has, none_some, left_changes, left_has, Change, Leaves}
 use Rattle.roll_mesh.specs.Worlds.{first_machine, Match}
 use Rattle.roll_member.proofs.Partings.{gone_only, locals_stay, many_stay, words_stay}
+use Rattle.std.proofs.lemmas.List.FromFn.{get_or-map-range_with_len}
 use Rattle.std.proofs.lemmas.Bool.{and_parts, cases_Bool, cases_eq, cases_lt, leb-true, lt-leb, eq-eqb, eqb-true, false≢true, ne_eqb, not-false, not-true}
 use Rattle.std.proofs.lemmas.List.{length-drop, length-set, length-take, take_all, length-replicate, get_or-replicate, get_or_past, get_or-set_other, get_or-set_same}
 use Rattle.roll_frame.proofs.Refused.{all_fail}
@@ -35,7 +36,7 @@ use Rattle.roll_session.specs.Headline.{words_of}
 use Rattle.roll_session.specs.Seen.{Seen, Step}
 use Rattle.roll_member.specs.Joined.{count_of, held, known, words_known, are_fresh, are_seated, is_fresh_at, is_gone_at, is_local_at, is_seated_at, join_refusal, AreCounts, IsTied, IsTiedAt, IsWhole}
 use Rattle.roll_member.specs.Beside.{caught_up, IsSteady}
-use Rattle.roll_member.specs.Taking.{news_at, Hearing, IsFair, KeepsPlayers, TakesAll}
+use Rattle.roll_member.specs.Taking.{news_at, up_to, Hearing, IsFair, KeepsPlayers, TakesAll}
 use Rattle.roll_member.proofs.Known.{known_alike, known_alone, known_other, known_stays}
 use Rattle.roll_member.proofs.Taking.{fed, keeps_none, news_length, IsFed}
 use Rattle.roll_frame.specs.declared.refusal.Refusal.{Refusal}
@@ -256,8 +257,16 @@ unfolding hear_words
 heard_holder seat reached packet words holder now e =
     ap (λ ws. record { mesh = hear seat (trimmed reached packet) holder.mesh; words = ws }) e
 
+-- no fewer than there are, and no more than count
+pub up_to_at : (end : ℕ) (has most : List ℕ) (p : ℕ) → p < PLAYER_LIMIT
+    → slice_index (up_to end has most) p ≡ max (slice_index has p) (min end (slice_index most p))
+unfolding up_to
+up_to_at end has most p lt =
+    get_or-map-range_with_len (λ p. max (slice_index has p) (min end (slice_index most p))) 0 PLAYER_LIMIT p p 0 lt
+    (omega arith)
+
 -- the mesh hears of a packet what the session took of it, and they stay tied
-module _ (step : Step) (s0 s1 : Seen) (mesh : Seated) (packet : Packet) (words : List (List ℕ))
+module _ (step : Step) (s0 s1 : Seen) (mesh : Seated) (packet : Packet) (words : List (List ℕ)) (end : ℕ)
     (why : Option Refusal) (reached : List ℕ) where
   abbrev pub heard_up_to : Seated
   heard_up_to = stepped (λ seat machine. hear seat (trimmed reached packet) machine) mesh
@@ -277,14 +286,14 @@ module _ (step : Step) (s0 s1 : Seen) (mesh : Seated) (packet : Packet) (words :
         offers = packet.offers;
         words = words;
         has = mesh.machine.has;
-        most = (taken mesh.seat packet mesh.machine).has;
+        most = up_to end mesh.machine.has (taken mesh.seat packet mesh.machine).has;
       }) s0
       → TakesAll step (record {
         input = mesh.seat.words;
         offers = packet.offers;
         words = words;
         has = mesh.machine.has;
-        most = (taken mesh.seat packet mesh.machine).has;
+        most = up_to end mesh.machine.has (taken mesh.seat packet mesh.machine).has;
       }) s0 PLAYER_LIMIT s1 led why → AreCounts s1 mesh.seat reached → IsHeardUpTo
   heard_step led tied fine sized many fair takes counts = record {
     has = has;
@@ -311,8 +320,11 @@ module _ (step : Step) (s0 s1 : Seen) (mesh : Seated) (packet : Packet) (words :
       here = (hear_changes (match_of mesh.seat) (trimmed reached packet ∷ []) mesh.seat.me
           (trimmed reached packet) mesh.machine (inl refl)).unfenced tied.here
 
+      all : List ℕ
+      all = (taken mesh.seat packet mesh.machine).has
+
       most : List ℕ
-      most = (taken mesh.seat packet mesh.machine).has
+      most = up_to end mesh.machine.has all
 
       h : Hearing
       h = record {
@@ -342,7 +354,15 @@ module _ (step : Step) (s0 s1 : Seen) (mesh : Seated) (packet : Packet) (words :
           )
 
       up : (p : ℕ) → p < PLAYER_LIMIT → slice_index mesh.machine.has p ≤ slice_index most p
-      up p lt = taken_up mesh.seat packet mesh.machine p (omega (arith, lt, sized))
+      up p lt = omega (arith, up_to_at end mesh.machine.has all p lt)
+
+      under : (p : ℕ) → p < PLAYER_LIMIT → slice_index most p ≤ slice_index all p
+      under p lt =
+          omega (
+            arith,
+            up_to_at end mesh.machine.has all p lt,
+            taken_up mesh.seat packet mesh.machine p (omega (arith, lt, sized)),
+          )
 
       short : (p : ℕ) → p < PLAYER_LIMIT
           → length (news_at h p) ≤ slice_index most p - slice_index mesh.machine.has p
@@ -363,6 +383,7 @@ module _ (step : Step) (s0 s1 : Seen) (mesh : Seated) (packet : Packet) (words :
                 length-append (words_of s0 (p + 1)) (take g.count (news_at h p)),
                 length-take g.count (news_at h p),
                 short p lt,
+                under p lt,
                 taken_own mesh packet p (omega (arith, lt, sized)) tied.here fine mine,
               )
 
@@ -381,17 +402,17 @@ module _ (step : Step) (s0 s1 : Seen) (mesh : Seated) (packet : Packet) (words :
               ∙ ap (owner_of mesh.seat) is ∙ sym (owners_alike mesh.seat tied.whole.grouped p lt)) ∙ mine)
 
       bounds : (p : ℕ) → p < PLAYER_LIMIT → (slice_index mesh.machine.has p ≤ slice_index reached p)
-          × (slice_index reached p ≤ slice_index most p)
+          × (slice_index reached p ≤ slice_index all p)
       bounds p lt = go (cases_Bool (owner_of mesh.seat p == mesh.seat.me))
         where
           go : ((owner_of mesh.seat p == mesh.seat.me) ≡ true)
               ⊎ ((owner_of mesh.seat p == mesh.seat.me) ≡ false)
               → (slice_index mesh.machine.has p ≤ slice_index reached p)
-              × (slice_index reached p ≤ slice_index most p)
-          go (inl mine) = (omega (arith, own p lt mine), omega (arith, own p lt mine, up p lt))
+              × (slice_index reached p ≤ slice_index all p)
+          go (inl mine) = (omega (arith, own p lt mine), omega (arith, own p lt mine, up p lt, under p lt))
           go (inr isnt) = (
             omega (arith, other p lt isnt),
-            omega (arith, other p lt isnt, (f.given p lt).few, short p lt, up p lt),
+            omega (arith, other p lt isnt, (f.given p lt).few, short p lt, up p lt, under p lt),
           )
 
       alike : AreAlike mesh.seat.words (slice_index reached)
@@ -465,7 +486,7 @@ module _ (step : Step) (s0 s1 : Seen) (mesh : Seated) (packet : Packet) (words :
               let g = f.given p lt in
               let still : reach ≡ start = ap (λ ns. slice_index ns p) has ∙ own p lt mine in
               let none : g.count ≡ 0 =
-              omega (arith, g.few, short p lt, taken_own mesh packet p l tied.here fine mine) in
+              omega (arith, g.few, short p lt, under p lt, taken_own mesh packet p l tied.here fine mine) in
               let same : words_of s1 (p + 1) ≡ words_of s0 (p + 1) =
               g.words_are ∙ ap (λ n. words_of s0 (p + 1) ++ take n (news_at h p)) none
               ∙ append-nil (words_of s0 (p + 1)) in
@@ -497,7 +518,7 @@ module _ (step : Step) (s0 s1 : Seen) (mesh : Seated) (packet : Packet) (words :
               take_all reach (words_of s1 (p + 1)) (omega (arith, all)) ∙ g.words_are
               ∙ ap (λ ws. words_of s0 (p + 1) ++ ws)
               (taken_between offered first start (slice_index most p) g.count
-              (λ less. omega (arith, less, taken_late mesh.seat packet mesh.machine p l less))
+              (λ less. omega (arith, less, under p lt, taken_late mesh.seat packet mesh.machine p l less))
               ∙ ap (λ n. drop (start - first) (take (n - first) offered)) (sym is))
               ∙ ap (λ ws. ws ++ drop (start - first) (take (reach - first) offered))
               (sym (take_all start (words_of s0 (p + 1)) (omega (arith, was))))

@@ -1,5 +1,6 @@
 -- The words of a packet become remote words of a session.
-use Rattle.std.specs.Prelude.{◌≡◌, ℕ, zero, suc, ◌+◌, ◌-◌, ◌*◌, ◌<◌, ◌≤◌, ◌==◌, ◌||◌, ◌⊎◌, min, nat_le, not, Bool, true, false, List, [], ◌∷◌, ◌++◌, length, drop, take, Option, None, if◌then◌else◌, slice_index, slice_index_or, IfSome, IfNone}
+use Rattle.std.specs.Prelude.{◌≡◌, ℕ, zero, suc, ◌+◌, ◌-◌, ◌*◌, ◌<◌, ◌≤◌, ◌==◌, ◌||◌, ◌⊎◌, min, nat_le, not, Bool, true, false, List, [], ◌∷◌, ◌++◌, length, drop, map, max, take, Option, None, if◌then◌else◌, slice_index, slice_index_or, IfSome, IfNone}
+use Rattle.std.specs.List.{range_with_len}
 use Rattle.std.specs.Option.{option_or}
 use Rattle.roll_frame.specs.Core.{settled}
 use Rattle.roll_frame.specs.Events.{CoreEvent}
@@ -132,6 +133,11 @@ pub record Hearing : Type 0 where
   -- how many of each player there were, and may be
   pub has : List ℕ
   pub most : List ℕ
+
+-- how many words of each player may be taken of a packet of which so many count, if none of a frame from the end on is taken
+unfoldable pub up_to : (end : ℕ) → (has most : List ℕ) → List ℕ
+up_to end has most =
+    map (λ p. max (slice_index has p) (min end (slice_index most p))) (range_with_len 0 PLAYER_LIMIT)
 
 -- the new words of the player at a place
 abbrev pub news_at : Hearing → ℕ → List ℕ

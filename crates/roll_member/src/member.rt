@@ -12,7 +12,7 @@ ghost use Rattle.roll_mesh.specs.Meshes.{hear_refusal, leave_refusal, stepped};
 use crate::join::{JoinRefusal, catch_up, give_all, is_near, join_refusal};
 use crate::leaving::{Left, disconnect_all};
 use crate::telling::{Told, queued, room_for, words_of};
-use crate::words::{counts, take_all, words_heard};
+use crate::words::{counts, take_all, up_to, words_heard};
 use roll_frame::{Refusal, Settings};
 use roll_mesh::{Heard, Mesh, MeshRefusal, Packet, Seat};
 use roll_session::Networked;
@@ -94,7 +94,8 @@ impl Member {
     }
 
     /// Hears a packet, with its words as the packet offers them: those of player 0, then those of player 1, and so on. Words
-    /// that are to be believed become remote words of the session, in their order, as far as it takes them.
+    /// that are to be believed become remote words of the session, in their order, as far as it takes them, but none of a frame from
+    /// `end` on: these are left, as if they hadn't come.
     ///
     /// # Errors
     ///
@@ -104,11 +105,12 @@ impl Member {
         session: &mut S,
         packet: &Packet,
         words: &[u32],
+        end: u32,
     ) -> Result<Taken, MeshRefusal>
         requires { IsTied (S.seen session.old) self.old.mesh }
         ensures taken { IfOk result (HearsPacket S.step
             (record { session = S.seen session.old; mesh = self.old.mesh })
-            (record { session = S.seen session.new; mesh = self.new.mesh }) packet.now words.now) }
+            (record { session = S.seen session.new; mesh = self.new.mesh }) packet.now words.now end) }
         ensures tied { IsTied (S.seen session.new) self.new.mesh }
         ensures limits { self.new.limits ≡ self.old.limits }
         ensures accepted { OnOk result (hear_refusal self.old.mesh packet.now ≡ None) }
@@ -123,7 +125,7 @@ impl Member {
         }
         let seat = *self.mesh.seat();
         let has = *self.mesh.has();
-        let most = self.mesh.counts_after(packet);
+        let most = up_to(end, &has, &self.mesh.counts_after(packet));
         let words = words_heard(seat.words, &packet.offers, words);
         let refusal = take_all(session, &seat, &packet.offers, words, &has, &most);
         let reached = counts(session, &seat);
@@ -178,7 +180,7 @@ impl Member {
         Told { packet, words }
     }
 
-    /// How many words that this machine could tell another the other hasn't said that it has, at most 160 of each player.
+    /// How many words that this machine could tell another the other hasn't said that it has, at most 140 of each player.
     pub fn queued(&self, machine: u8) -> u32
         ensures { result ≡ queued self.now.mesh machine }
     {

@@ -1,7 +1,7 @@
 //! Words of a packet become remote words of the session.
 ghost use Rattle.std.specs.Prelude.{◌≡◌, ℕ, ◌+◌, ◌-◌, ◌*◌, ◌≤◌, ◌<◌, length, slice_index, drop, take, true, false};
 ghost use Rattle.roll_member.specs.Joined.{count_of, fewest, known, AreCounts};
-ghost use Rattle.roll_member.specs.Taking.{is_first, news, shares, words_heard, CanTake, HasRoom, Hearing, IsFair, IsLed, IsTaken, Leads, TakesAll, TakesFirst, TakesPlace, TakesWords};
+ghost use Rattle.roll_member.specs.Taking.{is_first, news, shares, up_to, words_heard, CanTake, HasRoom, Hearing, IsFair, IsLed, IsTaken, Leads, TakesAll, TakesFirst, TakesPlace, TakesWords};
 ghost use Rattle.roll_mesh.specs.declared.limits.TheConstants.{INPUT_LIMIT, PLAYER_LIMIT};
 ghost use Rattle.roll_session.specs.Changes.{FitsLog};
 ghost use Rattle.roll_session.specs.Headline.{words_of};
@@ -237,6 +237,22 @@ pub(crate) fn words_heard<'a>(
         let (none, _) = words.split_at(0);
         none
     }
+}
+
+/// How many words of each player may be taken of a packet of which so many count, if none of a frame from the end on is taken.
+#[tactic(auto, unfolding(crate::specs::Taking::up_to))]
+pub(crate) fn up_to(
+    end: u32,
+    has: &[u32; PLAYER_LIMIT],
+    most: &[u32; PLAYER_LIMIT],
+) -> [u32; PLAYER_LIMIT]
+    ensures { result ≡ up_to end has.now most.now }
+{
+    let mut counts = [0; PLAYER_LIMIT];
+    for place in 0..PLAYER_LIMIT {
+        counts[place] = most[place].min(end).max(has[place]);
+    }
+    counts
 }
 
 /// How many words of the player at a place a session has.

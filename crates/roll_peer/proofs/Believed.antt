@@ -10,7 +10,7 @@ use Rattle.roll_contact.specs.Keys.{greeting_key}
 use Rattle.roll_contact.specs.Seals.{is_sealed, named, sealed, unsealed}
 use Rattle.roll_contact.specs.declared.key.Key.{Key}
 use Rattle.roll_mesh.proofs.Changes.{none_some}
-use Rattle.roll_wire.specs.Reading.{unmarked_of}
+use Rattle.roll_wire.specs.Reading.{all_of}
 use Rattle.roll_wire.specs.declared.fault.WireFault.{WireFault}
 use Rattle.roll_wire.specs.declared.limits.TheConstants.{DATAGRAM_LIMIT}
 use Rattle.roll_wire.proofs.Fields.{IsBytes-drop, IsBytes-take}
@@ -18,7 +18,7 @@ use Rattle.roll_wire.specs.Spelling.{Content, Greets, Leaves, Message, Plays, sp
 use Rattle.roll_wire.proofs.Messages.{all_takes, unmarked_is}
 use Rattle.roll_peer.specs.Laws.{is_greeting, key_from, IsOfThisOpening, NothingElseIsHeard}
 use Rattle.roll_peer.specs.Peered.{contact_at}
-use Rattle.roll_peer.specs.Receiving.{byte_at, open_by, read, read_sealed, sender_of}
+use Rattle.roll_peer.specs.Receiving.{byte_at, open_by, read, read_sealed, read_text, sender_of}
 use Rattle.roll_peer.specs.Settings.{number_for}
 use Rattle.roll_peer.specs.declared.receiving.TheConstants.{KIND_AT}
 use Rattle.roll_peer.specs.declared.received.Ignored.{Ignored}
@@ -99,28 +99,35 @@ done what = Ok what
 same : (a b : Content) → done a ≡ done b → a ≡ b
 same a b e = cc
 
-read_kind : (key : Key) (bytes text : List ℕ) (what : Content) → ByteLike bytes
-    → unsealed key bytes ≡ Some text → read (unmarked_of text) ≡ Ok what
+-- whether marks are taken or not, a text is read as the datagram that it spells
+pub text_read : (takes_marks : Bool) (text : List ℕ) (m : Message) → read_text takes_marks text ≡ Ok m → all_of text ≡ Ok m
+text_read true text m e = e
+text_read false text m e = unmarked_is text m e
+
+read_kind : (takes_marks : Bool) (key : Key) (bytes text : List ℕ) (what : Content) → ByteLike bytes
+    → unsealed key bytes ≡ Some text → read (read_text takes_marks text) ≡ Ok what
     → get_or bytes 13 0 ≡ kind_of what
-read_kind key bytes text what fits shown e = go (unmarked_of text) refl e
+read_kind takes_marks key bytes text what fits shown e = go (read_text takes_marks text) refl e
   where
-    go : (r : Result Message WireFault) → unmarked_of text ≡ r → read r ≡ Ok what → get_or bytes 13 0 ≡ kind_of what
+    go : (r : Result Message WireFault) → read_text takes_marks text ≡ r → read r ≡ Ok what
+        → get_or bytes 13 0 ≡ kind_of what
     go (Err fault) f e = absurd cc
     go (Ok m) f e =
         let is = text_is key bytes text shown in
         let fit : ByteLike text = subst ByteLike (sym is.1) (named_fits key.number bytes fits) in
         sym (named_kind key.number bytes is.0) ∙ ap (λ (t : List ℕ). get_or t 13 0) (sym is.1)
-        ∙ ap (λ (t : List ℕ). get_or t 13 0) (all_takes text m fit (unmarked_is text m f)).1
+        ∙ ap (λ (t : List ℕ). get_or t 13 0) (all_takes text m fit (text_read takes_marks text m f)).1
         ∙ spelled_kind m ∙ ap kind_of (same m.content what e)
 
-opened_kind : (key : Key) (bytes : List ℕ) (what : Content) → ByteLike bytes
-    → open_by (Some key) bytes ≡ Ok what → (is_some (unsealed key bytes) ≡ true) × (get_or bytes 13 0 ≡ kind_of what)
-opened_kind key bytes what fits e = go (unsealed key bytes) refl e
+opened_kind : (takes_marks : Bool) (key : Key) (bytes : List ℕ) (what : Content) → ByteLike bytes
+    → open_by takes_marks (Some key) bytes ≡ Ok what
+    → (is_some (unsealed key bytes) ≡ true) × (get_or bytes 13 0 ≡ kind_of what)
+opened_kind takes_marks key bytes what fits e = go (unsealed key bytes) refl e
   where
-    go : (text : Option (List ℕ)) → unsealed key bytes ≡ text → read_sealed text ≡ Ok what
+    go : (text : Option (List ℕ)) → unsealed key bytes ≡ text → read_sealed takes_marks text ≡ Ok what
         → (is_some (unsealed key bytes) ≡ true) × (get_or bytes 13 0 ≡ kind_of what)
     go None f e = absurd cc
-    go (Some text) f e = (ap (λ o. is_some o) f, read_kind key bytes text what fits f e)
+    go (Some text) f e = (ap (λ o. is_some o) f, read_kind takes_marks key bytes text what fits f e)
 
 not_zero : (what : Content) → is_greeting what ≡ false → kind_of what ≡ 0 → ⊥
 not_zero (Greets hello) g e = absurd cc
@@ -134,12 +141,12 @@ nothing_else_is_heard peer bytes what fits e plays =
   where
     go : (b : Bool) → (byte_at bytes KIND_AT == 0) ≡ b → (c : Bool)
         → is_playing (contact_at peer (sender_of bytes)).stage ≡ c
-        → open_by (if b then Some (greeting_key (number_for peer.settings (sender_of bytes)))
+        → open_by peer.settings.takes_marks (if b then Some (greeting_key (number_for peer.settings (sender_of bytes)))
         else (if c then Some (key_from peer (sender_of bytes)) else None)) bytes ≡ Ok what
         → IsOfThisOpening peer bytes
     go true z c p e =
-        let k = opened_kind (greeting_key (number_for peer.settings (sender_of bytes))) bytes what fits e in
+        let k = opened_kind peer.settings.takes_marks (greeting_key (number_for peer.settings (sender_of bytes))) bytes what fits e in
         absurd (not_zero what plays (sym k.1 ∙ eqb-true (byte_at bytes KIND_AT) 0 z))
     go false z true p e =
-        record { playing = p; sealed = (opened_kind (key_from peer (sender_of bytes)) bytes what fits e).0 }
+        record { playing = p; sealed = (opened_kind peer.settings.takes_marks (key_from peer (sender_of bytes)) bytes what fits e).0 }
     go false z false p e = absurd cc

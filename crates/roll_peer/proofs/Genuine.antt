@@ -1,5 +1,5 @@
 -- What one machine says is what another reads, whichever key opens it.
-use Rattle.std.proofs.Common.{◌≡◌, ◌∙◌, ◌<◌, ◌≤◌, ℕ, List, ◌++◌, length, get_or, take, drop, refl, sym, ap, arith, Option, Some, None, Result, Ok, Err}
+use Rattle.std.proofs.Common.{◌≡◌, ◌∙◌, ◌<◌, ◌≤◌, ℕ, List, ◌++◌, length, get_or, take, drop, refl, sym, ap, arith, Option, Some, None, Result, Ok, Err, Bool}
 use Rattle.std.specs.Int.{w64, from_be_bytes, to_be_bytes}
 use Rattle.std.specs.Prelude.{◌^◌}
 use Rattle.std.proofs.lemmas.List.{get_or-append_right, get_or-drop, length-take-le}
@@ -8,14 +8,15 @@ use Rattle.roll_contact.specs.Seals.{message_by, named, said_by, sealed, tag, un
 use Rattle.roll_contact.specs.declared.key.Key.{Key}
 use Rattle.roll_contact.proofs.Seals.{length-tag, with_field-with_field}
 use Rattle.roll_wire.specs.declared.fault.WireFault.{WireFault}
-use Rattle.roll_wire.specs.Reading.{unmarked_of}
+use Rattle.roll_wire.specs.Reading.{all_of}
 use Rattle.roll_wire.specs.Spelling.{long, spelling, Content, Fits, Message}
-use Rattle.roll_wire.proofs.Messages.{unmarked_back}
+use Rattle.roll_wire.proofs.Fields.{ok_is}
+use Rattle.roll_wire.proofs.Messages.{all_again}
 use Rattle.roll_peer.specs.Peered.{Peered}
-use Rattle.roll_peer.specs.Receiving.{byte_at, key_of, open_by, opened, read, read_sealed, sender_of}
+use Rattle.roll_peer.specs.Receiving.{byte_at, key_of, open_by, opened, read, read_sealed, read_text, sender_of}
 use Rattle.roll_peer.specs.declared.received.Ignored.{Ignored}
 use Rattle.roll_peer.specs.declared.receiving.TheConstants.{KIND_AT}
-use Rattle.roll_peer.proofs.Believed.{fits8, text_is}
+use Rattle.roll_peer.proofs.Believed.{fits8, text_is, text_read}
 use Rattle.roll_peer.proofs.Said.{opened_is}
 
 -- ---- a number in 8 bytes
@@ -59,21 +60,24 @@ done what = Ok what
 same : (a b : Content) → done a ≡ done b → a ≡ b
 same a b e = cc
 
-content_back : (m : Message) (text : List ℕ) (found : Content) → Fits m → text ≡ spelling m
-    → read (unmarked_of text) ≡ Ok found → found ≡ m.content
-content_back m text found fits is e = go (unmarked_of text) refl e
+content_back : (takes_marks : Bool) (m : Message) (text : List ℕ) (found : Content) → Fits m → text ≡ spelling m
+    → read (read_text takes_marks text) ≡ Ok found → found ≡ m.content
+content_back takes_marks m text found fits is e = go (read_text takes_marks text) refl e
   where
-    go : (r : Result Message WireFault) → unmarked_of text ≡ r → read r ≡ Ok found → found ≡ m.content
+    one : (n : Message) → all_of (spelling m) ≡ Ok n → n ≡ m
+    one n e = ok_is n m (sym e ∙ all_again m fits)
+
+    go : (r : Result Message WireFault) → read_text takes_marks text ≡ r → read r ≡ Ok found → found ≡ m.content
     go (Err fault) u e = absurd cc
     go (Ok n) u e =
         sym (same n.content found e)
-        ∙ ap (λ (x : Message). x.content) (unmarked_back m n fits (sym (ap unmarked_of is) ∙ u))
+        ∙ ap (λ (x : Message). x.content) (one n (sym (ap all_of is) ∙ text_read takes_marks text n u))
 
 -- a key that opens what was said finds what was said
-read_back : (key other : Key) (sender : ℕ) (what found : Content) → Fits (message_by key sender what)
-    → open_by (Some other) (said_by key sender what) ≡ Ok found → found ≡ what
+read_back : (takes_marks : Bool) (key other : Key) (sender : ℕ) (what found : Content) → Fits (message_by key sender what)
+    → open_by takes_marks (Some other) (said_by key sender what) ≡ Ok found → found ≡ what
 unfolding said_by
-read_back key other sender what found fits e = go (unsealed other (sealed key text)) refl e
+read_back takes_marks key other sender what found fits e = go (unsealed other (sealed key text)) refl e
   where
     m : Message
     m = message_by key sender what
@@ -81,14 +85,15 @@ read_back key other sender what found fits e = go (unsealed other (sealed key te
     text : List ℕ
     text = spelling m
 
-    go : (o : Option (List ℕ)) → unsealed other (sealed key text) ≡ o → read_sealed o ≡ Ok found → found ≡ what
+    go : (o : Option (List ℕ)) → unsealed other (sealed key text) ≡ o → read_sealed takes_marks o ≡ Ok found
+        → found ≡ what
     go None u e = absurd cc
     go (Some opened_text) u e =
         let is = text_is other (sealed key text) opened_text u in
         let bytes : opened_text ≡ spelling (renamed (whole_of other.number) m) =
         is.1 ∙ with_field-with_field (tag key text) (to_be_bytes w64 other.number) text (length-tag key text) (spelled_long m)
         ∙ sym (named_whole other.number m) in
-        content_back (renamed (whole_of other.number) m) opened_text found (renamed_fits other.number m fits) bytes e
+        content_back takes_marks (renamed (whole_of other.number) m) opened_text found (renamed_fits other.number m fits) bytes e
 
 -- and bytes name who said them
 pub sender_is : (key : Key) (sender : ℕ) (what : Content) → sender_of (said_by key sender what) ≡ sender
@@ -108,6 +113,6 @@ genuine peer key sender what found fits e =
     bytes : List ℕ
     bytes = said_by key sender what
 
-    go : (o : Option Key) → open_by o bytes ≡ Ok found → found ≡ what
+    go : (o : Option Key) → open_by peer.settings.takes_marks o bytes ≡ Ok found → found ≡ what
     go None e = absurd cc
-    go (Some other) e = read_back key other sender what found fits e
+    go (Some other) e = read_back peer.settings.takes_marks key other sender what found fits e

@@ -16,7 +16,7 @@ use Rattle.roll_peer.specs.Judging.{are_its_machines, are_its_players, are_no_mo
 use Rattle.roll_peer.specs.Notices.{dropped, told}
 use Rattle.roll_peer.specs.Peered.{beside, contact_at, Peered}
 use Rattle.roll_contact.specs.declared.contact.Contact.{Contact}
-use Rattle.roll_peer.specs.Receiving.{after_words, deaf_to, knowing, moment_of, packet_of, unplayed, HearsTurn}
+use Rattle.roll_peer.specs.Receiving.{after_words, deaf_to, end_for, knowing, marks_after, moment_of, packet_of, unplayed, HearsTurn}
 use Rattle.roll_peer.specs.declared.received.Ignored.TheVariants.{InvalidMachine, OwnMachine, MachineGone, Outside, Overstated as SaysMore}
 
 -- a packet that may be played has the same of all words of an input
@@ -68,8 +68,10 @@ left_by peer sender h =
 
 -- a turn that session and mesh heard, and of which is known what it tells, is heard
 pub turn_heard : (step : Step) (before after : Seen) (old mid known new : Peered) (sender : ℕ) (t : Turn)
-    (taken : Taken) → HearsPacket step (beside before old) (beside after mid) (packet_of sender t) t.words taken
-    → mid ≡ record old { member = mid.member } → mid.member.limits ≡ old.member.limits
+    (taken : Taken)
+    → HearsPacket step (beside before old) (beside after mid) (packet_of sender t) t.words (end_for old t) taken
+    → mid ≡ record old { member = mid.member; marks = marks_after old mid.member t }
+    → mid.member.limits ≡ old.member.limits
     → known ≡ knowing t sender
     (after_words (is_some taken.refusal) t.head.clocks before.core.frame (moment_of mid) (contact_at mid sender)) mid
     → new ≡ record known { waiting = told known.waiting (dropped taken.heard) }

@@ -1,4 +1,5 @@
 pub mod Heard
+pub mod Marked
 pub mod Queues
 pub mod Said
 pub mod Sent
@@ -19,3 +20,6 @@ pub mod Polling
 pub mod Mirrors
 pub mod Alike
 pub mod GoneFirst
+pub mod Keeping
+pub mod Noted
+pub mod OneMark

@@ -26,9 +26,10 @@ use Rattle.roll_member.proofs.Known.{known_few, known_other}
 use Rattle.roll_member.proofs.Tied.{seated_fine, seat_inputs}
 use Rattle.roll_wire.specs.Spelling.{are_offers, count_of, Content, Fits, Greets, Leaves, Plays, Turn}
 use Rattle.roll_wire.specs.declared.limits.TheConstants.{WORD_LIMIT}
-use Rattle.roll_peer.specs.PeerWorlds.{nobody, IsPlayedTo, sent_in, Acts, AreSteps, Calls, CallsHolding, Deed, Disconnects, Does, IsStep, NotesSettled, NotesStateAt, Opens, PeerWorld, Polls, Receives, SaysBye, Sends, SendsNone, TakesEvent, TakesTurn}
+use Rattle.roll_peer.specs.PeerWorlds.{nobody, IsPlayedTo, sent_in, Acts, AreSteps, Calls, CallsHolding, Deed, Disconnects, Does, IsStep, NotesSettled, NotesStateAt, Opens, PeerWorld, Polls, PutsMark, Receives, SaysBye, Sends, SendsNone, TakesEvent, TakesTurn, VoidsMark}
 use Rattle.roll_peer.specs.Peered.{beside, without_all, Peered}
-use Rattle.roll_peer.specs.Receiving.{is_refusal, meeting, opened, packet_of, sender_of, ticking, Hears, HearsTurn, IsIgnored}
+use Rattle.roll_peer.specs.Marking.{is_numbered}
+use Rattle.roll_peer.specs.Receiving.{end_for, is_refusal, meeting, opened, packet_of, sender_of, ticking, Hears, HearsTurn, IsIgnored}
 use Rattle.roll_peer.specs.Requests.{Beside, HearsBytes}
 use Rattle.roll_peer.specs.Sending.{after_send, is_lost, key_for, text_for, IsContentFor, IsPlayFor}
 use Rattle.roll_peer.specs.Settings.{seat_of as seat_in}
@@ -40,7 +41,7 @@ use Rattle.roll_peer.proofs.Coming.{comes_already, gives_all, held_to, with_hold
 use Rattle.roll_peer.proofs.Genuine.{genuine, sender_is}
 use Rattle.roll_peer.proofs.Later.{called_on, goes_on}
 use Rattle.roll_peer.proofs.Parcels.{heard_alike, shares_kept, shortened_again, whole_heard}
-use Rattle.roll_peer.proofs.Polling.{either_like, like, polled_stands, AreLike}
+use Rattle.roll_peer.proofs.Polling.{either_like, like, like_as, polled_stands, AreLike}
 use Rattle.roll_peer.proofs.Said.{after_send_is}
 use Rattle.roll_peer.proofs.Standing.{from_holder, from_more, held_by, here_is, holds, inside_of, stands_as, stands_heard, stands_left, stands_met, stands_on, IsFrom, Stands}
 
@@ -116,7 +117,7 @@ told_by_me : (seat : Seat) (m : ℕ) (room : List ℕ) (machine : Machine) → (
 unfolding tell
 told_by_me seat m room machine = refl
 
-text_is : (peer : Peered) (m : ℕ) (what : Content) → text_for peer m what ≡ said_by (key_for peer m what) peer.settings.me what
+pub text_is : (peer : Peered) (m : ℕ) (what : Content) → text_for peer m what ≡ said_by (key_for peer m what) peer.settings.me what
 unfolding text_for
 text_is peer m what = refl
 
@@ -259,7 +260,7 @@ module _ (match : Match) (world : WordWorld) (i : ℕ) (from : IsFrom match worl
       → HearsTurn step before after old new (sender_of bytes) t taken
       → Stands match world i before old → Stands match world i after new
   turn_heard step before after old new bytes t taken was opens heard stands =
-      stands_heard match world i from there step before after old new (packet_of (sender_of bytes) t) t.words taken heard.member
+      stands_heard match world i from there step before after old new (packet_of (sender_of bytes) t) t.words (end_for old t) taken heard.member
       (ap (λ (p : Peered). p.settings) heard.rest) told.place parcel told.there now stands
     where
       found : Plays t ≡ was.what
@@ -326,7 +327,7 @@ module _ (match : Match) (world : WordWorld) (i : ℕ) (from : IsFrom match worl
       subst (λ (p : Peered). Stands match world i s p) (sym other.2) stands
   ignored_stands s old new bytes why (inr own) stands =
       let met = stands_met match world i from there s old own.0 stands in
-      let same = either_like (is_refusal why) (meeting s old) _ _ (refl, refl) (like (meeting s old)) in
+      let same = either_like (is_refusal why) (meeting s old) _ _ (like (meeting s old)) (like (meeting s old)) in
       stands_as match world i from there s (meeting s old) new
       (ap (λ (p : Peered). p.member.mesh) own.2 ∙ same.0) (ap (λ (p : Peered). p.settings) own.2 ∙ same.1) met
 
@@ -343,12 +344,9 @@ module _ (match : Match) (world : WordWorld) (i : ℕ) (from : IsFrom match worl
       (ignored_stands old.session (ticking now old.peer) new.peer bytes why hears.0 (ticked old.session now old.peer stands))
 
   -- what a send makes of the network, beside what it says
-  sent_like : (peer : Peered) (m : ℕ) → AreLike peer (after_send peer m)
-  sent_like peer m =
-      let same = either_like (is_lost peer m) peer peer _ (like peer) (refl, refl) in (
-        ap (λ (p : Peered). p.member.mesh) (after_send_is peer m) ∙ same.0,
-        ap (λ (p : Peered). p.settings) (after_send_is peer m) ∙ same.1,
-      )
+  pub sent_like : (peer new : Peered) (m : ℕ) → new ≡ after_send peer m → AreLike peer new
+  sent_like peer new m e =
+      like_as peer _ new (e ∙ after_send_is peer m) (either_like (is_lost peer m) peer peer _ (like peer) (like peer))
 
   said_content : (b : Beside) (s : Seen) (peer : Peered) (m : ℕ) (bytes : List ℕ) (what : Content) → Stands match world i s peer
       → IsContentFor s peer m what → Fits (message_by (key_for peer m what) peer.settings.me what)
@@ -404,18 +402,15 @@ module _ (match : Match) (world : WordWorld) (i : ℕ) (from : IsFrom match worl
   acts step sent (Sends machine now None) old new follows was does stands =
       let met = stands_met match world i from there old.session (ticking now old.peer) does.0
       (ticked old.session now old.peer stands) in
-      let same = sent_like (meeting old.session (ticking now old.peer)) machine in
+      let same = sent_like (meeting old.session (ticking now old.peer)) new.peer machine does.2 in
       silent match world i from there new
       (subst (λ (s : Seen). Stands match world i s new.peer) (sym does.3)
-      (stands_as match world i from there old.session (meeting old.session (ticking now old.peer)) new.peer
-      (ap (λ (p : Peered). p.member.mesh) does.2 ∙ same.0) (ap (λ (p : Peered). p.settings) does.2 ∙ same.1) met))
+      (stands_as match world i from there old.session (meeting old.session (ticking now old.peer)) new.peer same.0 same.1 met))
   acts step sent (Sends machine now (Some bytes)) old new follows was does stands =
       let met = stands_met match world i from there old.session (ticking now old.peer) does.0
       (ticked old.session now old.peer stands) in
-      let same = sent_like (meeting old.session (ticking now old.peer)) machine in
       said_content new old.session (meeting old.session (ticking now old.peer)) machine bytes does.1.content met does.1.fits
-      does.1.spelled does.1.text does.3
-      (ap (λ (p : Peered). p.member.mesh) does.2 ∙ same.0, ap (λ (p : Peered). p.settings) does.2 ∙ same.1)
+      does.1.spelled does.1.text does.3 (sent_like (meeting old.session (ticking now old.peer)) new.peer machine does.2)
   acts step sent (SendsNone now) old new follows was does stands =
       silent match world i from there new
       (subst (λ (b : Beside). Stands match world i b.session b.peer) (λ k. record { session = sym does.1 k; peer = sym does.0 k })
@@ -449,6 +444,17 @@ module _ (match : Match) (world : WordWorld) (i : ℕ) (from : IsFrom match worl
       (subst (λ (s : Seen). Stands match world i s new.peer) (sym does.1)
       (stands_as match world i from there old.session old.peer new.peer
       (ap (λ (p : Peered). p.member.mesh) does.0) (ap (λ (p : Peered). p.settings) does.0) stands))
+  acts step sent (PutsMark player mark frame) old new follows was does stands =
+      silent match world i from there new
+      (subst (λ (s : Seen). Stands match world i s new.peer) (sym does.2)
+      (stands_as match world i from there old.session (meeting old.session old.peer) new.peer
+      (ap (λ (p : Peered). p.member.mesh) does.1.known) (ap (λ (p : Peered). p.settings) does.1.known)
+      (stands_met match world i from there old.session old.peer does.0 stands)))
+  acts step sent (VoidsMark player) old new follows was does stands =
+      let same = like_as old.peer _ new.peer does.0 (either_like (is_numbered player) old.peer _ _ (like old.peer) (like old.peer)) in
+      silent match world i from there new
+      (subst (λ (s : Seen). Stands match world i s new.peer) (sym does.1)
+      (stands_as match world i from there old.session old.peer new.peer same.0 same.1 stands))
   acts step sent TakesEvent old new follows was does stands =
       silent match world i from there new
       (subst (λ (s : Seen). Stands match world i s new.peer) (sym does.1)
@@ -543,7 +549,7 @@ same_at match old new i (Some b) e at = record {
   holds = at.holds ∙ sym e;
 }
 
-in_either : (xs ys : List (List ℕ)) (place : ℕ) (bytes : List ℕ) → slice_get (xs ++ ys) place ≡ Some bytes
+pub in_either : (xs ys : List (List ℕ)) (place : ℕ) (bytes : List ℕ) → slice_get (xs ++ ys) place ≡ Some bytes
     → ((k : ℕ) × (slice_get xs k ≡ Some bytes)) ⊎ ((k : ℕ) × (slice_get ys k ≡ Some bytes))
 in_either [] ys place bytes e = inr (place, e)
 in_either (x ∷ xs) ys zero bytes e = inl (0, e)
@@ -580,7 +586,7 @@ module _ (match : Match) (games : ℕ → Step) where
       told bytes (inl h) = f.told h.0 bytes h.1
       told bytes (inr h) = still_told m.world f.new bytes f.keeps (m.told h.0 bytes h.1)
 
-  step_mirrors : (old new : PeerWorld) → Mirrors match old → IsStep match games old new → Mirrors match new
+  pub step_mirrors : (old new : PeerWorld) → Mirrors match old → IsStep match games old new → Mirrors match new
   step_mirrors old new m step = go step.step_is
     where
       i : ℕ
@@ -604,13 +610,13 @@ module _ (match : Match) (games : ℕ → Step) where
   steps_mirror old (next ∷ more) new m steps =
       steps_mirror next more new (step_mirrors old next m steps.0) steps.1
 
+  pub mirrors_nobody : Mirrors match nobody
+  mirrors_nobody = record {
+    world = first_words match;
+    from = ([], refl);
+    each = λ i l. get_or-replicate match.machines i first_holder no_holder l;
+    told = λ place bytes e. absurd (none_some bytes e);
+  }
+
   pub mirrors : (peers : PeerWorld) → IsPlayedTo match games peers → Mirrors match peers
-  mirrors peers played = steps_mirror nobody played.0 peers start played.1
-    where
-      start : Mirrors match nobody
-      start = record {
-        world = first_words match;
-        from = ([], refl);
-        each = λ i l. get_or-replicate match.machines i first_holder no_holder l;
-        told = λ place bytes e. absurd (none_some bytes e);
-      }
+  mirrors peers played = steps_mirror nobody played.0 peers mirrors_nobody played.1

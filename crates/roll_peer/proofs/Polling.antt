@@ -1,5 +1,5 @@
 -- A poll: machines are regarded as gone, and their players leave, by steps of the laws over words.
-use Rattle.std.proofs.Common.{◌≡◌, ◌∙◌, ℕ, zero, suc, ◌<◌, refl, ap, sym, subst, Bool, true, false, Option, None, Some, Result, Ok, Err}
+use Rattle.std.proofs.Common.{◌≡◌, ℕ, zero, suc, ◌<◌, refl, ap, sym, subst, Bool, true, false, Option, None, Some, Result, Ok, Err}
 use Rattle.std.specs.Prelude.{if◌then◌else◌}
 use Rattle.roll_frame.specs.declared.refusal.Refusal.{Refusal}
 use Rattle.roll_mesh.specs.Words.{WordWorld}
@@ -14,19 +14,23 @@ use Rattle.roll_peer.specs.declared.refusal.PeerRefusal.TheVariants.{OtherSessio
 use Rattle.roll_peer.proofs.Said.{begun_is, over_is}
 use Rattle.roll_peer.proofs.Standing.{stands_as, stands_met, stands_parted, stands_without, IsFrom, Stands}
 
--- two that know the same of who has what, and of which match
+-- two that know the same of who has what, of which match, and which marks
 abbrev pub AreLike : Peered → Peered → Type 0
-AreLike old new = (new.member.mesh ≡ old.member.mesh) × (new.settings ≡ old.settings)
+AreLike old new =
+    (new.member.mesh ≡ old.member.mesh) × (new.settings ≡ old.settings) × (new.marks ≡ old.marks)
 
 pub like : (p : Peered) → AreLike p p
-like p = (refl, refl)
+like p = (refl, refl, refl)
+
+pub like_as : (old mid new : Peered) → new ≡ mid → AreLike old mid → AreLike old new
+like_as old mid new e same = subst (λ (p : Peered). AreLike old p) (sym e) same
 
 pub either_like : (b : Bool) (old p q : Peered) → AreLike old p → AreLike old q → AreLike old (if b then p else q)
 either_like true old p q h k = h
 either_like false old p q h k = k
 
 over_like : (peer : Peered) → AreLike peer (over peer)
-over_like peer = (ap (λ (p : Peered). p.member.mesh) (over_is peer), ap (λ (p : Peered). p.settings) (over_is peer))
+over_like peer = like_as peer _ (over peer) (over_is peer) (like peer)
 
 most_like : (now : ℕ) (peer : Peered) → AreLike peer (most_noted now peer)
 most_like now peer = either_like _ peer _ _ (since_like peer.cut_off.since) (like peer)
@@ -36,65 +40,64 @@ most_like now peer = either_like _ peer _ _ (since_like peer.cut_off.since) (lik
     since_like None = like peer
     since_like (Some at) = either_like _ peer _ _ (like peer) (like peer)
 
-begun_like : (peer : Peered) → AreLike peer (begun peer)
-begun_like peer =
-    let one = either_like _ peer _ _ (like peer) (like peer) in
-    (ap (λ (p : Peered). p.member.mesh) (begun_is peer) ∙ one.0, ap (λ (p : Peered). p.settings) (begun_is peer) ∙ one.1)
+pub begun_like : (peer : Peered) → AreLike peer (begun peer)
+begun_like peer = like_as peer _ (begun peer) (begun_is peer) (either_like _ peer _ _ (like peer) (like peer))
 
-module _ (match : Match) (world : WordWorld) (i : ℕ) (from : IsFrom match world) (there : i < match.machines) (s : Seen) where
-  abbrev At : Peered → Type 0
-  At peer = Stands match world i s peer
-
-  as_like : (old new : Peered) → AreLike old new → At old → At new
-  as_like old new same at = stands_as match world i from there s old new same.0 same.1 at
-
+-- what holds of all that are like one, and still does once a machine is gone, holds after a poll's looks
+module _ (At : Peered → Type 0) (as_like : (old new : Peered) → AreLike old new → At old → At new)
+    (gone : (peer : Peered) (m : ℕ) → At peer
+    → At (record peer { member = record peer.member { mesh = without m peer.member.mesh } })) where
   without_if : (b : Bool) (peer : Peered) (m : ℕ) → At peer
       → At (if b then record peer { member = record peer.member { mesh = without m peer.member.mesh } } else peer)
-  without_if true peer m at = stands_without match world i from there s peer m at
+  without_if true peer m at = gone peer m at
   without_if false peer m at = at
 
-  silenced_stands : (now k : ℕ) (peer : Peered) → At peer → At (silenced_until now k peer)
+  silenced_so : (now k : ℕ) (peer : Peered) → At peer → At (silenced_until now k peer)
   unfolding silenced_until
-  silenced_stands now zero peer at = at
-  silenced_stands now (suc m) peer at = without_if _ (silenced_until now m peer) m (silenced_stands now m peer at)
+  silenced_so now zero peer at = at
+  silenced_so now (suc m) peer at = without_if _ (silenced_until now m peer) m (silenced_so now m peer at)
 
-  watched_stands : (now k : ℕ) (peer : Peered) → At peer → At (watched_until now k peer)
+  watched_so : (now k : ℕ) (peer : Peered) → At peer → At (watched_until now k peer)
   unfolding watched_until
-  watched_stands now zero peer at = at
-  watched_stands now (suc m) peer at =
+  watched_so now zero peer at = at
+  watched_so now (suc m) peer at =
       let before : Peered = watched_until now m peer in
       let was : Peered = timed now m before in
       without_if _ (stall_told now m was) m
       (as_like before (stall_told now m was) (either_like _ before _ _ (like before) (like before))
-      (watched_stands now m peer at))
+      (watched_so now m peer at))
 
-  hushed_stands : (now k : ℕ) (peer : Peered) → At peer → At (hushed_until now k peer)
+  hushed_so : (now k : ℕ) (peer : Peered) → At peer → At (hushed_until now k peer)
   unfolding hushed_until
-  hushed_stands now zero peer at = at
-  hushed_stands now (suc m) peer at =
-      as_like (hushed_until now m peer) (hushed_at now m (hushed_until now m peer)) (refl, refl) (hushed_stands now m peer at)
+  hushed_so now zero peer at = at
+  hushed_so now (suc m) peer at =
+      let before : Peered = hushed_until now m peer in
+      as_like before (hushed_at now m before) (like before) (hushed_so now m peer at)
 
-  missed_stands : (now k : ℕ) (peer : Peered) → At peer → At (missed_until now k peer)
+  missed_so : (now k : ℕ) (peer : Peered) → At peer → At (missed_until now k peer)
   unfolding missed_until
-  missed_stands now zero peer at = at
-  missed_stands now (suc m) peer at =
+  missed_so now zero peer at = at
+  missed_so now (suc m) peer at =
       let before : Peered = missed_until now m peer in
-      as_like before (missed_at now m before) (either_like _ before _ _ (like before) (like before)) (missed_stands now m peer at)
+      as_like before (missed_at now m before) (either_like _ before _ _ (like before) (like before)) (missed_so now m peer at)
 
-  farewell_stands : (k : ℕ) (peer : Peered) → At peer → At (farewell_until k peer)
+  farewell_so : (k : ℕ) (peer : Peered) → At peer → At (farewell_until k peer)
   unfolding farewell_until
-  farewell_stands zero peer at = at
-  farewell_stands (suc m) peer at =
+  farewell_so zero peer at = at
+  farewell_so (suc m) peer at =
       let before : Peered = farewell_until m peer in
-      as_like before (farewell_at m before) (either_like _ before _ _ (like before) (like before)) (farewell_stands m peer at)
+      as_like before (farewell_at m before) (either_like _ before _ _ (like before) (like before)) (farewell_so m peer at)
 
-  looked_stands : (now k : ℕ) (peer : Peered) → At peer → At (looked_after now k peer)
-  looked_stands now k peer at =
-      farewell_stands k _ (missed_stands now k _ (hushed_stands now k _ (watched_stands now k _ (silenced_stands now k (most_noted now peer) (as_like peer (most_noted now peer) (most_like now peer) at)))))
+  looked_so : (now k : ℕ) (peer : Peered) → At peer → At (looked_after now k peer)
+  looked_so now k peer at =
+      farewell_so k _ (missed_so now k _ (hushed_so now k _ (watched_so now k _ (silenced_so now k (most_noted now peer)
+      (as_like peer (most_noted now peer) (most_like now peer) at)))))
 
-  moved_stands : (frame : ℕ) (peer : Peered) → At peer → At (moved_to frame peer)
-  moved_stands frame peer at =
-      as_like peer (moved_to frame peer) (either_like _ peer _ _ (like peer) (over_like (record peer { frame = frame }))) at
+  -- up to where players leave
+  pub seen_so : (now k frame : ℕ) (peer : Peered) → At peer → At (looked_after now k (moved_to frame peer))
+  seen_so now k frame peer at =
+      looked_so now k (moved_to frame peer)
+      (as_like peer (moved_to frame peer) (either_like _ peer _ _ (like peer) (over_like (record peer { frame = frame }))) at)
 
 module _ (match : Match) (world : WordWorld) (i : ℕ) (from : IsFrom match world) (there : i < match.machines) where
   polls_stand : (before after : Seen) (old new : Peered) (refusal : Option Refusal) → Polls before after old new refusal
@@ -102,14 +105,15 @@ module _ (match : Match) (world : WordWorld) (i : ℕ) (from : IsFrom match worl
   polls_stand before after old new refusal polls at =
       let seen : Peered = looked_after (moment_of old) old.settings.machines (moved_to before.core.frame old) in
       let looked : Stands match world i before seen =
-      looked_stands match world i from there before (moment_of old) old.settings.machines (moved_to before.core.frame old)
-      (moved_stands match world i from there before before.core.frame old at) in
+      seen_so (Stands match world i before)
+      (λ was now same at. stands_as match world i from there before was now same.0 same.1 at)
+      (stands_without match world i from there before)
+      (moment_of old) old.settings.machines before.core.frame old at in
       let settings : polls.parted.settings ≡ seen.settings = ap (λ (p : Peered). p.settings) polls.parts.rest in
       let parted : Stands match world i after polls.parted =
       stands_parted match world i from there before after seen polls.parted polls.parts.who polls.parts.leaves settings looked in
-      let same = begun_like polls.parted in
-      stands_as match world i from there after polls.parted new
-      (ap (λ (p : Peered). p.member.mesh) polls.begins ∙ same.0) (ap (λ (p : Peered). p.settings) polls.begins ∙ same.1) parted
+      let same = like_as polls.parted (begun polls.parted) new polls.begins (begun_like polls.parted) in
+      stands_as match world i from there after polls.parted new same.0 same.1 parted
 
   pub polled_stands : (before after : Seen) (old new : Peered) (result : Result Unit PeerRefusal)
       → IsPolled before after old new result

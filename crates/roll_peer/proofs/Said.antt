@@ -14,7 +14,7 @@ use Rattle.roll_peer.specs.Turning.{are_ready, begun, lead_in, over}
 use Rattle.roll_peer.specs.declared.event.PeerEvent.TheVariants.{Running, TimeSync}
 
 pub opened_is : (peer : Peered) (bytes : List ℕ)
-    → opened peer bytes ≡ open_by (key_of peer (sender_of bytes) (byte_at bytes KIND_AT)) bytes
+    → opened peer bytes ≡ open_by peer.settings.takes_marks (key_of peer (sender_of bytes) (byte_at bytes KIND_AT)) bytes
 unfolding opened
 opened_is peer bytes = refl
 

@@ -264,13 +264,13 @@ module _ (match : Match) (world : WordWorld) (i : ℕ) (from : IsFrom match worl
           ∙ ap (λ (m : Seated). held_by new m) (sym leaves.mesh)
 
   -- a parcel is heard that was told
-  pub stands_heard : (step : Step) (old new : Seen) (peer after : Peered) (packet : Packet) (words : List ℕ) (taken : Taken)
-      → HearsPacket step (beside old peer) (beside new after) packet words taken → after.settings ≡ peer.settings
+  pub stands_heard : (step : Step) (old new : Seen) (peer after : Peered) (packet : Packet) (words : List ℕ) (end : ℕ) (taken : Taken)
+      → HearsPacket step (beside old peer) (beside new after) packet words end taken → after.settings ≡ peer.settings
       → (place : ℕ) (parcel : Parcel) → slice_get world.sent place ≡ Some parcel
       → held (beside new after) ≡ hear_words peer.member.mesh.seat after.member.mesh.machine.has parcel (held (beside old peer))
       → Stands match world i old peer → Stands match world i new after
   unfolding words_after
-  stands_heard step old new peer after packet words taken hears settings place parcel told heard stands = record {
+  stands_heard step old new peer after packet words end taken hears settings place parcel told heard stands = record {
     seat = ap (λ (m : Seated). m.seat) hears.mesh ∙ stands.seat;
     me = ap (λ x. x.me) settings ∙ stands.me;
     word = stands.word;

@@ -1,5 +1,9 @@
 -- What is done machine by machine, or player by player: nothing for none of them, and one more after the first so many.
 use Rattle.std.proofs.Common.{◌≡◌, ℕ, suc, ◌+◌, List, Bool, Option, None, arith, refl}
+use Rattle.std.specs.Prelude.{min}
+use Rattle.roll_mesh.specs.Machines.{is_in}
+use Rattle.roll_wire.specs.declared.datagram.Marked.{Marked}
+use Rattle.roll_peer.specs.Marks.{end_among, end_by, mark_at}
 use Rattle.roll_peer.specs.Notices.{told, told_of}
 use Rattle.roll_peer.specs.Paces.{lead_of, slower, slowest}
 use Rattle.roll_peer.specs.Peered.{Peered}
@@ -7,6 +11,7 @@ use Rattle.roll_peer.specs.Turning.{farewell_at, farewell_until, hushed_at, hush
 use Rattle.roll_peer.specs.Waiting.{Waiting}
 use Rattle.roll_contact.specs.declared.contact.Contact.{Contact}
 use Rattle.roll_peer.specs.declared.event.PeerEvent.{PeerEvent}
+use Rattle.roll_peer.specs.declared.marking.TheConstants.{NO_END}
 
 after : (n : ℕ) → n + 1 ≡ suc n
 after n = omega arith
@@ -73,3 +78,12 @@ pub silenced_next : (now m : ℕ) (peer : Peered)
     → silenced_until now (m + 1) peer ≡ silenced_at now m (silenced_until now m peer)
 unfolding silenced_until
 silenced_next now m peer = rw (after m) refl
+
+pub end_none : (voids : List Bool) (marks : List (Option Marked)) → end_among voids marks 0 ≡ NO_END
+unfolding end_among
+end_none voids marks = refl
+
+pub end_next : (voids : List Bool) (marks : List (Option Marked)) (p : ℕ)
+    → end_among voids marks (p + 1) ≡ min (end_among voids marks p) (end_by (is_in voids p) (mark_at marks p))
+unfolding end_among
+end_next voids marks p = rw (after p) refl

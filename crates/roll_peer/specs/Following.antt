@@ -1,9 +1,9 @@
 -- How the network of a match goes on in its next epoch: a part of the match with a session, owners and frames of its own.
-use Rattle.std.specs.Prelude.{◌≡◌, ℕ, List, [], map, filter, Bool, true, false, not, ◌&&◌, ◌==◌, nat_lt, replicate, slice_index_or}
+use Rattle.std.specs.Prelude.{◌≡◌, ℕ, List, [], map, filter, Bool, true, false, not, ◌&&◌, ◌==◌, nat_lt, None, replicate, slice_index_or}
 use Rattle.std.specs.List.{range_with_len}
 use Rattle.roll_contact.specs.Contacts.{opened_contact}
 use Rattle.roll_contact.specs.declared.contact.Contact.{Contact}
-use Rattle.roll_mesh.specs.declared.limits.TheConstants.{MACHINE_LIMIT}
+use Rattle.roll_mesh.specs.declared.limits.TheConstants.{MACHINE_LIMIT, PLAYER_LIMIT}
 use Rattle.roll_mesh.specs.Machines.{is_in}
 use Rattle.roll_session.specs.Seen.{Seen}
 use Rattle.roll_peer.specs.Digests.{no_digests}
@@ -60,3 +60,5 @@ pub record IsFollowedAs (s : Seen) (settings : MatchSettings) (old : Peered) (se
   pub pace : peer.pace ≡ no_pace
   pub frame : peer.frame ≡ s.core.frame
   pub cut_off : peer.cut_off ≡ first_cut_off
+  pub marks : peer.marks ≡ replicate PLAYER_LIMIT None
+  pub voids : peer.voids ≡ replicate PLAYER_LIMIT false

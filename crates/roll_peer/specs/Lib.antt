@@ -6,11 +6,13 @@ pub mod Notices
 pub mod Paces
 pub mod Settings
 pub mod Waiting
+pub mod Marks
 pub mod Peered
 pub mod Following
 pub mod Judging
 pub mod Stalls
 pub mod Receiving
+pub mod Marking
 pub mod Turning
 pub mod Sending
 pub mod Laws
@@ -19,3 +21,4 @@ pub mod Requests
 pub mod Headline
 pub mod PeerWorlds
 pub mod OneMatch
+pub mod MarkLaws

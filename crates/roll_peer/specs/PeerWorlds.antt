@@ -13,9 +13,11 @@ use Rattle.roll_session.specs.Headline.{words_of}
 use Rattle.roll_session.specs.Others.{bare}
 use Rattle.roll_session.specs.Seen.{FollowsLog, Seen, Step}
 use Rattle.roll_session.specs.declared.event.Reached.{Reached}
+use Rattle.roll_wire.specs.declared.datagram.Mark.{Mark}
 use Rattle.roll_wire.specs.Spelling.{Fits, Leaves, Plays, Turn}
 use Rattle.roll_peer.specs.Digests.{noted}
 use Rattle.roll_peer.specs.Events.{popped}
+use Rattle.roll_peer.specs.Marking.{mark_refusal, voided, IsMarkedAs}
 use Rattle.roll_peer.specs.Peered.{BeginsAs, Peered}
 use Rattle.roll_peer.specs.Receiving.{meeting, opened, ticking}
 use Rattle.roll_peer.specs.Requests.{Beside, HearsBytes}
@@ -50,6 +52,8 @@ pub data Deed : Type 0 where
   Disconnects : (machine : ℕ) → Deed
   NotesSettled : (digest : ℕ) → Deed
   NotesStateAt : (frame digest : ℕ) → Deed
+  PutsMark : (player : ℕ) (mark : Mark) (frame : ℕ) → Deed
+  VoidsMark : (player : ℕ) → Deed
   TakesEvent : Deed
 
 abbrev pub sent_if : Option (List ℕ) → List (List ℕ)
@@ -114,6 +118,11 @@ Does step sent (NotesSettled digest) old new =
     }) × (new.session ≡ old.session)
 Does step sent (NotesStateAt frame digest) old new =
     (new.peer ≡ record old.peer { digests = noted frame digest old.peer.digests }) × (new.session ≡ old.session)
+Does step sent (PutsMark player mark frame) old new =
+    IsOf old.session old.peer.member
+    × IsMarkedAs old.session old.peer new.peer player mark frame × (new.session ≡ old.session)
+    × (mark_refusal old.peer player mark ≡ None)
+Does step sent (VoidsMark player) old new = (new.peer ≡ voided old.peer player) × (new.session ≡ old.session)
 Does step sent TakesEvent old new =
     (new.peer ≡ record old.peer { waiting = popped old.peer.waiting }) × (new.session ≡ old.session)
 

@@ -1,14 +1,16 @@
 -- The network of a match at one machine, as its callers see it: what it knows of who has what and who is gone, and of which session;
 -- its clock, what it knows of each machine and for how long each has held up the match, whether the match has begun, the events that
 -- wait, the machines that were told to be gone, the digests of settled states, how far the machines are from one another, the
--- session's frame when it was polled last; and whether it hears most of them. The session stands beside it.
-use Rattle.std.specs.Prelude.{◌≡◌, ℕ, List, [], Bool, false, true, Some, None, fold, replicate, slice_index_or, ⊤}
+-- session's frame when it was polled last; whether it hears most of them; and the marks of words that it knows, and which are void. The
+-- session stands beside it.
+use Rattle.std.specs.Prelude.{◌≡◌, ℕ, List, [], Bool, false, true, Option, Some, None, fold, replicate, slice_index_or, ⊤}
 use Rattle.roll_member.specs.Beside.{Membership}
 use Rattle.roll_member.specs.Joined.{join_refusal, IsJoinedAs, IsTied, Joined}
 use Rattle.roll_mesh.specs.Machines.{leave}
 use Rattle.roll_mesh.specs.Meshes.{stepped, Seated}
-use Rattle.roll_mesh.specs.declared.limits.TheConstants.{MACHINE_LIMIT}
+use Rattle.roll_mesh.specs.declared.limits.TheConstants.{MACHINE_LIMIT, PLAYER_LIMIT}
 use Rattle.roll_session.specs.Seen.{Seen}
+use Rattle.roll_wire.specs.declared.datagram.Marked.{Marked}
 use Rattle.roll_contact.specs.Clocks.{first_clock}
 use Rattle.roll_contact.specs.Contacts.{known_of, opened_contact}
 use Rattle.roll_contact.specs.declared.clock.Clock.{Clock}
@@ -39,6 +41,8 @@ pub record Peered : Type 0 where
   pub pace : Pace
   pub frame : ℕ
   pub cut_off : CutOff
+  pub marks : List (Option Marked)
+  pub voids : List Bool
 
 -- the session beside what is known of the others
 abbrev pub beside : Seen → Peered → Joined
@@ -60,7 +64,8 @@ first_cut_off = record { hears_most = true; since = None; is_over = false }
 abbrev pub without_all : List ℕ → Seated → Seated
 without_all gone mesh = fold (λ before m. stepped (λ seat here. leave seat m here) before) mesh gone
 
--- how the network of any epoch of a match begins beside a session: it has taken its seat, and regards these machines as gone
+-- how the network of any epoch of a match begins beside a session: it has taken its seat, regards these machines as gone, and knows no
+-- marks
 pub record BeginsAs (s : Seen) (settings : MatchSettings) (gone : List ℕ) (peer : Peered) : Type 0 where
   pub first : Seated
   pub joined : IsJoinedAs s (seat_of settings) (record { session = s; mesh = first })
@@ -68,6 +73,7 @@ pub record BeginsAs (s : Seen) (settings : MatchSettings) (gone : List ℕ) (pee
   pub accepted : join_refusal s (seat_of settings) ≡ None
   pub mesh : peer.member.mesh ≡ without_all gone first
   pub settings_are : peer.settings ≡ settings
+  pub marks : peer.marks ≡ replicate PLAYER_LIMIT None
 
 -- a network that was just opened beside a session: nothing was heard
 pub record IsOpenedAs (s : Seen) (settings : MatchSettings) (peer : Peered) : Type 0 where
@@ -84,6 +90,8 @@ pub record IsOpenedAs (s : Seen) (settings : MatchSettings) (peer : Peered) : Ty
   pub pace : peer.pace ≡ no_pace
   pub frame : peer.frame ≡ s.core.frame
   pub cut_off : peer.cut_off ≡ first_cut_off
+  pub marks : peer.marks ≡ replicate PLAYER_LIMIT None
+  pub voids : peer.voids ≡ replicate PLAYER_LIMIT false
 
 -- why it can't be opened
 abbrev pub IsWhyNot : Seen → MatchSettings → OpenRefusal → Type 0

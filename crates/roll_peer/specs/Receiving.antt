@@ -16,12 +16,15 @@ use Rattle.roll_mesh.specs.Meshes.{is_had, stepped}
 use Rattle.roll_session.specs.Seen.{Seen, Step}
 use Rattle.roll_wire.specs.declared.datagram.Body.{Body}
 use Rattle.roll_wire.specs.declared.datagram.Clocks.{Clocks}
+use Rattle.roll_mesh.specs.declared.limits.TheConstants.{PLAYER_LIMIT}
 use Rattle.roll_wire.specs.declared.datagram.Hello.{Hello}
+use Rattle.roll_wire.specs.declared.datagram.Marked.{Marked}
 use Rattle.roll_wire.specs.declared.fault.WireFault.{WireFault}
-use Rattle.roll_wire.specs.Reading.{unmarked_of}
+use Rattle.roll_wire.specs.Reading.{all_of, unmarked_of}
 use Rattle.roll_wire.specs.declared.limits.TheConstants.{DATAGRAM_LIMIT}
 use Rattle.roll_wire.specs.Spelling.{content as content_of, Content, Greets, Leaves, Message, Plays, Turn}
 use Rattle.roll_peer.specs.Judging.{are_no_more, is_inside}
+use Rattle.roll_peer.specs.Marks.{end_among, kept_with, told_with}
 use Rattle.roll_peer.specs.Notices.{after_heard, desync, dropped, told}
 use Rattle.roll_peer.specs.Peered.{beside, contact_at, Peered}
 use Rattle.roll_peer.specs.Settings.{number_for, opening_of, terms_of}
@@ -62,13 +65,17 @@ abbrev pub read : Result Message WireFault → Result Content Ignored
 read (Ok what) = Ok what.content
 read (Err fault) = Err (NoDatagram fault)
 
-abbrev pub read_sealed : Option (List ℕ) → Result Content Ignored
-read_sealed None = Err NotSealed
-read_sealed (Some text) = read (unmarked_of text)
+-- what a text says; where no marks are taken, of one without any
+abbrev pub read_text : (takes_marks : Bool) → List ℕ → Result Message WireFault
+read_text takes_marks text = if takes_marks then all_of text else unmarked_of text
 
-abbrev pub open_by : Option Key → List ℕ → Result Content Ignored
-open_by None bytes = Err NotSealed
-open_by (Some key) bytes = read_sealed (unsealed key bytes)
+abbrev pub read_sealed : (takes_marks : Bool) → Option (List ℕ) → Result Content Ignored
+read_sealed takes_marks None = Err NotSealed
+read_sealed takes_marks (Some text) = read (read_text takes_marks text)
+
+abbrev pub open_by : (takes_marks : Bool) → Option Key → List ℕ → Result Content Ignored
+open_by takes_marks None bytes = Err NotSealed
+open_by takes_marks (Some key) bytes = read_sealed takes_marks (unsealed key bytes)
 
 -- by what a datagram of a kind is sealed that a machine sent: a hello by the number alone; all else also by the draws of both
 -- openings, so there is no such key before the machine's is believed
@@ -83,7 +90,7 @@ key_of peer m kind =
 
 -- what bytes hold, if their sender sealed them for this opening
 unfoldable pub opened : Peered → List ℕ → Result Content Ignored
-opened peer bytes = open_by (key_of peer (sender_of bytes) (byte_at bytes KIND_AT)) bytes
+opened peer bytes = open_by peer.settings.takes_marks (key_of peer (sender_of bytes) (byte_at bytes KIND_AT)) bytes
 
 -- a datagram's body, or why there is none
 abbrev pub IsOpened : Result Body Ignored → Result Content Ignored → Type 0
@@ -182,18 +189,31 @@ knowing t m contact peer = record peer {
       (desync peer.digests m t.head.settled);
 }
 
+-- the marks that are known as a turn is heard, with those that it tells
+abbrev pub marks_told : Peered → Turn → List (Option Marked)
+marks_told peer t = told_with peer.member.mesh.machine.has peer.marks t.marks
+
+-- from which frame on no words are taken as a turn is heard
+abbrev pub end_for : Peered → Turn → ℕ
+end_for peer t = end_among peer.voids (marks_told peer t) PLAYER_LIMIT
+
+-- the marks that are known once it was heard
+abbrev pub marks_after : Peered → Membership → Turn → List (Option Marked)
+marks_after old member t = kept_with member.mesh.machine.has old.marks (marks_told old t)
+
 -- once session and mesh have heard a turn, at a frame of the session
 abbrev pub after_turn : Peered → Membership → ℕ → ℕ → Turn → Taken → Peered
 after_turn old member frame sender t taken =
     let contact = after_words (is_some taken.refusal) t.head.clocks frame (moment_of old) (contact_at old sender) in
-    let known = knowing t sender contact (record old { member = member }) in
+    let known = knowing t sender contact (record old { member = member; marks = marks_after old member t }) in
     record known { waiting = told known.waiting (dropped taken.heard) }
 
--- a turn is heard: its words become remote words of the session, as far as it takes them, and what its sender tells is known.
+-- a turn is heard: its words become remote words of the session, as far as it takes them, and none after one with a mark that isn't void;
+-- and what its sender tells is known, of marks those of words that are there.
 -- If the sender regards this machine as gone, that is told
 pub record HearsTurn (step : Step) (before after : Seen) (old new : Peered) (sender : ℕ) (t : Turn)
     (taken : Taken) : Type 0 where
-  pub member : HearsPacket step (beside before old) (beside after new) (packet_of sender t) t.words taken
+  pub member : HearsPacket step (beside before old) (beside after new) (packet_of sender t) t.words (end_for old t) taken
   pub limits : new.member.limits ≡ old.member.limits
   pub rest : new ≡ after_turn old new.member before.core.frame sender t taken
 

@@ -13,6 +13,7 @@ use Rattle.roll_wire.specs.Spelling.{Content, Fits, Greets, Leaves, Plays, Turn}
 use Rattle.roll_wire.specs.declared.datagram.Clocks.{Clocks}
 use Rattle.roll_wire.specs.declared.datagram.Settled.{Settled}
 use Rattle.roll_session.specs.Seen.{Seen}
+use Rattle.roll_peer.specs.Marks.{offered_marks}
 use Rattle.roll_peer.specs.Peered.{beside, contact_at, Peered}
 use Rattle.roll_peer.specs.Receiving.{moment_of}
 use Rattle.roll_peer.specs.Settings.{number_for, opening_of, terms_of}
@@ -35,7 +36,7 @@ clocks_in frame peer contact =
 abbrev pub settled_in : Peered → Contact → Option Settled
 settled_in peer contact = if contact.sent % SETTLED_EVERY == 1 then peer.digests.last else None
 
--- a turn tells a machine what it hasn't said that it has, without offers of no words
+-- a turn tells a machine what it hasn't said that it has, without offers of no words, and the marks of the words that it offers
 pub record IsPlayFor (s : Seen) (peer : Peered) (m : ℕ) (t : Turn) : Type 0 where
   pub packet : Packet
   pub told : IsTold (beside s peer) m packet t.words
@@ -43,6 +44,7 @@ pub record IsPlayFor (s : Seen) (peer : Peered) (m : ℕ) (t : Turn) : Type 0 wh
   pub offers : t.head.offers ≡ (shortened packet).offers
   pub clocks : t.head.clocks ≡ clocks_in s.core.frame peer (contact_at peer m)
   pub settled : t.head.settled ≡ settled_in peer (contact_at peer m)
+  pub marks : t.marks ≡ offered_marks t.head.offers peer.marks
 
 -- a machine that plays with this one is told what it hasn't said that it has; any other is greeted
 abbrev pub IsContentFor : Seen → Peered → ℕ → Content → Type 0

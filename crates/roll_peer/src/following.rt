@@ -17,7 +17,7 @@ use crate::settings::MatchSettings;
 use crate::stall::Stall;
 use roll_contact::Contact;
 use roll_member::Member;
-use roll_mesh::MACHINE_LIMIT;
+use roll_mesh::{MACHINE_LIMIT, PLAYER_LIMIT};
 use roll_session::Networked;
 use std::alloc::Global;
 
@@ -84,6 +84,8 @@ impl Peer {
                 pace,
                 frame: session.frame(),
                 cut_off: CutOff::new(),
+                marks: [None; PLAYER_LIMIT],
+                voids: [false; PLAYER_LIMIT],
             }),
             Err(why) => Err(OpenRefusal::Join(why)),
         }

@@ -1,5 +1,6 @@
 //! Laws of peers, each the contract of a function that makes no call.
 ghost use Rattle.roll_peer.specs.Laws.{EventsNameMachines, NothingElseIsHeard};
+ghost use Rattle.roll_peer.specs.MarkLaws.{TheyKnowOneMark, WhatWasPutIsKnown, WhoHasTheWordHasItsMark};
 ghost use Rattle.roll_peer.specs.OneMatch.{TwoPeersOneMatch};
 
 /// A play or a bye is heard only if it was sealed by the draws of this opening and of the sender's one that is believed. With
@@ -19,4 +20,14 @@ pub fn events_name_machines()
 /// another of the match has sealed.
 pub fn two_peers_one_match()
     ensures { TwoPeersOneMatch }
+{}
+
+/// A mark comes with its word: each machine that has a word of a player knows the mark that the player's owner knows of it, and none if
+/// the owner knows none. So two machines that have the word know the same of its mark, whoever is gone for whom; and once a mark was
+/// put on a word, each that has the word knows it. This holds whatever the machines call, and whatever the network does, as in
+/// `two_peers_one_match`.
+pub fn who_has_the_word_has_its_mark()
+    ensures owner { WhoHasTheWordHasItsMark }
+    ensures any { TheyKnowOneMark }
+    ensures put { WhatWasPutIsKnown }
 {}

@@ -8,6 +8,7 @@ mod following;
 mod judging;
 mod keys;
 mod laws;
+mod marking;
 mod notices;
 mod pace;
 mod peer;
@@ -25,10 +26,12 @@ mod turning;
 pub use cut_off::CutOff;
 pub use event::PeerEvent;
 pub use following::Seating;
-pub use laws::{events_name_machines, nothing_else_is_heard, two_peers_one_match};
+pub use laws::{
+    events_name_machines, nothing_else_is_heard, two_peers_one_match, who_has_the_word_has_its_mark,
+};
 pub use peer::Peer;
 pub use received::{Ignored, Received};
-pub use refusal::{OpenRefusal, OtherSession, PeerRefusal};
+pub use refusal::{MarkRefusal, OpenRefusal, OtherSession, PeerRefusal};
 pub use request::{PeerReply, PeerRequest};
 pub use roll_contact::{Field, Stage};
 pub use settings::MatchSettings;

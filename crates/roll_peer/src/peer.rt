@@ -15,13 +15,14 @@ ghost use Rattle.roll_peer.specs.Settings.{seat_of};
 use crate::cut_off::CutOff;
 use crate::digests::Digests;
 use crate::event::{Events, PeerEvent};
+use crate::marking::KnownMarks;
 use crate::pace::Pace;
 use crate::refusal::{OpenRefusal, OtherSession};
 use crate::settings::MatchSettings;
 use crate::stall::Stall;
 use roll_contact::{Clock, Contact, Stage};
 use roll_member::Member;
-use roll_mesh::{MACHINE_LIMIT, Mesh, MeshRefusal};
+use roll_mesh::{MACHINE_LIMIT, Mesh, MeshRefusal, PLAYER_LIMIT};
 use roll_session::{Networked, Settling};
 use std::alloc::Global;
 use std::marker::Model;
@@ -48,14 +49,17 @@ pub struct Peer {
     pub(crate) pace: Pace,
     pub(crate) frame: u32,
     pub(crate) cut_off: CutOff,
+    pub(crate) marks: KnownMarks,
+    pub(crate) voids: [bool; PLAYER_LIMIT],
 }
 
 /// A clause sees all of it.
 impl Model for Peer {
-    ghost use Rattle.std.specs.Prelude.{◌≡◌, ◌<◌, ◌≤◌};
+    ghost use Rattle.std.specs.Prelude.{◌≡◌, ◌<◌, ◌≤◌, true};
     ghost use Rattle.roll_mesh.specs.declared.limits.TheConstants.{MACHINE_LIMIT};
     ghost use Rattle.roll_peer.specs.Peered.{Peered};
     ghost use Rattle.roll_peer.specs.Settings.{seat_of};
+    ghost use Rattle.roll_wire.specs.Spelling.{are_spelled};
 
     ghost Value = { Peered };
 
@@ -72,10 +76,13 @@ impl Model for Peer {
       pace = p.pace;
       frame = p.frame;
       cut_off = p.cut_off;
+      marks = p.marks;
+      voids = p.voids;
     } };
 
     ghost invariant = { λ p. (p.member.mesh.seat ≡ seat_of p.settings)
-        × (p.settings.machines ≤ MACHINE_LIMIT) × (p.settings.me < p.settings.machines) };
+        × (p.settings.machines ≤ MACHINE_LIMIT) × (p.settings.me < p.settings.machines)
+        × (are_spelled p.marks ≡ true) };
 }
 
 impl Peer {
@@ -117,6 +124,8 @@ impl Peer {
                 pace,
                 frame: session.frame(),
                 cut_off: CutOff::new(),
+                marks: [None; PLAYER_LIMIT],
+                voids: [false; PLAYER_LIMIT],
             }),
             Err(why) => Err(OpenRefusal::Join(why)),
         }

@@ -1,14 +1,16 @@
 //! Bytes that come are heard.
-ghost use Rattle.std.specs.Prelude.{◌≡◌, ◌<◌, is_some, None, Some, IfErr, IfOk, IfSome, IsNone, IsSome, OnErr, OnOk};
+ghost use Rattle.std.specs.Prelude.{◌≡◌, ◌<◌, is_some, true, None, Some, IfErr, IfOk, IfSome, IsNone, IsSome, OnErr, OnOk};
 ghost use Rattle.roll_contact.specs.Contacts.{refused};
 ghost use Rattle.roll_mesh.specs.declared.limits.TheConstants.{MACHINE_LIMIT};
 ghost use Rattle.roll_member.specs.Beside.{IsOf};
 ghost use Rattle.roll_member.specs.Hearing.{HearsPacket};
 ghost use Rattle.roll_member.specs.Joined.{IsTied};
 ghost use Rattle.roll_mesh.specs.Meshes.{is_had};
+ghost use Rattle.roll_peer.specs.Marks.{is_spelled_in};
 ghost use Rattle.roll_peer.specs.Peered.{beside, contact_at};
-ghost use Rattle.roll_peer.specs.Receiving.{after_ignored, after_words, byte_at, deaf_to, ignored, ignored_sized, is_refusal, is_sized, key_of, knowing, meeting, moment_of, open_by, opened, packet_of, refused_of, sender_of, ticking, unheard, unplayed, Hears, HearsBye, HearsHello, HearsTurn, IsIgnored, IsOpened, Receives};
-ghost use Rattle.roll_wire.specs.Spelling.{content, turn, Plays};
+ghost use Rattle.roll_peer.specs.Receiving.{after_ignored, after_words, byte_at, deaf_to, end_for, ignored, ignored_sized, is_refusal, is_sized, key_of, knowing, marks_after, meeting, moment_of, open_by, opened, packet_of, read_text, refused_of, sender_of, ticking, unheard, unplayed, Hears, HearsBye, HearsHello, HearsTurn, IsIgnored, IsOpened, Receives};
+ghost use Rattle.roll_wire.specs.Reading.{Gives};
+ghost use Rattle.roll_wire.specs.Spelling.{are_spelled, content, message, turn, Plays};
 
 use crate::judging::{are_no_more, is_inside};
 use crate::peer::Peer;
@@ -18,7 +20,9 @@ use roll_contact::{Contact, Key};
 use roll_member::Taken;
 use roll_mesh::Packet;
 use roll_session::Networked;
-use roll_wire::{Body, Clocks, DATAGRAM_LIMIT, Hello, Play, decode_unmarked};
+use roll_wire::{
+    Body, Clocks, DATAGRAM_LIMIT, Datagram, Hello, Play, WireFault, decode, decode_unmarked,
+};
 
 /// Where a datagram has its sender's number, and its kind.
 const SENDER_AT: usize = 12;
@@ -159,10 +163,11 @@ impl Peer {
     fn body_of(&self, sender: u8, bytes: &[u8]) -> Result<Body, Ignored>
         requires place { sender < MACHINE_LIMIT }
         requires sent { sender ≡ sender_of bytes.now }
-        ensures { IsOpened result (opened self.now bytes.now) }
+        ensures opened { IsOpened result (opened self.now bytes.now) }
+        ensures spelled { IfOk result (λ body. is_spelled_in (content body) ≡ true) }
     {
         match self.key_of(sender, byte_of(bytes, KIND_AT)) {
-            Some(key) => open_by(&key, bytes),
+            Some(key) => open_by(self.settings.takes_marks, &key, bytes),
             None => Err(Ignored::NotSealed),
         }
     }
@@ -177,6 +182,7 @@ impl Peer {
         requires tied { IsTied (S.seen session.old) self.old.member.mesh }
         requires place { sender < MACHINE_LIMIT }
         requires listened { deaf_to self.old sender ≡ None }
+        requires spelled { is_spelled_in (content body) ≡ true }
         ensures heard { IfOk result
             (Hears S.step (S.seen session.old) (S.seen session.new) self.old self.new sender (content body)) }
         ensures tied { OnOk result (IsTied (S.seen session.new) self.new.member.mesh) }
@@ -223,6 +229,7 @@ impl Peer {
         requires tied { IsTied (S.seen session.old) self.old.member.mesh }
         requires place { sender < MACHINE_LIMIT }
         requires listened { deaf_to self.old sender ≡ None }
+        requires spelled { are_spelled play.now.marks ≡ true }
         ensures heard { IfOk result
             (Hears S.step (S.seen session.old) (S.seen session.new) self.old self.new sender (Plays (turn play.now))) }
         ensures tied { OnOk result (IsTied (S.seen session.new) self.new.member.mesh) }
@@ -274,6 +281,7 @@ impl Peer {
         requires listened { deaf_to self.old sender ≡ None }
         requires played { unplayed self.old (packet_of sender (turn play.now)) ≡ None }
         requires same { packet.now ≡ packet_of sender (turn play.now) }
+        requires spelled { are_spelled play.now.marks ≡ true }
         ensures heard { IfSome result
             (HearsTurn S.step (S.seen session.old) (S.seen session.new) self.old self.new sender (turn play.now)) }
         ensures tied { IsTied (S.seen session.new) self.new.member.mesh }
@@ -289,7 +297,8 @@ impl Peer {
         Some(taken)
     }
 
-    /// Session and mesh hear a turn. None if it has words that its sender doesn't say that it has: nothing changed then.
+    /// Session and mesh hear a turn, and marks of words that are there then are known. None if it has words that its sender doesn't
+    /// say that it has: nothing changed then.
     fn take_turn<S: Networked>(
         &mut self,
         session: &mut S,
@@ -301,8 +310,44 @@ impl Peer {
         requires listened { deaf_to self.old sender ≡ None }
         requires played { unplayed self.old (packet_of sender (turn play.now)) ≡ None }
         requires same { packet.now ≡ packet_of sender (turn play.now) }
+        requires spelled { are_spelled play.now.marks ≡ true }
         ensures heard { IfSome result (HearsPacket S.step (beside (S.seen session.old) self.old)
-            (beside (S.seen session.new) self.new) (packet_of sender (turn play.now)) play.now.words.items) }
+            (beside (S.seen session.new) self.new) (packet_of sender (turn play.now)) play.now.words.items
+            (end_for self.old (turn play.now))) }
+        ensures tied { IsTied (S.seen session.new) self.new.member.mesh }
+        ensures rest { IsSome result → self.new ≡ record self.old {
+          member = self.new.member;
+          marks = marks_after self.old self.new.member (turn play.now);
+        } }
+        ensures limits { self.new.member.limits ≡ self.old.member.limits }
+        ensures had { is_some result ≡ is_had (packet_of sender (turn play.now)) }
+        ensures unchanged { IsNone result → self.new ≡ self.old }
+        ensures session { IsNone result → session.new ≡ session.old }
+        ensures keeps { S.keeps session.old session.new }
+    {
+        let told = self.told_with(&play.marks);
+        let end = self.end_among(&told);
+        let taken = self.take_words(session, sender, play, packet, end)?;
+        self.marks = self.kept_with(&told);
+        Some(taken)
+    }
+
+    /// Session and mesh hear a turn's words of frames before an end. None if it has words that its sender doesn't say that it has:
+    /// nothing changed then.
+    fn take_words<S: Networked>(
+        &mut self,
+        session: &mut S,
+        sender: u8,
+        play: &Play,
+        packet: &Packet,
+        end: u32,
+    ) -> Option<Taken>
+        requires tied { IsTied (S.seen session.old) self.old.member.mesh }
+        requires listened { deaf_to self.old sender ≡ None }
+        requires played { unplayed self.old (packet_of sender (turn play.now)) ≡ None }
+        requires same { packet.now ≡ packet_of sender (turn play.now) }
+        ensures heard { IfSome result (HearsPacket S.step (beside (S.seen session.old) self.old)
+            (beside (S.seen session.new) self.new) (packet_of sender (turn play.now)) play.now.words.items end) }
         ensures tied { IsTied (S.seen session.new) self.new.member.mesh }
         ensures rest { self.new ≡ record self.old { member = self.new.member } }
         ensures limits { self.new.member.limits ≡ self.old.member.limits }
@@ -311,7 +356,7 @@ impl Peer {
         ensures session { IsNone result → session.new ≡ session.old }
         ensures keeps { S.keeps session.old session.new }
     {
-        match self.member.hear(session, packet, &play.words) {
+        match self.member.hear(session, packet, &play.words, end) {
             Ok(taken) => Some(taken),
             Err(_) => None,
         }
@@ -360,16 +405,29 @@ fn byte_of(bytes: &[u8], place: usize) -> u8
     if place < bytes.len() { bytes[place] } else { 0 }
 }
 
-/// What bytes hold, if they are sealed by a key.
-fn open_by(key: &Key, bytes: &[u8]) -> Result<Body, Ignored>
-    ensures { IsOpened result (open_by (Some key.now) bytes.now) }
+/// What bytes hold, if they are sealed by a key, and if no word has a mark where none is taken.
+fn open_by(takes_marks: bool, key: &Key, bytes: &[u8]) -> Result<Body, Ignored>
+    ensures opened { IsOpened result (open_by takes_marks (Some key.now) bytes.now) }
+    ensures spelled { IfOk result (λ body. is_spelled_in (content body) ≡ true) }
 {
     let Some(text) = unseal(bytes, key) else {
         return Err(Ignored::NotSealed);
     };
-    match decode_unmarked(&text) {
+    match read(takes_marks, &text) {
         Ok(datagram) => Ok(datagram.body),
         Err(fault) => Err(Ignored::NoDatagram(fault)),
+    }
+}
+
+/// What a text says, if no word has a mark where none is taken.
+fn read(takes_marks: bool, text: &[u8]) -> Result<Datagram, WireFault>
+    ensures read { Gives message result (read_text takes_marks text.now) }
+    ensures spelled { IfOk result (λ d. is_spelled_in (content d.body) ≡ true) }
+{
+    if takes_marks {
+        decode(text)
+    } else {
+        decode_unmarked(text)
     }
 }
 

@@ -34,3 +34,23 @@ pub enum PeerRefusal {
     #[error("{0}")]
     Session(Refusal),
 }
+
+/// Why no mark is put on a word.
+#[derive(Clone, Copy, Debug, PartialEq, Eq, Error)]
+pub enum MarkRefusal {
+    /// The match takes no marks.
+    #[error("the match takes no marks")]
+    NotTaken,
+    /// This machine has no such player, or it isn't the first word of an input.
+    #[error("no such player here, or not the first word of an input")]
+    NotOwn,
+    /// The player has a mark already.
+    #[error("the player has a mark already")]
+    Marked,
+    /// Somebody is to come who is to own no player.
+    #[error("somebody is to come who is to own no player")]
+    NoPlayer,
+    /// The session isn't this match's: [`OtherSession`].
+    #[error("the session isn't this match's")]
+    OtherSession,
+}

@@ -17,7 +17,7 @@ use arrayvec::ArrayVec;
 use roll_contact::seal::say;
 use roll_contact::{Contact, Key};
 use roll_member::Told;
-use roll_mesh::{PLAYER_LIMIT, Packet};
+use roll_mesh::Packet;
 use roll_session::Networked;
 use roll_wire::{Body, Clocks, DATAGRAM_LIMIT, Head, Play, Settled};
 
@@ -159,17 +159,14 @@ impl Peer {
         let Told { packet, words } = self.member.tell(session, machine);
         let Packet { view, offers, .. } = packet.shortened();
         let contact = self.contacts[usize::from(machine)];
+        let marks = self.offered_marks(&offers);
         let head = Head {
             clocks: self.clocks_for(session.frame(), &contact),
             view,
             settled: self.settled_for(&contact),
             offers,
         };
-        Play {
-            head,
-            marks: [None; PLAYER_LIMIT],
-            words,
-        }
+        Play { head, marks, words }
     }
 
     /// What was counted and measured of a machine. None if there is none of this number.

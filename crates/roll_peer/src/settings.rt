@@ -33,6 +33,9 @@ pub struct MatchSettings {
     /// Whether this machine hands on datagrams of others where a line is broken, and has its own handed on. It does so only with those
     /// that say so too.
     pub carries: bool,
+    /// Whether words may have marks, which say what is to be otherwise in the match's next epoch: the same at all machines. A play with
+    /// a mark isn't heard by a machine that takes none.
+    pub takes_marks: bool,
     /// How many words an input has, 1 to 4: so many of the session's players in a row are one player of the match, with one owner. They
     /// leave together, and of no frame are some of their words taken and others not.
     pub words: u8,

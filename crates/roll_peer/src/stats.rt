@@ -11,7 +11,7 @@ pub struct Stats {
     pub received: u32,
     /// How many packets of the other were lost, or are late.
     pub lost: u32,
-    /// How many words the other hasn't said that it has, at most 160 of each player. 0 if nothing is sent to it.
+    /// How many words the other hasn't said that it has, at most 140 of each player. 0 if nothing is sent to it.
     pub words_queued: u32,
     /// How many frames this machine is behind the other: negative if it is ahead.
     pub frames_behind: i32,

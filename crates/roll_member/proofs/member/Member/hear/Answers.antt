@@ -14,21 +14,20 @@ use Rattle.roll_member.specs.Joined.{held, IsTied}
 use Rattle.roll_member.specs.Taking.{shares, words_heard}
 use Rattle.roll_member.proofs.Beside.{tied_steady}
 use Rattle.roll_member.proofs.Fair.{fair_of, heard_all}
-use Rattle.roll_member.proofs.Tied.{same_heard, taken_up}
+use Rattle.roll_member.proofs.Tied.{same_heard, up_to_at}
 use Rattle.roll_member.proofs.member.Member.hear.Goals as goal
 
 pub take_all-refusal-requires-clause-up : goal.take_all-refusal-requires-clause-up
 take_all-refusal-requires-clause-up g c = λ p lt.
-    let mesh = c.self.inside.mesh in
-    rw (c.has.ensures, c.counts_after-most.ensures.taken)
-    (taken_up mesh.seat c.args.packet.now mesh.machine p (omega (arith, lt, c.self.invariant.sized)))
+    rw c.up_to-most.ensures
+    (omega (arith, up_to_at c.args.end c.has.result.now c.counts_after.result p lt))
 
 pub take_all-refusal-requires-clause-fair : goal.take_all-refusal-requires-clause-fair
 take_all-refusal-requires-clause-fair g c =
     let s = g.S.Networked.seen c.args.session.now in
     let tied = subst (λ (m : Membership). IsTied s m.mesh) (sym c.self.view_is) c.requires in
-    rw (c.words_heard-words.ensures, c.seat.ensures, c.has.ensures, c.counts_after-most.ensures.taken)
-    (fair_of s c.self.inside.mesh c.args.packet.now c.args.words.now tied
+    rw (c.words_heard-words.ensures, c.seat.ensures, c.has.ensures, c.up_to-most.ensures, c.has.ensures, c.counts_after.ensures.taken)
+    (fair_of s c.self.inside.mesh c.args.packet.now c.args.words.now c.args.end tied
     (sym c.hear_refusal.ensures ∙ c.in_default.is))
 
 pub invariant_of-self : goal.invariant_of-self
@@ -39,9 +38,9 @@ invariant_of-self g c =
     let packet = c.args.packet.now in
     let reached = c.counts-reached.result in
     let b : length reached ≡ PLAYER_LIMIT = omega arith in
-    let takes = rw (c.words_heard-words.ensures, c.seat.ensures, c.has.ensures, c.counts_after-most.ensures.taken) at c.take_all-refusal.ensures.took in
+    let takes = rw (c.words_heard-words.ensures, c.seat.ensures, c.has.ensures, c.up_to-most.ensures, c.has.ensures, c.counts_after.ensures.taken) at c.take_all-refusal.ensures.took in
     let counts = rw c.seat.ensures at c.counts-reached.ensures in
-    let step = heard_all g.S.Networked.step s new mesh packet c.args.words.now c.take_all-refusal.result reached
+    let step = heard_all g.S.Networked.step s new mesh packet c.args.words.now c.args.end c.take_all-refusal.result reached
     takes.0 (subst (λ (m : Membership). IsTied s m.mesh) (sym c.self.view_is) c.requires)
     (sym c.hear_refusal.ensures ∙ c.in_default.is) b takes.1 counts in
     tied_steady new c.hear.new.self
@@ -57,9 +56,9 @@ returns-clause-tied g c =
     let packet = c.args.packet.now in
     let reached = c.counts-reached.result in
     let b : length reached ≡ PLAYER_LIMIT = omega arith in
-    let takes = rw (c.words_heard-words.ensures, c.seat.ensures, c.has.ensures, c.counts_after-most.ensures.taken) at c.take_all-refusal.ensures.took in
+    let takes = rw (c.words_heard-words.ensures, c.seat.ensures, c.has.ensures, c.up_to-most.ensures, c.has.ensures, c.counts_after.ensures.taken) at c.take_all-refusal.ensures.took in
     let counts = rw c.seat.ensures at c.counts-reached.ensures in
-    let step = heard_all g.S.Networked.step s new mesh packet c.args.words.now c.take_all-refusal.result reached
+    let step = heard_all g.S.Networked.step s new mesh packet c.args.words.now c.args.end c.take_all-refusal.result reached
     takes.0 (subst (λ (m : Membership). IsTied s m.mesh) (sym c.self.view_is) c.requires)
     (sym c.hear_refusal.ensures ∙ c.in_default.is) b takes.1 counts in
     subst (λ m. IsTied new m)
@@ -75,11 +74,11 @@ returns-clause-taken g c =
     let words : List ℕ = words_heard mesh.seat.words packet.offers c.args.words.now in
     let reached = c.counts-reached.result in
     let b : length reached ≡ PLAYER_LIMIT = omega arith in
-    let takes = rw (c.words_heard-words.ensures, c.seat.ensures, c.has.ensures, c.counts_after-most.ensures.taken) at c.take_all-refusal.ensures.took in
+    let takes = rw (c.words_heard-words.ensures, c.seat.ensures, c.has.ensures, c.up_to-most.ensures, c.has.ensures, c.counts_after.ensures.taken) at c.take_all-refusal.ensures.took in
     let fine = (sym c.hear_refusal.ensures ∙ c.in_default.is) in
-    let told = rw (c.words_heard-words.ensures, c.seat.ensures, c.has.ensures, c.counts_after-most.ensures.heard fine) at c.take_all-refusal.ensures.took in
+    let told = rw (c.words_heard-words.ensures, c.seat.ensures, c.has.ensures, c.up_to-most.ensures, c.has.ensures, c.counts_after.ensures.heard fine) at c.take_all-refusal.ensures.took in
     let counts = rw c.seat.ensures at c.counts-reached.ensures in
-    let step = heard_all g.S.Networked.step s new mesh packet c.args.words.now c.take_all-refusal.result reached
+    let step = heard_all g.S.Networked.step s new mesh packet c.args.words.now c.args.end c.take_all-refusal.result reached
     takes.0 (subst (λ (m : Membership). IsTied s m.mesh) (sym c.self.view_is) c.requires) fine b takes.1 counts in
     let became = c.in-Ok.ensures.taken ∙ ap (λ p. stepped (λ seat machine. hear seat p machine) mesh) c.trimmed.ensures in
     let has = ap (λ (m : Seated). m.machine.has) became ∙ step.has in
@@ -111,9 +110,9 @@ unreachable-requires g c =
     let packet = c.args.packet.now in
     let reached = c.counts-reached.result in
     let b : length reached ≡ PLAYER_LIMIT = omega arith in
-    let takes = rw (c.words_heard-words.ensures, c.seat.ensures, c.has.ensures, c.counts_after-most.ensures.taken) at c.take_all-refusal.ensures.took in
+    let takes = rw (c.words_heard-words.ensures, c.seat.ensures, c.has.ensures, c.up_to-most.ensures, c.has.ensures, c.counts_after.ensures.taken) at c.take_all-refusal.ensures.took in
     let counts = rw c.seat.ensures at c.counts-reached.ensures in
     let fine = (sym c.hear_refusal.ensures ∙ c.in_default.is) in
-    let step = heard_all g.S.Networked.step s new mesh packet c.args.words.now c.take_all-refusal.result reached
+    let step = heard_all g.S.Networked.step s new mesh packet c.args.words.now c.args.end c.take_all-refusal.result reached
     takes.0 (subst (λ (m : Membership). IsTied s m.mesh) (sym c.self.view_is) c.requires) fine b takes.1 counts in
     never mesh packet c.trimmed.result reached _ step.alike fine c.trimmed.ensures c.in-Err.ensures.refused

@@ -1,4 +1,5 @@
-use Rattle.std.proofs.Common.{◌≡◌, ℕ, Bool, refl, subst}
+use Rattle.std.proofs.Common.{◌≡◌, ℕ, ap, Bool, refl, subst}
+use Rattle.std.specs.Prelude.{is_some}
 use Rattle.roll_wire.specs.Spelling.{turn}
 use Rattle.roll_peer.specs.Peered.{contact_at, Peered}
 use Rattle.roll_peer.specs.Receiving.{after_words, knowing, moment_of}
@@ -21,5 +22,5 @@ returns-clause-heard g c =
     (after_words b clocks s.core.frame (moment_of mid) (contact_at mid c.args.sender)) mid)
     c.is_some.ensures by_frame in
     turn_heard g.S.Networked.step s after old mid c.know_turn.new.self _ c.args.sender
-    (turn c.args.play.now) c.in_ok-taken.taken c.in_ok-taken.ensures.heard c.take_turn.ensures.rest
+    (turn c.args.play.now) c.in_ok-taken.taken c.in_ok-taken.ensures.heard (c.take_turn.ensures.rest (ap is_some c.in_ok-taken.was))
     c.take_turn.ensures.limits known (rw (← c.self.view_is, c.dropped.ensures) refl)

@@ -20,6 +20,8 @@ returns-in-Ok-join-clause-opened g c = record {
   digests = c.new-in-Ok-join-5.ensures;
   pace = c.in-Ok.ensures;
   frame = c.frame.ensures;
+  marks = refl;
+  voids = refl;
 }
 
 pub returns-in-Ok-join-clause-begins : goal.returns-in-Ok-join-clause-begins
@@ -31,4 +33,5 @@ returns-in-Ok-join-clause-begins g c = record {
       c.seat.ensures c.in-Ok-join.ensures.accepted;
   mesh = refl;
   settings_are = refl;
+  marks = refl;
 }

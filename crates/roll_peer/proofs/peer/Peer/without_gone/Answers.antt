@@ -1,4 +1,4 @@
-use Rattle.std.proofs.Common.{◌≡◌, ◌∙◌, ap, sym}
+use Rattle.std.proofs.Common.{◌∙◌, ap, sym}
 use Rattle.roll_member.specs.Beside.{Membership}
 use Rattle.roll_mesh.specs.Machines.{is_in, leave}
 use Rattle.roll_mesh.specs.Meshes.{stepped, Seated}

@@ -7,8 +7,8 @@ use Rattle.roll_wire.specs.Spelling.{turn}
 use Rattle.roll_peer.specs.Peered.{Peered}
 use Rattle.roll_peer.specs.Receiving.{packet_of}
 use Rattle.roll_peer.proofs.Heard.{heard_of}
-use Rattle.roll_peer.proofs.peer.Peer.take_turn.Goals as goal
-use Rattle.roll_peer.proofs.peer.Peer.take_turn.Goals.{in-Ok, in-Err}
+use Rattle.roll_peer.proofs.peer.Peer.take_words.Goals as goal
+use Rattle.roll_peer.proofs.peer.Peer.take_words.Goals.{in-Ok, in-Err}
 
 pub returns-clause-had : goal.returns-clause-had
 returns-clause-had g c =

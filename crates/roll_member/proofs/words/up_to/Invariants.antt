@@ -1,0 +1,9 @@
+use Rattle.std.proofs.Common.{◌≡◌, ℕ, ◌<◌, length, get_or}
+use Rattle.std.specs.Prelude.{max, min, slice_index}
+use Rattle.roll_mesh.specs.declared.limits.TheConstants.{PLAYER_LIMIT}
+use Rattle.roll_member.proofs.words.up_to.Given as goal
+
+abbrev pub invariant-loop-place : goal.invariant-loop-place
+invariant-loop-place l =
+    (length l.counts ≡ PLAYER_LIMIT)
+    × ((p : ℕ) → p < l.place → get_or l.counts p 0 ≡ max (slice_index l.has p) (min l.end (slice_index l.most p)))
