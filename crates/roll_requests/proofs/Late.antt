@@ -50,7 +50,7 @@ record AreBeside (slots : List ℕ) (a b : Elsewhere Value) : Type 0 where
 loaded_same : (o p : Option Value) (a b : Value) → o ≡ p → a ≡ b → unwrap_or o a ≡ unwrap_or p b
 loaded_same o p a b e f = rw (e, f) refl
 
-stored_same : (k slot : ℕ) (s t : Option Value) (a b : ℕ → Option Value) → s ≡ t → a slot ≡ b slot → stored k s a slot ≡ stored k t b slot
+pub stored_same : (k slot : ℕ) (s t : Option Value) (a b : ℕ → Option Value) → s ≡ t → a slot ≡ b slot → stored k s a slot ≡ stored k t b slot
 stored_same k slot s t a b e f = go (eqb slot k) refl
   where
     go : (c : Bool) → eqb slot k ≡ c → stored k s a slot ≡ stored k t b slot

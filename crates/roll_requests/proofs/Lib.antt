@@ -11,5 +11,6 @@ pub mod Counting
 pub mod Leads
 pub mod Made
 pub mod Late
+pub mod Ending
 pub mod Ungrafted
 pub mod Enough

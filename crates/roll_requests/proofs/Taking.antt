@@ -53,7 +53,7 @@ module _ {V : Type 0} (step : V → List Cell → V) where
       go false = none
 
   -- a slot that is freed has none
-  emptied : (is_freed : ℕ → Bool) (n k : ℕ) (there : Elsewhere V) → k < n → is_freed k ≡ true → (carried_all step (frees is_freed n) there).slots k ≡ None
+  pub emptied : (is_freed : ℕ → Bool) (n k : ℕ) (there : Elsewhere V) → k < n → is_freed k ≡ true → (carried_all step (frees is_freed n) there).slots k ≡ None
   emptied is_freed zero k there few e = absurd (omega (arith, few))
   emptied is_freed (suc n) k there few e =
       let mid : Elsewhere V = carried_all step (frees is_freed n) there in

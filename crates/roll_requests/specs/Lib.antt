@@ -6,4 +6,5 @@ pub mod Requests
 pub mod Asked
 pub mod Made
 pub mod Late
+pub mod Ended
 pub mod Sufficing

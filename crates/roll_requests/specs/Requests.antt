@@ -2,7 +2,7 @@
 use Rattle.std.specs.Prelude.{◌≡◌, ◌≢◌, ◌==◌, ◌<◌, ℕ, suc, zero, List, [], ◌∷◌, ◌++◌, length, slice_index, slice_index_or, All, Bool, true, false, Some, if◌then◌else◌, count_by}
 use Rattle.slab.specs.Slab.{Slab, get}
 use Rattle.roll_frame.specs.declared.row.Cell.{Cell}
-use Rattle.roll_requests.specs.Slotted.{is_unheld, Guessed}
+use Rattle.roll_requests.specs.Slotted.{is_taken, is_unheld, Guessed}
 use Rattle.roll_requests.specs.declared.request.Request.{Request}
 use Rattle.roll_requests.specs.declared.request.Request.TheVariants.{Load, Save, Advance, Free, LoadAside, SaveAside, AdvanceAside}
 
@@ -32,6 +32,17 @@ abbrev pub roll_requests : (at slot : ℕ) → (taken held : List Bool) → (ℕ
 roll_requests at slot taken held row slots =
     reaching at slot ++ frees (is_unheld taken held) (length taken)
     ++ runs Advance Save row slots (length slots)
+
+-- the requests to run the first n of some frames
+abbrev pub advances : (ℕ → List Cell) → ℕ → List Request
+advances row zero = []
+advances row (suc n) = advances row n ++ Advance (row n) ∷ []
+
+-- the requests of an end: the settled state is made current, so many frames are run from there, all slots are freed, and the state
+-- is saved in slot 0
+abbrev pub end_requests : (at slot : ℕ) → (taken : List Bool) → (ℕ → List Cell) → ℕ → List Request
+end_requests at slot taken row count =
+    reaching at slot ++ advances row count ++ frees (is_taken taken) (length taken) ++ Save 0 ∷ []
 
 -- the last of some slots, or else this one: that of the state that a roll leads to
 abbrev pub last_or : ℕ → List ℕ → ℕ

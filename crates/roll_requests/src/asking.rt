@@ -1,9 +1,11 @@
-//! The requests of a roll, and of a job.
+//! The requests of a roll, of a job, and of an end.
 ghost use Rattle.std.specs.Prelude.{◌≡◌, ◌≤◌, ◌-◌, ◌+◌, ◌*◌, ◌++◌, ◌∷◌, [], length, slice_index_or, IsSomeAnd};
+ghost use Rattle.roll_frame.specs.Core.{settled};
 ghost use Rattle.roll_frame.specs.Timeline.{row_at};
 ghost use Rattle.roll_session.specs.Ways.{IsGoing};
-ghost use Rattle.roll_requests.specs.Requests.{frees, job_requests, last_or, reaching, roll_requests, runs};
-ghost use Rattle.roll_requests.specs.Slotted.{is_unheld};
+ghost use Rattle.roll_requests.specs.Ended.{open_row};
+ghost use Rattle.roll_requests.specs.Requests.{advances, end_requests, frees, job_requests, last_or, reaching, roll_requests, runs};
+ghost use Rattle.roll_requests.specs.Slotted.{is_taken, is_unheld};
 ghost use Rattle.roll_requests.specs.declared.request.Request.TheVariants.{Advance, AdvanceAside, Save, SaveAside};
 ghost use Rattle.roll_tree.specs.SavedStates.{state_named};
 
@@ -11,7 +13,7 @@ use crate::queue::Queue;
 use crate::request::Request;
 use crate::taken::Taken;
 use roll_frame::Row;
-use roll_session::{Core, Way};
+use roll_session::{Core, Settling, Way};
 
 /// Asks for a state to be current, unless it is.
 fn reach(queue: &mut Queue, at: u32, slot: u32)
@@ -104,4 +106,46 @@ pub fn ask_job(queue: &mut Queue, slot: u32, rows: &[Row], slots: &[u32])
         queue.push(Request::AdvanceAside { row: *row });
         queue.push(Request::SaveAside { slot: slots[place] });
     }
+}
+
+/// Asks for the timeline's frames from the settled one up to another, without their states.
+fn run_open(queue: &mut Queue, core: &Core<u32>, end: u32)
+    requires { end - settled core.now.seen.core ≤ queue.old.room }
+    ensures asked { queue.new.requests ≡ queue.old.requests
+        ++ advances (open_row core.now.seen.core) (end - settled core.now.seen.core) }
+    ensures room { queue.old.room ≤ queue.new.room + (end - settled core.now.seen.core) }
+{
+    core.laws();
+    for frame in core.settled()..end {
+        queue.push(Request::Advance {
+            row: core.row(frame),
+        });
+    }
+}
+
+/// Asks for each slot to be freed that is taken.
+fn free_all(queue: &mut Queue, taken: &Taken)
+    requires { length taken.now ≤ queue.old.room }
+    ensures asked { queue.new.requests
+        ≡ queue.old.requests ++ frees (is_taken taken.now) (length taken.now) }
+    ensures room { queue.old.room ≤ queue.new.room + length taken.now }
+{
+    for place in 0..taken.len() {
+        if taken.has(place as u32) {
+            queue.push(Request::Free { slot: place as u32 });
+        }
+    }
+}
+
+/// Asks for the state of a frame, run from the settled one in its slot, to be the only one, current and in slot 0.
+pub fn ask_end(queue: &mut Queue, at: u32, slot: u32, core: &Core<u32>, taken: &Taken, end: u32)
+    requires { 2 + (end - settled core.now.seen.core) + length taken.now ≤ queue.old.room }
+    ensures { queue.new.requests
+        ≡ queue.old.requests ++ end_requests at slot taken.now
+        (open_row core.now.seen.core) (end - settled core.now.seen.core) }
+{
+    reach(queue, at, slot);
+    run_open(queue, core, end);
+    free_all(queue, taken);
+    queue.push(Request::Save { slot: 0 });
 }

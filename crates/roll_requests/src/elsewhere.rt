@@ -1,6 +1,7 @@
 //! A session whose game is played elsewhere.
 ghost use Rattle.std.specs.Prelude.{◌≡◌, ◌==◌, ◌≤◌, ◌<◌, ◌++◌, ◌∷◌, [], drop, false, true, is_none, is_some, length, max, min, take, IfErr, IfOk, IfSome, IsSomeAnd, List, None, OnErr, OnOk, Some, if◌then◌else◌};
 ghost use Rattle.roll_frame.specs.Claims.{claim_of, IsRight};
+ghost use Rattle.roll_frame.specs.Core.{settled};
 ghost use Rattle.roll_frame.specs.Settings.{start_refusal};
 ghost use Rattle.roll_frame.specs.Timeline.{row_at};
 ghost use Rattle.roll_game.specs.Counts.{no_calls};
@@ -15,15 +16,17 @@ ghost use Rattle.roll_session.specs.Started.{first_seen};
 ghost use Rattle.roll_tree.specs.SavedStates.{state_named};
 ghost use Rattle.slab.specs.Slab.{get, SameValues, Updates};
 ghost use Rattle.roll_requests.specs.Asked.{rows_to_run, IsDeclinedRoll, IsGiven, IsHandedIn, IsIdle, IsNotGuessed, IsNumbered, IsSettledSlot, Leads, Rolls, SameTaken};
+ghost use Rattle.roll_requests.specs.Ended.{end_refusal, IsEnded};
 ghost use Rattle.roll_requests.specs.Planned.{IsShort};
 ghost use Rattle.roll_requests.specs.Requests.{Adds};
 ghost use Rattle.roll_requests.specs.Slotted.{free_slots, is_taken};
 ghost use Rattle.roll_requests.specs.declared.request.Request.{Request as Asks};
 
-use crate::asking::{ask_job, ask_roll};
+use crate::asking::{ask_end, ask_job, ask_roll};
 use crate::declined::Declined;
+use crate::ended::Ended;
 use crate::job::{Job, free_number};
-use crate::plans::{RollPlan, Room, plan_job, plan_roll};
+use crate::plans::{RollPlan, Room, plan_end, plan_job, plan_roll};
 use crate::queue::Queue;
 use crate::request::Request;
 use crate::taken::Taken;
@@ -356,6 +359,48 @@ impl Elsewhere {
     {
         self.core.reserve_log(events)?;
         Ok(())
+    }
+
+    /// Makes room for the requests of an end at a frame, as [`end`](Self::end) does.
+    ///
+    /// # Errors
+    ///
+    /// `InvalidRequest` if the frame lies before the settled one, else `NoMemory` if the allocator has no room.
+    pub fn reserve_end(&mut self, end: u32) -> Result<(), Refusal>
+        ensures within { OnOk result (settled self.old.seen.core ≤ end) }
+        ensures refused { IfErr result (IsWhy (end_refusal self.old.seen.core end)) }
+        ensures unchanged { self.new ≡ self.old }
+    {
+        plan_end(&mut self.queue, &self.core, &self.taken, end)
+    }
+
+    /// Ends the session at a frame from the settled one on: asks for the state of that frame to be current elsewhere and in slot
+    /// 0, and for all other slots to be freed. So the session that goes on from there starts, once these requests are carried
+    /// out, as one whose opening that state is. Jobs that are out are given up, and their slots freed.
+    ///
+    /// # Errors
+    ///
+    /// The session itself, unchanged, as [`reserve_end`](Self::reserve_end) has it: if the frame lies before the settled one, or
+    /// the allocator has no room for the requests.
+    pub fn end(self, end: u32) -> Result<Ended, Elsewhere>
+        ensures ended { IfOk result (IsEnded self end) }
+        ensures unchanged { IfErr result (λ session. session ≡ self) }
+    {
+        let mut session = self;
+        if plan_end(&mut session.queue, &session.core, &session.taken, end).is_err() {
+            return Err(session);
+        }
+        let slot = session.settled_slot();
+        session.core.laws();
+        let Elsewhere {
+            core,
+            mut queue,
+            at,
+            taken,
+            ..
+        } = session;
+        ask_end(&mut queue, at, slot, &core, &taken, end);
+        Ok(Ended::new(core, queue))
     }
 
     /// The claim of the last roll: what was kept before it, and why it started where it did.

@@ -4,6 +4,7 @@
 mod asking;
 mod declined;
 mod elsewhere;
+mod ended;
 mod job;
 mod networked;
 mod performing;
@@ -16,6 +17,7 @@ mod waiting;
 
 pub use declined::Declined;
 pub use elsewhere::Elsewhere;
+pub use ended::Ended;
 pub use job::JOBS_OUT;
 pub use request::Request;
 pub use waiting::jobs_may_wait;

@@ -1,9 +1,11 @@
-//! What a roll or a job needs, so that nothing of it can fail any more.
+//! What a roll, a job or an end needs, so that nothing of it can fail any more.
 ghost use Rattle.std.specs.Prelude.{◌≡◌, ◌≤◌, ◌+◌, ◌*◌, ◌-◌, ℕ, length, max, IfErr, IfOk, OnOk};
-ghost use Rattle.roll_frame.specs.Core.{depth};
+ghost use Rattle.roll_frame.specs.Core.{depth, settled};
 ghost use Rattle.roll_session.specs.Calls.{IsRoll};
+ghost use Rattle.roll_session.specs.Changes.{IsWhy};
 ghost use Rattle.roll_session.specs.Gameless.{CanEnter};
 ghost use Rattle.roll_requests.specs.Asked.{IsDeclinedRoll};
+ghost use Rattle.roll_requests.specs.Ended.{end_refusal};
 ghost use Rattle.roll_requests.specs.Planned.{IsHardly, IsRoom, IsShort};
 ghost use Rattle.roll_requests.specs.Slotted.{free_slots, is_needed, is_taken, least_free, AreFree, AreTaken, AreWithin};
 ghost use Rattle.slab.specs.Slab.{HasRoomFor};
@@ -13,8 +15,8 @@ use crate::job::{Job, fill_jobs};
 use crate::queue::Queue;
 use crate::taken::Taken;
 use roll_branch::PackedRoute;
-use roll_frame::Route;
-use roll_session::{Call, Core, Way};
+use roll_frame::{Refusal, Route};
+use roll_session::{Call, Core, Settling, Way};
 use roll_tree::Tree;
 use slab::Slab;
 use std::alloc::Global;
@@ -139,4 +141,24 @@ pub fn plan_job(
         start,
         slots,
     })
+}
+
+/// Makes room for the requests of an end at a frame.
+///
+/// # Errors
+///
+/// `InvalidRequest` if the frame lies before the settled one, else `NoMemory` if the allocator has no room.
+pub fn plan_end(queue: &mut Queue, core: &Core<u32>, taken: &Taken, end: u32) -> Result<(), Refusal>
+    ensures within { OnOk result (settled core.now.seen.core ≤ end) }
+    ensures space { OnOk result
+        (2 + (end - settled core.now.seen.core) + length taken.now ≤ queue.new.room) }
+    ensures requests { queue.new.requests ≡ queue.old.requests }
+    ensures refused { IfErr result (IsWhy (end_refusal core.now.seen.core end)) }
+{
+    let from = core.settled();
+    if end < from {
+        return Err(Refusal::InvalidRequest);
+    }
+    queue.reserve(2 + (end - from) as usize + taken.len())?;
+    Ok(())
 }
