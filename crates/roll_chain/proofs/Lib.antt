@@ -1,0 +1,7 @@
+pub mod Untils
+pub mod Frames
+pub mod Ends
+pub mod Bits
+pub mod Judged
+pub mod Together
+pub mod OneNumber

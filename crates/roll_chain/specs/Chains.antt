@@ -1,0 +1,62 @@
+-- A match that goes on in epochs, as one machine knows it: what stays the same over all epochs, how this one opened, who of those that are
+-- to come is welcome, which machines were heard in this epoch, and which of the epoch before are in it.
+use Rattle.std.specs.Prelude.{ℕ, ◌-◌, ◌||◌, List, map, Bool, true, false, nat_lt, None, Some, replicate, slice_index, slice_set, if◌then◌else◌}
+use Rattle.std.specs.List.{list_all, range_with_len}
+use Rattle.roll_epoch.specs.Ids.{key_of}
+use Rattle.roll_epoch.specs.Seats.{machines_to, owners_with_absent}
+use Rattle.roll_epoch.specs.declared.terms.Terms.{Terms}
+use Rattle.roll_frame.specs.declared.profile.Profile.{Profile}
+use Rattle.roll_mesh.specs.Machines.{is_in}
+use Rattle.roll_mesh.specs.declared.limits.TheConstants.{MACHINE_LIMIT, PLAYER_LIMIT}
+use Rattle.roll_peer.specs.Marking.{is_numbered}
+use Rattle.roll_peer.specs.Peered.{Peered}
+use Rattle.roll_peer.specs.Sending.{is_lost}
+use Rattle.roll_peer.specs.declared.settings.MatchSettings.{MatchSettings}
+use Rattle.roll_chain.specs.declared.chain.Chain.{Chain}
+
+-- ---- the epoch
+
+abbrev pub first_chain : MatchSettings → Profile → Terms → Chain
+first_chain base profile terms = record {
+  base = base;
+  profile = profile;
+  terms = terms;
+  welcome = replicate PLAYER_LIMIT None;
+  heard = replicate MACHINE_LIMIT false;
+  stays = replicate MACHINE_LIMIT false;
+}
+
+-- by which numbers pairs seal in an epoch
+abbrev pub numbers_in : List ℕ → ℕ → List ℕ
+numbers_in base id = map (λ m. key_of (slice_index base m) id) (range_with_len 0 MACHINE_LIMIT)
+
+-- with which settings the network of an epoch opens: each player that nobody owns is of a machine that is absent
+abbrev pub settings_in : MatchSettings → Terms → MatchSettings
+settings_in base terms = record base {
+  machines = machines_to (owners_with_absent terms.owners) PLAYER_LIMIT;
+  owners = owners_with_absent terms.owners;
+  numbers = numbers_in base.numbers terms.id;
+  words = terms.words;
+  takes_marks = true;
+}
+
+-- ---- what it is told
+
+-- whoever is to come by a player's mark is welcome, or not
+abbrev pub answered : Chain → ℕ → Bool → Chain
+answered chain player is_welcome =
+    if is_numbered player
+    then record chain { welcome = slice_set chain.welcome (player - 1) (Some is_welcome) } else chain
+
+-- a machine was heard in this epoch
+abbrev pub heard_of : Chain → ℕ → Chain
+heard_of chain m =
+    if nat_lt m MACHINE_LIMIT then record chain { heard = slice_set chain.heard m true } else chain
+
+-- whether a machine is no other of this epoch, or gone, or was heard in it
+abbrev pub is_seen : Chain → Peered → ℕ → Bool
+is_seen chain peer m = is_lost peer m || is_in chain.heard m
+
+-- whether the epoch before needn't be told on
+abbrev pub is_past_over : Chain → Peered → Bool
+is_past_over chain peer = list_all (is_seen chain peer) (range_with_len 0 MACHINE_LIMIT)

@@ -1,0 +1,14 @@
+//! A match that goes on in epochs, at one machine: when this epoch is over, and how the next one opens.
+#![tactic(auto)]
+
+mod chain;
+mod judging;
+mod laws;
+mod rows;
+mod seam;
+mod seating;
+mod sharing;
+
+pub use chain::Chain;
+pub use laws::{of_one_number_one_next, they_go_on_together};
+pub use seam::Opening;

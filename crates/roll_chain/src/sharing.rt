@@ -1,0 +1,61 @@
+//! Who is gone in one of two epochs is gone in both.
+ghost use Rattle.std.specs.Prelude.{◌≡◌, ◌<◌, ◌≤◌};
+ghost use Rattle.roll_mesh.specs.declared.limits.TheConstants.{MACHINE_LIMIT};
+ghost use Rattle.roll_chain.specs.Sharing.{gone_in_either, is_gone_in_either, parted_at, parted_until};
+
+use crate::chain::Chain;
+use roll_mesh::MACHINE_LIMIT;
+use roll_peer::Peer;
+
+/// A set of machines.
+type Machines = [bool; MACHINE_LIMIT];
+
+impl Chain {
+    /// Of the machines that are in this epoch and were in the one before: who is gone in one is gone in both from now on.
+    pub fn share(&self, peer: &mut Peer, past: &mut Peer)
+        ensures peer { peer.new ≡ parted_until (gone_in_either self.now peer.old past.old) MACHINE_LIMIT peer.old }
+        ensures past { past.new ≡ parted_until (gone_in_either self.now peer.old past.old) MACHINE_LIMIT past.old }
+    {
+        let gone = self.gone_in_either(peer, past);
+        part(peer, &gone);
+        part(past, &gone);
+    }
+
+    /// Which machines are in both epochs, and gone in one of them.
+    fn gone_in_either(&self, peer: &Peer, past: &Peer) -> Machines
+        ensures { result ≡ gone_in_either self.now peer.now past.now }
+    {
+        let mut gone = [false; MACHINE_LIMIT];
+        for machine in 0..MACHINE_LIMIT {
+            gone[machine] = self.is_gone_in_either(peer, past, machine as u8);
+        }
+        gone
+    }
+
+    fn is_gone_in_either(&self, peer: &Peer, past: &Peer, machine: u8) -> bool
+        requires { machine < MACHINE_LIMIT }
+        ensures { result ≡ is_gone_in_either self.now peer.now past.now machine }
+    {
+        self.stays[usize::from(machine)]
+            && (peer.mesh().is_gone(machine) || past.mesh().is_gone(machine))
+    }
+}
+
+/// Regards machines as gone.
+#[tactic(auto, using(crate::proofs::Untils::parted_none, crate::proofs::Untils::parted_next))]
+fn part(peer: &mut Peer, gone: &Machines)
+    ensures { peer.new ≡ parted_until gone.now MACHINE_LIMIT peer.old }
+{
+    for machine in 0..MACHINE_LIMIT {
+        part_from(peer, gone, machine);
+    }
+}
+
+fn part_from(peer: &mut Peer, gone: &Machines, machine: usize)
+    requires { machine < MACHINE_LIMIT }
+    ensures { peer.new ≡ parted_at gone.now machine peer.old }
+{
+    if gone[machine] {
+        let _ = peer.disconnect(machine as u8);
+    }
+}
