@@ -1,5 +1,5 @@
 -- What C sees of a match and of what a peer tells, and the numbers of its refusals.
-use Rattle.std.specs.Prelude.{◌≡◌, ℕ, Bool, ◌&&◌, nat_lt, is_some, unwrap_or, if◌then◌else◌, ◌⊎◌, ◌≤◌, ◌<◌, slice_index}
+use Rattle.std.specs.Prelude.{◌≡◌, ℕ, Bool, ◌&&◌, false, nat_lt, is_some, unwrap_or, if◌then◌else◌, ◌⊎◌, ◌≤◌, ◌<◌, slice_index}
 use Rattle.roll_frame.specs.Codes.{code_of}
 use Rattle.roll_contact.specs.declared.terms.Field.{Field}
 use Rattle.roll_contact.specs.declared.terms.Field.TheVariants.{Machines, Owners, Settings, Words}
