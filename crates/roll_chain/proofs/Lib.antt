@@ -1,4 +1,5 @@
 pub mod Untils
+pub mod Ranges
 pub mod Frames
 pub mod Ends
 pub mod Bits

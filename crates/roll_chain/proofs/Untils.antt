@@ -6,7 +6,7 @@ use Rattle.roll_peer.specs.Peered.{Peered}
 use Rattle.roll_chain.specs.declared.rows.TheConstants.{ALL}
 use Rattle.roll_chain.specs.Judging.{judged_at, judged_until}
 use Rattle.roll_chain.specs.Rows.{rows_at, rows_until}
-use Rattle.roll_chain.specs.Sharing.{parted_at, parted_until}
+use Rattle.roll_chain.specs.Sharing.{heard_at, heard_until, parted_at, parted_until}
 use Rattle.roll_chain.specs.declared.chain.Chain.{Chain}
 
 after : (n : ℕ) → n + 1 ≡ suc n
@@ -28,6 +28,15 @@ pub judged_next : (chain : Chain) (p : ℕ) (peer : Peered)
     → judged_until chain (p + 1) peer ≡ judged_at chain p (judged_until chain p peer)
 unfolding judged_until
 judged_next chain p peer = ap (λ n. judged_until chain n peer) (after p)
+
+pub heard_none : (stays : List Bool) (past peer : Peered) → heard_until stays past 0 peer ≡ peer
+unfolding heard_until
+heard_none stays past peer = refl
+
+pub heard_next : (stays : List Bool) (past : Peered) (m : ℕ) (peer : Peered)
+    → heard_until stays past (m + 1) peer ≡ heard_at stays past m (heard_until stays past m peer)
+unfolding heard_until
+heard_next stays past m peer = ap (λ n. heard_until stays past n peer) (after m)
 
 pub parted_none : (gone : List Bool) (peer : Peered) → parted_until gone 0 peer ≡ peer
 unfolding parted_until

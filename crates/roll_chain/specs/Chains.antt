@@ -1,12 +1,13 @@
 -- A match that goes on in epochs, as one machine knows it: what stays the same over all epochs, how this one opened, who of those that are
--- to come is welcome, which machines were heard in this epoch, and which of the epoch before are in it.
-use Rattle.std.specs.Prelude.{ℕ, ◌-◌, ◌||◌, List, map, Bool, true, false, nat_lt, None, Some, replicate, slice_index, slice_set, if◌then◌else◌}
-use Rattle.std.specs.List.{list_all, range_with_len}
+-- to come is welcome, and which machines of the epoch before are in it.
+use Rattle.std.specs.Prelude.{ℕ, ◌-◌, ◌||◌, ◌&&◌, ◌==◌, List, map, Bool, true, false, nat_lt, None, Some, replicate, slice_index, slice_set, if◌then◌else◌}
+use Rattle.std.specs.List.{list_all, list_any, range_with_len}
 use Rattle.roll_epoch.specs.Ids.{key_of}
 use Rattle.roll_epoch.specs.Seats.{machines_to, owners_with_absent}
 use Rattle.roll_epoch.specs.declared.terms.Terms.{Terms}
 use Rattle.roll_frame.specs.declared.profile.Profile.{Profile}
-use Rattle.roll_mesh.specs.Machines.{is_in}
+use Rattle.roll_mesh.specs.Machines.{owner_of}
+use Rattle.roll_mesh.specs.Meshes.{Seated}
 use Rattle.roll_mesh.specs.declared.limits.TheConstants.{MACHINE_LIMIT, PLAYER_LIMIT}
 use Rattle.roll_peer.specs.Marking.{is_numbered}
 use Rattle.roll_peer.specs.Peered.{Peered}
@@ -22,7 +23,6 @@ first_chain base profile terms = record {
   profile = profile;
   terms = terms;
   welcome = replicate PLAYER_LIMIT None;
-  heard = replicate MACHINE_LIMIT false;
   stays = replicate MACHINE_LIMIT false;
 }
 
@@ -48,15 +48,20 @@ answered chain player is_welcome =
     if is_numbered player
     then record chain { welcome = slice_set chain.welcome (player - 1) (Some is_welcome) } else chain
 
--- a machine was heard in this epoch
-abbrev pub heard_of : Chain → ℕ → Chain
-heard_of chain m =
-    if nat_lt m MACHINE_LIMIT then record chain { heard = slice_set chain.heard m true } else chain
+-- ---- who has come
 
--- whether a machine is no other of this epoch, or gone, or was heard in it
-abbrev pub is_seen : Chain → Peered → ℕ → Bool
-is_seen chain peer m = is_lost peer m || is_in chain.heard m
+-- whether player p is a machine's, and a word of it is known
+abbrev pub is_word_of : Seated → (machine p : ℕ) → Bool
+is_word_of mesh machine p = (owner_of mesh.seat p == machine) && nat_lt 0 (slice_index mesh.machine.has p)
+
+-- whether a machine has given a word in this epoch, as far as is known
+abbrev pub has_given : Seated → ℕ → Bool
+has_given mesh machine = list_any (is_word_of mesh machine) (range_with_len 0 PLAYER_LIMIT)
+
+-- whether a machine is no other of this epoch, or gone, or has come to it
+abbrev pub is_seen : Peered → ℕ → Bool
+is_seen peer m = is_lost peer m || has_given peer.member.mesh m
 
 -- whether the epoch before needn't be told on
-abbrev pub is_past_over : Chain → Peered → Bool
-is_past_over chain peer = list_all (is_seen chain peer) (range_with_len 0 MACHINE_LIMIT)
+abbrev pub is_past_over : Peered → Bool
+is_past_over peer = list_all (is_seen peer) (range_with_len 0 MACHINE_LIMIT)

@@ -84,6 +84,5 @@ abbrev pub followed_by : Chain → Opening → Chain
 followed_by chain opening = record chain {
   terms = opening.terms;
   welcome = replicate PLAYER_LIMIT None;
-  heard = replicate MACHINE_LIMIT false;
   stays = stay_where opening.seating;
 }

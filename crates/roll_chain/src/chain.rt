@@ -1,12 +1,12 @@
 //! What is known of a match that goes on in epochs.
 ghost use Rattle.std.specs.Prelude.{◌≡◌, ◌<◌, true};
-ghost use Rattle.std.specs.List.{list_all, range_with_len};
+ghost use Rattle.std.specs.List.{list_all, list_any, range_with_len};
 ghost use Rattle.roll_mesh.specs.declared.limits.TheConstants.{MACHINE_LIMIT, PLAYER_LIMIT};
-ghost use Rattle.roll_chain.specs.Chains.{answered, first_chain, heard_of, is_past_over, is_seen, numbers_in, settings_in};
+ghost use Rattle.roll_chain.specs.Chains.{answered, first_chain, has_given, is_past_over, is_seen, is_word_of, numbers_in, settings_in};
 
 use roll_epoch::{Terms, key_of};
 use roll_frame::Profile;
-use roll_mesh::{MACHINE_LIMIT, PLAYER_LIMIT};
+use roll_mesh::{MACHINE_LIMIT, Mesh, PLAYER_LIMIT};
 use roll_peer::{MatchSettings, Peer};
 
 /// A match that goes on in epochs: parts of it whose machines, owners, delays and threshold stay the same. It stands beside the network
@@ -15,14 +15,14 @@ use roll_peer::{MatchSettings, Peer};
 /// A program opens it for the epoch in which it begins, and the peer with its `settings`. In each turn, before that of the peer, it calls
 /// `judge`, answers who `asks` to come, and calls `over`. When the epoch is over, it starts the session of the next one as `opening` says,
 /// and calls `follow`. The peer of the epoch before and its session it keeps as long as `is_past_over` is false: it sends what that peer
-/// sends, too, gives it what this one finds not sealed, and calls `share`.
+/// sends, too, gives it what this one finds not sealed, and calls `share` in each turn, before that of the peer. So who hasn't come yet is
+/// told how the epoch before ended, and isn't silent in this one.
 #[derive(Clone, Copy, Debug)]
 pub struct Chain {
     pub(crate) base: MatchSettings,
     pub(crate) profile: Profile,
     pub(crate) terms: Terms,
     pub(crate) welcome: [Option<bool>; PLAYER_LIMIT],
-    pub(crate) heard: [bool; MACHINE_LIMIT],
     pub(crate) stays: [bool; MACHINE_LIMIT],
 }
 
@@ -37,7 +37,6 @@ impl Chain {
             profile,
             terms,
             welcome: [None; PLAYER_LIMIT],
-            heard: [false; MACHINE_LIMIT],
             stays: [false; MACHINE_LIMIT],
         }
     }
@@ -66,34 +65,45 @@ impl Chain {
         }
     }
 
-    /// A play of a machine was heard in this epoch. Nothing happens if there is no such machine.
-    pub fn note_heard(&mut self, machine: u8)
-        ensures { self.new ≡ heard_of self.old machine }
-    {
-        if usize::from(machine) < MACHINE_LIMIT {
-            self.heard[usize::from(machine)] = true;
-        }
-    }
-
-    /// Whether the epoch before needn't be told on: each other machine that isn't gone was heard in this one.
+    /// Whether the epoch before needn't be told on: each other machine that isn't gone has come to this one, since a word of one of its
+    /// players is known.
     pub fn is_past_over(&self, peer: &Peer) -> bool
-        ensures { result ≡ is_past_over self.now peer.now }
+        ensures { result ≡ is_past_over peer.now }
     {
         for machine in 0..MACHINE_LIMIT as u8 {
-            if !self.is_seen(peer, machine) {
+            if !is_seen(peer, machine) {
                 return false;
             }
         }
         true
     }
+}
 
-    /// Whether there is no such other machine, it is gone, or it was heard in this epoch.
-    fn is_seen(&self, peer: &Peer, machine: u8) -> bool
-        requires { machine < MACHINE_LIMIT }
-        ensures { result ≡ is_seen self.now peer.now machine }
-    {
-        peer.is_lost(machine) || self.heard[usize::from(machine)]
+/// Whether there is no such other machine, it is gone, or it has come to this epoch.
+pub fn is_seen(peer: &Peer, machine: u8) -> bool
+    ensures { result ≡ is_seen peer.now machine }
+{
+    peer.is_lost(machine) || has_given(peer.mesh(), machine)
+}
+
+/// Whether a machine has given a word in this epoch, as far as is known.
+fn has_given(mesh: &Mesh, machine: u8) -> bool
+    ensures { result ≡ has_given mesh.now machine }
+{
+    for player in 0..PLAYER_LIMIT {
+        if is_word_of(mesh, machine, player) {
+            return true;
+        }
     }
+    false
+}
+
+/// Whether a player is a machine's, and a word of it is known.
+fn is_word_of(mesh: &Mesh, machine: u8, player: usize) -> bool
+    requires { player < PLAYER_LIMIT }
+    ensures { result ≡ is_word_of mesh.now machine player }
+{
+    mesh.seat().owners[player] == machine && mesh.has()[player] > 0
 }
 
 /// With which settings the network of an epoch opens.

@@ -9,6 +9,6 @@ mod seam;
 mod seating;
 mod sharing;
 
-pub use chain::Chain;
+pub use chain::{Chain, is_seen};
 pub use laws::{of_one_number_one_next, they_go_on_together};
 pub use seam::Opening;

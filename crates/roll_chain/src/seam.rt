@@ -93,7 +93,6 @@ impl Chain {
         *self = Chain {
             terms: opening.terms,
             welcome: [None; PLAYER_LIMIT],
-            heard: [false; MACHINE_LIMIT],
             stays: stay_where(&opening.seating),
             ..*self
         };

@@ -9,7 +9,7 @@ use roll_mesh::{MACHINE_LIMIT, PLAYER_LIMIT};
 use roll_peer::Seating;
 
 /// Whether a machine owns a player.
-fn owns(owners: &[u8; PLAYER_LIMIT], machine: u8) -> bool
+pub(crate) fn owns(owners: &[u8; PLAYER_LIMIT], machine: u8) -> bool
     ensures { result ≡ owns owners.now machine }
 {
     owners.iter().any(|owner| *owner == machine)

@@ -292,3 +292,32 @@ is_hushed contact now notify_after =
 abbrev pub hushed : Contact → ℕ → ℕ → Contact
 hushed contact now notify_after =
     if is_hushed contact now notify_after then record contact { interrupted = true } else contact
+
+-- ---- two networks of one machine
+
+-- whether both play with the same opening of an end
+abbrev pub is_one_opening : Contact → Contact → Bool
+is_one_opening contact other =
+    is_playing contact.stage && (is_playing other.stage && (contact.draw == other.draw))
+
+-- it was heard when the other network heard it, if that was later: its silence is over
+abbrev pub heard_later : Contact → ℕ → Contact → Contact
+heard_later other now contact =
+    if nat_lt (since now other.heard_at) (since now contact.heard_at)
+    then record contact { heard_at = other.heard_at; interrupted = false } else contact
+
+-- a clock came back when one came back to the other network, if that was later
+abbrev pub answered_later : Contact → ℕ → Contact → Contact
+answered_later other now contact =
+    if nat_lt (since now other.answered_at) (since now contact.answered_at)
+    then record contact {
+      answered = other.answered;
+      answered_at = other.answered_at;
+      unanswered = other.unanswered;
+    } else contact
+
+-- with what another network of the same machine knows of the same opening of an end: both are heard together
+abbrev pub heard_too : Contact → ℕ → Contact → Contact
+heard_too other now contact =
+    if is_one_opening contact other
+    then answered_later other now (heard_later other now contact) else contact

@@ -1,7 +1,7 @@
 //! What this end knows of another.
 ghost use Rattle.std.specs.Prelude.{◌≡◌};
 ghost use Rattle.roll_contact.specs.Clocks.{difference};
-ghost use Rattle.roll_contact.specs.Contacts.{after_clocks, after_hello, after_play, are_clocks_due, are_newer, behind_of, believing, clocks_for, confirming, counted, frame_after, greeted, heard, hello_echo, hello_sent, hushed, is_before, is_fresh, is_hushed, is_playing, is_silent, is_unanswered, least_patience, measured, meeting, opened_contact, other_opening, play_sent, refused, says_hello, silence, told, unanswered_for, wants_clocks};
+ghost use Rattle.roll_contact.specs.Contacts.{after_clocks, after_hello, after_play, answered_later, are_clocks_due, are_newer, behind_of, believing, clocks_for, confirming, counted, frame_after, greeted, heard, heard_later, heard_too, hello_echo, hello_sent, hushed, is_before, is_fresh, is_hushed, is_one_opening, is_playing, is_silent, is_unanswered, least_patience, measured, meeting, opened_contact, other_opening, play_sent, refused, says_hello, silence, told, unanswered_for, wants_clocks};
 
 use crate::clock::since;
 use crate::terms::{CARRIES, Field};
@@ -432,6 +432,46 @@ impl Contact {
         self.interrupted = false;
         self.received = self.received.saturating_add(1);
         self.expected = self.expected.saturating_add(1);
+    }
+
+    /// What another network of this same machine knows of it, at this moment: where it was heard later there, it is heard here as of
+    /// then; and where a clock of this end's own came back later there, that came back here too. Nothing happens unless both play with
+    /// the same opening of it.
+    pub fn hear_too(&mut self, other: &Contact, now: u32)
+        ensures { self.new ≡ heard_too other.now now self.old }
+    {
+        if self.is_one_opening(other) {
+            self.hear_later(other, now);
+            self.answer_later(other, now);
+        }
+    }
+
+    /// Whether both play with the same opening of an end.
+    fn is_one_opening(&self, other: &Contact) -> bool
+        ensures { result ≡ is_one_opening self.now other.now }
+    {
+        self.is_playing() && other.is_playing() && self.draw == other.draw
+    }
+
+    /// It was heard when the other network heard it, if that was later.
+    fn hear_later(&mut self, other: &Contact, now: u32)
+        ensures { self.new ≡ heard_later other.now now self.old }
+    {
+        if since(now, other.heard_at) < since(now, self.heard_at) {
+            self.heard_at = other.heard_at;
+            self.interrupted = false;
+        }
+    }
+
+    /// A clock came back when one came back to the other network, if that was later.
+    fn answer_later(&mut self, other: &Contact, now: u32)
+        ensures { self.new ≡ answered_later other.now now self.old }
+    {
+        if since(now, other.answered_at) < since(now, self.answered_at) {
+            self.answered = other.answered;
+            self.answered_at = other.answered_at;
+            self.unanswered = other.unanswered;
+        }
     }
 
     /// A packet that it sealed was refused, or words in it.

@@ -14,5 +14,5 @@ pub use join::JoinRefusal;
 pub use laws::{inputs_are_whole, own_words_are_given};
 pub use leaving::Left;
 pub use member::{Member, Taken};
-pub use seam::settings_after;
+pub use seam::{given_at, settings_after};
 pub use telling::Told;

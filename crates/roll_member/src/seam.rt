@@ -40,8 +40,10 @@ fn given_after<S: Networked>(session: &S, place: usize, end: u32) -> [u32; DELAY
     given
 }
 
-/// The word that the player at a place gave for a frame, or else the last that it gave.
-fn given_at<S: Networked>(session: &S, place: usize, frame: u32) -> u32
+/// The word that the player at a place, counted from 0, gave for a frame of the session, counted from 0 too; or else the last that it
+/// gave, or the one before frame 0 if it has given none. A program has it for a player's words at the seam of two epochs: so
+/// `settings_after` gives them again.
+pub fn given_at<S: Networked>(session: &S, place: usize, frame: u32) -> u32
     requires { place < PLAYER_LIMIT }
     ensures { result ≡ given_at (S.seen session.now) place frame }
 {

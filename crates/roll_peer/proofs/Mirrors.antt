@@ -26,7 +26,7 @@ use Rattle.roll_member.proofs.Known.{known_few, known_other}
 use Rattle.roll_member.proofs.Tied.{seated_fine, seat_inputs}
 use Rattle.roll_wire.specs.Spelling.{are_offers, count_of, Content, Fits, Greets, Leaves, Plays, Turn}
 use Rattle.roll_wire.specs.declared.limits.TheConstants.{WORD_LIMIT}
-use Rattle.roll_peer.specs.PeerWorlds.{nobody, IsPlayedTo, sent_in, Acts, AreSteps, Calls, CallsHolding, Deed, Disconnects, Does, IsStep, NotesSettled, NotesStateAt, Opens, PeerWorld, Polls, PutsMark, Receives, SaysBye, Sends, SendsNone, TakesEvent, TakesTurn, VoidsMark}
+use Rattle.roll_peer.specs.PeerWorlds.{nobody, IsPlayedTo, sent_in, Acts, AreSteps, Calls, CallsHolding, Deed, Disconnects, Does, HearsToo, IsStep, NotesSettled, NotesStateAt, Opens, PeerWorld, Polls, PutsMark, Receives, SaysBye, Sends, SendsNone, TakesEvent, TakesTurn, VoidsMark}
 use Rattle.roll_peer.specs.Peered.{beside, without_all, Peered}
 use Rattle.roll_peer.specs.Marking.{is_numbered}
 use Rattle.roll_peer.specs.Receiving.{end_for, is_refusal, meeting, opened, packet_of, sender_of, ticking, Hears, HearsTurn, IsIgnored}
@@ -452,6 +452,11 @@ module _ (match : Match) (world : WordWorld) (i : ℕ) (from : IsFrom match worl
       (stands_met match world i from there old.session old.peer does.0 stands)))
   acts step sent (VoidsMark player) old new follows was does stands =
       let same = like_as old.peer _ new.peer does.0 (either_like (is_numbered player) old.peer _ _ (like old.peer) (like old.peer)) in
+      silent match world i from there new
+      (subst (λ (s : Seen). Stands match world i s new.peer) (sym does.1)
+      (stands_as match world i from there old.session old.peer new.peer same.0 same.1 stands))
+  acts step sent (HearsToo machine other) old new follows was does stands =
+      let same = like_as old.peer _ new.peer does.0 (either_like (is_lost old.peer machine) old.peer _ _ (like old.peer) (like old.peer)) in
       silent match world i from there new
       (subst (λ (s : Seen). Stands match world i s new.peer) (sym does.1)
       (stands_as match world i from there old.session old.peer new.peer same.0 same.1 stands))

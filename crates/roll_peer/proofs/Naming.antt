@@ -18,12 +18,14 @@ use Rattle.roll_session.specs.Seen.{Seen, Step}
 use Rattle.roll_wire.specs.Spelling.{Content, Greets, Leaves, Plays}
 use Rattle.roll_wire.specs.declared.datagram.Settled.{Settled}
 use Rattle.roll_peer.specs.Events.{pushed}
+use Rattle.roll_peer.specs.Following.{heard_beside}
 use Rattle.roll_peer.specs.Laws.{AreNamed, EventsNameMachines, IsNamed}
 use Rattle.roll_peer.specs.Notices.{after_heard, came, desync, differs, dropped, found_out, mismatched, newly, only_if, player_left, refusing, restarting, resumed, told, told_of}
 use Rattle.roll_peer.specs.Digests.{digest_at}
 use Rattle.roll_peer.specs.Paces.{wait_of}
 use Rattle.roll_peer.specs.Peered.{contact_at, Peered}
 use Rattle.roll_peer.specs.Receiving.{after_ignored, ignored, ignored_sized, is_refusal, is_sized, refused_of, sender_of, Hears}
+use Rattle.roll_peer.specs.Sending.{is_lost}
 use Rattle.roll_peer.specs.CutOffs.{cut_off_since, hears_most, most_noted}
 use Rattle.roll_peer.specs.Turning.{farewell_until, hushed_until, lead_in, looked_after, missed_until, moved_to, over, silenced_until, stall_ended, stall_told, timed, watched_until, Polls}
 use Rattle.roll_peer.specs.Waiting.{Waiting}
@@ -191,6 +193,28 @@ module _ (n : ℕ) where
     hearing_named step before after new Leaves (HelloHeard from) h l hears = absurd hears
     hearing_named step before after new Leaves (PlayHeard from taken) h l hears = absurd hears
 
+  -- ---- what is heard by another network
+
+  module _ (old other : Peered) (m : ℕ) (seated : old.member.mesh.seat.machines ≡ n) where
+    lost : nat_le old.member.mesh.seat.machines m ≡ true → is_lost old m ≡ true
+    lost e = rw e refl
+
+    inside : is_lost old m ≡ false → nat_lt m n ≡ true
+    inside h = go (nat_le old.member.mesh.seat.machines m) refl
+      where
+        go : (b : Bool) → nat_le old.member.mesh.seat.machines m ≡ b → nat_lt m n ≡ true
+        go true e = let clash : true ≡ false = sym (lost e) ∙ h in cc
+        go false e =
+            let less = leb-false old.member.mesh.seat.machines m e in
+            lt-ltb m n (omega (arith, less, seated))
+
+    beside_named : AreNamed n old.waiting → AreNamed n (heard_beside m other old).waiting
+    beside_named h = go (is_lost old m) refl
+      where
+        go : (b : Bool) → is_lost old m ≡ b → AreNamed n (heard_beside m other old).waiting
+        go true e = rw e h
+        go false e = rw e (heard_named m (inside e) _ _ old.waiting h)
+
   -- ---- polls
 
   below : (m : ℕ) → suc m ≤ n → nat_lt m n ≡ true
@@ -303,4 +327,5 @@ events_name_machines = record {
       refusal_named old.settings.machines old bytes seated why h i;
   polled = λ before after old new refusal h p.
       polled_named old.settings.machines before after old new refusal refl h p;
+  heard_beside = λ old other machine seated h. beside_named old.settings.machines old other machine seated h;
 }

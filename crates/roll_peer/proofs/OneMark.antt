@@ -35,7 +35,7 @@ use Rattle.roll_wire.specs.declared.datagram.Marked.{Marked}
 use Rattle.roll_peer.specs.Marking.{is_numbered, is_own_first, mark_refusal, IsMarkedAs}
 use Rattle.roll_peer.specs.MarkLaws.{has_of, mark_for, mark_of_word, TheyKnowOneMark, WhatWasPutIsKnown, WhoHasTheWordHasItsMark}
 use Rattle.roll_peer.specs.Marks.{mark_at}
-use Rattle.roll_peer.specs.PeerWorlds.{nobody, IsPlayedTo, sent_in, Acts, AreSteps, Calls, CallsHolding, Deed, Disconnects, Does, IsStep, NotesSettled, NotesStateAt, Opens, PeerWorld, Polls, PutsMark, Receives, SaysBye, Sends, SendsNone, TakesEvent, TakesTurn, VoidsMark}
+use Rattle.roll_peer.specs.PeerWorlds.{nobody, IsPlayedTo, sent_in, Acts, AreSteps, Calls, CallsHolding, Deed, Disconnects, Does, HearsToo, IsStep, NotesSettled, NotesStateAt, Opens, PeerWorld, Polls, PutsMark, Receives, SaysBye, Sends, SendsNone, TakesEvent, TakesTurn, VoidsMark}
 use Rattle.roll_peer.specs.Peered.{without_all, Peered}
 use Rattle.roll_peer.specs.Receiving.{is_refusal, meeting, opened, packet_of, sender_of, ticking, Hears, HearsTurn, IsIgnored}
 use Rattle.roll_peer.specs.Requests.{Beside, HearsBytes}
@@ -436,6 +436,8 @@ module _ (match : Match) (world : PeerWorld) (i : ℕ) (old : Beside) (seat : ol
       put_changes match world i old.peer seat marked old.session new.peer player frame mark word does.0 does.1 does.3
   acts_change step sent (VoidsMark player) new told does =
       alike new _ does.0 (either_like (is_numbered player) old.peer _ _ (like old.peer) (like old.peer))
+  acts_change step sent (HearsToo machine other) new told does =
+      alike new _ does.0 (either_like (is_lost old.peer machine) old.peer _ _ (like old.peer) (like old.peer))
   acts_change step sent TakesEvent new told does = alike new _ does.0 (refl, refl, refl)
 
 -- ---- what is said
@@ -518,6 +520,7 @@ said_tells match world i step sent (NotesSettled digest) old new marked does pla
 said_tells match world i step sent (NotesStateAt frame digest) old new marked does place bytes e = absurd (none_some bytes e)
 said_tells match world i step sent (PutsMark player mark frame) old new marked does place bytes e = absurd (none_some bytes e)
 said_tells match world i step sent (VoidsMark player) old new marked does place bytes e = absurd (none_some bytes e)
+said_tells match world i step sent (HearsToo machine other) old new marked does place bytes e = absurd (none_some bytes e)
 said_tells match world i step sent TakesEvent old new marked does place bytes e = absurd (none_some bytes e)
 
 -- ---- a network is opened

@@ -1,7 +1,7 @@
 -- How the network of a match goes on in its next epoch: a part of the match with a session, owners and frames of its own.
-use Rattle.std.specs.Prelude.{◌≡◌, ℕ, List, [], map, filter, Bool, true, false, not, ◌&&◌, ◌==◌, nat_lt, None, replicate, slice_index_or}
+use Rattle.std.specs.Prelude.{◌≡◌, ℕ, List, [], map, filter, Bool, true, false, not, ◌&&◌, ◌==◌, nat_lt, None, if◌then◌else◌, replicate, slice_index_or}
 use Rattle.std.specs.List.{range_with_len}
-use Rattle.roll_contact.specs.Contacts.{opened_contact}
+use Rattle.roll_contact.specs.Contacts.{heard_too, opened_contact}
 use Rattle.roll_contact.specs.declared.contact.Contact.{Contact}
 use Rattle.roll_mesh.specs.declared.limits.TheConstants.{MACHINE_LIMIT, PLAYER_LIMIT}
 use Rattle.roll_mesh.specs.Machines.{is_in}
@@ -9,6 +9,8 @@ use Rattle.roll_session.specs.Seen.{Seen}
 use Rattle.roll_peer.specs.Digests.{no_digests}
 use Rattle.roll_peer.specs.Paces.{no_pace}
 use Rattle.roll_peer.specs.Peered.{contact_at, first_cut_off, BeginsAs, Peered}
+use Rattle.roll_peer.specs.Receiving.{knowing_of, moment_of}
+use Rattle.roll_peer.specs.Sending.{is_lost}
 use Rattle.roll_peer.specs.Stalls.{first_stall}
 use Rattle.roll_peer.specs.declared.following.Seating.{Seating}
 use Rattle.roll_peer.specs.declared.following.Seating.TheVariants.{Stays, Comes, Empty}
@@ -62,3 +64,12 @@ pub record IsFollowedAs (s : Seen) (settings : MatchSettings) (old : Peered) (se
   pub cut_off : peer.cut_off ≡ first_cut_off
   pub marks : peer.marks ≡ replicate PLAYER_LIMIT None
   pub voids : peer.voids ≡ replicate PLAYER_LIMIT false
+
+-- ---- two networks of one machine, of epochs that follow one another
+
+-- a machine is heard too where another network of this machine hears the same opening of it, and that is told; unless there is no such
+-- other machine, or it is gone
+abbrev pub heard_beside : ℕ → Peered → Peered → Peered
+heard_beside m other peer =
+    if is_lost peer m then peer
+    else knowing_of m (heard_too (contact_at other m) (moment_of peer) (contact_at peer m)) peer

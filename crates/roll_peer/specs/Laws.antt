@@ -6,6 +6,7 @@ use Rattle.roll_contact.specs.declared.key.Key.{Key}
 use Rattle.roll_frame.specs.declared.refusal.Refusal.{Refusal}
 use Rattle.roll_session.specs.Seen.{Seen, Step}
 use Rattle.roll_wire.specs.Spelling.{Content, Greets, Leaves, Plays}
+use Rattle.roll_peer.specs.Following.{heard_beside}
 use Rattle.roll_peer.specs.Peered.{contact_at, Peered}
 use Rattle.roll_peer.specs.Receiving.{after_ignored, ignored, opened, sender_of, Receives}
 use Rattle.roll_peer.specs.Settings.{number_for}
@@ -78,7 +79,7 @@ NamesMachines peer = AreNamed peer.settings.machines peer.waiting
 abbrev pub IsSeatedSo : Peered → Type 0
 IsSeatedSo peer = peer.member.mesh.seat.machines ≡ peer.settings.machines
 
--- whatever is heard, refused or polled, each event that waits names a machine of the match
+-- whatever is heard, refused or polled, or heard by another network, each event that waits names a machine of the match
 pub record EventsNameMachines : Type 0 where
   pub heard : (step : Step) (before after : Seen) (old new : Peered) (bytes : List ℕ) (received : Received)
       → IsSeatedSo old → NamesMachines old → ignored old bytes ≡ None
@@ -89,3 +90,5 @@ pub record EventsNameMachines : Type 0 where
       → AreNamed old.settings.machines (after_ignored (sender_of bytes) why old).waiting
   pub polled : (before after : Seen) (old new : Peered) (refusal : Option Refusal) → NamesMachines old
       → Polls before after old new refusal → AreNamed old.settings.machines new.waiting
+  pub heard_beside : (old other : Peered) (machine : ℕ) → IsSeatedSo old → NamesMachines old
+      → AreNamed old.settings.machines (heard_beside machine other old).waiting

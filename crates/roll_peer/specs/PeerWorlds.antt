@@ -17,6 +17,7 @@ use Rattle.roll_wire.specs.declared.datagram.Mark.{Mark}
 use Rattle.roll_wire.specs.Spelling.{Fits, Leaves, Plays, Turn}
 use Rattle.roll_peer.specs.Digests.{noted}
 use Rattle.roll_peer.specs.Events.{popped}
+use Rattle.roll_peer.specs.Following.{heard_beside}
 use Rattle.roll_peer.specs.Marking.{mark_refusal, voided, IsMarkedAs}
 use Rattle.roll_peer.specs.Peered.{BeginsAs, Peered}
 use Rattle.roll_peer.specs.Receiving.{meeting, opened, ticking}
@@ -54,6 +55,7 @@ pub data Deed : Type 0 where
   NotesStateAt : (frame digest : ℕ) → Deed
   PutsMark : (player : ℕ) (mark : Mark) (frame : ℕ) → Deed
   VoidsMark : (player : ℕ) → Deed
+  HearsToo : (machine : ℕ) (other : Peered) → Deed
   TakesEvent : Deed
 
 abbrev pub sent_if : Option (List ℕ) → List (List ℕ)
@@ -123,6 +125,8 @@ Does step sent (PutsMark player mark frame) old new =
     × IsMarkedAs old.session old.peer new.peer player mark frame × (new.session ≡ old.session)
     × (mark_refusal old.peer player mark ≡ None)
 Does step sent (VoidsMark player) old new = (new.peer ≡ voided old.peer player) × (new.session ≡ old.session)
+Does step sent (HearsToo machine other) old new =
+    (new.peer ≡ heard_beside machine other old.peer) × (new.session ≡ old.session)
 Does step sent TakesEvent old new =
     (new.peer ≡ record old.peer { waiting = popped old.peer.waiting }) × (new.session ≡ old.session)
 

@@ -3,7 +3,7 @@ ghost use Rattle.std.specs.Prelude.{◌≡◌, ◌≢◌, ◌<◌, ◌&&◌, Non
 ghost use Rattle.roll_member.specs.Joined.{join_refusal};
 ghost use Rattle.roll_mesh.specs.Machines.{is_in, leave};
 ghost use Rattle.roll_mesh.specs.Meshes.{leave_refusal, stepped};
-ghost use Rattle.roll_peer.specs.Following.{begins_without, contacts_next, gone_first, is_out, known_next, IsFollowedAs};
+ghost use Rattle.roll_peer.specs.Following.{begins_without, contacts_next, gone_first, heard_beside, is_out, known_next, IsFollowedAs};
 ghost use Rattle.roll_peer.specs.Peered.{without_all, IsWhyNot};
 ghost use Rattle.roll_peer.specs.Settings.{seat_of};
 
@@ -89,6 +89,24 @@ impl Peer {
             }),
             Err(why) => Err(OpenRefusal::Join(why)),
         }
+    }
+
+    /// A machine is heard here too where another network of this same machine has heard it: that of the epoch before, by which alone one
+    /// is heard that hasn't come to this epoch yet. So it isn't silent here as long as it is heard there; `Resumed` is told if it was.
+    /// A program calls this for each machine that stays, in each turn, as long as it has both. Nothing happens if there is no such
+    /// other machine, if it is gone, or unless both networks play with the same opening of it.
+    pub fn hear_too(&mut self, machine: u8, other: &Peer)
+        ensures { self.new ≡ heard_beside machine other.now self.old }
+    {
+        if self.is_lost(machine) {
+            return;
+        }
+        let place = usize::from(machine);
+        let before = self.contacts[place];
+        let mut contact = before;
+        contact.hear_too(&other.contacts[place], self.clock.moment);
+        self.contacts[place] = contact;
+        self.events.heard(machine, &before, &contact);
     }
 
     /// Whether a machine is gone as the next epoch begins.
