@@ -1,6 +1,5 @@
 -- A session of a game elsewhere that has ended, and what its last requests lead to, for every game.
-use Rattle.std.specs.Prelude.{◌≡◌, ◌≤◌, ℕ, ◌+◌, ◌-◌, List, ◌++◌, nat_lt, Option, Some, None, if◌then◌else◌, refl}
-use Rattle.std.proofs.Common.{◌∙◌}
+use Rattle.std.specs.Prelude.{◌≡◌, ◌≤◌, ℕ, ◌+◌, ◌-◌, List, ◌++◌, nat_lt, Option, Some, None, if◌then◌else◌}
 use Rattle.roll_frame.specs.Core.{Core, settled}
 use Rattle.roll_frame.specs.Games.{Value}
 use Rattle.roll_frame.specs.Paths.{run}
@@ -17,10 +16,9 @@ use Rattle.roll_requests.specs.Late.{AreAlike}
 use Rattle.roll_requests.specs.Requests.{end_requests}
 use Rattle.roll_requests.specs.declared.request.Request.{Request}
 
--- what is known of its players stays, and what is still to be handed out
+-- what is known of its players stays
 pub record Ended : Type 0 where
   pub seen : Seen
-  pub requests : List Request
 
 -- why a session can't end at a frame, if there is memory: it lies before the settled one
 abbrev pub end_refusal : Core → ℕ → Option Refusal
@@ -35,23 +33,22 @@ open_row core k = row_at core.players (settled core + k)
 pub record IsOpenedAt (players : List Player) (frame : ℕ) (requests : List Request) : Type 0 where
   pub there : (step : Step) (opening : Value) → AreAlike (carried_out step opening requests) (first (run step opening (timeline players frame)))
 
--- a session ended at a frame: from the settled state on the rows up to there are run, and all slots are freed before the state is
--- saved; so the next session can start from it
-pub record IsEnded (e : Asked) (end : ℕ) (ended : Ended) : Type 0 where
+-- a session ended at a frame by these last requests: from the settled state on the rows up to there are run, and all slots are freed
+-- before the state is saved; so the next session can start from it
+pub record IsEnded (e : Asked) (end : ℕ) (ended : Ended) (closing : List Request) : Type 0 where
   pub within : settled e.seen.core ≤ end
   pub seen : ended.seen ≡ e.seen
   pub slot : ℕ
   pub slot_is : IsSettledSlot e.saves.tree slot
-  pub asked : ended.requests ≡ e.requests ++ end_requests e.at slot e.taken (open_row e.seen.core) (end - settled e.seen.core)
-  pub opens : (past : List Request) → Leads past e → IsOpenedAt e.seen.core.players end (past ++ ended.requests)
+  pub asked : closing ≡ e.requests ++ end_requests e.at slot e.taken (open_row e.seen.core) (end - settled e.seen.core)
+  pub opens : (past : List Request) → Leads past e → IsOpenedAt e.seen.core.players end (past ++ closing)
 
--- what others say is heard, and asks for nothing
-pub record KeepsEnded (old new : Ended) : Type 0 where
-  pub hears : Hears still old.seen new.seen
-  pub requests : new.requests ≡ old.requests
+-- what others say is heard
+abbrev pub KeepsEnded : (old new : Ended) → Type 0
+KeepsEnded old new = Hears still old.seen new.seen
 
 pub ended_keeps_itself : (it : Ended) → KeepsEnded it it
-ended_keeps_itself it = record { hears = hears_nothing still it.seen; requests = refl }
+ended_keeps_itself it = hears_nothing still it.seen
 
 pub ended_keeps_on : (a b c : Ended) → KeepsEnded a b → KeepsEnded b c → KeepsEnded a c
-ended_keeps_on a b c one two = record { hears = hears_more still a.seen b.seen c.seen one.hears two.hears; requests = two.requests ∙ one.requests }
+ended_keeps_on a b c one two = hears_more still a.seen b.seen c.seen one two

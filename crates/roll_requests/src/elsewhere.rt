@@ -23,6 +23,7 @@ ghost use Rattle.roll_requests.specs.Slotted.{free_slots, is_taken};
 ghost use Rattle.roll_requests.specs.declared.request.Request.{Request as Asks};
 
 use crate::asking::{ask_end, ask_job, ask_roll};
+use crate::closing::Closing;
 use crate::declined::Declined;
 use crate::ended::Ended;
 use crate::job::{Job, free_number};
@@ -100,6 +101,13 @@ impl Elsewhere {
         ensures leads { (past : List Asks) → Leads past self.old → Leads past self.new }
     {
         self.limit = slots;
+    }
+
+    /// From which slot on no state is saved.
+    pub fn limit(&self) -> u32
+        ensures { result ≡ self.now.limit }
+    {
+        self.limit
     }
 
     /// Takes a player's input, or sees that it was taken before.
@@ -382,8 +390,8 @@ impl Elsewhere {
     ///
     /// The session itself, unchanged, as [`reserve_end`](Self::reserve_end) has it: if the frame lies before the settled one, or
     /// the allocator has no room for the requests.
-    pub fn end(self, end: u32) -> Result<Ended, Elsewhere>
-        ensures ended { IfOk result (IsEnded self end) }
+    pub fn end(self, end: u32) -> Result<(Ended, Closing), Elsewhere>
+        ensures ended { IfOk result (λ it. IsEnded self end it.0 it.1) }
         ensures unchanged { IfErr result (λ session. session ≡ self) }
     {
         let mut session = self;
@@ -400,7 +408,7 @@ impl Elsewhere {
             ..
         } = session;
         ask_end(&mut queue, at, slot, &core, &taken, end);
-        Ok(Ended::new(core, queue))
+        Ok((Ended::new(core), Closing::of(queue)))
     }
 
     /// The claim of the last roll: what was kept before it, and why it started where it did.

@@ -1,11 +1,9 @@
 //! A session of a game elsewhere that has ended.
-ghost use Rattle.std.specs.Prelude.{◌≡◌, ◌==◌, drop, length};
+ghost use Rattle.std.specs.Prelude.{◌≡◌};
 ghost use Rattle.roll_session.specs.Answered.{replied, IsAnswered};
 ghost use Rattle.roll_session.specs.Calls.{event_of, input_reply, IsInput};
 ghost use Rattle.roll_session.specs.Gameless.{still};
 
-use crate::queue::Queue;
-use crate::request::Request;
 use roll_frame::{Event, Refusal, Row, Settings};
 use roll_session::{Call, Core, Heard, Networked, Settling, Source};
 use std::marker::Model;
@@ -14,7 +12,6 @@ use std::marker::Model;
 #[derive(Drop)]
 pub struct Ended {
     core: Core<u32>,
-    queue: Queue,
 }
 
 impl Model for Ended {
@@ -22,37 +19,15 @@ impl Model for Ended {
 
     ghost Value = { Ended };
 
-    ghost view = { λ e. record { seen = e.core.seen; requests = e.queue.requests } };
+    ghost view = { λ e. record { seen = e.core.seen } };
 }
 
 impl Ended {
-    /// What is left of a session, with the requests of its end.
-    pub(crate) fn new(core: Core<u32>, queue: Queue) -> Ended
-        ensures seen { result.seen ≡ core.seen }
-        ensures requests { result.requests ≡ queue.requests }
+    /// What is left of a session.
+    pub(crate) fn new(core: Core<u32>) -> Ended
+        ensures { result.seen ≡ core.seen }
     {
-        Ended { core, queue }
-    }
-
-    /// The requests that are still to be handed out, in their order.
-    pub fn requests(&self) -> &[Request]
-        ensures { result.now ≡ self.now.requests }
-    {
-        self.queue.requests()
-    }
-
-    /// The next requests are handed out, so many of them, or all if there are fewer.
-    pub fn hand_out(&mut self, count: usize)
-        ensures { self.new ≡ record self.old { requests = drop count self.old.requests } }
-    {
-        self.queue.hand_out(count);
-    }
-
-    /// Whether all requests were handed out.
-    pub fn is_done(&self) -> bool
-        ensures { result ≡ (length self.now.requests == 0) }
-    {
-        self.queue.is_done()
+        Ended { core }
     }
 
     /// Takes an input of a player, or sees that it was taken before.
@@ -60,7 +35,6 @@ impl Ended {
         requires { IsInput call }
         ensures answered { IsAnswered still self.old.seen self.new.seen (event_of call)
             (replied (λ heard. input_reply call heard) result) }
-        ensures requests { self.new.requests ≡ self.old.requests }
     {
         self.core.take(call)
     }

@@ -2,6 +2,7 @@
 #![tactic(auto)]
 
 mod asking;
+mod closing;
 mod declined;
 mod elsewhere;
 mod ended;
@@ -15,6 +16,7 @@ mod sufficing;
 mod taken;
 mod waiting;
 
+pub use closing::Closing;
 pub use declined::Declined;
 pub use elsewhere::Elsewhere;
 pub use ended::Ended;

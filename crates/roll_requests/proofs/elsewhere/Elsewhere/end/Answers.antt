@@ -13,14 +13,14 @@ returns-clause-ended c =
     let slot = c.settled_slot-slot.result in
     let within = on_ok c.plan_end.result (sym c.is_err.ensures.value ∙ c.if-is_err.false) c.plan_end.ensures.within in
     let old : Asked = record { seen = i.core.seen; saves = i.core.saves; at = i.at; requests = i.queue.requests; limit = i.limit; jobs = i.jobs; taken = i.taken } in
-    let asked : c.new.result.requests ≡ i.queue.requests ++ end_requests i.at slot i.taken (open_row i.core.seen.core) (c.args.end - settled i.core.seen.core) =
-    c.new.ensures.requests ∙ c.ask_end.ensures ∙ ap (λ (l : List Request). l ++ end_requests i.at slot i.taken (open_row i.core.seen.core) (c.args.end - settled i.core.seen.core)) c.plan_end.ensures.requests in
+    let asked : c.of.result ≡ i.queue.requests ++ end_requests i.at slot i.taken (open_row i.core.seen.core) (c.args.end - settled i.core.seen.core) =
+    c.of.ensures ∙ c.ask_end.ensures ∙ ap (λ (l : List Request). l ++ end_requests i.at slot i.taken (open_row i.core.seen.core) (c.args.end - settled i.core.seen.core)) c.plan_end.ensures.requests in
     rw (← c.session.view_is)
     (record {
       within = within;
-      seen = c.new.ensures.seen;
+      seen = c.new.ensures;
       slot = slot;
       slot_is = c.settled_slot-slot.ensures;
       asked = asked;
-      opens = opened old c.args.end slot c.new.result.requests c.laws.ensures.inputs c.settled_slot-slot.ensures within asked;
+      opens = opened old c.args.end slot c.of.result c.laws.ensures.inputs c.settled_slot-slot.ensures within asked;
     })

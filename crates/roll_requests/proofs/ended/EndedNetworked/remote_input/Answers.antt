@@ -9,7 +9,5 @@ returns-clause-refused c =
     (heard_of still c.args.self.now.seen c.take.new.self.seen c.args.player c.args.frame c.args.word c.take.result c.take.ensures.answered).2
 
 pub returns-clause-keeps : goal.returns-clause-keeps
-returns-clause-keeps c = record {
-  hears = hears_answered still c.args.self.now.seen c.take.new.self.seen (Remote c.args.player c.args.frame c.args.word) _ tt c.take.ensures.answered;
-  requests = c.take.ensures.requests;
-}
+returns-clause-keeps c =
+    hears_answered still c.args.self.now.seen c.take.new.self.seen (Remote c.args.player c.args.frame c.args.word) _ tt c.take.ensures.answered
