@@ -1,0 +1,6 @@
+use Rattle.std.proofs.Common.{true}
+use Rattle.roll_seam.specs.Again.{words_until, ArePlayed}
+use Rattle.roll_seam.proofs.again.Again.give_all.Given as goal
+
+abbrev pub invariant-loop-place : goal.invariant-loop-place
+invariant-loop-place l = ArePlayed l.fn.session (words_until l.self.terms.now l.self.me l.self.past.now.seen l.frame l.place) l.session true

@@ -1,0 +1,5 @@
+pub mod Carrying
+pub mod Again
+pub mod GoingOn
+pub mod Pasts
+pub mod Epochs
