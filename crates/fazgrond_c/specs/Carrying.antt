@@ -1,6 +1,6 @@
 -- What a call of a peer that carries comes to.
-use Rattle.std.specs.Prelude.{◌≡◌, ◌≢◌, ℕ, ℤ, pos, List, Option, Some, None, option_map, IfNone, IfSome, IsSomeAnd, MatchOption, Result, IfErr, IfOk, OnErr, if◌then◌else◌}
-use Rattle.roll_carry.specs.Carrying.{opened_carrying, turned, Carrying}
+use Rattle.std.specs.Prelude.{◌≡◌, ◌≢◌, ℕ, ℤ, pos, List, Option, Some, None, option_map, IfNone, IfSome, IsSomeAnd, MatchOption, Result, IfErr, IfOk, OnErr}
+use Rattle.roll_carry.specs.Carrying.{turned, Carrying}
 use Rattle.roll_held.specs.Relayed.{relayed, relayed_beside, HearsBy, HearsHeldBy, SendsBy}
 use Rattle.roll_held.specs.Told.{as_told, roomless, IsHeldFault}
 use Rattle.roll_held.specs.declared.fault.HeldFault.{HeldFault}
@@ -21,12 +21,6 @@ use Rattle.fazgrond_c.specs.Written.{code_of_receipt, AreSent}
 use Rattle.fazgrond_c.specs.Waiting.{code_if_told, code_of_fault}
 use Rattle.fazgrond_c.specs.declared.live.Live.{Live}
 use Rattle.fazgrond_c.specs.declared.network.Network.{Network}
-
--- what carries beside a peer that has just been opened, if its match is played so
-abbrev pub IsCarryingFor : Peered → Option Carrying → Type 0
-IsCarryingFor peer relay =
-    relay ≡ (if peer.settings.carries
-    then Some (opened_carrying peer.settings.me peer.settings.machines) else None)
 
 -- a turn began for it, at the moment that the peer's clock shows
 abbrev pub turned_by : Peered → Option Carrying → Option Carrying
@@ -79,6 +73,7 @@ pub record IsSentAheadBy (machine now : ℕ) (old new : Peered) (here there : Ca
 pub record IsNextOf (old new : Network) (said : Option (ℕ × List ℕ)) : Type 0 where
   pub peer : new.peer ≡ old.peer
   pub held : new.held ≡ old.held
+  pub epochs : new.epochs ≡ old.epochs
   pub next : MatchOption old.relay
       ((new.relay ≡ None) × (said ≡ None))
       (λ here. IsSomeAnd new.relay (λ there. IsNext old.peer here there said))
@@ -87,6 +82,7 @@ pub record IsNextOf (old new : Network) (said : Option (ℕ × List ℕ)) : Type
 pub record SaysByeBy (machine : ℕ) (old new : Network) (bytes : Option (List ℕ)) : Type 0 where
   pub peer : new.peer ≡ old.peer
   pub held : new.held ≡ old.held
+  pub epochs : new.epochs ≡ old.epochs
   pub said : MatchOption old.relay
       ((new.relay ≡ None) × IfSome bytes (λ text. text ≡ text_for old.peer machine Leaves))
       (λ here. IsSomeAnd new.relay (λ there. SaysBye old.peer machine here there bytes))

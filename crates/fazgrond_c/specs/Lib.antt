@@ -8,6 +8,9 @@ pub mod PeerKinds
 pub mod Waiting
 pub mod Written
 pub mod Carrying
+pub mod EpochKinds
+pub mod Epochs
+pub mod Lasting
 pub mod Peers
 pub mod LineKinds
 pub mod Lines

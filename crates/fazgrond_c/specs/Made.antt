@@ -1,5 +1,5 @@
 -- What a call through a handle comes to.
-use Rattle.std.specs.Prelude.{◌≡◌, ◌≢◌, ◌⊎◌, ◌≤◌, ◌<◌, ℕ, ℤ, List, [], ◌++◌, drop, length, map, max, min, take, nat_lt, IsSomeAnd, if◌then◌else◌, pos, Result, Ok, Err, IfOk, IfErr, OnOk, Option, Some, None, IfSome}
+use Rattle.std.specs.Prelude.{◌≡◌, ◌≢◌, ◌⊎◌, ◌≤◌, ◌<◌, ℕ, ℤ, List, [], ◌∷◌, ◌++◌, drop, length, map, max, min, take, nat_lt, IsSomeAnd, if◌then◌else◌, pos, Result, Ok, Err, IfOk, IfErr, OnOk, Option, Some, None, IfSome, unwrap_or}
 use Rattle.roll_frame.specs.Advice.{noted}
 use Rattle.roll_frame.specs.Codes.{code_of}
 use Rattle.roll_frame.specs.Core.{Core, settled}
@@ -35,10 +35,18 @@ use Rattle.fazgrond_c.specs.declared.live.Live.{Live}
 use Rattle.fazgrond_c.specs.declared.open.Open.{Open}
 use Rattle.fazgrond_c.specs.declared.open.Open.TheVariants.{Session}
 
+-- the last requests of the epoch before that are still to be taken
+abbrev pub closing_in : Live → List Request
+closing_in live = unwrap_or live.closing []
+
+-- all requests that are still to be taken
+abbrev pub asked : Live → List Request
+asked live = closing_in live ++ live.session.requests
+
 -- a call that rolls waits until all requests were taken
 abbrev pub IsPending : Live → Call → Type 0
-IsPending live Sync = live.session.requests ≢ []
-IsPending live Advance = live.session.requests ≢ []
+IsPending live Sync = asked live ≢ []
+IsPending live Advance = asked live ≢ []
 IsPending live call = ⊥
 
 -- the session of an open handle answers a call by the rules
@@ -51,6 +59,8 @@ pub record IsMade (old new : Option Open) (call : Call) (said : Reply) : Type 0 
   pub made : IsMadeOf before.session after.session call said
   pub leads : KeepsLeading before.session after.session
   pub advice : after.advice ≡ before.advice
+  pub closing : after.closing ≡ before.closing
+  pub first_job : after.first_job ≡ before.first_job
 
 -- a call isn't made, since it waits, or it is refused, by the rules or for want of memory or slots: this is the code
 abbrev pub IsDeclined : Live → Live → Call → ℤ → Type 0
@@ -68,6 +78,8 @@ pub record IsDeclinedBy (old new : Option Open) (call : Call) (code : ℤ) : Typ
   pub declined : IsDeclined before after call code
   pub leads : KeepsLeading before.session after.session
   pub advice : after.advice ≡ before.advice
+  pub closing : after.closing ≡ before.closing
+  pub first_job : after.first_job ≡ before.first_job
 
 abbrev pub IsNotMade : Option Open → Option Open → Call → ℤ → Type 0
 IsNotMade old new call code =
@@ -159,6 +171,8 @@ pub record IsOpened (given : SettingsIn) (live : Live) : Type 0 where
   pub are_given : AreGiven given settings
   pub session : IsStarted settings live.session
   pub advice : live.advice ≡ []
+  pub closing : live.closing ≡ None
+  pub first_job : live.first_job ≡ 0
 
 -- there is no session with such settings
 pub record IsUnfit (given : SettingsIn) (code : ℤ) : Type 0 where
@@ -195,16 +209,32 @@ pub record IsClaimed (old new : Option Open) (before after : List ℕ) (had size
   pub closed : session_in old ≡ None → (code ≡ pos 201) × ((after ≡ before) × (size ≡ had))
   pub read : IfSome (session_in old) (λ live. IsClaimOf (last_claim live.session.seen) before after had size code)
 
--- the next requests are handed out, in order, as many as there is room for, and written to the front of a buffer; all that was
--- handed out and is still to be leads where it did
-pub record AreHanded (old new : Live) (before after : List RequestOut) (count : ℕ) : Type 0 where
-  pub count_is : count ≡ min (length before) (length old.session.requests)
-  pub written : after ≡ map request_out (take count old.session.requests) ++ drop count before
-  pub left : new ≡ record old {
-    session = record old.session { requests = drop count old.session.requests };
-  }
-  pub leads : (past : List Request) → Leads past old.session
-      → Leads (past ++ take count old.session.requests) new.session
+-- as many requests as there is room for are written to the front of a buffer, in order
+pub record AreWrittenOut (requests : List Request) (before after : List RequestOut) (count : ℕ) : Type 0 where
+  pub count_is : count ≡ min (length before) (length requests)
+  pub written : after ≡ map request_out (take count requests) ++ drop count before
+
+-- those of the epoch before
+pub record AreHandedLast (old new : List Request) (before after : List RequestOut) (count : ℕ) : Type 0 where
+  pub out : AreWrittenOut old before after count
+  pub left : new ≡ drop count old
+
+-- those of the session; all that was handed out and is still to be leads where it did
+pub record AreHandedNext (old new : Asked) (before after : List RequestOut) (count : ℕ) : Type 0 where
+  pub out : AreWrittenOut old.requests before after count
+  pub left : new ≡ record old { requests = drop count old.requests }
+  pub leads : (past : List Request) → Leads past old → Leads (past ++ take count old.requests) new
+
+-- the next requests of a session are handed out: those of the epoch before by themselves, as long as there are any
+abbrev pub AreHandedIn : (old new : Live) → (before after : List RequestOut) → (count : ℕ) → (closing : List Request) → Type 0
+AreHandedIn old new before after count [] =
+    (new ≡ record old { session = new.session }) × AreHandedNext old.session new.session before after count
+AreHandedIn old new before after count (first ∷ more) =
+    (new ≡ record old { closing = new.closing })
+    × IsSomeAnd new.closing (λ now. AreHandedLast (first ∷ more) now before after count)
+
+abbrev pub AreHanded : (old new : Live) → (before after : List RequestOut) → (count : ℕ) → Type 0
+AreHanded old new before after count = AreHandedIn old new before after count (closing_in old)
 
 -- requests of an open session are handed out; a closed one has none
 pub record IsHandedBy (old new : Option Open) (before after : List RequestOut) (count : ℕ) : Type 0 where

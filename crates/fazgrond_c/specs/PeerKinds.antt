@@ -12,12 +12,16 @@ use Rattle.roll_peer.specs.declared.event.PeerEvent.{PeerEvent}
 use Rattle.roll_peer.specs.declared.event.PeerEvent.TheVariants.{Synchronizing, Synchronized, Running, DisconnectedFromPeer, TimeSync, Interrupted, Resumed, Desync, Mismatch, Dropped, Left, Restarted, Stalled, Refused, Missing, CutOff}
 use Rattle.roll_peer.specs.declared.received.Ignored.{Ignored}
 use Rattle.roll_peer.specs.declared.received.Ignored.TheVariants.{NotSealed, NoDatagram, InvalidMachine, OwnMachine, MachineGone, OtherSession as IsOther, Outside, Overstated}
+use Rattle.roll_peer.specs.declared.refusal.MarkRefusal.{MarkRefusal}
+use Rattle.roll_peer.specs.declared.refusal.MarkRefusal.TheVariants.{NotTaken, NotOwn, Marked, NoPlayer as NobodyComes, OtherSession as NotThis}
 use Rattle.roll_peer.specs.declared.refusal.OpenRefusal.{OpenRefusal}
 use Rattle.roll_peer.specs.declared.refusal.OpenRefusal.TheVariants.{Join, NoDraw, NoMemory}
 use Rattle.roll_peer.specs.declared.refusal.PeerRefusal.{PeerRefusal}
 use Rattle.roll_peer.specs.declared.refusal.PeerRefusal.TheVariants.{OtherSession, Session}
 use Rattle.roll_peer.specs.declared.settings.MatchSettings.{MatchSettings}
 use Rattle.roll_peer.specs.declared.stats.Stats.{Stats}
+use Rattle.roll_seam.specs.declared.refusal.SeamRefusal.{SeamRefusal}
+use Rattle.roll_seam.specs.declared.refusal.SeamRefusal.TheVariants.{Session as SeamOf, Network as SeamIn}
 use Rattle.fazgrond_c.specs.declared.peer_kinds.EventOut.{EventOut}
 use Rattle.fazgrond_c.specs.declared.peer_kinds.MatchIn.{MatchIn}
 use Rattle.fazgrond_c.specs.declared.peer_kinds.StatsOut.{StatsOut}
@@ -136,3 +140,16 @@ abbrev pub code_of_open : OpenRefusal → ℕ
 code_of_open (Join why) = code_of_join why
 code_of_open NoDraw = 11
 code_of_open NoMemory = 107
+
+-- of who can't mark a word: the match takes no marks, no such player here, it has a mark, nobody comes, another session
+abbrev pub code_of_mark : MarkRefusal → ℕ
+code_of_mark NotTaken = 321
+code_of_mark NotOwn = 2
+code_of_mark Marked = 322
+code_of_mark NobodyComes = 11
+code_of_mark NotThis = 313
+
+-- of a match that doesn't go on: its next session doesn't start, or this one doesn't end, or its next network doesn't open
+abbrev pub code_of_seam : SeamRefusal → ℕ
+code_of_seam (SeamOf why) = code_of why
+code_of_seam (SeamIn why) = code_of_open why

@@ -30,7 +30,9 @@ use Rattle.roll_peer.specs.declared.settings.MatchSettings.{MatchSettings}
 use Rattle.roll_requests.specs.Made.{Keeps}
 use Rattle.roll_session.specs.Gameless.{still}
 use Rattle.roll_session.specs.Seen.{Seen}
-use Rattle.fazgrond_c.specs.Carrying.{turned_by, IsCarryingFor, IsHeardAheadBy, IsHeardBy, IsNextOf, IsSentAheadBy, IsSentBy, SaysByeBy}
+use Rattle.roll_seam.specs.Carrying.{IsCarryingFor}
+use Rattle.fazgrond_c.specs.Carrying.{turned_by, IsHeardAheadBy, IsHeardBy, IsSentAheadBy, IsSentBy, SaysByeBy}
+use Rattle.fazgrond_c.specs.Epochs.{epoch_turned, IsHeardBefore, IsNextIn}
 use Rattle.fazgrond_c.specs.Handles.{network_in, session_in, IsNothing, Opens}
 use Rattle.fazgrond_c.specs.PeerKinds.{code_of_mesh, code_of_open, code_of_refusal, event_out, stats_out, AreMatched, HasNoRoom}
 use Rattle.fazgrond_c.specs.Waiting.{code_if_told, code_of_fault, IsHeldFor}
@@ -55,6 +57,7 @@ pub record IsOpened (given : MatchIn) (carries : Bool) (s : Seen) (network : Net
   pub tied : IsTied s network.peer.member.mesh
   pub held : IsHeldFor given.held_turns network.held
   pub carrying : IsCarryingFor network.peer network.relay
+  pub epochs : network.epochs ≡ None
 
 -- there is no such match, or the session can't take its seat in it
 pub record IsFaulty (given : MatchIn) (carries : Bool) (s : Seen) (code : ℤ) : Type 0 where
@@ -133,6 +136,16 @@ IsReceived bytes now old new before after code = MatchOption old.relay
     ((new.relay ≡ None) × IsHeardStraight bytes now old new before after code)
     (λ here. IsSomeAnd new.relay (λ there. IsHeardCarried bytes now old new here there before after code))
 
+-- in this epoch, or if they aren't sealed for it, in the one before
+pub record IsReceivedIn (bytes : List ℕ) (now : ℕ) (old new : Network) (before after : Live) (code : ℤ) : Type 0 where
+  pub here : ℤ
+  pub heard : Network
+  pub received : IsReceived bytes now old heard before after here
+  pub epochs : heard.epochs ≡ old.epochs
+  pub rest : new ≡ record heard { epochs = new.epochs }
+  pub past : ((here ≡ pos 301) × IsHeardBefore bytes now old.epochs new.epochs code)
+      ⊎ ((here ≢ pos 301) × ((new.epochs ≡ old.epochs) × (code ≡ here)))
+
 abbrev pub code_unless : {T : Type 0} → (T → ℕ) → Option T → ℤ
 code_unless number None = pos 0
 code_unless number (Some why) = pos (number why)
@@ -167,10 +180,11 @@ IsPolledBeside now old new before after code = MatchOption old.held
     ((new.held ≡ None) × IsPolledAtOnce now old.peer new.peer before after code)
     (λ held. IsSomeAnd new.held (λ later. IsPolledAhead now old.peer new.peer held later before after code))
 
--- and a turn begins for what is carried
+-- a turn begins for the epochs of the match, and after it one for what is carried
 abbrev pub IsPolledFor : (now : ℕ) → (old new : Network) → (before after : Live) → ℤ → Type 0
 IsPolledFor now old new before after code =
-    (new.relay ≡ turned_by new.peer old.relay) × IsPolledBeside now old new before after code
+    (new.relay ≡ turned_by new.peer old.relay) × (new.epochs ≡ (epoch_turned old).epochs)
+    × IsPolledBeside now (epoch_turned old) new before after code
 
 -- a peer for which a machine is gone
 abbrev pub without : ℕ → Peered → Peered
@@ -190,7 +204,8 @@ pub record IsPutOut (machine : ℕ) (old new : Peered) (code : ℤ) : Type 0 whe
 
 abbrev pub IsPutOutBy : (machine : ℕ) → (old new : Network) → ℤ → Type 0
 IsPutOutBy machine old new code =
-    IsPutOut machine old.peer new.peer code × (new.held ≡ old.held) × (new.relay ≡ old.relay)
+    IsPutOut machine old.peer new.peer code
+    × (new.held ≡ old.held) × (new.relay ≡ old.relay) × (new.epochs ≡ old.epochs)
 
 -- what is sent to a machine in a turn of a session is written, and counted; nothing is sent to one that is gone, to this one, or
 -- where there is none; or the session is another, and nothing is changed but the clock
@@ -235,14 +250,15 @@ IsSentCarried machine now old new here there before wrote had size code = MatchO
 abbrev pub IsSentTo : (machine now : ℕ) → (old new : Network × Live) → (before wrote : List ℕ) → (had size : ℕ) → ℤ → Type 0
 IsSentTo machine now old new before wrote had size code =
     (new.0.held ≡ old.0.held)
+    × (new.0.epochs ≡ old.0.epochs)
     × MatchOption old.0.relay
     ((new.0.relay ≡ None) × IsSentStraight machine now old new before wrote had size code)
     (λ here. IsSomeAnd new.0.relay (λ there. IsSentCarried machine now old new here there before wrote had size code))
 
--- what goes out beside that is written, and to which machine it goes; or there is nothing more
+-- what goes out beside that, of this epoch or of the one before, is written, and to which machine it goes; or there is nothing more
 pub record IsSentMore (to : ℕ) (old new : Network) (before after : List ℕ) (had size : ℕ) (code : ℤ) : Type 0 where
   pub bytes : Option (List ℕ)
-  pub next : IsNextOf old new (option_map (λ text. (to, text)) bytes)
+  pub next : IsNextIn old new (option_map (λ text. (to, text)) bytes)
   pub written : AreWritten bytes before after had size code
 
 -- the bytes by which this machine says to another that it leaves are written, and carried too if the line is broken; there are none
@@ -271,7 +287,8 @@ code_of_note (Err other) = pos 313
 -- the same of a peer of which nothing else is changed, nor what it holds back
 abbrev pub IsToldBy : (old new : Network) → (before after : EventOut) → ℤ → Type 0
 IsToldBy old new before after code =
-    IsTold old.peer new.peer before after code × (new.held ≡ old.held) × (new.relay ≡ old.relay)
+    IsTold old.peer new.peer before after code
+    × (new.held ≡ old.held) × (new.relay ≡ old.relay) × (new.epochs ≡ old.epochs)
 
 -- the digest of a session's settled state is noted; or the session is another, and nothing is changed
 pub record IsNoted (digest : ℕ) (s : Seen) (old new : Peered) (code : ℤ) : Type 0 where
@@ -286,7 +303,7 @@ pub record IsNoted (digest : ℕ) (s : Seen) (old new : Peered) (code : ℤ) : T
 
 -- where words are held back, it is noted for the frame that the session has settled, which is less than the peer knows
 abbrev pub IsNotedFor : (digest : ℕ) → Seen → (old new : Network) → ℤ → Type 0
-IsNotedFor digest s old new code = (new.relay ≡ old.relay) × MatchOption old.held
+IsNotedFor digest s old new code = (new.relay ≡ old.relay) × (new.epochs ≡ old.epochs) × MatchOption old.held
     ((new.held ≡ None) × IsNoted digest s old.peer new.peer code)
     (λ held. (code ≡ pos 0) × (new ≡ record old {
       peer = record old.peer { digests = noted (settled s.core) digest old.peer.digests };

@@ -67,7 +67,9 @@ packet_text number =
     else (if number == 318 then codes "the state has no such piece"
     else (if number == 319 then codes "a piece of another length"
     else (if number == 320 then codes "a state of too many bytes"
-    else [])))))))))))))))))))
+    else (if number == 321 then codes "the match takes no marks"
+    else (if number == 322 then codes "the player has a mark already"
+    else [])))))))))))))))))))))
 
 -- what an event tells
 abbrev pub event_text : ℕ → List ℕ

@@ -100,6 +100,7 @@ abbrev pub AreHandedFirst : ℕ → (old new : Network) → (before after : Live
 AreHandedFirst count old new before after code =
     (new.peer ≡ old.peer)
     × (new.relay ≡ old.relay)
+    × (new.epochs ≡ old.epochs)
     × MatchOption old.held
     ((new.held ≡ None) × ((after ≡ before) × (code ≡ pos 0)))
     (λ held. IsSomeAnd new.held (λ now. AreToldFirst count held now before after code))
@@ -131,6 +132,7 @@ abbrev pub AreHandedDue : (old new : Network) → (before after : Live) → (had
 AreHandedDue old new before after had wrote code =
     (new.peer ≡ old.peer)
     × (new.relay ≡ old.relay)
+    × (new.epochs ≡ old.epochs)
     × MatchOption old.held
     ((new.held ≡ None) × ((after ≡ before) × ((code ≡ pos 0) × (wrote ≡ 0))))
     (λ held. IsSomeAnd new.held (λ now. AreToldDue held now before after had wrote code))

@@ -69,6 +69,8 @@ fn make(live: &mut Live, call: Call) -> Result<Reply, i32>
     ensures refused { IfErr result (IsDeclined live.old live.new call) }
     ensures leads { KeepsLeading live.old.session live.new.session }
     ensures advice { live.new.advice ≡ live.old.advice }
+    ensures closing { live.new.closing ≡ live.old.closing }
+    ensures first_job { live.new.first_job ≡ live.old.first_job }
 {
     if is_pending(live, call) {
         return Err(PENDING);
@@ -84,5 +86,5 @@ fn is_pending(live: &Live, call: Call) -> bool
     ensures waits { IsTrue result → IsPending live.now call }
     ensures goes { IsFalse result → ¬ IsPending live.now call }
 {
-    matches!(call, Call::Sync | Call::Advance) && !live.session.is_done()
+    matches!(call, Call::Sync | Call::Advance) && !live.is_done()
 }

@@ -81,17 +81,17 @@ fn guess(live: &mut Live, player: u8, words: &[u32], until: u32, job: &mut u32) 
     ensures { IsGuessed player words.now until live.old live.new job.old job.new result }
 {
     let outcome = live.session.guess(player, words, until);
-    numbered(job, outcome)
+    numbered(live, job, outcome)
 }
 
 /// Writes the number of a guess's job, if there is a job.
-pub fn numbered(job: &mut u32, outcome: Result<Option<u32>, Declined>) -> i32
+pub fn numbered(live: &Live, job: &mut u32, outcome: Result<Option<u32>, Declined>) -> i32
     ensures code { result ≡ code_of_guess outcome }
-    ensures written { job.new ≡ number_in outcome job.old }
+    ensures written { job.new ≡ number_in live.now.first_job outcome job.old }
 {
     match outcome {
         Ok(Some(number)) => {
-            *job = number;
+            *job = live.first_job.wrapping_add(number);
             0
         }
         Ok(None) => NOTHING,
@@ -103,10 +103,10 @@ pub fn numbered(job: &mut u32, outcome: Result<Option<u32>, Declined>) -> i32
 fn graft(live: &mut Live, job: u32, added: &mut u32) -> i32
     ensures { IsGrafted job live.old live.new added.old added.new result }
 {
-    if !live.session.is_done() {
+    if !live.is_done() {
         return PENDING;
     }
-    match live.session.graft(job) {
+    match live.session.graft(job.wrapping_sub(live.first_job)) {
         Ok(grafted) => {
             *added = grafted.added;
             0
@@ -119,7 +119,7 @@ fn graft(live: &mut Live, job: u32, added: &mut u32) -> i32
 fn forget(live: &mut Live, job: u32) -> i32
     ensures { IsForgotten job live.old live.new result }
 {
-    if live.session.forget(job) {
+    if live.session.forget(job.wrapping_sub(live.first_job)) {
         0
     } else {
         Refusal::NoJob.code()

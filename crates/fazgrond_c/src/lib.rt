@@ -5,6 +5,9 @@ ghost use Rattle.std.specs.Prelude.{◌≡◌, ◌++◌, drop, length, take, Non
 
 mod calls;
 mod carrying;
+mod epoch_calls;
+mod epoch_kinds;
+mod epochs;
 mod giver_calls;
 mod givers;
 mod habits;
@@ -41,6 +44,7 @@ mod waiting_calls;
 ghost use Rattle.fazgrond_c.specs.Texts.{sentence_of, version_of};
 
 pub use calls::{CLOSED, NOTHING, OTHER_VERSION, PENDING, TOO_SHORT};
+pub use epoch_kinds::{AskOut, EPOCH_SIZE, EpochIn, MARK_SIZE, MarkIn};
 pub use habits::ForeseenOut;
 pub use handle::Handle;
 pub use kinds::{EntryOut, ReachedOut, RequestOut, RowOut, SETTINGS_SIZE, SettingsIn};

@@ -1,15 +1,15 @@
 //! A session of a game elsewhere, and how far its machine was behind.
-ghost use Rattle.std.specs.Prelude.{◌≡◌, [], is_none, IfErr, IfOk, IsSomeAnd, if◌then◌else◌};
+ghost use Rattle.std.specs.Prelude.{◌≡◌, ◌==◌, [], length, is_none, None, IfErr, IfOk, IsSomeAnd, if◌then◌else◌};
 ghost use Rattle.roll_cert.specs.Texts.{claim_lines};
 ghost use Rattle.roll_frame.specs.Settings.{start_refusal};
 ghost use Rattle.roll_session.specs.Changes.{IsWhy};
 ghost use Rattle.roll_session.specs.Headline.{last_claim};
 ghost use Rattle.roll_text.specs.Lines.{text_of};
-ghost use Rattle.fazgrond_c.specs.Made.{IsStarted};
+ghost use Rattle.fazgrond_c.specs.Made.{asked, closing_in, IsStarted};
 
 use roll_cert::write;
 use roll_frame::{Advice, Refusal, Settings};
-use roll_requests::Elsewhere;
+use roll_requests::{Closing, Elsewhere};
 use std::alloc::Global;
 
 /// An open session.
@@ -18,6 +18,10 @@ pub struct Live {
     pub session: Elsewhere,
     /// How far this machine and the other were behind.
     pub advice: Advice,
+    /// The last requests of the epoch before, if there was one: they go ahead of the session's.
+    pub closing: Option<Closing>,
+    /// What is added to the numbers of its jobs, so that none has the number that another one had in the epoch before.
+    pub first_job: u32,
 }
 
 impl Live {
@@ -29,6 +33,8 @@ impl Live {
     pub fn open(alloc: Global, settings: Settings) -> Result<Live, Refusal>
         ensures session { IfOk result (λ live. IsStarted settings live.session) }
         ensures advice { IfOk result (λ live. live.advice ≡ []) }
+        ensures closing { IfOk result (λ live. live.closing ≡ None) }
+        ensures first_job { IfOk result (λ live. live.first_job ≡ 0) }
         ensures refused { IfErr result (IsWhy (start_refusal settings)) }
     {
         if let Some(why) = settings.refusal() {
@@ -36,7 +42,29 @@ impl Live {
         }
         let advice = Advice::new(alloc)?;
         let session = Elsewhere::start(alloc, settings)?;
-        Ok(Live { session, advice })
+        Ok(Live {
+            session,
+            advice,
+            closing: None,
+            first_job: 0,
+        })
+    }
+
+    /// Whether the last requests of the epoch before were taken.
+    pub fn is_closed(&self) -> bool
+        ensures { result ≡ (length (closing_in self.now) == 0) }
+    {
+        match &self.closing {
+            Some(closing) => closing.is_done(),
+            None => true,
+        }
+    }
+
+    /// Whether all requests were taken.
+    pub fn is_done(&self) -> bool
+        ensures { result ≡ (length (asked self.now) == 0) }
+    {
+        self.is_closed() && self.session.is_done()
     }
 
     /// The text of the claim of the last rollback.

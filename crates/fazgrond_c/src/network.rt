@@ -1,12 +1,14 @@
 //! The network of a match, the words that it holds back from the session beside it, and what it carries for others.
-ghost use Rattle.std.specs.Prelude.{◌≡◌, ◌≤◌, take};
+ghost use Rattle.std.specs.Prelude.{◌≡◌, ◌≤◌, None, take};
 ghost use Rattle.fazgrond_c.specs.Carrying.{turned_by};
+ghost use Rattle.fazgrond_c.specs.Epochs.{epoch_turned};
 ghost use Rattle.fazgrond_c.specs.Waiting.{waiting_in, IsHeldFor};
 ghost use Rattle.roll_held.specs.declared.held.TheConstants.{TURN_LIMIT};
 
 use roll_held::{Held, RemoteWord};
 use roll_peer::Peer;
 use roll_relay::Relay;
+use roll_seam::Epochs;
 
 /// The network of a match at one machine.
 #[derive(Drop)]
@@ -16,20 +18,24 @@ pub struct Network {
     pub held: Option<Held>,
     /// What it carries for others, and has carried. None if it carries nothing.
     pub relay: Option<Relay>,
+    /// How the match goes on, if it does so in epochs.
+    pub epochs: Option<Epochs>,
 }
 
 impl Network {
     /// One that holds words back for so many turns at most; for 0, none.
-    pub fn new(peer: Peer, turns: u32, relay: Option<Relay>) -> Network
+    pub fn new(peer: Peer, turns: u32, relay: Option<Relay>, epochs: Option<Epochs>) -> Network
         requires { turns ≤ TURN_LIMIT }
         ensures peer { result.peer ≡ peer }
         ensures held { IsHeldFor turns result.held }
         ensures relay { result.relay ≡ relay }
+        ensures epochs { result.epochs ≡ epochs }
     {
         Network {
             peer,
             held: Held::new(turns as u8),
             relay,
+            epochs,
         }
     }
 
@@ -49,6 +55,15 @@ impl Network {
     {
         if let Some(relay) = &mut self.relay {
             relay.turn(&self.peer);
+        }
+    }
+
+    /// A turn begins for the epochs of the match.
+    pub fn begin_epoch_turn(&mut self)
+        ensures { self.new ≡ epoch_turned self.old }
+    {
+        if let Some(epochs) = &mut self.epochs {
+            epochs.turn(&mut self.peer);
         }
     }
 

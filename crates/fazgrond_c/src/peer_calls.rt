@@ -3,27 +3,45 @@ ghost use Rattle.std.specs.Prelude.{◌≡◌, ◌≢◌, ◌≤◌, ◌++◌, d
 ghost use Rattle.fazgrond_c.specs.Handles.{Fills};
 ghost use Rattle.fazgrond_c.specs.Written.{code_of_receipt, AreSent};
 ghost use Rattle.roll_held.specs.Relayed.{bytes_of};
-ghost use Rattle.fazgrond_c.specs.Peers.{code_of_poll, stats_at, IsFarewell, IsHeard, IsHeardAhead, IsNoted, IsNotedFor, IsPolledAhead, IsPolledAtOnce, IsPolledBeside, IsPolledFor, IsPutOutBy, IsReceived, IsSentAhead, IsSentMore, IsSentTo, IsToldBy};
+ghost use Rattle.fazgrond_c.specs.Peers.{code_of_poll, stats_at, IsFarewell, IsHeard, IsHeardAhead, IsNoted, IsNotedFor, IsPolledAhead, IsPolledAtOnce, IsPolledBeside, IsPolledFor, IsPutOutBy, IsReceived, IsReceivedIn, IsSentAhead, IsSentMore, IsSentTo, IsToldBy};
 
 use crate::calls::{NOTHING, TOO_SHORT};
-use crate::carrying;
 use crate::live::Live;
 use crate::network::Network;
 use crate::peer_kinds::{EventOut, StatsOut};
 use crate::peer_refusal::{
-    OTHER_SESSION, code_of_fault, code_of_ignored, code_of_mesh, code_of_refusal,
+    NOT_SEALED, OTHER_SESSION, code_of_fault, code_of_ignored, code_of_mesh, code_of_refusal,
 };
+use crate::{carrying, epoch_calls};
 use arrayvec::ArrayVec;
 use roll_held::Held;
 use roll_peer::{Ignored, OtherSession, Peer, PeerRefusal};
 use roll_session::Settling;
 use roll_wire::DATAGRAM_LIMIT;
 
-/// Hears bytes.
+/// Hears bytes. What isn't sealed for this epoch may be for the one before.
 pub fn receive(network: &mut Network, live: &mut Live, bytes: &[u8], now: u32) -> i32
-    ensures { IsReceived bytes.now now network.old network.new live.old live.new result }
+    ensures { IsReceivedIn bytes.now now network.old network.new live.old live.new result }
 {
-    let Network { peer, held, relay } = network;
+    let code = receive_now(network, live, bytes, now);
+    if code == NOT_SEALED {
+        epoch_calls::hear_before(network, bytes, now)
+    } else {
+        code
+    }
+}
+
+/// Hears bytes in this epoch.
+fn receive_now(network: &mut Network, live: &mut Live, bytes: &[u8], now: u32) -> i32
+    ensures received { IsReceived bytes.now now network.old network.new live.old live.new result }
+    ensures epochs { network.new.epochs ≡ network.old.epochs }
+{
+    let Network {
+        peer,
+        held,
+        relay,
+        ..
+    } = network;
     match (held, relay) {
         (None, None) => hear(peer, live, bytes, now),
         (Some(held), None) => hear_ahead(held, peer, live, bytes, now),
@@ -63,6 +81,7 @@ pub fn code_of_receipt<T: Copy>(said: Result<T, Ignored>) -> i32
 pub fn poll(network: &mut Network, live: &mut Live, now: u32) -> i32
     ensures { IsPolledFor now network.old network.new live.old live.new result }
 {
+    network.begin_epoch_turn();
     let code = poll_beside(network, live, now);
     network.begin_turn();
     code
@@ -72,6 +91,7 @@ pub fn poll(network: &mut Network, live: &mut Live, now: u32) -> i32
 fn poll_beside(network: &mut Network, live: &mut Live, now: u32) -> i32
     ensures polled { IsPolledBeside now network.old network.new live.old live.new result }
     ensures relay { network.new.relay ≡ network.old.relay }
+    ensures epochs { network.new.epochs ≡ network.old.epochs }
 {
     let Network { peer, held, .. } = network;
     match held {
@@ -155,7 +175,12 @@ pub fn send(
     if out.len() < DATAGRAM_LIMIT {
         return TOO_SHORT;
     }
-    let Network { peer, held, relay } = network;
+    let Network {
+        peer,
+        held,
+        relay,
+        ..
+    } = network;
     match (held, relay) {
         (None, None) => write_sent(out, size, peer.send(&live.session, machine, now)),
         (Some(held), None) => send_ahead(held, peer, live, machine, now, out, size),
@@ -215,7 +240,7 @@ pub fn send_more(network: &mut Network, machine: &mut u8, out: &mut [u8], size: 
     if out.len() < DATAGRAM_LIMIT {
         return TOO_SHORT;
     }
-    let Some((to, bytes)) = carrying::next(network) else {
+    let Some((to, bytes)) = epoch_calls::next(network) else {
         return NOTHING;
     };
     *machine = to;

@@ -1,8 +1,7 @@
 //! Peers for games in other languages. The session stands beside its peer, under a handle of its own.
-ghost use Rattle.std.specs.Prelude.{◌≡◌, ◌≢◌, pos, IfOk, false, true, if◌then◌else◌};
+ghost use Rattle.std.specs.Prelude.{◌≡◌, ◌≢◌, pos, false, true, if◌then◌else◌};
 ghost use Rattle.fazgrond_c.specs.Handles.{network_in, peer_in, FillsBeside, FillsBy, Makes, MakesBeside, MakesFor, Reads, ReadsOr, Writes};
-ghost use Rattle.fazgrond_c.specs.Carrying.{IsCarryingFor};
-ghost use Rattle.fazgrond_c.specs.Peers.{stats_at, IsFarewell, IsNotedFor, IsOpenedBy, IsPolledFor, IsPutOutBy, IsReceived, IsSentMore, IsSentTo, IsToldBy, OpensBeside};
+ghost use Rattle.fazgrond_c.specs.Peers.{stats_at, IsFarewell, IsNotedFor, IsOpenedBy, IsPolledFor, IsPutOutBy, IsReceivedIn, IsSentMore, IsSentTo, IsToldBy, OpensBeside};
 
 use crate::calls::{CLOSED, OTHER_VERSION, open_in};
 use crate::handle::Handle;
@@ -14,8 +13,8 @@ use crate::peer_kinds::{EventOut, MATCH_SIZE, MatchIn, StatsOut};
 use crate::peer_refusal::code_of_open;
 use roll_frame::Refusal;
 use roll_peer::Peer;
-use roll_relay::Relay;
-use std::alloc::{AllocError, Global};
+use roll_seam::relay_for;
+use std::alloc::Global;
 
 /// There is no such machine in the match.
 const INVALID_MACHINE: i32 = 303;
@@ -95,25 +94,14 @@ fn open_beside(
         Ok(peer) => peer,
         Err(why) => return code_of_open(why),
     };
-    let Ok(relay) = relay_of(alloc, &peer) else {
+    let Ok(relay) = relay_for(alloc, &peer) else {
         return Refusal::NoMemory.code();
     };
     open_in(
         alloc,
         handle,
-        Open::Peer(Network::new(peer, given.held_turns, relay)),
+        Open::Peer(Network::new(peer, given.held_turns, relay, None)),
     )
-}
-
-/// What carries beside the network of a match, if it is to.
-fn relay_of(alloc: Global, peer: &Peer) -> Result<Option<Relay>, AllocError>
-    ensures { IfOk result (IsCarryingFor peer.now) }
-{
-    if peer.settings().carries {
-        Ok(Some(Relay::open(alloc, peer)?))
-    } else {
-        Ok(None)
-    }
 }
 
 /// Hears a datagram that came: words that it holds become words of the session.
@@ -125,7 +113,7 @@ pub extern "C" fn fazgrond_peer_receive(
     bytes: &[u8],
     now: u32,
 ) -> i32
-    ensures { MakesBeside network_in (IsReceived bytes.now now) handle.old.hold.value handle.new.hold.value
+    ensures { MakesBeside network_in (IsReceivedIn bytes.now now) handle.old.hold.value handle.new.hold.value
         session.old.hold.value session.new.hold.value result }
 {
     let Some(mut held) = handle.take(alloc) else {

@@ -1,20 +1,42 @@
 //! Requests to a game elsewhere are handed out.
 ghost use Rattle.std.specs.Prelude.{◌≡◌, ◌≤◌, ◌++◌, drop, length, map};
 ghost use Rattle.fazgrond_c.specs.Kinds.{request_out};
-ghost use Rattle.fazgrond_c.specs.Made.{AreHanded};
+ghost use Rattle.fazgrond_c.specs.Made.{AreHanded, AreHandedLast, AreHandedNext};
 
 use crate::kinds::RequestOut;
 use crate::live::Live;
-use roll_requests::Request;
+use roll_requests::{Closing, Elsewhere, Request};
 
-/// Writes the next requests to the front of a buffer, as many as there is room for, and says how many they are.
+/// Writes the next requests to the front of a buffer, as many as there is room for, and says how many they are. The last ones of the epoch
+/// before come by themselves.
 pub fn take(live: &mut Live, out: &mut [RequestOut]) -> usize
     ensures { AreHanded live.old live.new out.old out.new result }
 {
-    let requests = live.session.requests();
+    match &mut live.closing {
+        Some(closing) if !closing.is_done() => take_last(closing, out),
+        _ => take_next(&mut live.session, out),
+    }
+}
+
+/// Those of the epoch before.
+fn take_last(closing: &mut Closing, out: &mut [RequestOut]) -> usize
+    ensures { AreHandedLast closing.old closing.new out.old out.new result }
+{
+    let requests = closing.requests();
     let count = out.len().min(requests.len());
     hand_out(&requests[..count], out);
-    live.session.hand_out(count);
+    closing.hand_out(count);
+    count
+}
+
+/// Those of the session.
+fn take_next(session: &mut Elsewhere, out: &mut [RequestOut]) -> usize
+    ensures { AreHandedNext session.old session.new out.old out.new result }
+{
+    let requests = session.requests();
+    let count = out.len().min(requests.len());
+    hand_out(&requests[..count], out);
+    session.hand_out(count);
     count
 }
 

@@ -120,6 +120,8 @@ fn packet_text(number: u32) -> &'static str
         318 => "the state has no such piece",
         319 => "a piece of another length",
         320 => "a state of too many bytes",
+        321 => "the match takes no marks",
+        322 => "the player has a mark already",
         _ => "",
     }
 }

@@ -59,7 +59,7 @@ pub fn guess(network: &Network, live: &mut Live, until: u32, job: &mut u32) -> i
     ensures { IsForetold until network.now network.now live.old live.new job.old job.new result }
 {
     let outcome = live.session.guess_words(network.waiting(), until);
-    numbered(job, outcome)
+    numbered(live, job, outcome)
 }
 
 /// Hands over the first so many words that wait.

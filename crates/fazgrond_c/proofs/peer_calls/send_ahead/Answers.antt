@@ -14,7 +14,7 @@ returns-in-Err-clause-sent c =
       refused = c.in-Err.ensures.refused;
       unchanged = record {
         code_is = c.code_of_fault.ensures;
-        kept = λ i. (kept.1 i, record { session = kept.0 i; advice = c.args.live.now.advice });
+        kept = λ i. (kept.1 i, record c.args.live.now { session = kept.0 i });
         unwritten = refl;
         same = refl;
       };

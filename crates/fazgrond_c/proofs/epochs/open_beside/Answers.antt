@@ -1,0 +1,47 @@
+use Rattle.std.proofs.Common.{◌≡◌, ◌∙◌, rules, w32, inl, inr, refl, sym, subst, ap, Some, Option}
+use Rattle.std.specs.Prelude.{FitsSigned, pos}
+use Rattle.std.proofs.lemmas.Int.{to_z-of_z}
+use Rattle.roll_carry.specs.Carrying.{Carrying}
+use Rattle.roll_frame.specs.declared.settings.Settings.{Settings}
+use Rattle.roll_peer.specs.Peered.{Peered}
+use Rattle.roll_seam.specs.Carrying.{IsCarryingFor}
+use Rattle.fazgrond_c.specs.Lasting.{is_played, IsLasting, IsOpenedWithout}
+use Rattle.fazgrond_c.proofs.epochs.open_beside.Goals as goal
+
+not_open : pos 107 ≡ pos 0 → ⊥
+not_open e = cc
+
+pub returns-in_default-relay_for : goal.returns-in_default-relay_for
+returns-in_default-relay_for c =
+    let fits : FitsSigned w32 c.code-in_default-relay_for.result = search rules in
+    let short : c.code-in_default-relay_for.result ≡ pos 107 = c.code-in_default-relay_for.ensures in
+    rw to_z-of_z
+    (record {
+      opens = record { opened = λ e. absurd (not_open (sym short ∙ e)); refused = λ n. refl };
+      why = λ n. inr (inr (inr short));
+    })
+
+pub returns : goal.returns
+returns c =
+    let fits : FitsSigned w32 c.open_in.result = search rules in
+    let terms = c.in-Some-Some.terms in
+    let base = c.in-Some-Some.base in
+    let s = c.args.live.now.session.seen in
+    let lasting : IsLasting c.args.given.now c.args.epoch.now s c.new.result = record {
+      base = base;
+      terms = terms;
+      are = record { matched = c.in-Some-Some.ensures.matched; terms_are = c.in-Some-Some.ensures'.given };
+      played = sym (c.is_played.ensures ∙ ap (λ (x : Settings). is_played terms x base.me) c.settings-2.ensures) ∙ c.if-not-is_played.false;
+      accepted = c.in-Ok.ensures.accepted;
+      drawn = c.in-Ok.ensures.drawn;
+      opened = subst (λ (p : Peered). IsOpenedWithout base terms s p) (sym c.new.ensures.peer) c.in-Ok.ensures.opened;
+      held = c.new.ensures.held;
+      carrying = subst (λ (p : Peered). IsCarryingFor p c.new.result.relay) (sym c.new.ensures.peer)
+          (subst (λ (r : Option Carrying). IsCarryingFor c.in-Ok.opened.0 r) (sym c.new.ensures.relay) c.in-Ok-relay_for.ensures);
+      epochs = c.new.ensures.epochs ∙ ap Some c.in-Ok.ensures.epochs;
+    } in
+    rw to_z-of_z
+    (record {
+      opens = record { opened = λ e. rw (c.open_in.ensures.opened e) lasting; refused = λ n. (c.open_in.ensures.refused n).1 };
+      why = λ n. inr (inr (inr (c.open_in.ensures.refused n).0));
+    })

@@ -1,0 +1,310 @@
+//! Matches that go on in epochs, for games in other languages.
+ghost use Rattle.std.specs.Prelude.{◌≡◌, ◌≢◌, ◌<◌, not, ◌==◌, None, IfErr, IfOk, OnOk};
+ghost use Rattle.roll_chain.specs.Chains.{first_chain, settings_in};
+ghost use Rattle.roll_member.specs.Joined.{join_refusal};
+ghost use Rattle.roll_peer.specs.Peered.{IsWhyNot};
+ghost use Rattle.roll_peer.specs.Settings.{seat_of};
+ghost use Rattle.roll_mesh.specs.declared.limits.TheConstants.{PLAYER_LIMIT};
+ghost use Rattle.fazgrond_c.specs.Handles.{network_in, FillsBy, Makes, MakesBeside, ReadsSome, Writes, WritesBeside};
+ghost use Rattle.fazgrond_c.specs.Epochs.{asking_in, epoch_in, GoesOnBeside, IsAnsweredIn, IsMarkedIn, IsSentBefore};
+ghost use Rattle.fazgrond_c.specs.Lasting.{are_delayed, is_delayed, is_played, IsOpenedLasting, IsOpenedWithout, OpensLasting};
+
+use crate::calls::{CLOSED, NOTHING, OTHER_VERSION, open_in};
+use crate::epoch_calls;
+use crate::epoch_kinds::{AskOut, EPOCH_SIZE, EpochIn, MarkIn};
+use crate::handle::Handle;
+use crate::live::Live;
+use crate::network::Network;
+use crate::open::Open;
+use crate::peer_kinds::{MATCH_SIZE, MatchIn};
+use crate::peer_refusal::code_of_open;
+use roll_chain::Chain;
+use roll_epoch::Terms;
+use roll_frame::{Refusal, Settings};
+use roll_mesh::PLAYER_LIMIT;
+use roll_peer::{MatchSettings, OpenRefusal, Peer};
+use roll_seam::{Epochs, relay_for};
+use roll_session::Networked;
+use std::alloc::Global;
+
+/// Opens a peer whose match goes on in epochs beside a session, which is only read.
+#[unsafe(no_mangle)]
+pub extern "C" fn fazgrond_peer_open_lasting(
+    alloc: Global,
+    handle: &mut Handle,
+    session: &mut Handle,
+    given: &MatchIn,
+    epoch: &EpochIn,
+) -> i32
+    ensures opened { IsOpenedLasting given.now epoch.now session.old.hold.value handle.old.hold.value
+        handle.new.hold.value result }
+    ensures session { session.new.hold.value ≡ session.old.hold.value }
+{
+    let Some(lent) = session.take(alloc) else {
+        return CLOSED;
+    };
+    let Open::Session(live) = &*lent else {
+        session.put(lent);
+        return CLOSED;
+    };
+    let code = open_beside(alloc, handle, live, given, epoch);
+    session.put(lent);
+    code
+}
+
+/// Opens it beside an open session.
+fn open_beside(
+    alloc: Global,
+    handle: &mut Handle,
+    live: &Live,
+    given: &MatchIn,
+    epoch: &EpochIn,
+) -> i32
+    ensures { OpensLasting given.now epoch.now live.now.session.seen handle.old.hold.value
+        handle.new.hold.value result }
+{
+    if given.size != MATCH_SIZE || epoch.size != EPOCH_SIZE {
+        return OTHER_VERSION;
+    }
+    let (Some(base), Some(terms)) = (given.settings(true), epoch.terms()) else {
+        return Refusal::InvalidRequest.code();
+    };
+    if !is_played(&terms, live.session.settings(), base.me) {
+        return Refusal::InvalidRequest.code();
+    }
+    let (peer, epochs) = match open_epochs(alloc, live, base, terms) {
+        Ok(opened) => opened,
+        Err(why) => return code_of_open(why),
+    };
+    let Ok(relay) = relay_for(alloc, &peer) else {
+        return Refusal::NoMemory.code();
+    };
+    open_in(
+        alloc,
+        handle,
+        Open::Peer(Network::new(peer, given.held_turns, relay, Some(epochs))),
+    )
+}
+
+/// The network of an epoch beside a session, and how its match goes on.
+fn open_epochs(
+    alloc: Global,
+    live: &Live,
+    base: MatchSettings,
+    terms: Terms,
+) -> Result<(Peer, Epochs), OpenRefusal>
+    ensures opened { IfOk result (λ it. IsOpenedWithout base terms live.now.session.seen it.0) }
+    ensures epochs { IfOk result (λ it. it.1 ≡ record {
+      chain = first_chain base live.now.session.seen.settings.profile terms;
+      past = None;
+    }) }
+    ensures accepted { OnOk result
+        (join_refusal live.now.session.seen (seat_of (settings_in base terms)) ≡ None) }
+    ensures drawn { OnOk result (base.draw ≢ 0) }
+    ensures refused { IfErr result (IsWhyNot live.now.session.seen (settings_in base terms)) }
+{
+    let chain = Chain::new(base, live.session.settings().profile, terms);
+    match Peer::open(alloc, &live.session, chain.settings()) {
+        Ok(mut peer) => {
+            chain.leave_out(&mut peer);
+            Ok((peer, Epochs::new(chain)))
+        }
+        Err(why) => Err(why),
+    }
+}
+
+/// Whether a session of a machine has the threshold of an epoch, and its own players' delays.
+fn is_played(terms: &Terms, settings: &Settings, me: u8) -> bool
+    ensures { result ≡ is_played terms.now settings.now me }
+{
+    u32::from(terms.threshold) == settings.threshold && are_delayed(terms, settings, me)
+}
+
+/// Whether it has its own players' delays.
+fn are_delayed(terms: &Terms, settings: &Settings, me: u8) -> bool
+    ensures { result ≡ are_delayed terms.now settings.now me }
+{
+    for player in 0..PLAYER_LIMIT {
+        if !is_delayed(terms, settings, me, player) {
+            return false;
+        }
+    }
+    true
+}
+
+/// Whether a player is another machine's, or has the epoch's delay.
+fn is_delayed(terms: &Terms, settings: &Settings, me: u8, player: usize) -> bool
+    requires { player < PLAYER_LIMIT }
+    ensures { result ≡ is_delayed terms.now settings.now me player }
+{
+    terms.owners[player] != me || u32::from(terms.delays[player]) == settings.delays[player]
+}
+
+/// How this epoch opened.
+#[unsafe(no_mangle)]
+pub extern "C" fn fazgrond_peer_epoch(
+    alloc: Global,
+    handle: &mut Handle,
+    epoch: &mut EpochIn,
+) -> i32
+    ensures { ReadsSome network_in epoch_in handle.old.hold.value handle.new.hold.value
+        epoch.old epoch.new result }
+{
+    let Some(held) = handle.take(alloc) else {
+        return CLOSED;
+    };
+    let Open::Peer(network) = &*held else {
+        handle.put(held);
+        return CLOSED;
+    };
+    let there = epoch_calls::epoch(network);
+    handle.put(held);
+    match there {
+        Some(there) => {
+            *epoch = there;
+            0
+        }
+        None => NOTHING,
+    }
+}
+
+/// Puts a mark on the next word of an own player.
+#[unsafe(no_mangle)]
+pub extern "C" fn fazgrond_peer_mark(
+    alloc: Global,
+    handle: &mut Handle,
+    session: &mut Handle,
+    player: u8,
+    mark: &MarkIn,
+) -> i32
+    ensures { MakesBeside network_in (IsMarkedIn player mark.now) handle.old.hold.value handle.new.hold.value
+        session.old.hold.value session.new.hold.value result }
+{
+    let Some(mut held) = handle.take(alloc) else {
+        return CLOSED;
+    };
+    let Some(mut lent) = session.take(alloc) else {
+        handle.put(held);
+        return CLOSED;
+    };
+    let Open::Peer(network) = &mut *held else {
+        session.put(lent);
+        handle.put(held);
+        return CLOSED;
+    };
+    let Open::Session(live) = &mut *lent else {
+        session.put(lent);
+        handle.put(held);
+        return CLOSED;
+    };
+    let code = epoch_calls::mark(network, live, player, mark);
+    session.put(lent);
+    handle.put(held);
+    code
+}
+
+/// Who asks to come.
+#[unsafe(no_mangle)]
+pub extern "C" fn fazgrond_peer_ask(alloc: Global, handle: &mut Handle, ask: &mut AskOut) -> i32
+    ensures { ReadsSome network_in asking_in handle.old.hold.value handle.new.hold.value
+        ask.old ask.new result }
+{
+    let Some(held) = handle.take(alloc) else {
+        return CLOSED;
+    };
+    let Open::Peer(network) = &*held else {
+        handle.put(held);
+        return CLOSED;
+    };
+    let there = epoch_calls::asking(network);
+    handle.put(held);
+    match there {
+        Some(there) => {
+            *ask = there;
+            0
+        }
+        None => NOTHING,
+    }
+}
+
+/// Says whether whoever is to come by a player's mark is welcome.
+#[unsafe(no_mangle)]
+pub extern "C" fn fazgrond_peer_answer(
+    alloc: Global,
+    handle: &mut Handle,
+    player: u8,
+    is_welcome: u32,
+) -> i32
+    ensures { Makes network_in (IsAnsweredIn player (not (is_welcome == 0))) handle.old.hold.value
+        handle.new.hold.value result }
+{
+    let Some(mut held) = handle.take(alloc) else {
+        return CLOSED;
+    };
+    let Open::Peer(network) = &mut *held else {
+        handle.put(held);
+        return CLOSED;
+    };
+    let code = epoch_calls::answer(network, player, is_welcome != 0);
+    handle.put(held);
+    code
+}
+
+/// Goes on in the next epoch, if this one is over.
+#[unsafe(no_mangle)]
+pub extern "C" fn fazgrond_peer_go_on(
+    alloc: Global,
+    handle: &mut Handle,
+    session: &mut Handle,
+    frames: &mut u32,
+) -> i32
+    ensures { WritesBeside network_in GoesOnBeside handle.old.hold.value handle.new.hold.value
+        session.old.hold.value session.new.hold.value frames.old frames.new result }
+{
+    let Some(mut held) = handle.take(alloc) else {
+        return CLOSED;
+    };
+    let Some(mut lent) = session.take(alloc) else {
+        handle.put(held);
+        return CLOSED;
+    };
+    let Open::Peer(network) = &mut *held else {
+        session.put(lent);
+        handle.put(held);
+        return CLOSED;
+    };
+    let Open::Session(live) = &mut *lent else {
+        session.put(lent);
+        handle.put(held);
+        return CLOSED;
+    };
+    let code = epoch_calls::go_on(alloc, network, live, frames);
+    session.put(lent);
+    handle.put(held);
+    code
+}
+
+/// What to send to a machine that may still be in the epoch before.
+#[unsafe(no_mangle)]
+pub extern "C" fn fazgrond_peer_send_before(
+    alloc: Global,
+    handle: &mut Handle,
+    machine: u8,
+    now: u32,
+    out: &mut [u8],
+    size: &mut usize,
+) -> i32
+    ensures { FillsBy network_in (IsSentBefore machine now) handle.old.hold.value handle.new.hold.value
+        out.old out.new size.old size.new result }
+{
+    let Some(mut held) = handle.take(alloc) else {
+        return CLOSED;
+    };
+    let Open::Peer(network) = &mut *held else {
+        handle.put(held);
+        return CLOSED;
+    };
+    let code = epoch_calls::send_before(network, machine, now, out, size);
+    handle.put(held);
+    code
+}
