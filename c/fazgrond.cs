@@ -13,6 +13,8 @@ public static unsafe class Fazgrond
     public const int Machines = 8;
     public const int Datagram = 1200;
     public const int HeldWords = 64;
+    public const uint Nobody = 254;
+    public const uint AsBefore = 0xffffffff;
     public const int GuessWords = 24;
     public const int Piece = 1024;
     public const int Asked = 16;
@@ -28,7 +30,8 @@ public static unsafe class Fazgrond
                      Nothing = 203, TooShort = 204, OtherVersion = 205, NotSealed = 301, NoDatagram = 302, InvalidMachine = 303,
                      OwnMachine = 304, MachineGone = 305, Mismatched = 306, Overstated = 307, Ended = 308, OtherSender = 309,
                      NoRows = 310, RowsMissing = 311, Outside = 312, OtherSession = 313, OtherKind = 314, OtherState = 315,
-                     Barred = 316, NotNow = 317, PastTheEnd = 318, WrongLength = 319, TooLong = 320;
+                     Barred = 316, NotNow = 317, PastTheEnd = 318, WrongLength = 319, TooLong = 320, NoMarks = 321,
+                     Marked = 322;
     public const uint Synchronizing = 1001, Synchronized = 1002, Running = 1003, Disconnected = 1004, TimeSync = 1005,
                       Interrupted = 1006, Resumed = 1007, Left = 1101, Desync = 1102, Mismatch = 1103, Dropped = 1104,
                       Restarted = 1105, Stalled = 1106, Refused = 1107, Missing = 1108, CutOff = 1109;
@@ -138,6 +141,37 @@ public static unsafe class Fazgrond
         public int FramesBehind;
         public int TheirFramesBehind;
         public uint Refused;
+    }
+
+    [StructLayout(LayoutKind.Sequential)]
+    public struct Epoch
+    {
+        public uint Size;
+        public uint Words;
+        public uint Threshold;
+        public uint Machines;
+        public ulong Id;
+        public ulong Base;
+        public fixed uint Owners[Fazgrond.Players];
+        public fixed uint Delays[Fazgrond.Players];
+    }
+
+    [StructLayout(LayoutKind.Sequential)]
+    public struct Mark
+    {
+        public uint Size;
+        public uint Threshold;
+        public ulong Ticket;
+        public fixed uint Comes[Fazgrond.Players];
+        public fixed uint Delays[Fazgrond.Players];
+    }
+
+    [StructLayout(LayoutKind.Sequential)]
+    public struct Ask
+    {
+        public ulong Ticket;
+        public uint Player;
+        public fixed uint Comes[Fazgrond.Players];
     }
 
     [StructLayout(LayoutKind.Sequential)]
@@ -281,6 +315,15 @@ public static unsafe class Fazgrond
     [DllImport(Library)] public static extern int fazgrond_peer_hand_over(Peer* peer, Session* session, uint count);
     [DllImport(Library)] public static extern int fazgrond_peer_hand_over_due(Peer* peer, Session* session, uint* handed);
     [DllImport(Library)] public static extern int fazgrond_peer_is_pressed(Peer* peer, Session* session, uint* flag);
+    [DllImport(Library)] public static extern int fazgrond_peer_open_lasting(Peer* peer, Session* session, Match* match,
+                                                                             Epoch* epoch);
+    [DllImport(Library)] public static extern int fazgrond_peer_epoch(Peer* peer, Epoch* epoch);
+    [DllImport(Library)] public static extern int fazgrond_peer_mark(Peer* peer, Session* session, byte player, Mark* mark);
+    [DllImport(Library)] public static extern int fazgrond_peer_ask(Peer* peer, Ask* ask);
+    [DllImport(Library)] public static extern int fazgrond_peer_answer(Peer* peer, byte player, uint is_welcome);
+    [DllImport(Library)] public static extern int fazgrond_peer_go_on(Peer* peer, Session* session, uint* frames);
+    [DllImport(Library)] public static extern int fazgrond_peer_send_before(Peer* peer, byte machine, uint now, byte* @out,
+                                                                            UIntPtr room, UIntPtr* length);
     [DllImport(Library)] public static extern int fazgrond_line_open(Line* line, LineSettings* settings);
     [DllImport(Library)] public static extern int fazgrond_line_receive(Line* line, byte* bytes, UIntPtr length, uint now);
     [DllImport(Library)] public static extern int fazgrond_line_send(Line* line, Session* session, uint now, byte* @out,
@@ -353,6 +396,30 @@ public static unsafe class Fazgrond
     {
         for (int at = 0; at < Machines; at++)
             match->Numbers[at] = number;
+    }
+
+    public static Epoch fazgrond_epoch_for(Match* match, Settings* settings)
+    {
+        var epoch = new Epoch();
+        epoch.Size = (uint)sizeof(Epoch);
+        epoch.Words = match->Words;
+        epoch.Threshold = settings->Threshold;
+        epoch.Machines = match->Machines;
+        for (int at = 0; at < Players; at++)
+        {
+            epoch.Owners[at] = match->Owners[at];
+            epoch.Delays[at] = settings->Delays[at];
+        }
+        return epoch;
+    }
+
+    public static Mark fazgrond_mark_for()
+    {
+        var mark = new Mark();
+        mark.Size = (uint)sizeof(Mark);
+        for (int at = 0; at < Players; at++)
+            mark.Delays[at] = AsBefore;
+        return mark;
     }
 
     public static void fazgrond_peer_close(Peer* peer) { fazgrond_close((Session*)peer); }

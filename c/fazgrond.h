@@ -25,8 +25,8 @@ extern "C" {
 #define FAZGROND_VERSION 0x000101
 
 /* The version of the library that the program runs with. While the major number is 0, a library fits a header with the same major
- * and minor number. If a library knows another size of fazgrond_settings or fazgrond_match than the header, it opens nothing and
- * answers FAZGROND_OTHER_VERSION. */
+ * and minor number. If a library knows another size of fazgrond_settings, fazgrond_match or fazgrond_epoch than the header, it opens
+ * nothing and answers FAZGROND_OTHER_VERSION. */
 uint32_t fazgrond_version(void);
 
 /* What an answer or the code of an event means, in an English sentence for a log: as much of it as `out` has room for, without a
@@ -185,8 +185,10 @@ enum {
     FAZGROND_NOT_NOW = 317,                 /* the pieces of another machine alone are taken for now */
     FAZGROND_PAST_THE_END = 318,            /* the state has no such piece */
     FAZGROND_WRONG_LENGTH = 319,            /* the piece has fewer or more bytes than the state's piece there has */
-    FAZGROND_TOO_LONG = 320                 /* the state has more bytes than the limit that the taker was given, or 2^32 or more
+    FAZGROND_TOO_LONG = 320,                /* the state has more bytes than the limit that the taker was given, or 2^32 or more
                                              * */
+    FAZGROND_NO_MARKS = 321,                /* the match doesn't go on in epochs, so that no word has a mark */
+    FAZGROND_MARKED = 322                   /* the player has a mark in this epoch already */
 };
 
 /* Opens a session. Before the first request the game has its opening state as the current one and in slot 0. If the handle is
@@ -550,6 +552,153 @@ int32_t fazgrond_peer_hand_over_due(fazgrond_peer *peer, fazgrond_session *sessi
 /* Whether the game would stand without the words that wait: `flag` is 1 if some wait, and once the session has come to its next
  * frame, it would answer FAZGROND_PREDICTION_THRESHOLD to a local word, unless it is given more; else 0. */
 int32_t fazgrond_peer_is_pressed(fazgrond_peer *peer, fazgrond_session *session, uint32_t *flag);
+
+/* ---- Epochs: a match that goes on with other machines, owners or delays. It is played in parts, its epochs. In each of them the
+ * machines, the owners of the players, their input delays and the threshold stay the same. The frames of each begin at 0, so such a
+ * match doesn't end at frame 1048576.
+ *
+ * An epoch ends by a mark, which a machine puts on the next word of one of its own players. The first settled row with a mark that
+ * counts ends it; of several in that row, the mark of the lowest player counts. Frame 0 of the next epoch is the frame after that row.
+ * All machines find the same end by themselves.
+ *
+ * A mark gives other delays to the players of the machine that puts it, gives another threshold, has somebody come, or changes
+ * nothing: then the frames begin anew, and that is all. Whatever it says, the players of a machine that has left are nobody's in the next
+ * epoch, and whoever comes may get them. Who comes gets the lowest number of a machine that nobody has. A player that gets another owner
+ * has a delay of 2 frames, unless the mark says another one.
+ *
+ * A mark is void, as if it weren't there, if its threshold is over 15 or a delay over 8, if it gives a delay to a player of another machine,
+ * or if whoever is to come isn't welcome. Of each player the first mark of an epoch counts alone, even if it is void.
+ *
+ * A turn of such a match:
+ *   fazgrond_peer_receive for each datagram that came, then fazgrond_peer_poll;
+ *   fazgrond_peer_is_running: until it says 1, give no words, and skip the next three lines;
+ *   fazgrond_peer_answer, if fazgrond_peer_ask has somebody who asks to come;
+ *   fazgrond_peer_go_on: if it is FAZGROND_OK, carry out the requests;
+ *   local words, the advance and its requests, as in any match;
+ *   fazgrond_peer_event until there is none. For each other machine fazgrond_peer_send, and then fazgrond_peer_send_before. Then
+ *   fazgrond_peer_send_more until there is nothing. */
+
+/* The owner of a player whom nobody owns now, and whom somebody who comes may get. It is another thing than FAZGROND_NO_PLAYER: such a
+ * player is in no epoch of the match. */
+#define FAZGROND_NOBODY 254
+
+/* Of a mark: the player's delay stays as it is. */
+#define FAZGROND_AS_BEFORE 0xffffffff
+
+/* How an epoch opens: the same at all machines. Machines keep their numbers over all epochs, and a machine is in an epoch if it owns a
+ * player there. All epochs of a match have the same players, and inputs of as many words. Begin with fazgrond_epoch_for. Who comes later
+ * opens with what the others' fazgrond_peer_epoch says once its epoch has begun. */
+typedef struct fazgrond_epoch {
+    uint32_t size;                     /* sizeof(fazgrond_epoch) */
+    uint32_t words;                    /* of how many words a player's input is, 1 to 4, as `words` of the match */
+    uint32_t threshold;                /* that of its sessions */
+    uint32_t machines;                 /* how many there are. It isn't read, since the owners say it */
+    uint64_t id;                       /* which epoch it is: 0 is the first one, and any other has a number of 64 bits of its own */
+    uint64_t base;                     /* how many frames of the match came before its first one */
+    uint32_t owners[FAZGROND_PLAYERS]; /* the machine of each player, player 1 first; FAZGROND_NOBODY if nobody owns it now,
+                                        * FAZGROND_NO_PLAYER if there is none */
+    uint32_t delays[FAZGROND_PLAYERS]; /* by how many frames each player's words count later, 0 to 8 */
+} fazgrond_epoch;
+
+/* What is to be otherwise in the next epoch. Begin with fazgrond_mark_for. */
+typedef struct fazgrond_mark {
+    uint32_t size;                     /* sizeof(fazgrond_mark) */
+    uint32_t threshold;                /* the new one, 1 to 15; 0: as before */
+    uint64_t ticket;                   /* by what your program knows who comes: whatever you choose. Of no meaning if nobody comes */
+    uint32_t comes[FAZGROND_PLAYERS];  /* 1 for each player that whoever comes is to own, player 1 first, else 0. If all are 0,
+                                        * nobody comes. Of an input of several words the first one is named. Where a player isn't
+                                        * nobody's, the lowest one that is takes its place */
+    uint32_t delays[FAZGROND_PLAYERS]; /* each player's new delay, 0 to 8, or FAZGROND_AS_BEFORE */
+} fazgrond_mark;
+
+/* Who asks to come. */
+typedef struct fazgrond_ask {
+    uint64_t ticket;                  /* that of the mark */
+    uint32_t player;                  /* by whose mark, counted from 1 */
+    uint32_t comes[FAZGROND_PLAYERS]; /* as in the mark */
+} fazgrond_ask;
+
+/* The first epoch of a match whose sessions have these settings: with its owners and the words of its inputs, and the settings'
+ * threshold and delays. Settings have a delay for the machine's own players alone, and 0 for others. So if other machines have delays,
+ * set those of their players: the epoch has to be the same at all machines. */
+static inline fazgrond_epoch fazgrond_epoch_for(const fazgrond_match *match, const fazgrond_settings *settings) {
+    fazgrond_epoch epoch;
+    int at;
+    epoch.size = (uint32_t)sizeof epoch;
+    epoch.words = match->words;
+    epoch.threshold = settings->threshold;
+    epoch.machines = match->machines;
+    epoch.id = 0;
+    epoch.base = 0;
+    for (at = 0; at < FAZGROND_PLAYERS; at++) {
+        epoch.owners[at] = match->owners[at];
+        epoch.delays[at] = settings->delays[at];
+    }
+    return epoch;
+}
+
+/* A mark that changes nothing: the frames begin anew, and that is all. */
+static inline fazgrond_mark fazgrond_mark_for(void) {
+    fazgrond_mark mark;
+    int at;
+    mark.size = (uint32_t)sizeof mark;
+    mark.threshold = 0;
+    mark.ticket = 0;
+    for (at = 0; at < FAZGROND_PLAYERS; at++) {
+        mark.comes[at] = 0;
+        mark.delays[at] = FAZGROND_AS_BEFORE;
+    }
+    return mark;
+}
+
+/* Opens a peer whose match goes on in epochs, beginning with this one. It carries, as one of fazgrond_peer_open_carrying. All machines of
+ * a match are opened so, or none. Of the match `owners`, `machines` and `words` aren't read, since the epoch says them, but they have to be
+ * 255 at most. Answers as fazgrond_peer_open, and FAZGROND_INVALID_REQUEST too if the session's threshold, or a delay of its own players,
+ * isn't that of the epoch. FAZGROND_OTHER_VERSION: the match or the epoch is of another version's header. */
+int32_t fazgrond_peer_open_lasting(fazgrond_peer *peer, fazgrond_session *session, const fazgrond_match *match,
+                                   const fazgrond_epoch *epoch);
+
+/* How the epoch opened that is played now. At what frame of the whole match the session is: its base and fazgrond_frame, together.
+ * FAZGROND_NOTHING: the match doesn't go on in epochs. */
+int32_t fazgrond_peer_epoch(fazgrond_peer *peer, fazgrond_epoch *epoch);
+
+/* Puts a mark on the next word that this player gives, counted from 1. If another machine's mark ends the epoch before, it is forgotten:
+ * see whether the next epoch is as you wanted it, and put the mark again if it isn't.
+ * FAZGROND_NO_MARKS: the match doesn't go on in epochs.
+ * FAZGROND_INVALID_PLAYER: it is no player of this machine, or not the first word of an input.
+ * FAZGROND_MARKED: it has a mark in this epoch already.
+ * FAZGROND_INVALID_REQUEST: a number of the mark fits nowhere. One that fits and is too great makes the mark void, and isn't refused.
+ * FAZGROND_OTHER_SESSION: as in other calls that take both.
+ * FAZGROND_OTHER_VERSION: the mark is of another version's header. */
+int32_t fazgrond_peer_mark(fazgrond_peer *peer, fazgrond_session *session, uint8_t player, const fazgrond_mark *mark);
+
+/* Who asks to come by a mark, and wasn't answered yet: the epoch doesn't end before. FAZGROND_NOTHING: nobody does. */
+int32_t fazgrond_peer_ask(fazgrond_peer *peer, fazgrond_ask *ask);
+
+/* Says whether whoever is to come by this player's mark is welcome (not 0) or isn't (0). All machines of the match have to say the same,
+ * so go by the ticket alone: test a signature of whoever arranges the match, say. FAZGROND_NOTHING: the match doesn't go on in
+ * epochs. */
+int32_t fazgrond_peer_answer(fazgrond_peer *peer, uint8_t player, uint32_t is_welcome);
+
+/* Goes on in the next epoch, if this one is over. Call it in each turn, after fazgrond_peer_poll and before the session is given words.
+ * FAZGROND_NOTHING: this epoch isn't over, or the match doesn't go on in epochs.
+ *
+ * If it is FAZGROND_OK, the session is one that has begun anew at the end of the epoch, and the peer that of the next one. The words of
+ * this machine's players that were given past the end are given again, and `frames` frames past it are run again: the session is at the
+ * frame `frames`. All that is counted by frames begins anew with it: settled rows, confirmed words, the log.
+ * It leaves requests, which are carried out as those of a rollback: the last ones of the old epoch, after which all slots are free but
+ * slot 0, which has the state at the end, and then those of the frames that are run again.
+ * The numbers of all jobs are forgotten: none of their requests may be carried out any more. So if threads carry some out, have them
+ * end before you take these requests, and graft or forget none of those jobs.
+ *
+ * FAZGROND_PENDING: requests of the session weren't taken yet. Other answers are those of fazgrond_open and fazgrond_peer_open; nothing is
+ * changed then. FAZGROND_INVALID_REQUEST among them: the others go on without this machine, since it has left for them. */
+int32_t fazgrond_peer_go_on(fazgrond_peer *peer, fazgrond_session *session, uint32_t *frames);
+
+/* What is to be sent to a machine that may still be in the epoch before, in each turn after fazgrond_peer_send for it: a datagram, as
+ * there. So who hasn't come to this epoch yet is told how the one before ended. FAZGROND_NOTHING: there is nothing to send. */
+int32_t fazgrond_peer_send_before(fazgrond_peer *peer, uint8_t machine, uint32_t now, uint8_t *out, size_t room,
+                                  size_t *length);
 
 /* ---- Spectators over a network: a viewer on another machine is sent the settled rows of a match by one of its machines, the
  * host. Each viewer has a line of its own with its host. `now` is each end's own clock, as a peer's. */

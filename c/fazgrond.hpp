@@ -23,6 +23,9 @@ using Entry = fazgrond_entry;
 using Match = fazgrond_match;
 using Event = fazgrond_event;
 using Stats = fazgrond_stats;
+using Epoch = fazgrond_epoch;
+using Mark = fazgrond_mark;
+using Ask = fazgrond_ask;
 using LineSettings = fazgrond_line_settings;
 using LineState = fazgrond_line_state;
 using StateName = fazgrond_state_name;
@@ -91,6 +94,8 @@ enum class [[nodiscard]] Code : std::int32_t {
     past_the_end = FAZGROND_PAST_THE_END,
     wrong_length = FAZGROND_WRONG_LENGTH,
     too_long = FAZGROND_TOO_LONG,
+    no_marks = FAZGROND_NO_MARKS,
+    marked = FAZGROND_MARKED,
 };
 
 // The sentence for an answer.
@@ -399,6 +404,40 @@ public:
     // Whether words wait without which the session would stand at its next frame.
     bool is_pressed(Session &session) {
         return asked<std::uint32_t>(handle.get(), fazgrond_peer_is_pressed, session.handle.get()).value_or(0) != 0;
+    }
+
+    // Opens one whose match goes on in epochs, beginning with this one, and that carries. Begin with fazgrond_epoch_for.
+    Code open_lasting(Session &session, const Match &match, const Epoch &epoch) {
+        return Code(fazgrond_peer_open_lasting(handle.get(), session.handle.get(), &match, &epoch));
+    }
+
+    // How this epoch opened. Nothing if the match doesn't go on in epochs.
+    std::optional<Epoch> epoch() { return asked<Epoch>(handle.get(), fazgrond_peer_epoch); }
+
+    // Puts a mark on the next word that this player of this machine gives: the epoch ends there. Begin with fazgrond_mark_for.
+    Code mark(Session &session, std::uint8_t player, const Mark &mark) {
+        return Code(fazgrond_peer_mark(handle.get(), session.handle.get(), player, &mark));
+    }
+
+    // Who asks to come by a mark, and wasn't answered yet.
+    std::optional<Ask> ask() { return asked<Ask>(handle.get(), fazgrond_peer_ask); }
+
+    // Whether whoever is to come by this player's mark is welcome: all machines have to say the same.
+    Code answer(std::uint8_t player, bool is_welcome) { return Code(fazgrond_peer_answer(handle.get(), player, is_welcome)); }
+
+    // Goes on in the next epoch if this one is over, in each turn after `poll` and before the session is given words. Gives each request
+    // to `carry_out`; the jobs of this epoch are over then. The session is at the frame `frames` of the next one. The answer is nothing
+    // if this epoch isn't over.
+    template <class CarryOut>
+    Code go_on(Session &session, std::uint32_t &frames, CarryOut &&carry_out) {
+        Code code = Code(fazgrond_peer_go_on(handle.get(), session.handle.get(), &frames));
+        session.take_requests(carry_out);
+        return code;
+    }
+
+    // What is to be sent, after `send`, to a machine that may still be in the epoch before. The answer is nothing if there is nothing.
+    Code send_before(std::uint8_t machine, std::uint32_t now, Datagram &out) {
+        return Code(fazgrond_peer_send_before(handle.get(), machine, now, out.bytes.data(), out.bytes.size(), &out.length));
     }
 
 private:

@@ -320,13 +320,17 @@ def difference(interface, header):
 
 # ---- declarations for those who read C
 
+def constant_in_lua(it):
+    return f"static const {'unsigned ' if int(it.value, 0) >> 31 else ''}int FAZGROND_{it.name} = {it.value};"
+
+
 def cdef(interface, is_lua):
     """What cffi takes, or LuaJIT's ffi, for which there is no #define, and no function that stands in the header alone."""
     numbers = interface.numbers()
     lines = []
     for it in interface.things:
         if isinstance(it, Constant) and it in interface.constants():
-            lines += [f"static const int FAZGROND_{it.name} = {it.value};"] if is_lua else it.in_c()
+            lines += [constant_in_lua(it)] if is_lua else it.in_c()
         elif isinstance(it, Call):
             lines += [] if is_lua and it.is_inline else [it.in_c()[0].removeprefix("static inline ")]
         elif not isinstance(it, Constant):

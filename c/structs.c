@@ -80,6 +80,28 @@ AT(fazgrond_stats, frames_behind, 24);
 AT(fazgrond_stats, their_frames_behind, 28);
 AT(fazgrond_stats, refused, 32);
 
+HAS(fazgrond_epoch, 96);
+AT(fazgrond_epoch, size, 0);
+AT(fazgrond_epoch, words, 4);
+AT(fazgrond_epoch, threshold, 8);
+AT(fazgrond_epoch, machines, 12);
+AT(fazgrond_epoch, id, 16);
+AT(fazgrond_epoch, base, 24);
+AT(fazgrond_epoch, owners, 32);
+AT(fazgrond_epoch, delays, 64);
+
+HAS(fazgrond_mark, 80);
+AT(fazgrond_mark, size, 0);
+AT(fazgrond_mark, threshold, 4);
+AT(fazgrond_mark, ticket, 8);
+AT(fazgrond_mark, comes, 16);
+AT(fazgrond_mark, delays, 48);
+
+HAS(fazgrond_ask, 48);
+AT(fazgrond_ask, ticket, 0);
+AT(fazgrond_ask, player, 8);
+AT(fazgrond_ask, comes, 12);
+
 HAS(fazgrond_line, 16);
 AT(fazgrond_line, full, 0);
 AT(fazgrond_line, at, 8);

@@ -13,6 +13,7 @@ local OK, TOO_SHORT = numbers.OK, numbers.TOO_SHORT
 local LOCAL_INPUT_MISSING, INPUT_TWICE = numbers.LOCAL_INPUT_MISSING, numbers.INPUT_TWICE
 local LOAD, SAVE, STEP, FREE = numbers.LOAD, numbers.SAVE, numbers.STEP, numbers.FREE
 local JOB_LOAD, JOB_STEP = numbers.JOB_LOAD, numbers.JOB_STEP
+local NO_JOB = numbers.NO_JOB
 local PLAYERS, MACHINES, DATAGRAM = numbers.PLAYERS, numbers.MACHINES, numbers.DATAGRAM
 local ROOM = 16 -- requests that are taken at once
 local MOST_GUESSES = 32
@@ -43,6 +44,8 @@ local name_out = ffi.new "fazgrond_state_name"
 local taker_out = ffi.new "fazgrond_taker_state"
 local heard_out = ffi.new "fazgrond_heard"
 local foreseen_out = ffi.new("fazgrond_foreseen[?]", MOST_GUESSES)
+local epoch_out = ffi.new "fazgrond_epoch"
+local ask_out = ffi.new "fazgrond_ask"
 
 -- ---- The library.
 
@@ -309,6 +312,7 @@ function fazgrond.session(settings, game)
     session.states = { [0] = game:save(0) }
     session.words = {}
     session.requests = ffi.new("fazgrond_request[?]", ROOM)
+    session.epochs = 0 -- how many epochs were over
     session.is_whole = true
     return session
 end
@@ -441,7 +445,7 @@ local function job_of(session, code)
     if code ~= OK then
         return refused(code)
     end
-    local job = setmetatable({ number = number[0], steps = {}, slots = {} }, Job)
+    local job = setmetatable({ number = number[0], epoch = session.epochs, steps = {}, slots = {} }, Job)
     local requests = session.requests
     local count = tonumber(lib.fazgrond_take_requests(session.handle, requests, ROOM))
     while count > 0 do
@@ -488,11 +492,26 @@ local function put_states(session, job)
     end
 end
 
+-- A job of an epoch before is over, and its slots have other states now.
+local function over(session, job)
+    for at, slot in ipairs(job.slots) do
+        local state = job.states and job.states[at]
+        if session.game.free and state ~= nil then
+            session.game:free(state, slot)
+        end
+    end
+    job.states = {}
+    return refused(NO_JOB)
+end
+
 -- Takes in the states of a job that was run, and answers how many of them are kept. Afterwards the job is over in any case.
 function Session:graft(job)
     local handle = whole(self)
     if not job.states then
         error("the job wasn't run", 2)
+    end
+    if job.epoch ~= self.epochs then
+        return over(self, job)
     end
     put_states(self, job)
     return answered(lib.fazgrond_graft(handle, job.number, number))
@@ -501,6 +520,9 @@ end
 -- Gives a job up. It may not be run any more.
 function Session:forget(job)
     local handle = open(self)
+    if job.epoch ~= self.epochs then
+        return over(self, job)
+    end
     if job.states then
         put_states(self, job)
     end
@@ -629,15 +651,41 @@ local function match_of(given)
     return match
 end
 
+local EPOCH = set_of [[id base words threshold machines owners delays]]
+
+-- An epoch as C has it.
+local function epoch_of(given)
+    local epoch = ffi.new "fazgrond_epoch"
+    epoch.size = ffi.sizeof(epoch)
+    epoch.id, epoch.base = given.id or 0, given.base or 0
+    epoch.words, epoch.threshold = given.words or 1, given.threshold
+    set_owners(epoch.owners, given.owners)
+    for player = 1, PLAYERS do
+        epoch.delays[player - 1] = given.delays and given.delays[player] or 0
+    end
+    return epoch
+end
+
+local function open_peer(handle, session, match, epoch)
+    if epoch then
+        return lib.fazgrond_peer_open_lasting(handle, session, match_of(match), epoch_of(epoch))
+    end
+    local opening = match.carries and lib.fazgrond_peer_open_carrying or lib.fazgrond_peer_open
+    return opening(handle, session, match_of(match))
+end
+
 -- Opens the network of a match: `me`, `machines` and `owners` (the machine of each player, player 1's first), `number` (or
 -- `numbers`, by machines from 0), and if they are to be others `digest`, `silent_after` (5000), `notify_after` (750),
 -- `stalled_after` (0), `words` (1), `held_turns` (0) and `draw` (random bits). With `carries`, in a match of three machines or more, it
--- hands on what two others send each other whose line is broken, and they for it: see `send_more`.
-function fazgrond.peer(session, match)
+-- hands on what two others send each other whose line is broken, and they for it: see `send_more`. With an `epoch` the match goes on in
+-- epochs, beginning with this one, and carries: see `fazgrond.epoch`.
+function fazgrond.peer(session, match, epoch)
     check_options(match, MATCH, "matches")
-    local handle = new_handle "peer"
-    local opening = match.carries and lib.fazgrond_peer_open_carrying or lib.fazgrond_peer_open
-    local peer, name, code = opened(Peer, handle, opening(handle, open(session), match_of(match)))
+    if epoch then
+        check_options(epoch, EPOCH, "epochs")
+    end
+    local handle, beside = new_handle "peer", open(session)
+    local peer, name, code = opened(Peer, handle, open_peer(handle, beside, match, epoch))
     if not peer then
         return nil, name, code
     end
@@ -765,6 +813,106 @@ end
 -- Whether words wait without which the session would stand at its next frame.
 function Peer:is_pressed()
     return flagged(lib.fazgrond_peer_is_pressed(open(self), open(self.session), number))
+end
+
+-- ---- A match that goes on in epochs: with other machines, owners or delays. In each turn, after `poll` and before the session is given
+-- words: `answer` who asks to come (`ask`), and `go_on`. After `send` to a machine, send it what `send_before` has, too.
+
+-- The first epoch of a match whose sessions have these settings, for `fazgrond.peer`: `id`, `base`, `words`, `threshold`, `machines`,
+-- `owners` and `delays`. Settings have a delay for the machine's own players alone: put those of the others into `delays`.
+function fazgrond.epoch(match, settings)
+    check_options(match, MATCH, "matches")
+    check_options(settings, SETTINGS, "settings")
+    local told = settings_of(settings)
+    local epoch = { id = 0, base = 0, words = match.words or 1, threshold = told.threshold, machines = match.machines }
+    epoch.owners, epoch.delays = {}, {}
+    for player = 1, settings.players do
+        epoch.owners[player], epoch.delays[player] = match.owners[player], told.delays[player - 1]
+    end
+    return epoch
+end
+
+-- How the epoch opened that is played now: a table as that of `fazgrond.epoch`, by which somebody who comes can open it too. `id` and
+-- `base` are 64-bit numbers of LuaJIT. The owner of a player whom nobody owns is `numbers.NOBODY`. At what frame of the whole match the
+-- session is: the base and its frame, together. nil and "nothing" if the match doesn't go on in epochs.
+function Peer:epoch()
+    local code = lib.fazgrond_peer_epoch(open(self), epoch_out)
+    if code ~= OK then
+        return refused(code)
+    end
+    local epoch = members_of(epoch_out, { "id", "base", "words", "threshold", "machines" })
+    epoch.owners, epoch.delays = {}, {}
+    for at = 0, PLAYERS - 1 do
+        if epoch_out.owners[at] ~= numbers.NO_PLAYER then
+            epoch.owners[at + 1], epoch.delays[at + 1] = epoch_out.owners[at], epoch_out.delays[at]
+        end
+    end
+    return epoch
+end
+
+local MARK = set_of [[threshold ticket comes delays]]
+
+-- Puts a mark on the next word that a player of this machine gives: the epoch ends after that frame. The mark may have a new
+-- `threshold`, new `delays` by players of this machine, and a `ticket` of somebody who `comes` with a list of players. With none of
+-- them, or without a mark, the frames begin anew, and that is all.
+function Peer:mark(player, given)
+    local handle, session = open(self), open(self.session)
+    given = given or {}
+    check_options(given, MARK, "marks")
+    local mark = ffi.new "fazgrond_mark"
+    mark.size = ffi.sizeof(mark)
+    mark.threshold, mark.ticket = given.threshold or 0, given.ticket or 0
+    for at = 1, PLAYERS do
+        mark.delays[at - 1] = given.delays and given.delays[at] or numbers.AS_BEFORE
+    end
+    for _, comes in ipairs(given.comes or {}) do
+        if comes < 1 or comes > PLAYERS then
+            error(("there is no player %d"):format(comes), 2)
+        end
+        mark.comes[comes - 1] = 1
+    end
+    return done(lib.fazgrond_peer_mark(handle, session, u8(player), mark))
+end
+
+-- Who asks to come by a mark, and wasn't answered yet: a table with the mark's `player`, its `ticket` (a 64-bit number of LuaJIT), and
+-- the players with which somebody `comes`. The epoch doesn't end before. nil and "nothing" if nobody asks.
+function Peer:ask()
+    local code = lib.fazgrond_peer_ask(open(self), ask_out)
+    if code ~= OK then
+        return refused(code)
+    end
+    local ask = { player = ask_out.player, ticket = ask_out.ticket, comes = {} }
+    for at = 0, PLAYERS - 1 do
+        if ask_out.comes[at] ~= 0 then
+            table.insert(ask.comes, at + 1)
+        end
+    end
+    return ask
+end
+
+-- Says whether whoever is to come by this player's mark is welcome: all machines have to say the same.
+function Peer:answer(player, is_welcome)
+    return done(lib.fazgrond_peer_answer(open(self), u8(player), is_welcome and 1 or 0))
+end
+
+-- Goes on in the next epoch if this one is over: answers at what frame of it the session is, whose frames begin anew; nil and
+-- "nothing" if it isn't over. Jobs of the epoch before are over too: what is grafted of them is refused ("no_job").
+function Peer:go_on()
+    local session = self.session
+    local code = lib.fazgrond_peer_go_on(open(self), whole(session), number)
+    if code ~= OK then
+        return refused(code)
+    end
+    local frames = number[0]
+    session.epochs = session.epochs + 1
+    session.noted = nil
+    carry_out(session)
+    return frames
+end
+
+-- What is to be sent, after `send`, to a machine that may still be in the epoch before; nil and "nothing" if there is nothing.
+function Peer:send_before(machine, now)
+    return written(lib.fazgrond_peer_send_before(open(self), u8(machine), milliseconds(now), bytes_out, DATAGRAM, size))
 end
 
 -- ---- Spectators: a host's end of a viewer's line, and the viewer's.

@@ -113,6 +113,8 @@ enum {
     FAZGROND_PAST_THE_END = 318,
     FAZGROND_WRONG_LENGTH = 319,
     FAZGROND_TOO_LONG = 320,
+    FAZGROND_NO_MARKS = 321,
+    FAZGROND_MARKED = 322,
 };
 int32_t fazgrond_open(fazgrond_session *session, const fazgrond_settings *settings);
 void fazgrond_close(fazgrond_session *session);
@@ -222,6 +224,38 @@ int32_t fazgrond_peer_guess(fazgrond_peer *peer, fazgrond_session *session, uint
 int32_t fazgrond_peer_hand_over(fazgrond_peer *peer, fazgrond_session *session, uint32_t count);
 int32_t fazgrond_peer_hand_over_due(fazgrond_peer *peer, fazgrond_session *session, uint32_t *handed);
 int32_t fazgrond_peer_is_pressed(fazgrond_peer *peer, fazgrond_session *session, uint32_t *flag);
+static const int FAZGROND_NOBODY = 254;
+static const unsigned int FAZGROND_AS_BEFORE = 0xffffffff;
+typedef struct fazgrond_epoch {
+    uint32_t size;
+    uint32_t words;
+    uint32_t threshold;
+    uint32_t machines;
+    uint64_t id;
+    uint64_t base;
+    uint32_t owners[8];
+    uint32_t delays[8];
+} fazgrond_epoch;
+typedef struct fazgrond_mark {
+    uint32_t size;
+    uint32_t threshold;
+    uint64_t ticket;
+    uint32_t comes[8];
+    uint32_t delays[8];
+} fazgrond_mark;
+typedef struct fazgrond_ask {
+    uint64_t ticket;
+    uint32_t player;
+    uint32_t comes[8];
+} fazgrond_ask;
+int32_t fazgrond_peer_open_lasting(fazgrond_peer *peer, fazgrond_session *session, const fazgrond_match *match, const
+    fazgrond_epoch *epoch);
+int32_t fazgrond_peer_epoch(fazgrond_peer *peer, fazgrond_epoch *epoch);
+int32_t fazgrond_peer_mark(fazgrond_peer *peer, fazgrond_session *session, uint8_t player, const fazgrond_mark *mark);
+int32_t fazgrond_peer_ask(fazgrond_peer *peer, fazgrond_ask *ask);
+int32_t fazgrond_peer_answer(fazgrond_peer *peer, uint8_t player, uint32_t is_welcome);
+int32_t fazgrond_peer_go_on(fazgrond_peer *peer, fazgrond_session *session, uint32_t *frames);
+int32_t fazgrond_peer_send_before(fazgrond_peer *peer, uint8_t machine, uint32_t now, uint8_t *out, size_t room, size_t *length);
 typedef struct fazgrond_line {
     uint8_t full;
     void *at;
@@ -335,6 +369,8 @@ return {
         MACHINES = 8,
         DATAGRAM = 1200,
         HELD_WORDS = 64,
+        NOBODY = 254,
+        AS_BEFORE = 4294967295,
         GUESS_WORDS = 24,
         PIECE = 1024,
         ASKED = 16,
@@ -403,6 +439,8 @@ return {
         PAST_THE_END = 318,
         WRONG_LENGTH = 319,
         TOO_LONG = 320,
+        NO_MARKS = 321,
+        MARKED = 322,
         SYNCHRONIZING = 1001,
         SYNCHRONIZED = 1002,
         RUNNING = 1003,
@@ -473,6 +511,8 @@ return {
         [318] = "past_the_end",
         [319] = "wrong_length",
         [320] = "too_long",
+        [321] = "no_marks",
+        [322] = "marked",
     },
     events = {
         [1001] = "synchronizing",

@@ -65,6 +65,19 @@ CALL(int32_t, fazgrond_peer_hand_over_due, (fazgrond_peer *peer, fazgrond_sessio
      (peer, session, handed))
 CALL(int32_t, fazgrond_peer_is_pressed, (fazgrond_peer *peer, fazgrond_session *session, uint32_t *flag),
      (peer, session, flag))
+CALL(int32_t, fazgrond_peer_open_lasting,
+     (fazgrond_peer *peer, fazgrond_session *session, const fazgrond_match *match, const fazgrond_epoch *epoch),
+     (peer, session, match, epoch))
+CALL(int32_t, fazgrond_peer_epoch, (fazgrond_peer *peer, fazgrond_epoch *epoch), (peer, epoch))
+CALL(int32_t, fazgrond_peer_mark,
+     (fazgrond_peer *peer, fazgrond_session *session, uint8_t player, const fazgrond_mark *mark),
+     (peer, session, player, mark))
+CALL(int32_t, fazgrond_peer_ask, (fazgrond_peer *peer, fazgrond_ask *ask), (peer, ask))
+CALL(int32_t, fazgrond_peer_answer, (fazgrond_peer *peer, uint8_t player, uint32_t is_welcome), (peer, player, is_welcome))
+CALL(int32_t, fazgrond_peer_go_on, (fazgrond_peer *peer, fazgrond_session *session, uint32_t *frames), (peer, session, frames))
+CALL(int32_t, fazgrond_peer_send_before,
+     (fazgrond_peer *peer, uint8_t machine, uint32_t now, uint8_t *out, size_t room, size_t *length),
+     (peer, machine, now, out, room, length))
 CALL(int32_t, fazgrond_line_open, (fazgrond_line *line, const fazgrond_line_settings *settings), (line, settings))
 CALL(int32_t, fazgrond_line_receive, (fazgrond_line *line, const uint8_t *bytes, size_t length, uint32_t now),
      (line, bytes, length, now))

@@ -10,8 +10,8 @@ from pathlib import Path
 
 import recorder
 from fazgrond import (
-    Answer, Call, Closed, Giver, Habits, Handle, Happened, Kind, Line, LineSettings, Match, Peer, Piece, Refused, RemoteWord,
-    Row, Session, Settings, StateName, Taker, Viewer, state_ask, state_sender, state_told, text, version,
+    Answer, Ask, Call, Closed, Epoch, Giver, Habits, Handle, Happened, Kind, Line, LineSettings, Mark, Match, Peer, Piece, Refused,
+    RemoteWord, Row, Session, Settings, StateName, Taker, Viewer, state_ask, state_sender, state_told, text, version,
 )
 from fazgrond.numbers import VERSION
 
@@ -656,6 +656,92 @@ def who_does_not_carry_has_nothing_more_to_send():
             peer.poll(16 * turn)
             assert peer.send_more() is None
         close((session, peer))
+
+
+# ---- epochs
+
+def lasting(me):
+    settings, of = Settings(2, [me + 1]), Match(me, 2, [0, 1], 7, draw=70 + me, silent_after=0)
+    epoch, session = Epoch.first(of, settings), Session(settings, Sum())
+    assert epoch == Epoch([0, 1], [0, 0], 8, 1, 0, 0, 2)
+    peer = Peer(session, of, epoch)
+    assert peer.epoch() == epoch
+    return session, peer, [epoch]
+
+
+MARKS = {40: (0, None), 80: (1, Mark(comes=[1], ticket=9)), 120: (0, Mark(threshold=6, delays={1: 0}))}
+
+
+def marks(peer, me, mark):
+    peer.mark(me + 1, mark)
+    refused(Answer.MARKED, peer.mark, me + 1)
+    refused(Answer.INVALID_PLAYER, peer.mark, 2 - me)
+
+
+def goes_on(session, peer, epochs):
+    """Goes on if an epoch is over, and says the frame of the whole match. Who asks to come isn't welcome."""
+    if (ask := peer.ask()) is not None:
+        assert ask == Ask(2, 9, [1])
+        peer.answer(ask.player, False)
+    before = epochs[-1].base + session.frame
+    if (frames := peer.go_on()) is not None:
+        epochs.append(peer.epoch())
+        assert session.frame == frames
+    assert epochs[-1].base + session.frame == before
+    return before
+
+
+def plays(session, peer, epochs, me, turn, frames):
+    """A turn of a machine: what it sends to the other one."""
+    now = 16 * turn
+    peer.poll(now)
+    frame = goes_on(session, peer, epochs)
+    if peer.is_running and frame < frames:
+        if turn in MARKS and MARKS[turn][0] == me:
+            marks(peer, me, MARKS[turn][1])
+        try:
+            session.add_local_input(me + 1, pressed(me, frame))
+        except Refused as why:
+            assert why.answer == Answer.PREDICTION_THRESHOLD
+    peer.turn(now)
+    assert not {Happened.LEFT, Happened.DROPPED, Happened.DESYNC} & {event.code for event in peer.events()}
+    return [it for it in [peer.send(1 - me, now), peer.send_before(1 - me, now)] if it is not None]
+
+
+@test
+def a_match_goes_on_in_epochs():
+    """As rust/fazgrond/tests/epochs.rs has it."""
+    frames, machines, ways, job = 200, [lasting(0), lasting(1)], [[], []], None
+    for turn in range(600):
+        came, ways = ways, [[], []]
+        for me, (session, peer, epochs) in enumerate(machines):
+            for datagram in came[me]:
+                peer.hear(datagram, 16 * turn)
+            ways[1 - me] += plays(session, peer, epochs, me, turn, frames)
+        if turn == 110:
+            job = machines[0][0].guess(2, [77], machines[0][0].frame + 2)
+    due = Sum()
+    for frame in range(frames):
+        due.advance(Row(tuple(pressed(me, frame) for me in range(2))))
+    assert machines[0][2] == machines[1][2] and [it.threshold for it in machines[0][2]] == [8, 8, 6]
+    for session, _, epochs in machines:
+        assert (epochs[-1].base + session.settled, session.game.state) == (frames, due.state)
+    refused(Answer.NO_JOB, machines[0][0].graft, job.run(Sum()))
+    close(*[it[:2] for it in machines])
+
+
+@test
+def a_match_that_does_not_go_on_in_epochs():
+    settings, of = Settings(2, [1]), Match(0, 2, [0, 1], 7, draw=70)
+    for kind in [Handle(settings), Session(settings, Sum())]:
+        peer = Peer(kind, of)
+        refused(Answer.NO_MARKS, peer.mark, 1)
+        assert (peer.epoch(), peer.ask(), peer.go_on(), peer.send_before(1, 0)) == (None, None, None, None)
+        peer.answer(1, True)
+        close((kind, peer))
+    session, other = Session(settings, Sum()), Epoch.first(of, Settings(2, [1], threshold=7))
+    refused(Answer.INVALID_REQUEST, Peer, session, of, other)
+    session.close()
 
 
 # ---- states in pieces

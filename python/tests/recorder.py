@@ -21,7 +21,8 @@ class Recorder:
 
         def noted(*words):
             called[name] += 1
-            kind, _, what = name.removeprefix("fazgrond_").removesuffix("_carrying").rpartition("_")  # a peer is opened by two calls
+            plain = name.removesuffix("_carrying").removesuffix("_lasting")  # a peer is opened by three calls
+            kind, _, what = plain.removeprefix("fazgrond_").rpartition("_")
             if what == "close" and words[0].full:
                 closed[kind or "session"] += 1
             answer = call(*words)

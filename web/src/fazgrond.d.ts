@@ -59,6 +59,42 @@ export interface MatchSettings {
   carries?: boolean;
 }
 
+/** How an epoch of a match opens: the same at all machines. */
+export interface Epoch {
+  /** Which epoch it is: 0 is the first one, and any other has a number of 64 bits of its own. */
+  id: bigint;
+  /** How many frames of the match came before its first one. */
+  base: bigint;
+  /** How many words an input has. */
+  words: number;
+  /** How many frames its sessions may run ahead of the confirmed inputs. */
+  threshold: number;
+  /** How many machines there are. Where an epoch is opened, it isn't looked at. */
+  machines: number;
+  /** The machine of each player, player 1 first; `raw.NOBODY` if nobody owns it now. */
+  owners: number[];
+  /** By how many frames each player's words count later, player 1 first. */
+  delays: number[];
+}
+
+/** What is to be otherwise in the next epoch. With nothing in it the frames begin anew, and that is all. */
+export interface Mark {
+  /** How many frames sessions may run ahead of the confirmed inputs. */
+  threshold?: number;
+  /** New delays, player 1 first: of players of the machine that puts the mark. */
+  delays?: (number | undefined)[];
+  /** The players that somebody who comes is to own, from 1 on, and by what the program knows who it is. */
+  comes?: number[];
+  ticket?: bigint;
+}
+
+/** Somebody who asks to come, by a mark of this player. */
+export interface Ask {
+  player: number;
+  ticket: bigint;
+  comes: number[];
+}
+
 export interface LineSettings {
   number: bigint;
   draw?: bigint | number;
@@ -90,7 +126,8 @@ export class Fazgrond {
   get version(): string;
   text(code: number): string;
   session<State>(settings: SessionSettings, game: Game<State>): Session<State>;
-  peer(session: Session<any>, match: MatchSettings): Peer;
+  peer(session: Session<any>, match: MatchSettings, epoch?: Epoch): Peer;
+  epoch(match: MatchSettings, settings: SessionSettings): Epoch;
   line(session: Session<any>, settings: LineSettings): Line;
   viewer(settings: LineSettings): Viewer;
   habits(parts?: number[], likely?: number[]): Habits;
@@ -159,6 +196,12 @@ export class Peer extends Handle {
   handOver(count: number): number;
   handOverDue(): number;
   get isPressed(): boolean;
+  epoch(): Epoch | null;
+  mark(player: number, mark?: Mark): number;
+  ask(): Ask | null;
+  answer(player: number, isWelcome: boolean): number;
+  goOn(): number;
+  sendBefore(machine: number, now: number): Uint8Array | null;
 }
 
 export class Line extends Handle {

@@ -78,9 +78,16 @@ export class Fazgrond {
     return new Session(this, settings, game);
   }
 
-  /** Opens the network of a match beside a session. */
-  peer(session, match) {
-    return new Peer(this, session, match);
+  /** Opens the network of a match beside a session. With an epoch the match goes on in epochs, beginning with this one, and carries. */
+  peer(session, match, epoch) {
+    return new Peer(this, session, match, epoch);
+  }
+
+  /** The first epoch of a match whose sessions have these settings. Put the delays of other machines' players into it. */
+  epoch(match, settings) {
+    const { threshold, delays } = settingsOf(settings);
+    const { owners, machines, words = 1 } = match;
+    return { id: 0n, base: 0n, words, threshold, machines, owners: [...owners], delays: delays.slice(0, owners.length) };
   }
 
   /** Opens a host's end of a viewer's line, beside a session. */
@@ -271,6 +278,8 @@ export class Session extends Handle {
     this.words = new Uint32Array(told.players);
     this.isBroken = false;
     this.noted = -1;
+    /** How many epochs of its match are over. */
+    this.epochs = 0;
   }
 
   close() {
@@ -369,7 +378,7 @@ export class Session extends Handle {
   jobOf(answer) {
     this.answer = answer;
     if (answer !== OK) return null;
-    const job = new Job(this.library.number());
+    const job = new Job(this.library.number(), this.epochs);
     let count;
     do {
       count = this.take();
@@ -388,14 +397,33 @@ export class Session extends Handle {
   /** Takes a job's states in. The answer says whether they are of use; afterwards the job is over in any case. */
   graft(job) {
     if (job.states.length !== job.slots.length) throw new Error("the job has not been carried out");
+    if (job.epoch !== this.epochs) return this.over(job);
     this.putStates(job);
     return this.library.calls.graft(this.open, job.number, this.library.room);
   }
 
   /** Gives a job up. It may not be carried out any more. */
   forget(job) {
+    if (job.epoch !== this.epochs) return this.over(job);
     this.putStates(job);
     return this.library.calls.forget(this.open, job.number);
+  }
+
+  /** A job of an epoch before is over, and its slots have other states now. */
+  over(job) {
+    for (const state of job.states) this.game.free?.(state);
+    [job.states, job.slots] = [[], []];
+    return Answer.NO_JOB;
+  }
+
+  /** Goes on in the next epoch, if a peer answers that it has begun: its frames begin anew, and so many were run. */
+  goneOn(code, frames) {
+    if (code !== OK) return code;
+    this.epochs++;
+    this.noted = -1;
+    this.reached = { frame: frames, from: 0, rerun: frames };
+    this.carryOut();
+    return code;
   }
 
   /** A job's states lie in its slots, until the session has them freed. */
@@ -520,8 +548,9 @@ function rowAt(library, at = library.room) {
  * gives `states` back.
  */
 export class Job {
-  constructor(number) {
+  constructor(number, epoch) {
     this.number = number;
+    this.epoch = epoch;
     this.from = undefined;
     this.steps = [];
     this.slots = [];
@@ -555,7 +584,7 @@ class Sealed extends Handle {
 
 /** The network of a match, at one of its machines. `now` is this machine's clock in whole milliseconds. */
 export class Peer extends Sealed {
-  constructor(library, session, match) {
+  constructor(library, session, match, epoch) {
     super(library);
     this.session = session;
     const one = match.number ?? 0n;
@@ -574,7 +603,25 @@ export class Peer extends Sealed {
       heldTurns: match.heldTurns ?? 0,
     });
     const { peer_open, peer_open_carrying } = library.calls;
-    this.opened((match.carries ? peer_open_carrying : peer_open)(this.at, session.open, library.room));
+    if (epoch !== undefined) this.openLasting(epoch);
+    else this.opened((match.carries ? peer_open_carrying : peer_open)(this.at, session.open, library.room));
+  }
+
+  /** Opens it, once the match is written, with the epoch beside it. */
+  openLasting(epoch) {
+    const { library } = this;
+    const beside = library.room + raw.Match.size;
+    library.write(raw.Epoch, beside, {
+      size: raw.Epoch.size,
+      words: epoch.words ?? 1,
+      threshold: epoch.threshold,
+      machines: epoch.machines ?? 0,
+      id: epoch.id ?? 0n,
+      base: epoch.base ?? 0n,
+      owners: Array.from({ length: raw.PLAYERS }, (_, at) => epoch.owners[at] ?? raw.NO_PLAYER),
+      delays: Array.from({ length: raw.PLAYERS }, (_, at) => epoch.delays?.[at] ?? 0),
+    });
+    this.opened(library.calls.peer_open_lasting(this.at, this.session.open, library.room, beside));
   }
 
   /** Takes a datagram that came. */
@@ -669,6 +716,53 @@ export class Peer extends Sealed {
   /** Whether the game would stand without the words that wait. */
   get isPressed() {
     return this.told(this.library.calls.peer_is_pressed(this.open, this.session.open, this.library.room)) === 1;
+  }
+
+  // ---- Epochs: in each turn, after `poll` and before the session is given words, `answer` who asks to come, and `goOn`.
+
+  /** How the epoch opened that is played now; null if the match doesn't go on in epochs. */
+  epoch() {
+    if (this.library.calls.peer_epoch(this.open, this.library.room) !== OK) return null;
+    const { size, owners, delays, ...told } = this.library.read(raw.Epoch);
+    const players = owners.filter((owner) => owner !== raw.NO_PLAYER).length;
+    return { ...told, owners: owners.slice(0, players), delays: delays.slice(0, players) };
+  }
+
+  /** Puts a mark on the next word that a player of this machine gives: the epoch ends after that frame. */
+  mark(player, mark = {}) {
+    const { library } = this;
+    library.write(raw.Mark, library.room, {
+      size: raw.Mark.size,
+      threshold: mark.threshold ?? 0,
+      ticket: mark.ticket ?? 0n,
+      comes: Array.from({ length: raw.PLAYERS }, (_, at) => (mark.comes?.includes(at + 1) ? 1 : 0)),
+      delays: Array.from({ length: raw.PLAYERS }, (_, at) => mark.delays?.[at] ?? raw.AS_BEFORE),
+    });
+    return library.calls.peer_mark(this.open, this.session.open, player, library.room);
+  }
+
+  /** Who asks to come by a mark, and wasn't answered yet; null if nobody does. */
+  ask() {
+    if (this.library.calls.peer_ask(this.open, this.library.room) !== OK) return null;
+    const { player, ticket, comes } = this.library.read(raw.Ask);
+    return { player, ticket, comes: comes.flatMap((one, at) => (one === 0 ? [] : [at + 1])) };
+  }
+
+  /** Says whether whoever is to come by this player's mark is welcome: all machines have to say the same. */
+  answer(player, isWelcome) {
+    return this.library.calls.peer_answer(this.open, player, isWelcome ? 1 : 0);
+  }
+
+  /** Goes on in the next epoch if this one is over; else the answer is `NOTHING`. The session's `reached` says at what frame it is. */
+  goOn() {
+    const code = this.library.calls.peer_go_on(this.open, this.session.open, this.library.room);
+    return this.session.goneOn(code, this.library.number());
+  }
+
+  /** What is to be sent, after `send`, to a machine that may still be in the epoch before, or null. */
+  sendBefore(machine, now) {
+    const { calls, bytes, room } = this.library;
+    return this.written(calls.peer_send_before(this.open, machine, now >>> 0, bytes, raw.DATAGRAM, room));
   }
 }
 

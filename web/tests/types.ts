@@ -40,6 +40,9 @@ export async function play(channel: RTCDataChannel, me: 0 | 1): Promise<number> 
     me, machines: 3, owners: [0, 1, 2], number: 7n, carries: true,
   }).sendMore();
   if (more !== null && more.machine === 1 - me) channel.send(more.bytes);
+  const lasting = library.peer(session, { me, machines: 2, owners: [0, 1], number: 7n }, peer.epoch() ?? undefined);
+  if (lasting.mark(me + 1, { threshold: 8, comes: [2], ticket: 5n }) === Answer.OK && lasting.goOn() === Answer.OK)
+    console.log(lasting.ask()?.comes, lasting.answer(1, true), lasting.sendBefore(1 - me, 16));
   const job: Job<Int32Array> | null = session.guess(2, [3], 3);
   job?.run(new Places());
   const row: Row | null = session.settledRow(0);

@@ -1,12 +1,13 @@
 """Rollback sessions for lockstep games: the calls of fazgrond.h as classes. docs/PYTHON.md has a whole game."""
 from ._raw import lib
+from .epoch import Ask, Epoch, Mark
 from .errors import Closed, Refused, text
 from .habits import Foreseen, Habits
 from .handle import Handle, Plays, Settings
 from .line import Line, LineSettings, LineState, Viewer
 from .numbers import (
-    ASKED, DATAGRAM, DIGEST_BYTES, GUESS_WORDS, HELD_WORDS, MACHINES, NO_MACHINE, NO_PLAYER, PIECE, PLAYERS, VERSION, Answer,
-    Call, Happened, Kind, Piece, Profile,
+    AS_BEFORE, ASKED, DATAGRAM, DIGEST_BYTES, GUESS_WORDS, HELD_WORDS, MACHINES, NO_MACHINE, NO_PLAYER, NOBODY, PIECE, PLAYERS,
+    VERSION, Answer, Call, Happened, Kind, Piece, Profile,
 )
 from .peer import Event, Match, Peer, RemoteWord, Stats
 from .rows import Entry, Reached, Request, Row
@@ -14,11 +15,11 @@ from .session import Game, Job, Session
 from .state import Giver, Heard, StateName, Taker, TakerState, state_ask, state_sender, state_told
 
 __all__ = [
-    "ASKED", "DATAGRAM", "DIGEST_BYTES", "GUESS_WORDS", "HELD_WORDS", "MACHINES", "NO_MACHINE", "NO_PLAYER", "PIECE",
-    "PLAYERS", "VERSION", "Answer", "Call", "Closed", "Entry", "Event", "Foreseen", "Game", "Giver", "Habits", "Handle",
-    "Happened", "Heard", "Job", "Kind", "Line", "LineSettings", "LineState", "Match", "Peer", "Piece", "Plays", "Profile",
-    "Reached", "Refused", "RemoteWord", "Request", "Row", "Session", "Settings", "StateName", "Stats", "Taker", "TakerState",
-    "Viewer", "state_ask", "state_sender", "state_told", "text", "version",
+    "ASKED", "AS_BEFORE", "DATAGRAM", "DIGEST_BYTES", "GUESS_WORDS", "HELD_WORDS", "MACHINES", "NOBODY", "NO_MACHINE", "NO_PLAYER",
+    "PIECE", "PLAYERS", "VERSION", "Answer", "Ask", "Call", "Closed", "Entry", "Epoch", "Event", "Foreseen", "Game", "Giver",
+    "Habits", "Handle", "Happened", "Heard", "Job", "Kind", "Line", "LineSettings", "LineState", "Mark", "Match", "Peer", "Piece",
+    "Plays", "Profile", "Reached", "Refused", "RemoteWord", "Request", "Row", "Session", "Settings", "StateName", "Stats", "Taker",
+    "TakerState", "Viewer", "state_ask", "state_sender", "state_told", "text", "version",
 ]
 
 

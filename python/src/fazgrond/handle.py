@@ -3,7 +3,7 @@ from __future__ import annotations
 
 from collections.abc import Collection, Iterator, Mapping, Sequence
 from dataclasses import dataclass, field
-from typing import TYPE_CHECKING, Any
+from typing import TYPE_CHECKING, Any, Callable
 
 from ._raw import ffi, lib
 from .errors import Refused, said, said_or_nothing
@@ -37,9 +37,9 @@ class Settings:
             if getattr(self, name) is not None:
                 setattr(raw, name, getattr(self, name))
         for player, frames in self.delays.items():
-            raw.delays[_place(player)] = frames
+            put_at(raw.delays, player, frames)
         for player, bits in self.masks.items():
-            raw.masks[_place(player)] = bits
+            put_at(raw.masks, player, bits)
         return raw
 
 
@@ -47,6 +47,10 @@ def _place(player: int) -> int:
     if not 1 <= player <= PLAYERS:
         raise ValueError(f"there is no player {player}")
     return player - 1
+
+
+def put_at(to: Any, player: int, value: int) -> None:
+    to[_place(player)] = value
 
 
 class Plays(Owned):
@@ -172,6 +176,10 @@ class Plays(Owned):
             for at in range(count):
                 yield batch[at]
 
+    def _gone_on(self, call: Callable[[Any, Any], Any], frames: Any) -> bool:
+        """Whether the next epoch has begun, as a peer's call says."""
+        return said_or_nothing(call(self._at(), frames))
+
     def _guessed(self, player: int, words: Sequence[int], until: int) -> int | None:
         given = ffi.new("uint32_t[]", list(words) or [0])
         return self._asked_or_nothing(lib.fazgrond_guess, player, given, len(words), until)
@@ -186,8 +194,8 @@ class Plays(Owned):
 class Handle(Plays):
     """A session that leaves its requests to its caller.
 
-    Before the first request the game has its opening state as the current one and in slot 0. Whatever a call that rolls or a
-    guess answers, take all `requests` after it, and carry them out in their order: those of a job in their own time, on any
+    Before the first request the game has its opening state as the current one and in slot 0. Whatever a call that rolls, a guess or
+    `Peer.go_on` answers, take all `requests` after it, and carry them out in their order: those of a job in their own time, on any
     thread.
     """
 

@@ -6,11 +6,12 @@ from dataclasses import dataclass
 from typing import Any, NamedTuple
 
 from ._raw import ffi, lib
+from .epoch import put_owners
 from .errors import said, said_or_nothing
 from .handle import Plays
 from .numbers import NO_PLAYER, PLAYERS
 from .owned import Owned, written
-from .peer import CLOCK, drawn, put_owners
+from .peer import CLOCK, drawn
 from .rows import Row, row_of
 
 

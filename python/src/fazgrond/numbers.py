@@ -7,6 +7,8 @@ NO_PLAYER = 255
 MACHINES = 8
 DATAGRAM = 1200
 HELD_WORDS = 64
+NOBODY = 254
+AS_BEFORE = 0xffffffff
 GUESS_WORDS = 24
 PIECE = 1024
 ASKED = 16
@@ -95,6 +97,8 @@ class Answer(IntEnum):
     PAST_THE_END = 318
     WRONG_LENGTH = 319
     TOO_LONG = 320
+    NO_MARKS = 321
+    MARKED = 322
 
 
 class Happened(IntEnum):

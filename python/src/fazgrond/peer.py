@@ -7,9 +7,10 @@ from dataclasses import dataclass, fields
 from typing import Any, NamedTuple
 
 from ._raw import ffi, lib
+from .epoch import Ask, Epoch, Mark, ask_of, put_owners
 from .errors import Refused, said, said_or_nothing
 from .handle import Plays
-from .numbers import HELD_WORDS, MACHINES, PLAYERS, Answer, Happened
+from .numbers import HELD_WORDS, MACHINES, Answer, Happened
 from .owned import Owned, written
 from .rows import Reached
 from .session import Session
@@ -20,13 +21,6 @@ CLOCK = 0xFFFFFFFF  # a clock's milliseconds wrap
 def drawn() -> int:
     """64 bits of the system's random source, and never 0."""
     return secrets.randbelow((1 << 64) - 1) + 1
-
-
-def put_owners(to: Any, owners: Sequence[int]) -> None:
-    if len(owners) > PLAYERS:
-        raise ValueError(f"{len(owners)} players have an owner")
-    for at, owner in enumerate(owners):
-        to[at] = owner
 
 
 @dataclass
@@ -111,18 +105,30 @@ class Peer(Owned):
 
     In each turn hear what came by `receive`, give the session its own players' words once `is_running` says that the match has
     begun, make a `turn`, and `send` to each other machine; with `carries` in the match, send what `send_more` has too.
+
+    With an epoch the match goes on in epochs, beginning with this one, and carries; all machines are opened so, or none. The epoch says
+    the owners, the machines and the words of the match, and the session's threshold and its own players' delays are those of it. In
+    each turn, before the session is given words: `poll`, `answer` who asks to come (`ask`), and `go_on`. After `send` to a machine,
+    send it what `send_before` has too.
     """
 
-    def __init__(self, session: Plays, match: Match) -> None:
+    def __init__(self, session: Plays, match: Match, epoch: Epoch | None = None) -> None:
         super().__init__("peer", session._lock)
         self.session = session
         self._word = ffi.new("uint32_t *")
+        self._frames = ffi.new("uint32_t *")
         self._machine = ffi.new("uint8_t *")
         self._event = ffi.new("fazgrond_event *")
         self._has_begun = False  # that never ends
         with self._lock:
-            opening = lib.fazgrond_peer_open_carrying if match.carries else lib.fazgrond_peer_open
-            said(opening(self._at(), session._at(), match._raw()))
+            self._open(match, epoch)
+
+    def _open(self, match: Match, epoch: Epoch | None) -> None:
+        of = self._at(), self.session._at(), match._raw()
+        if epoch is not None:
+            said(lib.fazgrond_peer_open_lasting(*of, epoch._raw()))
+        else:
+            said((lib.fazgrond_peer_open_carrying if match.carries else lib.fazgrond_peer_open)(*of))
 
     def receive(self, datagram: bytes, now: int) -> None:
         """Takes a datagram that came, and gives the session the words in it. What is refused has changed nothing but what is
@@ -261,3 +267,46 @@ class Peer(Owned):
     def is_pressed(self) -> bool:
         """Whether the session would stand at its next frame without the words that wait."""
         return self._counted(lib.fazgrond_peer_is_pressed) != 0
+
+    def epoch(self) -> Epoch | None:
+        """How the epoch opened that is played now. At what frame of the whole match the session is: the epoch's base and the session's
+        frame, together. None if the match doesn't go on in epochs."""
+        epoch = ffi.new("fazgrond_epoch *")
+        with self._lock:
+            return Epoch._of(epoch) if said_or_nothing(lib.fazgrond_peer_epoch(self._at(), epoch)) else None
+
+    def mark(self, player: int, mark: Mark | None = None) -> None:
+        """Puts a mark on the next word that a player of this machine gives: the epoch ends after that frame. If another machine's mark
+        ends it before, this one is forgotten."""
+        with self._lock:
+            said(lib.fazgrond_peer_mark(self._at(), self.session._at(), player, (mark or Mark())._raw()))
+
+    def ask(self) -> Ask | None:
+        """Who asks to come by a mark, and wasn't answered yet: the epoch doesn't end before."""
+        ask = ffi.new("fazgrond_ask *")
+        with self._lock:
+            return ask_of(ask) if said_or_nothing(lib.fazgrond_peer_ask(self._at(), ask)) else None
+
+    def answer(self, player: int, is_welcome: bool) -> None:
+        """Says whether whoever is to come by this player's mark is welcome. All machines of the match have to say the same: go by the
+        ticket alone. Nothing happens if the match doesn't go on in epochs."""
+        with self._lock:
+            said_or_nothing(lib.fazgrond_peer_answer(self._at(), player, is_welcome))
+
+    def go_on(self) -> int | None:
+        """Goes on in the next epoch if this one is over, after `poll` in each turn: at what frame of it the session is. None if this
+        epoch isn't over, or the match doesn't go on in epochs.
+
+        The session has begun anew then, at the end of the epoch, and so has all that is counted by frames: settled rows, confirmed
+        words, the log. The words that this machine's players gave past the end are given again, and the frames past it are run again.
+        The jobs of the epoch before are over. A handle's requests are its caller's."""
+        with self._lock:
+            peer, frames = self._at(), self._frames
+            has_begun = self.session._gone_on(lambda session, out: lib.fazgrond_peer_go_on(peer, session, out), frames)
+            return int(frames[0]) if has_begun else None
+
+    def send_before(self, machine: int, now: int) -> bytes | None:
+        """What is to be sent, after `send`, to a machine that may still be in the epoch before. None if there is nothing."""
+        with self._lock:
+            peer, now = self._at(), now & CLOCK
+            return written(lambda out, room, length: lib.fazgrond_peer_send_before(peer, machine, now, out, room, length))

@@ -6,7 +6,7 @@ from collections.abc import Sequence
 from typing import TYPE_CHECKING, Any, Callable, Generic, Protocol, TypeVar
 
 from ._raw import lib
-from .errors import Refused, said
+from .errors import Refused, said, said_or_nothing
 from .handle import Plays, Settings, reached_of
 from .numbers import Answer, Kind
 from .rows import Reached, Row, row_of
@@ -132,10 +132,10 @@ class Session(Plays, Generic[S]):
         if not self._is_whole:
             raise Refused(Answer.PENDING)
 
-    def _rolled(self, call: Callable[[Any, Any], int], out: Any) -> int:
+    def _rolled(self, call: Callable[[Any, Any], Any], out: Any) -> int:
         """What a call that rolls answers; what it leaves is carried out."""
         self._forget_dropped()
-        code = call(self._at(), out)
+        code: int = call(self._at(), out)
         self._is_whole = False
         game = self.game
         for request in self._take():
@@ -150,6 +150,13 @@ class Session(Plays, Generic[S]):
                 self._slots[request.slot] = None
         self._is_whole = True
         return code
+
+    def _gone_on(self, call: Callable[[Any, Any], Any], frames: Any) -> bool:
+        """Whether the next epoch has begun, as a peer's call says. The jobs of the one before are over then."""
+        has_begun = said_or_nothing(self._rolled(call, frames))
+        if has_begun:
+            self._jobs.clear()
+        return has_begun
 
     def _put(self, slot: int, state: S | None) -> None:
         """The least free slots are always taken, so the next one is at most one more."""

@@ -95,10 +95,14 @@ pub enum Error {
     WrongLength = 319,
     /// The state has more bytes than the limit that the taker was given, or 2^32 or more.
     TooLong = 320,
+    /// The match doesn't go on in epochs, so that no word has a mark.
+    NoMarks = 321,
+    /// The player has a mark in this epoch already.
+    Marked = 322,
 }
 
 /// All of them. c/numbers writes the list.
-const ALL: [Error; 44] = [
+const ALL: [Error; 46] = [
     Error::InvalidPlayer,
     Error::PlayerOutOfRange,
     Error::PredictionThreshold,
@@ -143,6 +147,8 @@ const ALL: [Error; 44] = [
     Error::PastTheEnd,
     Error::WrongLength,
     Error::TooLong,
+    Error::NoMarks,
+    Error::Marked,
 ];
 
 /// Longer than each sentence of the library.

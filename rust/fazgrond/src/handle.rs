@@ -84,7 +84,7 @@ const ROOM: usize = 16;
 /// An open session that leaves its requests to be carried out by the caller. [`Session`](crate::Session) carries them out.
 ///
 /// Before the first request the game has its opening state as the current one and in slot 0. Whatever a roll
-/// ([`synchronize_input`](Handle::synchronize_input) or [`advance_frame`](Handle::advance_frame)) or a
+/// ([`synchronize_input`](Handle::synchronize_input), [`advance_frame`](Handle::advance_frame) or [`Peer::go_on`]) or a
 /// [`guess`](Handle::guess) answers, take all [`requests`](Handle::requests) after it, and carry them out in their order:
 /// those of a job in their own time, on any thread.
 #[derive(Debug)]

@@ -93,8 +93,10 @@
 //! A game that wants the requests themselves, to keep its states where it likes, opens a [`Handle`] in place of a session.
 //!
 //! A [`Peer`] is the network of a match, beside the session: it makes and takes datagrams, and tells the session of the others. A
-//! [`Viewer`] on another machine is sent a match's settled rows, by a [`Line`].
+//! match can go on with other machines, owners or delays, in [epochs](Epoch). A [`Viewer`] on another machine is sent a match's
+//! settled rows, by a [`Line`].
 
+mod epoch;
 mod error;
 mod habits;
 mod handle;
@@ -108,6 +110,7 @@ mod session;
 mod settings;
 mod state;
 
+pub use epoch::{Ask, Epoch, Mark};
 pub use error::Error;
 pub use habits::{Foreseen, Habits, GUESS_WORDS};
 pub use handle::{Entry, Handle, Heard, Reached, Request, Requests};

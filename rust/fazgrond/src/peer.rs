@@ -1,9 +1,11 @@
+use crate::epoch::{Ask, Epoch, Mark};
 use crate::error::{said, Error};
 use crate::handle::{numbered, Handle, Reached};
 use crate::owned::{answered, Owned};
 use crate::raw;
 use crate::row::PLAYERS;
 use crate::session::{Game, Session};
+use crate::settings::Settings;
 use std::fmt;
 use std::mem::size_of;
 use std::ops::Deref;
@@ -100,6 +102,21 @@ impl Match {
     /// session is given them as they come.
     pub fn held_turns(self, turns: u32) -> Match {
         Match { held_turns: turns, ..self }
+    }
+
+    /// The first epoch of it, whose sessions have these settings.
+    pub(crate) fn first_epoch(&self, settings: &Settings) -> raw::Epoch {
+        let (threshold, delays) = settings.of_epoch();
+        raw::Epoch {
+            size: size_of::<raw::Epoch>() as u32,
+            words: self.words,
+            threshold,
+            machines: self.machines,
+            id: 0,
+            base: 0,
+            owners: self.owners,
+            delays,
+        }
     }
 }
 
@@ -323,8 +340,15 @@ pub struct RemoteWord {
 pub const HELD_WORDS: usize = 64;
 
 mod sealed {
+    use crate::error::Error;
+    use crate::handle::Handle;
+
     pub trait Sealed {
         fn raw(&self) -> *mut crate::raw::Session;
+
+        /// Makes the call that goes on in the next epoch, and carries out what it asks for, if that isn't the caller's.
+        fn go_on(&mut self, call: impl FnOnce(&mut Handle) -> Result<Option<u32>, Error>)
+            -> Result<Option<u32>, Error>;
     }
 }
 
@@ -335,6 +359,10 @@ impl sealed::Sealed for Handle {
     fn raw(&self) -> *mut raw::Session {
         Handle::raw(self)
     }
+
+    fn go_on(&mut self, call: impl FnOnce(&mut Handle) -> Result<Option<u32>, Error>) -> Result<Option<u32>, Error> {
+        call(self)
+    }
 }
 
 impl Plays for Handle {}
@@ -342,6 +370,10 @@ impl Plays for Handle {}
 impl<G: Game> sealed::Sealed for Session<G> {
     fn raw(&self) -> *mut raw::Session {
         self.handle().raw()
+    }
+
+    fn go_on(&mut self, call: impl FnOnce(&mut Handle) -> Result<Option<u32>, Error>) -> Result<Option<u32>, Error> {
+        Session::go_on(self, call)
     }
 }
 
@@ -422,6 +454,24 @@ impl Peer {
     pub fn open_carrying(session: &mut impl Plays, of: &Match) -> Result<Peer, Error> {
         let peer = Peer { owned: Owned::closed() };
         said(unsafe { raw::fazgrond_peer_open_carrying(peer.raw(), session.raw(), of) })?;
+        Ok(peer)
+    }
+
+    /// The same of a peer that carries, and whose match goes on in epochs, beginning with this one. All machines of a match are opened
+    /// so, or none. The epoch says the owners, the machines and the words of the match. The session's threshold, and the delays of its
+    /// own players, are those of the epoch; else it is refused with [`Error::InvalidRequest`]. Who comes later opens with what the
+    /// others' [`epoch`](Peer::epoch) says once its epoch has begun.
+    ///
+    /// In each turn, before the session is given its own players' words: hear what came, [`poll`](Peer::poll),
+    /// [`answer`](Peer::answer) who [`asks`](Peer::ask) to come, and [`go on`](Peer::go_on). After [`send`](Peer::send) send each
+    /// machine what [`send_before`](Peer::send_before) has for it too.
+    ///
+    /// # Panics
+    ///
+    /// If the epoch has more than 8 owners or delays.
+    pub fn open_lasting(session: &mut impl Plays, of: &Match, epoch: &Epoch) -> Result<Peer, Error> {
+        let peer = Peer { owned: Owned::closed() };
+        said(unsafe { raw::fazgrond_peer_open_lasting(peer.raw(), session.raw(), of, &epoch.raw()) })?;
         Ok(peer)
     }
 
@@ -570,5 +620,54 @@ impl Peer {
     /// a local word with [`Error::PredictionThreshold`], unless it is given more.
     pub fn is_pressed(&self, session: &impl Plays) -> bool {
         answered(|out| unsafe { raw::fazgrond_peer_is_pressed(self.raw(), session.raw(), out) }).unwrap_or(0u32) != 0
+    }
+
+    /// How the epoch opened that is played now. At what frame of the whole match the session is: the epoch's base and the session's
+    /// frame, together. None if the match doesn't go on in epochs.
+    pub fn epoch(&self) -> Option<Epoch> {
+        answered(|out| unsafe { raw::fazgrond_peer_epoch(self.raw(), out) }).map(|raw| Epoch::of(&raw))
+    }
+
+    /// Puts a mark on the next word that a player of this machine gives: the epoch ends after that frame. If another machine's mark ends
+    /// it before, this one is forgotten. Refused with [`Error::Marked`] if the player has a mark in this epoch already, and with
+    /// [`Error::InvalidPlayer`] if it isn't the first word of an input of this machine.
+    pub fn mark(&mut self, session: &impl Plays, player: u8, mark: &Mark) -> Result<(), Error> {
+        said(unsafe { raw::fazgrond_peer_mark(self.raw(), session.raw(), player, mark) })
+    }
+
+    /// Who asks to come by a mark, and wasn't answered yet: the epoch doesn't end before.
+    pub fn ask(&self) -> Option<Ask> {
+        answered(|out| unsafe { raw::fazgrond_peer_ask(self.raw(), out) }).map(|raw| Ask::of(&raw))
+    }
+
+    /// Says whether whoever is to come by this player's mark is welcome. All machines of the match have to say the same: go by the
+    /// ticket alone. Nothing happens if the match doesn't go on in epochs.
+    pub fn answer(&mut self, player: u8, is_welcome: bool) {
+        let _lasts = unsafe { raw::fazgrond_peer_answer(self.raw(), player, is_welcome.into()) };
+    }
+
+    /// Goes on in the next epoch if this one is over, after [`poll`](Peer::poll) in each turn, and answers at what frame of it the session
+    /// is. None if this epoch isn't over, or the match doesn't go on in epochs.
+    ///
+    /// The session has begun anew then, at the end of the epoch, and so has all that is counted by frames: settled rows, confirmed words,
+    /// the log. The words that this machine's players gave past the end are given again, and the frames past it are run again. The jobs
+    /// of the epoch before are over: what is grafted of them is refused with [`Error::NoJob`]. A [`Handle`]'s requests are
+    /// its caller's: carry them out as those of a rollback.
+    ///
+    /// Refused as a session or a peer that is opened, and nothing is changed then: with [`Error::InvalidRequest`] if the others go on
+    /// without this machine, since it has left for them.
+    pub fn go_on(&mut self, session: &mut impl Plays) -> Result<Option<u32>, Error> {
+        session.go_on(|handle| {
+            let mut frames = 0;
+            numbered(unsafe { raw::fazgrond_peer_go_on(self.raw(), handle.raw(), &mut frames) }, &frames)
+        })
+    }
+
+    /// What is to be sent, after [`send`](Peer::send), to a machine that may still be in the epoch before. None if there is nothing.
+    pub fn send_before(&mut self, machine: u8, now: u32) -> Option<Datagram> {
+        let made = Datagram::written(|out, room, length| unsafe {
+            raw::fazgrond_peer_send_before(self.raw(), machine, now, out, room, length)
+        });
+        made.unwrap_or(None)
     }
 }

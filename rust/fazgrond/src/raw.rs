@@ -1,5 +1,6 @@
 //! What c/fazgrond.h declares. It is written by rust/declare.
 #![allow(dead_code)]
+use crate::epoch::Mark;
 use crate::habits::Foreseen;
 use crate::handle::Reached;
 use crate::line::LineSettings;
@@ -72,6 +73,27 @@ pub struct Stats {
 
 #[repr(C)]
 #[derive(Default)]
+pub struct Epoch {
+    pub size: u32,
+    pub words: u32,
+    pub threshold: u32,
+    pub machines: u32,
+    pub id: u64,
+    pub base: u64,
+    pub owners: [u32; PLAYERS],
+    pub delays: [u32; PLAYERS],
+}
+
+#[repr(C)]
+#[derive(Default)]
+pub struct Ask {
+    pub ticket: u64,
+    pub player: u32,
+    pub comes: [u32; PLAYERS],
+}
+
+#[repr(C)]
+#[derive(Default)]
 pub struct LineState {
     pub rows: u32,
     pub settled: u32,
@@ -101,6 +123,8 @@ pub const NO_PLAYER: u32 = 255;
 pub const MACHINES: usize = 8;
 pub const DATAGRAM: usize = 1200;
 pub const HELD_WORDS: usize = 64;
+pub const NOBODY: u32 = 254;
+pub const AS_BEFORE: u32 = 0xffffffff;
 pub const GUESS_WORDS: usize = 24;
 pub const PIECE: usize = 1024;
 pub const ASKED: usize = 16;
@@ -173,6 +197,8 @@ pub const NOT_NOW: i32 = 317;
 pub const PAST_THE_END: i32 = 318;
 pub const WRONG_LENGTH: i32 = 319;
 pub const TOO_LONG: i32 = 320;
+pub const NO_MARKS: i32 = 321;
+pub const MARKED: i32 = 322;
 
 pub const SYNCHRONIZING: u32 = 1001;
 pub const SYNCHRONIZED: u32 = 1002;
@@ -270,6 +296,25 @@ unsafe extern "C" {
     pub fn fazgrond_peer_hand_over(peer: *mut Peer, session: *mut Session, count: u32) -> i32;
     pub fn fazgrond_peer_hand_over_due(peer: *mut Peer, session: *mut Session, handed: *mut u32) -> i32;
     pub fn fazgrond_peer_is_pressed(peer: *mut Peer, session: *mut Session, flag: *mut u32) -> i32;
+    pub fn fazgrond_peer_open_lasting(
+        peer: *mut Peer,
+        session: *mut Session,
+        of: *const Match,
+        epoch: *const Epoch,
+    ) -> i32;
+    pub fn fazgrond_peer_epoch(peer: *mut Peer, epoch: *mut Epoch) -> i32;
+    pub fn fazgrond_peer_mark(peer: *mut Peer, session: *mut Session, player: u8, mark: *const Mark) -> i32;
+    pub fn fazgrond_peer_ask(peer: *mut Peer, ask: *mut Ask) -> i32;
+    pub fn fazgrond_peer_answer(peer: *mut Peer, player: u8, is_welcome: u32) -> i32;
+    pub fn fazgrond_peer_go_on(peer: *mut Peer, session: *mut Session, frames: *mut u32) -> i32;
+    pub fn fazgrond_peer_send_before(
+        peer: *mut Peer,
+        machine: u8,
+        now: u32,
+        out: *mut u8,
+        room: usize,
+        length: *mut usize,
+    ) -> i32;
     pub fn fazgrond_line_open(line: *mut Line, settings: *const LineSettings) -> i32;
     pub fn fazgrond_line_receive(line: *mut Line, bytes: *const u8, length: usize, now: u32) -> i32;
     pub fn fazgrond_line_send(

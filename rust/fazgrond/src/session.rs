@@ -268,8 +268,20 @@ impl<G: Game> Session<G> {
         self.handle.input_frame(player)
     }
 
+    /// Goes on in the next epoch of a match, if a peer says so. Then the jobs of the one before are over.
+    pub(crate) fn go_on(
+        &mut self,
+        call: impl FnOnce(&mut Handle) -> Result<Option<u32>, Error>,
+    ) -> Result<Option<u32>, Error> {
+        let frames = self.roll(call)?;
+        if frames.is_some() {
+            self.jobs = Jobs::default();
+        }
+        Ok(frames)
+    }
+
     /// Makes a call that rolls, and carries out what it asks for.
-    fn roll<T>(&mut self, call: fn(&mut Handle) -> Result<T, Error>) -> Result<T, Error> {
+    fn roll<T>(&mut self, call: impl FnOnce(&mut Handle) -> Result<T, Error>) -> Result<T, Error> {
         self.forget_dropped()?;
         self.is_whole = false;
         let answer = call(&mut self.handle);

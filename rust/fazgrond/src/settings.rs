@@ -81,9 +81,14 @@ impl Settings {
     pub fn log(self, calls: u32) -> Settings {
         Settings { log: calls, ..self }
     }
+
+    /// What an epoch has of them too: the threshold, and the delays.
+    pub(crate) fn of_epoch(&self) -> (u32, [u32; PLAYERS]) {
+        (self.threshold, self.delays)
+    }
 }
 
-fn place_of(player: u8) -> usize {
+pub(crate) fn place_of(player: u8) -> usize {
     assert!((1..=PLAYERS).contains(&player.into()), "there is no player {player}");
     usize::from(player) - 1
 }

@@ -1,0 +1,1557 @@
+/* Matches that go on in epochs: what the calls answer and refuse; seams by marks that change nothing, a delay or the threshold, by two
+ * marks at once and many one after another, beside a machine that stops, over broken lines, under loss and with words held back; who
+ * asks to come; and worlds that were drawn. Which rows each machine has settled in which epoch, by which mark an epoch ended and how the
+ * next one opened, is compared with that of the others, with the words that the players gave, and with what the marks say; each state
+ * with that of the game that is run once over the rows. The last line is `N passed, M failed`. `epochs COUNT [SEED]` draws so many
+ * worlds, in place of 60; `epochs few` plays few of each kind, `epochs each` one; `epochs long` plays on past the last frame that a session
+ * has. */
+#include <fazgrond.h>
+#include <setjmp.h>
+#include <stdbool.h>
+#include <stdio.h>
+#include <stdlib.h>
+#include <string.h>
+
+#define IS(got, wanted) is((int64_t)(got), (int64_t)(wanted), __LINE__)
+#define OK(call) IS(call, FAZGROND_OK)
+
+static const char *of_what = "";
+static uint32_t of_one, of_two;
+static unsigned passed, failed;
+static jmp_buf way_out;
+
+/* What isn't as it has to be ends its case. */
+static void is(int64_t got, int64_t wanted, int line) {
+    if (got == wanted)
+        return;
+    fprintf(stderr, "%s (%u, %u), line %d: %lld, not %lld\n", of_what, (unsigned)of_one, (unsigned)of_two, line, (long long)got,
+            (long long)wanted);
+    longjmp(way_out, 1);
+}
+
+/* ---- A match, whose turns take 16 milliseconds. */
+
+enum { MOST = 5, SLOTS = 64, KEPT = 4096, EPOCHS = 64, MARKS = 256, PLANS = 16, UNDER_WAY = 1024, TURN = 16, MOST_DELAY = 8 };
+
+typedef struct datagram {
+    uint32_t due;
+    size_t length;
+    uint8_t bytes[FAZGROND_DATAGRAM];
+} datagram;
+
+/* The game: a digest of all rows, and how many frames of the match they are. */
+typedef struct state {
+    uint64_t mixed, frame;
+} state;
+
+/* A frame of the match that a machine has settled: in which of its epochs, by which row, and to which state it led. */
+typedef struct record {
+    uint32_t epoch;
+    fazgrond_row row;
+    state after;
+} record;
+
+/* A machine: its game, with the states that it has saved; the epochs that it has seen; what it has settled, and that game run once;
+ * the row of each frame as it ran last; each own player's word of each frame, and of how many frames it has one. Of frames of the match
+ * the last KEPT are there. */
+typedef struct machine {
+    fazgrond_session session;
+    fazgrond_peer peer;
+    bool is_here, was_running, is_closing;
+    state now, saved[SLOTS], serial;
+    bool is_used[SLOTS];
+    fazgrond_epoch epochs[EPOCHS];
+    uint32_t epoch_count, seam_turns[EPOCHS];
+    uint64_t from, settled; /* its first frame of the match, and the one after the last that it has settled */
+    record records[KEPT];
+    fazgrond_row shown[KEPT];
+    uint32_t given[FAZGROND_PLAYERS][KEPT], gave[FAZGROND_PLAYERS];
+    uint64_t known[FAZGROND_PLAYERS];
+    uint32_t refused_at[KEPT], stood_at[KEPT]; /* of each turn: whether a word was refused in it, or no frame was run */
+    uint32_t wait, left[MOST];
+    datagram line[UNDER_WAY];
+    size_t on_the_way;
+} machine;
+
+enum { NOBODY_ANSWERS, ALL_REFUSE, ALL_WELCOME };
+
+/* How a match is played. Datagrams come `latency` turns later, or up to `jitter` more; of 100 `loss` are lost. */
+typedef struct terms {
+    uint32_t machines, players, words, threshold, limit, held_turns, silent_after;
+    uint32_t owners[FAZGROND_PLAYERS], delays[FAZGROND_PLAYERS];
+    uint32_t frames, latency, jitter, loss, answers;
+} terms;
+
+/* A mark that a machine has put on a word: in which epoch, and on that of which frame of it. */
+typedef struct made {
+    uint64_t id;
+    uint32_t machine, player, frame;
+    fazgrond_mark mark;
+} made;
+
+/* A mark that is still to be put, in a turn. */
+typedef struct plan {
+    uint32_t turn, machine, player;
+    fazgrond_mark mark;
+} plan;
+
+static terms with;
+static machine all[MOST];
+static bool is_cut[MOST][MOST];
+static uint32_t turn, openings;
+static made marks[MARKS];
+static uint32_t marks_made;
+static plan plans[PLANS];
+static uint32_t plans_made;
+static uint64_t agreed;       /* up to which frame of the match the machines were compared */
+static uint32_t seams_agreed; /* and how many seams */
+static uint64_t seed;
+
+static uint32_t below(uint32_t count) {
+    seed = seed * 6364136223846793005u + 1442695040888963407u;
+    return (uint32_t)(seed >> 33) % count;
+}
+
+/* So many machines with a player each, and a line of two turns that loses nothing. */
+static terms terms_for(uint32_t machines) {
+    terms of = { .machines = machines, .players = machines, .words = 1, .threshold = 8, .limit = 1048576, .silent_after = 1000 };
+    for (uint32_t at = 0; at < FAZGROND_PLAYERS; at++)
+        of.owners[at] = at < machines ? at : FAZGROND_NO_PLAYER;
+    of.frames = 300;
+    of.latency = 2;
+    of.answers = ALL_WELCOME;
+    return of;
+}
+
+/* Each machine has a clock of its own. */
+static uint32_t now_of(uint32_t me) { return turn * TURN + me * 1000003; }
+
+static fazgrond_epoch *epoch_of(machine *self) { return &self->epochs[self->epoch_count - 1]; }
+
+static uint32_t frame_of(machine *self) {
+    uint32_t frame;
+    OK(fazgrond_frame(&self->session, &frame));
+    return frame;
+}
+
+/* The frame of the match that a machine shows. */
+static uint64_t shown_of(machine *self) { return epoch_of(self)->base + frame_of(self); }
+
+/* Who owns a player in the epoch in which a machine is. */
+static uint32_t owner_of(machine *self, uint32_t player) { return epoch_of(self)->owners[player]; }
+
+static bool is_own(uint32_t me, uint32_t player) { return owner_of(&all[me], player) == me; }
+
+/* ---- The game. */
+
+static state stepped(state from, const fazgrond_row *row) {
+    for (uint32_t at = 0; at < row->count; at++)
+        from.mixed = (from.mixed ^ ((row->gone >> at & 1) != 0 ? 99 : row->words[at])) * 0x100000001b3 + 1;
+    from.frame++;
+    return from;
+}
+
+static bool is_same_state(state one, state other) { return one.mixed == other.mixed && one.frame == other.frame; }
+
+static bool is_same_row(const fazgrond_row *one, const fazgrond_row *other) {
+    return one->count == other->count && one->gone == other->gone
+        && memcmp(one->words, other->words, one->count * sizeof *one->words) == 0;
+}
+
+static bool is_gone(const fazgrond_row *row, uint32_t player) { return (row->gone >> player & 1) != 0; }
+
+/* The next settled row, in the epoch at this place. Whom nobody owns is gone in it, and who is gone gives no word. */
+static void keep(machine *self, uint32_t epoch, const fazgrond_row *row) {
+    record *next = &self->records[self->settled % KEPT];
+    IS(row->count, with.players);
+    for (uint32_t player = 0; player < with.players; player++) {
+        IS(self->epochs[epoch].owners[player] != FAZGROND_NOBODY || is_gone(row, player), true);
+        IS(!is_gone(row, player) || row->words[player] == 0, true);
+    }
+    self->serial = stepped(self->serial, row);
+    *next = (record){ epoch, *row, self->serial };
+    self->settled++;
+}
+
+/* At the end of an epoch the game has the state after all of its rows. */
+static void end_epoch(machine *self) {
+    IS(self->settled <= self->now.frame, true);
+    while (self->settled < self->now.frame)
+        keep(self, self->epoch_count - 2, &self->shown[self->settled % KEPT]);
+    IS(is_same_state(self->now, self->serial), true);
+    self->is_closing = false;
+}
+
+static bool uses_none(const machine *self) {
+    for (uint32_t slot = 0; slot < SLOTS; slot++)
+        if (self->is_used[slot])
+            return false;
+    return true;
+}
+
+/* The last state of an epoch that ends goes into slot 0, when all are free. */
+static void save(machine *self, uint32_t slot) {
+    bool is_last = self->is_closing && slot == 0 && uses_none(self) && self->now.frame == epoch_of(self)->base;
+    IS(slot < SLOTS && !self->is_used[slot], true);
+    self->saved[slot] = self->now;
+    self->is_used[slot] = true;
+    if (is_last)
+        end_epoch(self);
+}
+
+static void load(machine *self, uint32_t slot) {
+    IS(slot < SLOTS && self->is_used[slot], true);
+    self->now = self->saved[slot];
+}
+
+static void step(machine *self, const fazgrond_row *row) {
+    self->shown[self->now.frame % KEPT] = *row;
+    self->now = stepped(self->now, row);
+}
+
+static void set_free(machine *self, uint32_t slot) {
+    IS(slot < SLOTS && self->is_used[slot], true);
+    self->is_used[slot] = false;
+}
+
+static void carry_out_all(machine *self) {
+    fazgrond_request request;
+    while (fazgrond_take_requests(&self->session, &request, 1) > 0)
+        switch (request.kind) {
+        case FAZGROND_LOAD: load(self, request.slot); break;
+        case FAZGROND_SAVE: save(self, request.slot); break;
+        case FAZGROND_STEP: step(self, &request.row); break;
+        case FAZGROND_FREE: set_free(self, request.slot); break;
+        default: IS(request.kind, 0);
+        }
+    IS(self->is_closing, false);
+    IS(self->now.frame, shown_of(self));
+}
+
+/* What is settled by now. The state in its slot is that of the game that is run once. */
+static void see_settled(machine *self) {
+    uint32_t frame, slot;
+    fazgrond_row row;
+    OK(fazgrond_settled_slot(&self->session, &frame, &slot));
+    while (self->settled < epoch_of(self)->base + frame) {
+        OK(fazgrond_settled_row(&self->session, (uint32_t)(self->settled - epoch_of(self)->base), &row));
+        keep(self, self->epoch_count - 1, &row);
+    }
+    IS(slot < SLOTS && self->is_used[slot], true);
+    IS(is_same_state(self->saved[slot], self->serial), true);
+}
+
+/* ---- Its machines. */
+
+static fazgrond_epoch first_epoch(void) {
+    fazgrond_epoch epoch = { .size = sizeof epoch, .words = with.words, .threshold = with.threshold, .machines = with.machines };
+    memcpy(epoch.owners, with.owners, sizeof epoch.owners);
+    memcpy(epoch.delays, with.delays, sizeof epoch.delays);
+    return epoch;
+}
+
+static fazgrond_match match_of(uint32_t me) {
+    fazgrond_match match = fazgrond_match_for(with.machines, me);
+    match.draw = ++openings;
+    match.held_turns = with.held_turns;
+    match.silent_after = with.silent_after;
+    match.words = with.words;
+    fazgrond_one_number(&match, 7);
+    memcpy(match.owners, with.owners, sizeof match.owners);
+    return match;
+}
+
+static fazgrond_settings settings_in(uint32_t me, const fazgrond_epoch *epoch) {
+    fazgrond_settings settings = fazgrond_settings_for(with.players);
+    settings.threshold = epoch->threshold;
+    settings.limit = with.limit;
+    for (uint32_t player = 0; player < with.players; player++)
+        if (epoch->owners[player] == me) {
+            settings.local |= 1u << player;
+            settings.delays[player] = epoch->delays[player];
+        }
+    return settings;
+}
+
+/* A word that counts in a frame of an epoch is known of each own player: those before its first one are 0. */
+static void knows_first_words(uint32_t me, const fazgrond_epoch *epoch) {
+    machine *self = &all[me];
+    for (uint32_t player = 0; player < with.players; player++)
+        self->known[player] = epoch->base + (epoch->owners[player] == me ? epoch->delays[player] : 0);
+}
+
+static void open_session(uint32_t me, const fazgrond_epoch *epoch, state opening) {
+    machine *self = &all[me];
+    fazgrond_settings settings = settings_in(me, epoch);
+    memset(self, 0, sizeof *self);
+    self->now = self->saved[0] = self->serial = opening;
+    self->is_used[0] = self->is_here = true;
+    self->from = self->settled = epoch->base;
+    self->epochs[0] = *epoch;
+    self->epoch_count = 1;
+    knows_first_words(me, epoch);
+    OK(fazgrond_open(&self->session, &settings));
+}
+
+static void open_machine(uint32_t me, const fazgrond_epoch *epoch, state opening) {
+    machine *self = &all[me];
+    fazgrond_match match = match_of(me);
+    open_session(me, epoch, opening);
+    OK(fazgrond_peer_open_lasting(&self->peer, &self->session, &match, epoch));
+    OK(fazgrond_peer_epoch(&self->peer, epoch_of(self)));
+    fazgrond_epoch said = *epoch_of(self);
+    said.machines = epoch->machines; /* which wasn't read */
+    IS(memcmp(&said, epoch, sizeof said), 0);
+}
+
+static void begin(terms of) {
+    with = of;
+    turn = marks_made = plans_made = seams_agreed = 0;
+    agreed = 0;
+    memset(is_cut, 0, sizeof is_cut);
+}
+
+static void open_all(terms of) {
+    begin(of);
+    fazgrond_epoch epoch = first_epoch();
+    for (uint32_t me = 0; me < with.machines; me++)
+        open_machine(me, &epoch, (state){ 1, 0 });
+}
+
+static void close_machine(machine *self) {
+    fazgrond_peer_close(&self->peer);
+    fazgrond_close(&self->session);
+    self->is_here = false;
+    self->on_the_way = 0;
+}
+
+static void close_all(void) {
+    for (uint32_t me = 0; me < MOST; me++)
+        close_machine(&all[me]);
+}
+
+/* ---- Marks. */
+
+static fazgrond_mark mark_of_nothing(void) {
+    fazgrond_mark mark = { .size = sizeof mark };
+    for (uint32_t player = 0; player < FAZGROND_PLAYERS; player++)
+        mark.delays[player] = FAZGROND_AS_BEFORE;
+    return mark;
+}
+
+/* The delay of a player, with all words of its input. */
+static fazgrond_mark mark_of_delay(uint32_t player, uint32_t delay) {
+    fazgrond_mark mark = mark_of_nothing();
+    for (uint32_t at = 0; at < with.words; at++)
+        mark.delays[player + at] = delay;
+    return mark;
+}
+
+static fazgrond_mark mark_of_threshold(uint32_t threshold) {
+    fazgrond_mark mark = mark_of_nothing();
+    mark.threshold = threshold;
+    return mark;
+}
+
+static fazgrond_mark mark_of_who_comes(uint32_t player, uint64_t ticket) {
+    fazgrond_mark mark = mark_of_nothing();
+    mark.comes[player] = 1;
+    mark.ticket = ticket;
+    return mark;
+}
+
+static bool brings_somebody(const fazgrond_mark *mark) {
+    for (uint32_t player = 0; player < FAZGROND_PLAYERS; player++)
+        if (mark->comes[player] != 0)
+            return true;
+    return false;
+}
+
+/* Puts a mark on the next word of a player, counted from 0, and remembers it if it is taken. */
+static int32_t put(uint32_t me, uint32_t player, fazgrond_mark mark) {
+    machine *self = &all[me];
+    made *next = &marks[marks_made];
+    int32_t code = fazgrond_peer_mark(&self->peer, &self->session, (uint8_t)(player + 1), &mark);
+    if (code != FAZGROND_OK)
+        return code;
+    IS(marks_made < MARKS - 1, true);
+    *next = (made){ epoch_of(self)->id, me, player, 0, mark };
+    OK(fazgrond_input_frame(&self->session, (uint8_t)(player + 1), &next->frame));
+    marks_made++;
+    return code;
+}
+
+static void put_planned(uint32_t me) {
+    for (uint32_t at = 0; at < plans_made; at++)
+        if (plans[at].turn == turn && plans[at].machine == me) {
+            int32_t code = put(me, plans[at].player, plans[at].mark);
+            IS(code == FAZGROND_MARKED ? FAZGROND_OK : code, FAZGROND_OK);
+        }
+}
+
+/* ---- A turn. */
+
+static void post(uint32_t from, uint32_t to, const uint8_t *bytes, size_t length) {
+    machine *other = &all[to];
+    if (is_cut[from][to] || !other->is_here || below(100) < with.loss)
+        return;
+    IS(other->on_the_way < UNDER_WAY, true);
+    datagram *sent = &other->line[other->on_the_way++];
+    sent->due = turn + with.latency + below(with.jitter + 1);
+    sent->length = length;
+    memcpy(sent->bytes, bytes, length);
+}
+
+/* What came in this turn; the rest stays in its order. It may be of an epoch that is forgotten, or of who is gone. */
+static void hear(uint32_t me) {
+    machine *self = &all[me];
+    size_t rest = 0;
+    for (size_t at = 0; at < self->on_the_way; at++) {
+        datagram *one = &self->line[at];
+        if (one->due > turn) {
+            if (rest != at)
+                self->line[rest] = *one;
+            rest++;
+            continue;
+        }
+        int32_t code = fazgrond_peer_receive(&self->peer, &self->session, one->bytes, one->length, now_of(me));
+        IS(code == FAZGROND_NOT_SEALED || code == FAZGROND_MACHINE_GONE ? FAZGROND_OK : code, FAZGROND_OK);
+    }
+    self->on_the_way = rest;
+}
+
+static void answer_all(machine *self) {
+    fazgrond_ask ask;
+    while (with.answers != NOBODY_ANSWERS && fazgrond_peer_ask(&self->peer, &ask) == FAZGROND_OK)
+        OK(fazgrond_peer_answer(&self->peer, (uint8_t)ask.player, with.answers == ALL_WELCOME));
+}
+
+/* Of each own player the words past the end are those that it gave, as many as count by the new delay; where it gave fewer, the last
+ * one again. */
+static void give_again(uint32_t me, uint32_t frames) {
+    machine *self = &all[me];
+    for (uint32_t player = 0; player < with.players; player++) {
+        if (!is_own(me, player))
+            continue;
+        uint64_t until = epoch_of(self)->base + frames + epoch_of(self)->delays[player], at = self->known[player];
+        uint32_t last = at > 0 ? self->given[player][(at - 1) % KEPT] : 0;
+        for (; at < until; at++)
+            self->given[player][at % KEPT] = last;
+        self->known[player] = until;
+    }
+}
+
+/* Before the requests are taken nothing rolls. */
+static void waits_for_its_requests(machine *self) {
+    fazgrond_reached reached;
+    uint32_t frames = 77;
+    int32_t code = fazgrond_peer_go_on(&self->peer, &self->session, &frames);
+    IS(code == FAZGROND_PENDING || code == FAZGROND_NOTHING, true);
+    IS(frames, 77);
+    IS(fazgrond_advance_frame(&self->session, &reached), FAZGROND_PENDING);
+}
+
+/* The next epoch begins: the frame that is shown stays, unless the session may not run so far ahead any more. */
+static void begin_epoch(uint32_t me, uint64_t before, uint32_t frames) {
+    machine *self = &all[me];
+    uint32_t threshold = epoch_of(self)->threshold;
+    uint64_t base = epoch_of(self)->base;
+    IS(self->epoch_count < EPOCHS, true);
+    self->seam_turns[self->epoch_count] = turn;
+    OK(fazgrond_peer_epoch(&self->peer, &self->epochs[self->epoch_count++]));
+    IS(epoch_of(self)->base > base && epoch_of(self)->base >= self->settled, true);
+    IS(frame_of(self), frames);
+    IS(shown_of(self) <= before, true);
+    if (epoch_of(self)->threshold >= threshold)
+        IS(shown_of(self), before);
+    waits_for_its_requests(self);
+    self->is_closing = true;
+    carry_out_all(self);
+    give_again(me, frames);
+    see_settled(self);
+}
+
+static void go_on(uint32_t me) {
+    machine *self = &all[me];
+    uint64_t before = shown_of(self);
+    uint32_t frames = 77;
+    int32_t code = fazgrond_peer_go_on(&self->peer, &self->session, &frames);
+    if (code == FAZGROND_OK) {
+        begin_epoch(me, before, frames);
+    } else {
+        IS(code, FAZGROND_NOTHING);
+        IS(frames, 77);
+    }
+}
+
+static void hand_over(machine *self) {
+    uint32_t handed, is_pressed;
+    if (with.held_turns == 0)
+        return;
+    OK(fazgrond_peer_is_pressed(&self->peer, &self->session, &is_pressed));
+    if (is_pressed != 0)
+        OK(fazgrond_peer_hand_over(&self->peer, &self->session, FAZGROND_HELD_WORDS));
+    OK(fazgrond_peer_hand_over_due(&self->peer, &self->session, &handed));
+}
+
+/* A player's words: each names it, and the later ones are the greater ones. */
+static uint32_t word_of(const machine *self, uint32_t player) {
+    return (player + 1) << 24 | (self->gave[player] / (player + 1) + 1);
+}
+
+/* A word of an own player, in the frame that its delay says. */
+static int32_t give(machine *self, uint32_t player) {
+    uint32_t frame, word = word_of(self, player);
+    OK(fazgrond_input_frame(&self->session, (uint8_t)(player + 1), &frame));
+    IS(epoch_of(self)->base + frame, self->known[player]);
+    IS(frame, frame_of(self) + epoch_of(self)->delays[player]);
+    int32_t code = fazgrond_add_local_input(&self->session, (uint8_t)(player + 1), word);
+    if (code == FAZGROND_OK) {
+        self->given[player][self->known[player]++ % KEPT] = word;
+        self->gave[player]++;
+    }
+    return code;
+}
+
+/* A word of each own player: all are taken, or none since the session is too far ahead. */
+static int32_t give_all(uint32_t me) {
+    int32_t code = FAZGROND_LOCAL_INPUT_MISSING;
+    for (uint32_t player = 0; player < with.players; player++) {
+        if (!is_own(me, player))
+            continue;
+        int32_t next = give(&all[me], player);
+        IS(code == FAZGROND_LOCAL_INPUT_MISSING ? next : code, next);
+        IS(next == FAZGROND_PREDICTION_THRESHOLD ? FAZGROND_OK : next, FAZGROND_OK);
+        code = next;
+    }
+    return code;
+}
+
+static void play(uint32_t me) {
+    machine *self = &all[me];
+    fazgrond_reached reached;
+    fazgrond_row row;
+    uint32_t has_news;
+    int32_t given = FAZGROND_LOCAL_INPUT_MISSING;
+    if (self->wait > 0)
+        self->wait--;
+    else if (shown_of(self) < with.frames)
+        given = give_all(me);
+    self->refused_at[turn % KEPT] = given == FAZGROND_PREDICTION_THRESHOLD;
+    self->stood_at[turn % KEPT] = given != FAZGROND_OK;
+    OK(fazgrond_has_news(&self->session, &has_news));
+    if (given == FAZGROND_OK)
+        OK(fazgrond_advance_frame(&self->session, &reached));
+    else if (has_news != 0)
+        OK(fazgrond_synchronize_input(&self->session, &row));
+    carry_out_all(self);
+    see_settled(self);
+    OK(fazgrond_peer_note_settled(&self->peer, &self->session, self->serial.mixed));
+}
+
+/* Nobody who is there is gone, plays another game or is refused. */
+static void hear_events(machine *self) {
+    fazgrond_event event;
+    while (fazgrond_peer_event(&self->peer, &event) == FAZGROND_OK) {
+        self->wait = event.code == FAZGROND_TIME_SYNC ? event.frames_ahead : self->wait;
+        if (event.code == FAZGROND_LEFT) {
+            IS(event.machine < MOST && !all[event.machine].is_here, true);
+            self->left[event.machine]++;
+        }
+        IS(event.code == FAZGROND_DESYNC || event.code == FAZGROND_REFUSED || event.code == FAZGROND_MISMATCH, false);
+        IS(event.code == FAZGROND_DROPPED || event.code == FAZGROND_RESTARTED, false);
+    }
+}
+
+static void send_to(uint32_t me, uint32_t to) {
+    static uint8_t bytes[FAZGROND_DATAGRAM];
+    machine *self = &all[me];
+    size_t length = 0;
+    int32_t code = fazgrond_peer_send(&self->peer, &self->session, (uint8_t)to, now_of(me), bytes, sizeof bytes, &length);
+    if (code == FAZGROND_OK)
+        post(me, to, bytes, length);
+    IS(code == FAZGROND_NOTHING ? FAZGROND_OK : code, FAZGROND_OK);
+    code = fazgrond_peer_send_before(&self->peer, (uint8_t)to, now_of(me), bytes, sizeof bytes, &length);
+    if (code == FAZGROND_OK)
+        post(me, to, bytes, length);
+    IS(code == FAZGROND_NOTHING ? FAZGROND_OK : code, FAZGROND_OK);
+}
+
+static void send_all(uint32_t me) {
+    static uint8_t bytes[FAZGROND_DATAGRAM];
+    uint8_t to;
+    size_t length;
+    int32_t code;
+    for (uint32_t other = 0; other < MOST; other++)
+        if (other != me)
+            send_to(me, other);
+    while ((code = fazgrond_peer_send_more(&all[me].peer, &to, bytes, sizeof bytes, &length)) == FAZGROND_OK) {
+        IS(to < MOST && to != me, true);
+        post(me, to, bytes, length);
+    }
+    IS(code, FAZGROND_NOTHING);
+}
+
+static void take_turn(uint32_t me) {
+    machine *self = &all[me];
+    uint32_t is_running;
+    self->refused_at[turn % KEPT] = 0;
+    self->stood_at[turn % KEPT] = 1;
+    hear(me);
+    OK(fazgrond_peer_poll(&self->peer, &self->session, now_of(me)));
+    OK(fazgrond_peer_is_running(&self->peer, &is_running));
+    IS(is_running == 0 && self->was_running, false);
+    self->was_running = is_running != 0;
+    if (is_running != 0) {
+        answer_all(self);
+        go_on(me);
+        hand_over(self);
+        put_planned(me);
+        play(me);
+    }
+    hear_events(self);
+    send_all(me);
+}
+
+static void run(uint32_t turns) {
+    for (; turns > 0; turns--, turn++)
+        for (uint32_t me = 0; me < MOST; me++)
+            if (all[me].is_here)
+                take_turn(me);
+}
+
+/* A machine takes no turn any more, and nothing comes to it. */
+static void stop(uint32_t me) { all[me].is_here = false; }
+
+static void cut(uint32_t one, uint32_t other, bool is_so) { is_cut[one][other] = is_cut[other][one] = is_so; }
+
+/* ---- What all that stay have to agree on. */
+
+static uint32_t first_here(void) {
+    uint32_t me = 0;
+    while (me < MOST - 1 && !all[me].is_here)
+        me++;
+    return me;
+}
+
+static uint64_t settled_by_all(void) {
+    uint64_t settled = all[first_here()].settled;
+    for (uint32_t me = 0; me < MOST; me++)
+        if (all[me].is_here && all[me].settled < settled)
+            settled = all[me].settled;
+    return settled;
+}
+
+/* The epoch of the same number among those that a machine has seen. Who came later has seen those from then on. */
+static const fazgrond_epoch *same_epoch(const machine *self, const fazgrond_epoch *epoch) {
+    for (uint32_t at = 0; at < self->epoch_count; at++)
+        if (self->epochs[at].id == epoch->id)
+            return &self->epochs[at];
+    return NULL;
+}
+
+/* A frame of the match is of the same epoch, and of the same frame of it, at all that stay, with the same row and state. */
+static void is_one_frame(const machine *self, const machine *other, uint64_t frame) {
+    const record *one = &self->records[frame % KEPT], *two = &other->records[frame % KEPT];
+    const fazgrond_epoch *first = &self->epochs[one->epoch], *second = &other->epochs[two->epoch];
+    IS(first->id == second->id && first->base == second->base, true);
+    IS(memcmp(first, second, sizeof *first), 0);
+    IS(frame >= first->base, true);
+    IS(is_same_row(&one->row, &two->row), true);
+    IS(is_same_state(one->after, two->after), true);
+    IS(one->after.frame, frame + 1);
+}
+
+/* The words of a row are those that the players gave for it. */
+static void are_given(const machine *self, uint64_t frame) {
+    const record *one = &self->records[frame % KEPT];
+    for (uint32_t player = 0; player < with.players; player++) {
+        uint32_t owner = self->epochs[one->epoch].owners[player];
+        if (is_gone(&one->row, player))
+            continue;
+        IS(owner < MOST && frame < all[owner].known[player], true);
+        IS(one->row.words[player], all[owner].given[player][frame % KEPT]);
+    }
+}
+
+/* Whether a mark is void in an epoch: a threshold that its sessions can't have, a delay that is too long or isn't the giver's, or who
+ * comes by it isn't welcome. */
+static bool is_void(const made *one, const fazgrond_epoch *epoch) {
+    for (uint32_t player = 0; player < FAZGROND_PLAYERS; player++)
+        if (one->mark.delays[player] != FAZGROND_AS_BEFORE
+            && (one->mark.delays[player] > MOST_DELAY || epoch->owners[player] != one->machine))
+            return true;
+    return one->mark.threshold > (with.players <= 4 ? 8u : 15u)
+        || (brings_somebody(&one->mark) && with.answers != ALL_WELCOME);
+}
+
+/* By which mark an epoch ended, by its last row: of those on words of it the lowest player's. */
+static const made *mark_of_end(const fazgrond_epoch *epoch, uint64_t end, const fazgrond_row *last) {
+    const made *found = NULL;
+    for (uint32_t at = 0; at < marks_made; at++) {
+        const made *one = &marks[at];
+        bool is_there = one->id == epoch->id && one->frame + 1 == end && !is_gone(last, one->player) && !is_void(one, epoch);
+        if (is_there && (found == NULL || one->player < found->player))
+            found = one;
+    }
+    return found;
+}
+
+/* No mark of a machine that stays, on a word of an epoch, comes before its end. */
+static void is_no_mark_before(const fazgrond_epoch *epoch, uint64_t end) {
+    for (uint32_t at = 0; at < marks_made; at++)
+        if (marks[at].id == epoch->id && all[marks[at].machine].is_here && !is_void(&marks[at], epoch))
+            IS(marks[at].frame + 1 >= end, true);
+}
+
+/* Whether a machine has left by the last row of an epoch: with one player, so with all. */
+static bool has_left(const fazgrond_epoch *epoch, const fazgrond_row *last, uint32_t me) {
+    for (uint32_t player = 0; player < with.players; player++)
+        if (epoch->owners[player] == me && is_gone(last, player))
+            return true;
+    return false;
+}
+
+static uint32_t free_machine(const uint32_t *owners) {
+    for (uint32_t me = 0;; me++) {
+        bool is_free = true;
+        for (uint32_t player = 0; player < FAZGROND_PLAYERS; player++)
+            is_free = is_free && owners[player] != me;
+        if (is_free)
+            return me;
+    }
+}
+
+/* Who owns what after an epoch: who has left owns nothing, and who comes gets what the mark names. */
+static void owners_after(const fazgrond_epoch *epoch, const fazgrond_row *last, const fazgrond_mark *mark, uint32_t *owners) {
+    for (uint32_t player = 0; player < FAZGROND_PLAYERS; player++) {
+        uint32_t owner = epoch->owners[player];
+        owners[player] = owner < MOST && has_left(epoch, last, owner) ? FAZGROND_NOBODY : owner;
+    }
+    uint32_t newcomer = free_machine(owners);
+    for (uint32_t player = 0; player < FAZGROND_PLAYERS; player++)
+        if (owners[player] == FAZGROND_NOBODY && mark->comes[player] != 0)
+            owners[player] = newcomer;
+}
+
+/* An epoch ends by a mark, and the next one opens as this one did, but for what the mark says and who has left. */
+static void is_next(const fazgrond_epoch *epoch, const fazgrond_epoch *next, const fazgrond_row *last) {
+    uint64_t end = next->base - epoch->base;
+    uint32_t owners[FAZGROND_PLAYERS];
+    const made *by = mark_of_end(epoch, end, last);
+    is_no_mark_before(epoch, end);
+    IS(by != NULL, true);
+    owners_after(epoch, last, &by->mark, owners);
+    IS(next->size, sizeof *next);
+    IS(next->words, epoch->words);
+    IS(next->threshold, by->mark.threshold != 0 ? by->mark.threshold : epoch->threshold);
+    for (uint32_t player = 0; player < FAZGROND_PLAYERS; player++) {
+        uint32_t delay = by->mark.delays[player];
+        IS(next->owners[player], owners[player]);
+        IS(next->owners[player] >= FAZGROND_MACHINES || next->owners[player] < next->machines, true);
+        if (next->owners[player] < FAZGROND_MACHINES && next->owners[player] == epoch->owners[player])
+            IS(next->delays[player], delay != FAZGROND_AS_BEFORE ? delay : epoch->delays[player]);
+    }
+}
+
+/* The seams up to a frame of the match at which nothing was looked at yet. No number of an epoch comes again. */
+static void are_next(machine *self, uint64_t until) {
+    for (; seams_agreed + 1 < self->epoch_count && self->epochs[seams_agreed + 1].base <= until; seams_agreed++) {
+        const fazgrond_epoch *next = &self->epochs[seams_agreed + 1];
+        for (uint32_t at = 0; at <= seams_agreed; at++)
+            IS(self->epochs[at].id == next->id, false);
+        is_next(next - 1, next, &self->records[(next->base - 1) % KEPT].row);
+    }
+}
+
+/* All that stay agree on what all of them have settled. */
+static void all_agree(void) {
+    machine *self = &all[first_here()];
+    uint64_t until = settled_by_all();
+    for (; agreed < until; agreed++) {
+        are_given(self, agreed);
+        for (uint32_t me = 0; me < MOST; me++)
+            if (all[me].is_here && agreed >= all[me].from)
+                is_one_frame(self, &all[me], agreed);
+    }
+    are_next(self, until);
+}
+
+/* And they are in the same epoch, which no mark of theirs has ended. */
+static void are_at_one(void) {
+    machine *self = &all[first_here()];
+    for (uint32_t me = 0; me < MOST; me++)
+        if (all[me].is_here) {
+            IS(epoch_of(&all[me])->id == epoch_of(self)->id, true);
+            for (uint32_t at = 0; at < all[me].epoch_count; at++)
+                IS(same_epoch(self, &all[me].epochs[at]) != NULL, true);
+        }
+    IS(seams_agreed + 1, self->epoch_count);
+    is_no_mark_before(epoch_of(self), settled_by_all() - epoch_of(self)->base + 1);
+}
+
+/* All that stay come to a frame of the match, in so many turns at most. */
+static void run_until(uint64_t frame, uint32_t turns) {
+    while (settled_by_all() < frame) {
+        IS(turns-- > 0, true);
+        run(1);
+        if (turn % 1024 == 0)
+            all_agree();
+    }
+}
+
+/* To the last frame, and on until nothing is on the way; then all agree, and so many epochs were played. */
+static void run_to_the_end(uint32_t turns) {
+    run_until(with.frames, turns);
+    run(100);
+    all_agree();
+    are_at_one();
+    IS(agreed, with.frames);
+}
+
+static uint32_t epochs_played(void) { return all[first_here()].epoch_count; }
+
+/* ---- Seams. */
+
+/* A mark that changes nothing begins frames anew. */
+static void begins_anew(uint32_t machines, uint32_t marker) {
+    open_all(terms_for(machines));
+    run(80);
+    OK(put(marker, marker, mark_of_nothing()));
+    run_to_the_end(1000);
+    IS(epochs_played(), 2);
+    IS(epoch_of(&all[0])->base > 40, true);
+}
+
+/* An own player's words count later or sooner from the next epoch on. */
+static void changes_delay(uint32_t from, uint32_t to) {
+    terms of = terms_for(3);
+    of.delays[1] = from;
+    of.delays[2] = 1;
+    open_all(of);
+    run(80);
+    OK(put(1, 1, mark_of_delay(1, to)));
+    run_to_the_end(1000);
+    IS(epochs_played(), 2);
+    IS(epoch_of(&all[0])->delays[1], to);
+    IS(epoch_of(&all[0])->delays[2], 1);
+}
+
+/* The sessions may run further ahead or less far from the next epoch on. */
+static void changes_threshold(uint32_t from, uint32_t to) {
+    terms of = terms_for(2);
+    of.threshold = from;
+    of.latency = 4;
+    open_all(of);
+    run(80);
+    OK(put(0, 0, mark_of_threshold(to)));
+    run_to_the_end(4000);
+    IS(epochs_played(), 2);
+    IS(epoch_of(&all[1])->threshold, to);
+}
+
+/* Of two marks in one turn one counts; in the next epoch the other machine can mark again. */
+static void two_at_once(uint32_t one, uint32_t other) {
+    open_all(terms_for(3));
+    run(80);
+    OK(put(one, one, mark_of_delay(one, 2)));
+    OK(put(other, other, mark_of_delay(other, 3)));
+    run(60);
+    all_agree();
+    IS(epochs_played(), 2);
+    uint32_t loser = epoch_of(&all[0])->delays[one] == 2 ? other : one;
+    IS(epoch_of(&all[0])->delays[loser], 0);
+    OK(put(loser, loser, mark_of_delay(loser, 4)));
+    run_to_the_end(1000);
+    IS(epochs_played(), 3);
+    IS(epoch_of(&all[0])->delays[loser], 4);
+}
+
+/* What can't be is no mark: the epoch doesn't end by it, and by another machine's it does. */
+static void is_a_void_mark(uint32_t delay, uint32_t threshold) {
+    fazgrond_mark mark = mark_of_nothing();
+    open_all(terms_for(2));
+    run(80);
+    mark.threshold = threshold;
+    if (delay > 0)
+        mark.delays[0] = delay;
+    OK(put(0, 0, mark));
+    run(100);
+    all_agree();
+    IS(epochs_played(), 1);
+    IS(put(0, 0, mark_of_nothing()), FAZGROND_MARKED);
+    OK(put(1, 1, mark_of_nothing()));
+    run_to_the_end(1000);
+    IS(epochs_played(), 2);
+}
+
+/* A mark that gives another machine's player a delay is void. */
+static void is_anothers_delay(uint32_t unused, uint32_t none) {
+    (void)unused, (void)none;
+    open_all(terms_for(2));
+    run(80);
+    OK(put(0, 0, mark_of_delay(1, 2)));
+    run_to_the_end(1000);
+    IS(epochs_played(), 1);
+}
+
+/* Epochs one after another, each as soon as all are in the one before. */
+static void many(uint32_t epochs, uint32_t machines) {
+    terms of = terms_for(machines);
+    of.frames = 100 + 40 * epochs;
+    open_all(of);
+    run(60);
+    for (uint32_t at = 1; at < epochs; at++) {
+        uint32_t marker = at % machines;
+        OK(put(marker, marker, at % 3 == 0 ? mark_of_delay(marker, at % 4) : mark_of_nothing()));
+        run_until(shown_of(&all[marker]) + 8, 400);
+        IS(epochs_played(), at + 1);
+    }
+    run_to_the_end(10000);
+    IS(epochs_played(), epochs);
+}
+
+/* A match has more frames than a session has. */
+static void goes_past_the_limit(uint32_t limit, uint32_t unused) {
+    terms of = terms_for(2);
+    (void)unused;
+    of.limit = limit;
+    of.frames = 5 * limit;
+    open_all(of);
+    for (uint32_t epoch = 1; epoch_of(&all[0])->base + limit <= of.frames; epoch++) {
+        run_until(epoch_of(&all[0])->base + limit - 30, 1000);
+        OK(put(epoch % 2, epoch % 2, mark_of_nothing()));
+        run_until(shown_of(&all[0]) + 8, 1000);
+    }
+    run_to_the_end(1000);
+    IS(epochs_played() > 5, true);
+}
+
+/* Inputs of two words, and a machine with two of them. */
+static void of_two_words(uint32_t delay, uint32_t to) {
+    terms of = terms_for(3);
+    of.words = 2;
+    of.players = 8;
+    for (uint32_t player = 0; player < of.players; player++) {
+        of.owners[player] = player / 2 % 3;
+        of.delays[player] = player / 2 == 3 ? delay : 0;
+    }
+    open_all(of);
+    run(80);
+    IS(put(0, 1, mark_of_nothing()), FAZGROND_INVALID_PLAYER);
+    IS(put(0, 7, mark_of_nothing()), FAZGROND_INVALID_PLAYER);
+    OK(put(0, 6, mark_of_delay(6, to)));
+    run_to_the_end(1000);
+    IS(epochs_played(), 2);
+    IS(epoch_of(&all[1])->delays[7], to);
+    IS(epoch_of(&all[1])->delays[1], 0);
+}
+
+/* ---- A machine that stops near a mark. */
+
+enum { AROUND = 8 };
+
+static void puts_if_there(uint32_t me, fazgrond_mark mark) {
+    if (all[me].is_here)
+        OK(put(me, me, mark));
+}
+
+/* One of three stops so many turns before or after a mark, its own or another's. The others play on, and by the next mark it owns
+ * nothing. */
+static void stops_near(uint32_t who, uint32_t at) {
+    uint32_t stopped = who / 3, marker = who % 3, other = stopped == 0 ? 1 : 0;
+    open_all(terms_for(3));
+    run(80);
+    for (uint32_t time = 0; time <= 2 * AROUND; time++) {
+        if (time == AROUND)
+            puts_if_there(marker, mark_of_nothing());
+        if (time == at)
+            stop(stopped);
+        run(1);
+    }
+    run(150);
+    for (uint32_t me = 0; me < 3; me++)
+        IS(me == stopped || all[me].left[stopped] > 0, true);
+    OK(put(other, other, mark_of_nothing()));
+    run_to_the_end(1000);
+    IS(epochs_played() >= 2 && epochs_played() <= 3, true);
+    IS(epoch_of(&all[other])->owners[stopped], FAZGROND_NOBODY);
+    IS(is_gone(&all[other].records[(with.frames - 1) % KEPT].row, stopped), true);
+}
+
+/* ---- Bad lines. */
+
+/* Seams while a line of three is broken, with words held back or not, on lines that lose 30 % or nothing: nobody is gone. */
+static void is_carried(uint32_t line, uint32_t how) {
+    terms of = terms_for(3);
+    uint32_t one = line, other = (line + 1) % 3;
+    of.held_turns = how % 2 * 3;
+    of.loss = how / 2 * 30;
+    of.silent_after = 2000;
+    of.frames = 500;
+    open_all(of);
+    run(80);
+    cut(one, other, true);
+    run(60);
+    OK(put(one, one, mark_of_nothing()));
+    run(120);
+    OK(put(other, other, mark_of_delay(other, 2)));
+    run(120);
+    cut(one, other, false);
+    run(40);
+    OK(put((line + 2) % 3, (line + 2) % 3, mark_of_nothing()));
+    run_to_the_end(4000);
+    IS(epochs_played(), 4);
+}
+
+/* A line breaks in the turns of the seam itself, and heals. */
+static void breaks_at(uint32_t at, uint32_t held_turns) {
+    terms of = terms_for(3);
+    of.held_turns = held_turns;
+    open_all(of);
+    run(80);
+    for (uint32_t time = 0; time < 120; time++) {
+        if (time == AROUND)
+            OK(put(0, 0, mark_of_nothing()));
+        cut(0, 1, time >= at && time < at + 90);
+        run(1);
+    }
+    run_to_the_end(4000);
+    IS(epochs_played(), 2);
+}
+
+/* Seams over a line that loses much, brings datagrams late and not in their order, and with words held back. */
+static void is_lossy(uint32_t loss, uint32_t held_turns) {
+    terms of = terms_for(3);
+    of.loss = loss;
+    of.jitter = 3;
+    of.held_turns = held_turns;
+    of.silent_after = 2000;
+    open_all(of);
+    for (uint32_t at = 0; at < 3; at++) {
+        run_until(60 + 70 * at, 4000);
+        OK(put(at, at, mark_of_delay(at, at)));
+    }
+    run_to_the_end(8000);
+    IS(epochs_played(), 4);
+}
+
+/* ---- Who stands at a seam. */
+
+/* In how many of the turns up to 20 before or after a seam something was so. */
+static uint32_t turns_around(const uint32_t *flags, uint32_t seam) {
+    uint32_t sum = 0;
+    for (uint32_t at = seam - 20; at <= seam + 20; at++)
+        sum += flags[at % KEPT];
+    return sum;
+}
+
+/* With a threshold of 8 frames and up to 4 turns from a machine to another, no word is refused at a seam. */
+static void stands_at_no_seam(uint32_t latency, uint32_t machines) {
+    terms of = terms_for(machines);
+    uint32_t refused = 0, stood = 0;
+    of.latency = latency;
+    of.frames = 400;
+    open_all(of);
+    run(120);
+    OK(put(0, 0, mark_of_nothing()));
+    run(80);
+    IS(epochs_played(), 2);
+    OK(put(1, 1, mark_of_nothing()));
+    run(80);
+    IS(epochs_played(), 3);
+    for (uint32_t me = 0; me < machines; me++)
+        for (uint32_t at = 1; at < 3; at++) {
+            refused += turns_around(all[me].refused_at, all[me].seam_turns[at]);
+            stood += turns_around(all[me].stood_at, all[me].seam_turns[at]);
+        }
+    printf("%u machines, %u turns from one to another: in the 41 turns around each of two seams words are refused %u times, and no "
+           "frame is run %u times\n",
+           (unsigned)machines, (unsigned)latency, (unsigned)refused, (unsigned)stood);
+    if (latency <= 4)
+        IS(refused, 0);
+    run_to_the_end(4000);
+}
+
+/* ---- Who comes. */
+
+/* Two machines, and a player whom nobody owns. */
+static terms one_is_free(uint32_t answers) {
+    terms of = terms_for(2);
+    of.players = 3;
+    of.owners[2] = FAZGROND_NOBODY;
+    of.answers = answers;
+    return of;
+}
+
+/* Both machines are asked whether whoever has this ticket may have the third player, by a mark of a player. */
+static void are_asked(uint32_t player, uint64_t ticket) {
+    for (uint32_t me = 0; me < 2; me++) {
+        fazgrond_ask ask = { 0 };
+        OK(fazgrond_peer_ask(&all[me].peer, &ask));
+        IS(ask.ticket == ticket, true);
+        IS(ask.player, player + 1);
+        for (uint32_t at = 0; at < FAZGROND_PLAYERS; at++)
+            IS(ask.comes[at], at == 2);
+    }
+}
+
+static void are_not_asked(void) {
+    for (uint32_t me = 0; me < 2; me++) {
+        fazgrond_ask ask = { .player = 77 };
+        IS(fazgrond_peer_ask(&all[me].peer, &ask), FAZGROND_NOTHING);
+        IS(ask.player, 77);
+    }
+}
+
+/* An epoch doesn't end as long as who asks isn't answered, nor if all answer no. Another machine's mark ends it then. */
+static void is_refused(uint32_t marker, uint32_t unused) {
+    (void)unused;
+    open_all(one_is_free(NOBODY_ANSWERS));
+    run(80);
+    are_not_asked();
+    OK(put(marker, marker, mark_of_who_comes(2, 0x123456789abcdefu)));
+    run(60);
+    are_asked(marker, 0x123456789abcdefu);
+    IS(epochs_played(), 1);
+    with.answers = ALL_REFUSE;
+    run(60);
+    are_not_asked();
+    all_agree();
+    IS(epochs_played(), 1);
+    OK(put(1 - marker, 1 - marker, mark_of_nothing()));
+    run_to_the_end(1000);
+    IS(epochs_played(), 2);
+    IS(owner_of(&all[0], 2), FAZGROND_NOBODY);
+}
+
+/* One that answers later goes on later, and comes to the same. */
+static void answers_late(uint32_t late, uint32_t turns) {
+    open_all(one_is_free(NOBODY_ANSWERS));
+    run(80);
+    OK(put(0, 0, mark_of_who_comes(2, 5)));
+    run(40);
+    are_asked(0, 5);
+    OK(fazgrond_peer_answer(&all[1 - late].peer, 1, 0));
+    run(turns);
+    IS(epochs_played(), 1);
+    OK(fazgrond_peer_answer(&all[late].peer, 1, 0));
+    with.answers = ALL_REFUSE;
+    run(40);
+    OK(put(1, 1, mark_of_nothing()));
+    run_to_the_end(1000);
+    IS(epochs_played(), 2);
+}
+
+/* Who is welcome gets the lowest machine's number that is free and the player, opens the epoch with the state at its beginning, and
+ * plays. */
+static void comes(uint32_t marker, uint32_t late) {
+    open_all(one_is_free(ALL_WELCOME));
+    run(80);
+    OK(put(marker, marker, mark_of_who_comes(2, 6)));
+    run(60 + late);
+    IS(all[0].epoch_count, 2);
+    IS(all[1].epoch_count, 2);
+    fazgrond_epoch epoch = *epoch_of(&all[0]);
+    IS(epoch.owners[2], 2);
+    IS(epoch.machines >= 3, true);
+    with.machines = 3;
+    open_machine(2, &epoch, all[0].records[(epoch.base - 1) % KEPT].after);
+    run(150);
+    IS(all[2].settled > epoch.base + 40, true);
+    OK(put(2, 2, mark_of_delay(2, 1)));
+    run_to_the_end(2000);
+    IS(epochs_played(), 3);
+    IS(epoch_of(&all[0])->delays[2], 1);
+}
+
+/* ---- What calls refuse. */
+
+static void refuses_marks(uint32_t unused, uint32_t none) {
+    fazgrond_mark mark = mark_of_nothing();
+    (void)unused, (void)none;
+    open_all(terms_for(2));
+    run(80);
+    for (uint8_t player = 2; player < 12; player++)
+        IS(fazgrond_peer_mark(&all[0].peer, &all[0].session, player, &mark), FAZGROND_INVALID_PLAYER);
+    IS(fazgrond_peer_mark(&all[0].peer, &all[0].session, 0, &mark), FAZGROND_INVALID_PLAYER);
+    IS(fazgrond_peer_mark(&all[0].peer, &all[0].session, 255, &mark), FAZGROND_INVALID_PLAYER);
+    mark.size--;
+    IS(put(0, 0, mark), FAZGROND_OTHER_VERSION);
+    mark = mark_of_threshold(300);
+    IS(put(0, 0, mark), FAZGROND_INVALID_REQUEST);
+    mark = mark_of_delay(0, 300);
+    IS(put(0, 0, mark), FAZGROND_INVALID_REQUEST);
+    OK(put(0, 0, mark_of_nothing()));
+    IS(put(0, 0, mark_of_nothing()), FAZGROND_MARKED);
+    IS(put(0, 0, mark_of_threshold(4)), FAZGROND_MARKED);
+    run_to_the_end(1000);
+    IS(epochs_played(), 2);
+    OK(put(0, 0, mark_of_nothing()));
+}
+
+/* Without a handle, and with one of another kind. */
+static void refuses_closed(uint32_t unused, uint32_t none) {
+    static uint8_t bytes[FAZGROND_DATAGRAM];
+    fazgrond_peer peer = FAZGROND_CLOSED, *session = (fazgrond_peer *)&all[0].session;
+    fazgrond_session closed = FAZGROND_CLOSED;
+    fazgrond_epoch epoch;
+    fazgrond_mark mark = mark_of_nothing();
+    fazgrond_ask ask;
+    uint32_t frames = 77;
+    size_t length = 77;
+    (void)unused, (void)none;
+    open_all(terms_for(2));
+    for (uint32_t at = 0; at < 2; at++) {
+        fazgrond_peer *other = at == 0 ? &peer : session;
+        IS(fazgrond_peer_epoch(other, &epoch), FAZGROND_IS_CLOSED);
+        IS(fazgrond_peer_mark(other, &all[0].session, 1, &mark), FAZGROND_IS_CLOSED);
+        IS(fazgrond_peer_ask(other, &ask), FAZGROND_IS_CLOSED);
+        IS(fazgrond_peer_answer(other, 1, 1), FAZGROND_IS_CLOSED);
+        IS(fazgrond_peer_go_on(other, &all[0].session, &frames), FAZGROND_IS_CLOSED);
+        IS(fazgrond_peer_send_before(other, 1, 0, bytes, sizeof bytes, &length), FAZGROND_IS_CLOSED);
+    }
+    IS(fazgrond_peer_mark(&all[0].peer, &closed, 1, &mark), FAZGROND_IS_CLOSED);
+    IS(fazgrond_peer_go_on(&all[0].peer, &closed, &frames), FAZGROND_IS_CLOSED);
+    IS(frames + length, 154);
+}
+
+static int32_t opened(const fazgrond_match *match, const fazgrond_epoch *epoch) {
+    fazgrond_peer peer = FAZGROND_CLOSED;
+    int32_t code = fazgrond_peer_open_lasting(&peer, &all[0].session, match, epoch);
+    IS(peer.full, code == FAZGROND_OK);
+    fazgrond_peer_close(&peer);
+    return code;
+}
+
+/* An epoch that isn't this session's, and sizes that aren't those of this version. What of the match the epoch says too isn't read. */
+static void refuses_openings(uint32_t unused, uint32_t none) {
+    (void)unused, (void)none;
+    begin(terms_for(2));
+    with.delays[0] = 2;
+    fazgrond_epoch epoch = first_epoch(), other = epoch;
+    fazgrond_match match = match_of(0);
+    open_session(0, &epoch, (state){ 1, 0 });
+    other.threshold = 7;
+    IS(opened(&match, &other), FAZGROND_INVALID_REQUEST);
+    other = epoch;
+    other.delays[0] = 1;
+    IS(opened(&match, &other), FAZGROND_INVALID_REQUEST);
+    other = epoch;
+    other.delays[1] = 3; /* another machine's */
+    OK(opened(&match, &other));
+    other = epoch;
+    other.size++;
+    IS(opened(&match, &other), FAZGROND_OTHER_VERSION);
+    other = epoch;
+    other.owners[0] = 1;
+    other.owners[1] = 0;
+    IS(opened(&match, &other), FAZGROND_INVALID_PLAYER);
+    match.size--;
+    IS(opened(&match, &epoch), FAZGROND_OTHER_VERSION);
+    match.size++;
+    match.words = match.machines = 3;
+    match.owners[0] = 1;
+    match.owners[5] = 0;
+    OK(opened(&match, &epoch));
+    match.machines = 256;
+    IS(opened(&match, &epoch), FAZGROND_INVALID_REQUEST);
+    match = match_of(0);
+    match.draw = 0;
+    IS(opened(&match, &epoch), FAZGROND_INVALID_REQUEST);
+}
+
+/* A match that doesn't go on in epochs takes no marks, has no epoch and asks nothing. */
+static void has_no_epochs(uint32_t is_carrying, uint32_t none) {
+    static uint8_t bytes[FAZGROND_DATAGRAM];
+    fazgrond_mark mark = mark_of_nothing();
+    fazgrond_ask ask;
+    uint32_t frames = 77;
+    size_t length = 77;
+    (void)none;
+    begin(terms_for(2));
+    fazgrond_epoch epoch = first_epoch();
+    fazgrond_match match = match_of(0);
+    open_session(0, &epoch, (state){ 1, 0 });
+    machine *self = &all[0];
+    OK(is_carrying != 0 ? fazgrond_peer_open_carrying(&self->peer, &self->session, &match)
+                        : fazgrond_peer_open(&self->peer, &self->session, &match));
+    epoch.id = 77;
+    IS(fazgrond_peer_epoch(&self->peer, &epoch), FAZGROND_NOTHING);
+    IS(epoch.id, 77);
+    IS(fazgrond_peer_mark(&self->peer, &self->session, 1, &mark), FAZGROND_NO_MARKS);
+    IS(fazgrond_peer_ask(&self->peer, &ask), FAZGROND_NOTHING);
+    IS(fazgrond_peer_answer(&self->peer, 1, 1), FAZGROND_NOTHING);
+    IS(fazgrond_peer_go_on(&self->peer, &self->session, &frames), FAZGROND_NOTHING);
+    IS(fazgrond_peer_send_before(&self->peer, 1, 0, bytes, sizeof bytes, &length), FAZGROND_NOTHING);
+    IS(frames + length, 154);
+}
+
+/* What is sent of the epoch before needs room for a datagram; it isn't written if there is less. */
+static void needs_room(uint32_t unused, uint32_t none) {
+    static uint8_t bytes[FAZGROND_DATAGRAM], before[FAZGROND_DATAGRAM];
+    size_t length = 7777;
+    (void)unused, (void)none;
+    memset(bytes, 3, sizeof bytes);
+    memcpy(before, bytes, sizeof bytes);
+    open_all(terms_for(2));
+    run(80);
+    OK(put(0, 0, mark_of_nothing()));
+    for (uint32_t time = 0; epochs_played() == 1; time++) {
+        IS(time < 100, true);
+        run(1);
+    }
+    IS(fazgrond_peer_send_before(&all[0].peer, 1, now_of(0), bytes, sizeof bytes - 1, &length), FAZGROND_TOO_SHORT);
+    IS(length, 7777);
+    IS(memcmp(bytes, before, sizeof bytes), 0);
+    IS(fazgrond_peer_send_before(&all[0].peer, 0, now_of(0), bytes, sizeof bytes, &length), FAZGROND_NOTHING);
+    IS(fazgrond_peer_send_before(&all[0].peer, 9, now_of(0), bytes, sizeof bytes, &length), FAZGROND_NOTHING);
+    OK(fazgrond_peer_send_before(&all[0].peer, 1, now_of(0), bytes, sizeof bytes, &length));
+    IS(length > 0 && length <= FAZGROND_DATAGRAM, true);
+    run(60);
+    length = 7777; /* the other has come by now */
+    IS(fazgrond_peer_send_before(&all[0].peer, 1, now_of(0), bytes, sizeof bytes, &length), FAZGROND_NOTHING);
+    IS(length, 7777);
+    run_to_the_end(1000);
+}
+
+/* A session beside which another peer stands is refused, and the match goes on with its own. */
+static void refuses_another_session(uint32_t unused, uint32_t none) {
+    uint32_t frames = 77;
+    fazgrond_mark mark = mark_of_nothing();
+    (void)unused, (void)none;
+    open_all(terms_for(2));
+    run(80);
+    IS(fazgrond_peer_mark(&all[0].peer, &all[1].session, 1, &mark), FAZGROND_OTHER_SESSION);
+    IS(fazgrond_peer_go_on(&all[0].peer, &all[0].session, &frames), FAZGROND_NOTHING);
+    IS(frames, 77);
+    OK(put(0, 0, mark));
+    run_to_the_end(1000);
+    IS(epochs_played(), 2);
+}
+
+/* ---- Worlds that are drawn. */
+
+/* Half of the time 0. */
+static uint32_t drawn_or_none(uint32_t count) {
+    uint32_t drawn = below(count);
+    return below(2) == 0 ? 0 : drawn;
+}
+
+/* Two to six inputs of one or two words each, which two to five machines own in turn; delays, thresholds and lines. */
+static terms drawn_terms(void) {
+    terms of = terms_for(2 + below(4));
+    uint32_t inputs = of.machines + below(2);
+    of.words = below(5) == 0 && inputs <= 4 ? 2 : 1;
+    of.players = inputs * of.words;
+    for (uint32_t player = 0; player < of.players; player++) {
+        bool is_first = player % of.words == 0;
+        of.owners[player] = player / of.words % of.machines;
+        of.delays[player] = is_first ? drawn_or_none(3) : of.delays[player - 1];
+    }
+    of.threshold = of.players <= 4 ? 4 + below(5) : 5 + below(11);
+    of.latency = 1 + below(5);
+    of.jitter = below(4);
+    of.loss = below(3) == 0 ? 0 : below(31);
+    of.held_turns = drawn_or_none(4);
+    of.silent_after = 2000;
+    of.frames = 600;
+    return of;
+}
+
+/* A mark for a player of a machine: it changes nothing, the delay, the threshold or both, or is void. */
+static fazgrond_mark drawn_mark(uint32_t player) {
+    fazgrond_mark mark = below(3) == 0 ? mark_of_nothing() : mark_of_delay(player, below(8) == 0 ? 9 : below(5));
+    if (below(3) == 0)
+        mark.threshold = with.players <= 4 ? 4 + below(5) : 5 + below(11);
+    return mark;
+}
+
+/* A mark of some player in a turn, which may come too late. */
+static void plan_mark(uint32_t at_turn) {
+    uint32_t player = below(with.players / with.words) * with.words;
+    IS(plans_made < PLANS, true);
+    plans[plans_made++] = (plan){ at_turn, with.owners[player], player, drawn_mark(player) };
+}
+
+/* Some marks, each perhaps with another one at nearly the same time. */
+static void plan_marks(uint32_t count) {
+    for (uint32_t at = 0; at < count; at++) {
+        uint32_t at_turn = 60 + below(700);
+        plan_mark(at_turn);
+        if (below(4) == 0)
+            plan_mark(at_turn + below(4));
+    }
+}
+
+/* Up to which turn things go wrong, what stops then, and which line breaks for how long. */
+typedef struct trouble {
+    uint32_t stops_at, stopped, breaks_at, heals_at, one, other;
+} trouble;
+
+static trouble drawn_trouble(void) {
+    trouble of = { 0 };
+    bool is_stop = with.machines >= 3 && below(3) == 0;
+    of.stopped = below(with.machines);
+    of.stops_at = is_stop ? 70 + below(400) : 0;
+    of.one = below(with.machines);
+    of.other = (of.one + 1 + below(with.machines - 1)) % with.machines;
+    bool is_cut_off = with.machines >= (is_stop ? 4u : 3u) && below(2) == 0;
+    of.breaks_at = is_cut_off ? 60 + below(400) : 0;
+    of.heals_at = of.breaks_at + 20 + below(600);
+    return of;
+}
+
+static void make_trouble(const trouble *of) {
+    if (of->stops_at == turn && turn > 0)
+        stop(of->stopped);
+    if (of->breaks_at == turn && turn > 0)
+        cut(of->one, of->other, true);
+    if (of->heals_at == turn)
+        cut(of->one, of->other, false);
+}
+
+static void is_drawn(uint32_t of, uint32_t unused) {
+    (void)unused;
+    seed = of;
+    below(2);
+    open_all(drawn_terms());
+    plan_marks(1 + below(8));
+    trouble what = drawn_trouble();
+    for (uint32_t time = 0; time < 1100; time++) {
+        make_trouble(&what);
+        run(1);
+    }
+    run_to_the_end(30000);
+}
+
+/* ---- More frames than a session has. */
+
+static void is_long(uint32_t epochs, uint32_t frames) {
+    terms of = terms_for(2);
+    of.frames = epochs * frames;
+    open_all(of);
+    for (uint32_t at = 1; at < epochs; at++) {
+        run_until((uint64_t)at * frames, 2 * frames);
+        OK(put(at % 2, at % 2, mark_of_nothing()));
+    }
+    run_to_the_end(2 * frames);
+    IS(epochs_played(), epochs);
+    IS(of.frames > of.limit, true);
+}
+
+static void tries(const char *name, void (*of)(uint32_t, uint32_t), uint32_t one, uint32_t two) {
+    of_what = name;
+    of_one = one;
+    of_two = two;
+    seed = 1;
+    if (setjmp(way_out) == 0) {
+        of(one, two);
+        passed++;
+    } else
+        failed++;
+    close_all();
+}
+
+static void try_refusals(void) {
+    tries("marks are refused", refuses_marks, 0, 0);
+    tries("closed handles", refuses_closed, 0, 0);
+    tries("openings are refused", refuses_openings, 0, 0);
+    tries("another session", refuses_another_session, 0, 0);
+    tries("a match without epochs", has_no_epochs, 0, 0);
+    tries("a match without epochs that carries", has_no_epochs, 1, 0);
+    tries("room for the epoch before", needs_room, 0, 0);
+}
+
+/* What a mark says: delays and thresholds, each with some others. */
+static void try_changes(uint32_t every) {
+    for (uint32_t from = 0; from <= MOST_DELAY; from += every)
+        for (uint32_t to = 0; to <= MOST_DELAY; to += every)
+            tries("a delay changes", changes_delay, from, to);
+    for (uint32_t from = 2; from <= 8; from += every)
+        for (uint32_t to = 2; to <= 8; to += every)
+            tries("the threshold changes", changes_threshold, from, to);
+}
+
+static void try_seams(uint32_t every) {
+    for (uint32_t machines = 2; machines <= MOST; machines += every < 4 ? 1 : 3) {
+        tries("frames begin anew", begins_anew, machines, 0);
+        tries("frames begin anew", begins_anew, machines, machines - 1);
+        tries("three epochs", many, 3, machines);
+    }
+    try_changes(every < 4 ? 2 : 6);
+    tries("two marks at once", two_at_once, 0, 1);
+    tries("two marks at once", two_at_once, 2, 1);
+    tries("a void delay", is_a_void_mark, 9, 0);
+    tries("a void threshold", is_a_void_mark, 0, 9);
+    tries("the delay of another's player", is_anothers_delay, 0, 0);
+    tries("thirty epochs", many, 30, 3);
+    tries("more frames than a session has", goes_past_the_limit, 100, 0);
+    tries("inputs of two words", of_two_words, 0, 2);
+    tries("inputs of two words", of_two_words, 3, 1);
+}
+
+static void try_stops(uint32_t every) {
+    for (uint32_t who = 0; who < 9; who++)
+        for (uint32_t at = who % every; at <= 2 * AROUND; at += every)
+            tries("a machine stops near a mark", stops_near, who, at);
+}
+
+static void try_lines(uint32_t every) {
+    for (uint32_t line = 0; line < 3; line++)
+        for (uint32_t how = line % every % 4; how < 4; how += every)
+            tries("a line is broken", is_carried, line, how);
+    for (uint32_t at = 0; at <= 2 * AROUND; at += 2 * every)
+        tries("a line breaks at a seam", breaks_at, at, at % 4);
+    for (uint32_t loss = 0; loss <= 30; loss += every < 4 ? 10 : 30)
+        for (uint32_t held_turns = 0; held_turns <= 3; held_turns += 3)
+            tries("a line that loses", is_lossy, loss, held_turns);
+}
+
+static void try_comers(void) {
+    tries("who comes is refused", is_refused, 0, 0);
+    tries("who comes is refused", is_refused, 1, 0);
+    tries("one answers late", answers_late, 0, 30);
+    tries("one answers late", answers_late, 1, 90);
+    tries("somebody comes", comes, 0, 0);
+    tries("somebody comes", comes, 1, 40);
+}
+
+/* All of them, or of what has many cases some. */
+static void try_all(uint32_t every) {
+    try_refusals();
+    try_seams(every);
+    try_stops(every);
+    try_lines(every);
+    try_comers();
+    for (uint32_t latency = 1; latency <= 6; latency += every < 4 ? 1 : 3)
+        for (uint32_t machines = 2; machines <= 3; machines++)
+            tries("who stands at a seam", stands_at_no_seam, latency, machines);
+}
+
+/* One of each kind, for a slow run that looks for what is read or freed wrongly. */
+static void try_one_of_each(void) {
+    try_refusals();
+    tries("three epochs", many, 3, 3);
+    tries("two marks at once", two_at_once, 0, 1);
+    tries("a line that loses", is_lossy, 30, 3);
+    tries("a machine stops near a mark", stops_near, 1, 2);
+    tries("somebody comes", comes, 0, 0);
+}
+
+int main(int count, char **words) {
+    bool is_few = count > 1 && strcmp(words[1], "few") == 0;
+    uint32_t worlds = count > 1 && !is_few ? (uint32_t)atoi(words[1]) : is_few ? 4 : 60;
+    uint32_t first = count > 2 ? (uint32_t)atoi(words[2]) : 1;
+    if (count > 1 && strcmp(words[1], "long") == 0) {
+        tries("three long epochs", is_long, 3, 400000);
+    } else if (count > 1 && strcmp(words[1], "each") == 0) {
+        try_one_of_each();
+    } else {
+        try_all(is_few ? 8 : 1);
+        for (uint32_t at = 0; at < worlds; at++)
+            tries("a world that was drawn", is_drawn, first + at, 0);
+    }
+    printf("%u passed, %u failed\n", passed, failed);
+    return failed != 0;
+}

@@ -1,0 +1,159 @@
+// The classes go on in epochs as the calls of C do: two machines mark, and come to the state of the game that is run once over all
+// words, in the same epochs.
+#include <fazgrond.hpp>
+
+namespace {
+
+using fazgrond::Code;
+
+constexpr std::uint32_t turn_time = 16;
+constexpr std::uint64_t frames = 200;
+
+using State = std::uint64_t;
+
+State stepped(State state, const fazgrond::Row &row) {
+    for (std::uint32_t player = 0; player < row.count; player++)
+        state = (31 * state + row.words[player]) % 1000003;
+    return state;
+}
+
+std::uint32_t word_of(std::uint32_t player, std::uint64_t frame) { return std::uint32_t(frame / (3 + player) % 5) + player; }
+
+struct Machine {
+    std::uint32_t me;
+    fazgrond::Session session;
+    fazgrond::Peer peer;
+    bool is_right = true;
+    State state = 0;
+    std::vector<State> slots = std::vector<State>(257);
+    std::vector<fazgrond::Epoch> epochs;
+    std::vector<fazgrond::Datagram> here, coming;
+
+    explicit Machine(std::uint32_t number) : me(number) {
+        fazgrond::Settings settings = fazgrond::settings_of(2, 1u << me);
+        fazgrond::Match match = fazgrond_match_for(2, me);
+        match.owners[0] = 0;
+        match.owners[1] = 1;
+        match.draw = 70 + me;
+        fazgrond_one_number(&match, 7);
+        fazgrond::Epoch epoch = fazgrond_epoch_for(&match, &settings);
+        must(session.open(settings));
+        must(peer.open_lasting(session, match, epoch));
+        epochs.push_back(epoch);
+    }
+
+    void must(Code code) { is_right = is_right && code == Code::ok; }
+
+    void is(bool right) { is_right = is_right && right; }
+
+    auto carry_out() {
+        return [this](const fazgrond::Request &request) noexcept {
+            if (request.kind == FAZGROND_LOAD)
+                state = slots[request.slot];
+            else if (request.kind == FAZGROND_SAVE)
+                slots[request.slot] = state;
+            else if (request.kind == FAZGROND_STEP)
+                state = stepped(state, request.row);
+        };
+    }
+
+    // The frame of the whole match.
+    std::uint64_t frame() { return epochs.back().base + session.frame().value_or(0); }
+};
+
+// Who asks to come by the second machine's mark isn't welcome.
+void go_on(Machine &self) {
+    if (auto ask = self.peer.ask()) {
+        self.is(ask->player == 2 && ask->ticket == 9 && ask->comes[0] == 1 && ask->comes[1] == 0);
+        self.must(self.peer.answer(2, false));
+    }
+    std::uint64_t before = self.frame();
+    std::uint32_t reached = 0;
+    Code code = self.peer.go_on(self.session, reached, self.carry_out());
+    if (code == Code::ok) {
+        auto epoch = self.peer.epoch();
+        self.is(epoch && self.session.frame() == reached);
+        if (epoch)
+            self.epochs.push_back(*epoch);
+    } else
+        self.is(code == Code::nothing);
+    self.is(self.frame() == before);
+}
+
+// The marks of turns 40 and 120 are the first machine's, that of turn 80 the second one's.
+void put_mark(Machine &self, std::uint32_t turn) {
+    if ((turn != 40 && turn != 80 && turn != 120) || self.me != (turn == 80 ? 1 : 0))
+        return;
+    fazgrond::Mark mark = fazgrond_mark_for();
+    if (turn == 80) {
+        mark.ticket = 9;
+        mark.comes[0] = 1;
+    } else if (turn == 120)
+        mark.threshold = 6;
+    self.must(self.peer.mark(self.session, std::uint8_t(self.me + 1), mark));
+    self.is(self.peer.mark(self.session, std::uint8_t(self.me + 1), mark) == Code::marked);
+    self.is(self.peer.mark(self.session, std::uint8_t(2 - self.me), mark) == Code::invalid_player);
+}
+
+void play(Machine &self, std::uint32_t turn) {
+    std::uint64_t frame = self.frame();
+    fazgrond::Reached reached{};
+    fazgrond::Row row{};
+    bool is_given = false;
+    if (self.peer.is_running() && frame < frames) {
+        put_mark(self, turn);
+        is_given = self.session.add_local_input(std::uint8_t(self.me + 1), word_of(self.me, frame)) == Code::ok;
+    }
+    if (is_given)
+        self.must(self.session.advance_frame(reached, self.carry_out()));
+    else if (self.session.has_news().value_or(false))
+        self.must(self.session.synchronize_input(row, self.carry_out()));
+}
+
+void take_turn(Machine &self, Machine &other, std::uint32_t turn) {
+    std::uint32_t now = turn * turn_time;
+    for (const fazgrond::Datagram &came : self.here)
+        (void)self.peer.receive(self.session, came.bytes.data(), came.length, now);
+    self.must(self.peer.poll(self.session, now));
+    go_on(self);
+    play(self, turn);
+    while (auto event = self.peer.event())
+        self.is(event->code != FAZGROND_LEFT && event->code != FAZGROND_DROPPED && event->code != FAZGROND_DESYNC);
+    fazgrond::Datagram sent;
+    if (self.peer.send(self.session, std::uint8_t(other.me), now, sent) == Code::ok)
+        other.coming.push_back(sent);
+    if (self.peer.send_before(std::uint8_t(other.me), now, sent) == Code::ok)
+        other.coming.push_back(sent);
+}
+
+State alone() {
+    State state = 0;
+    for (std::uint64_t frame = 0; frame < frames; frame++)
+        state = stepped(state, { 2, 0, { word_of(0, frame), word_of(1, frame) } });
+    return state;
+}
+
+bool has_come(Machine &self, const std::vector<fazgrond::Epoch> &others) {
+    if (!self.is_right || self.epochs.size() != 3 || others.size() != 3)
+        return false;
+    for (std::size_t at = 0; at < 3; at++)
+        if (self.epochs[at].id != others[at].id || self.epochs[at].base != others[at].base)
+            return false;
+    return self.epochs[1].threshold == 8 && self.epochs[2].threshold == 6 && self.state == alone()
+        && self.epochs[2].base + self.session.settled().value_or(0) == frames;
+}
+
+} // namespace
+
+int main() {
+    Machine one(0), two(1);
+    for (std::uint32_t turn = 0; turn < 600; turn++) {
+        one.here = std::move(one.coming);
+        two.here = std::move(two.coming);
+        one.coming.clear();
+        two.coming.clear();
+        take_turn(one, two, turn);
+        take_turn(two, one, turn);
+    }
+    return has_come(one, two.epochs) && has_come(two, one.epochs) ? 0 : 1;
+}

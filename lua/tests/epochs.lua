@@ -1,0 +1,137 @@
+-- A match that goes on in epochs: two machines mark, and come to the state of the game that is run once over all words, in the same
+-- epochs.
+local fazgrond = require "fazgrond"
+local Sum = require "sum"
+
+local FRAMES, TURN = 200, 16
+
+local function is(found, wanted)
+    if found ~= wanted then
+        error(("%s, and not %s"):format(tostring(found), tostring(wanted)), 2)
+    end
+end
+
+local function word_of(player, frame)
+    return math.floor(frame / (2 + player)) % 5 + player
+end
+
+local function new_machine(me)
+    local settings = { players = 2, locals = { me + 1 } }
+    local match = { me = me, machines = 2, owners = { 0, 1 }, number = 7, draw = 70 + me, silent_after = 0, notify_after = 0 }
+    local epoch = fazgrond.epoch(match, settings)
+    local session = assert(fazgrond.session(settings, Sum.new(31, 1000003)))
+    local peer = assert(fazgrond.peer(session, match, epoch))
+    return { me = me, session = session, peer = peer, epochs = { peer:epoch() }, here = {}, coming = {} }
+end
+
+-- The frame of the whole match.
+local function frame_of(self)
+    return tonumber(self.epochs[#self.epochs].base) + self.session:frame()
+end
+
+local function go_on(self)
+    local before = frame_of(self)
+    local frames, why = self.peer:go_on()
+    if not frames then
+        is(why, "nothing")
+        return
+    end
+    table.insert(self.epochs, self.peer:epoch())
+    is(self.session:frame(), frames)
+    is(frame_of(self), before)
+end
+
+-- Who asks to come by the second machine's mark isn't welcome.
+local function answer(self)
+    local ask = self.peer:ask()
+    if ask then
+        is(ask.player, 2)
+        is(ask.ticket, 9ULL)
+        is(table.concat(ask.comes, " "), "1")
+        is(self.peer:answer(2, false), true)
+    end
+end
+
+local MARKS = { [40] = { 0 }, [80] = { 1, { ticket = 9, comes = { 1 } } }, [120] = { 0, { threshold = 6, delays = { [1] = 0 } } } }
+
+local function mark(self, turn)
+    local due = MARKS[turn]
+    if due and due[1] == self.me then
+        is(self.peer:mark(self.me + 1, due[2]), true)
+        is(select(2, self.peer:mark(self.me + 1)), "marked")
+        is(select(2, self.peer:mark(2 - self.me)), "invalid_player")
+    end
+end
+
+local function take_turn(self, other, turn)
+    local now = turn * TURN
+    for _, bytes in ipairs(self.here) do
+        self.peer:receive(bytes, now)
+    end
+    assert(self.peer:poll(now))
+    answer(self)
+    go_on(self)
+    local frame = frame_of(self)
+    if self.peer:is_running() then
+        mark(self, turn)
+        self.session:turn(frame < FRAMES and word_of(self.me + 1, frame) or nil)
+    end
+    for event in self.peer:events() do
+        is(event.name == "left" or event.name == "dropped" or event.name == "desync", false)
+    end
+    assert(self.peer:note_settled())
+    table.insert(other.coming, self.peer:send(other.me, now))
+    table.insert(other.coming, (self.peer:send_before(other.me, now)))
+end
+
+local all, job = { new_machine(0), new_machine(1) }, nil
+for turn = 0, 599 do
+    for _, self in ipairs(all) do
+        self.here, self.coming = self.coming, {}
+    end
+    take_turn(all[1], all[2], turn)
+    take_turn(all[2], all[1], turn)
+    if turn == 110 then
+        job = assert(all[1].session:guess(2, { 77 }, all[1].session:frame() + 2))
+    end
+end
+
+local alone = Sum.new(31, 1000003)
+for frame = 0, FRAMES - 1 do
+    alone:advance({ word_of(1, frame), word_of(2, frame) }, 0)
+end
+for _, self in ipairs(all) do
+    local last = self.epochs[3]
+    is(#self.epochs, 3)
+    is(frame_of(self), FRAMES)
+    is(tonumber(last.base) + self.session:settled(), FRAMES)
+    is(self.session.game.state, alone.state)
+    is(self.epochs[2].threshold, 8)
+    is(last.threshold, 6)
+    for at, epoch in ipairs(self.epochs) do
+        is(epoch.id, all[1].epochs[at].id)
+        is(epoch.base, all[1].epochs[at].base)
+        is(table.concat(epoch.owners, " ") .. table.concat(epoch.delays, " "), "0 10 0")
+        is(epoch.words + epoch.machines, 3)
+    end
+end
+is(all[1].epochs[1].id, 0ULL)
+
+-- A job is over with its epoch.
+job:run(Sum.new(31, 1000003))
+is(select(2, all[1].session:graft(job)), "no_job")
+is(select(2, all[1].session:forget(job)), "no_job")
+is(all[1].session.game.state, alone.state)
+
+-- A match that doesn't go on in epochs.
+local session = assert(fazgrond.session({ players = 2, locals = { 1 } }, Sum.new(31, 1000003)))
+local match = { me = 0, machines = 2, owners = { 0, 1 }, number = 7, draw = 70 }
+local peer = assert(fazgrond.peer(session, match))
+is(select(2, peer:mark(1)), "no_marks")
+for _, call in ipairs { "epoch", "ask", "go_on" } do
+    is(select(2, peer[call](peer)), "nothing")
+end
+is(select(2, peer:answer(1, true)), "nothing")
+is(select(2, peer:send_before(1, 0)), "nothing")
+local other = fazgrond.epoch(match, { players = 2, locals = { 1 }, threshold = 7 })
+is(select(2, fazgrond.peer(session, match, other)), "invalid_request")

@@ -1,0 +1,96 @@
+"""Matches that go on with other machines, owners or delays: in epochs."""
+from __future__ import annotations
+
+from collections.abc import Collection, Mapping, Sequence
+from dataclasses import dataclass, field
+from typing import TYPE_CHECKING, Any, NamedTuple
+
+from ._raw import ffi, lib
+from .handle import Settings, put_at
+from .numbers import NO_PLAYER, NOBODY, PLAYERS
+
+if TYPE_CHECKING:
+    from .peer import Match
+
+
+def put_owners(to: Any, owners: Sequence[int | None]) -> None:
+    if len(owners) > PLAYERS:
+        raise ValueError(f"{len(owners)} players have an owner")
+    for at, owner in enumerate(owners):
+        to[at] = NOBODY if owner is None else owner
+
+
+@dataclass
+class Epoch:
+    """How an epoch of a match opens: a part of it whose machines, owners, delays and threshold stay the same. It is the same at all
+    machines. `owners` has the machine of each player of the match, player 1's first: None if nobody owns it now, and somebody who
+    comes may get it. `delays` are those of these players.
+    """
+
+    owners: Sequence[int | None]
+    delays: Sequence[int]  # by how many frames each player's words count later, 0 to 8
+    threshold: int  # how many frames its sessions may run ahead of the confirmed words
+    words: int = 1  # of how many words a player's input is
+    id: int = 0  # which epoch it is: 0 is the first one, and any other has a number of 64 bits of its own
+    base: int = 0  # how many frames of the match came before its first one
+    machines: int = 0  # how many there are. Where an epoch is opened, it isn't looked at, since the owners say it
+
+    @classmethod
+    def first(cls, match: Match, settings: Settings) -> Epoch:
+        """The first epoch of a match whose sessions have these settings. These have a delay for the machine's own players alone: put
+        those of the others into `delays`."""
+        return cls._of(lib.fazgrond_epoch_for(match._raw(), settings._raw()))
+
+    @classmethod
+    def _of(cls, raw: Any) -> Epoch:
+        players = [at for at in range(PLAYERS) if raw.owners[at] != NO_PLAYER]
+        owners = [None if raw.owners[at] == NOBODY else int(raw.owners[at]) for at in players]
+        delays = [int(raw.delays[at]) for at in players]
+        return cls(owners, delays, raw.threshold, raw.words, raw.id, raw.base, raw.machines)
+
+    def _raw(self) -> Any:
+        raw = ffi.new("fazgrond_epoch *")
+        raw.size = ffi.sizeof("fazgrond_epoch")
+        for at in range(PLAYERS):
+            raw.owners[at] = NO_PLAYER
+        put_owners(raw.owners, self.owners)
+        for at, frames in enumerate(self.delays):
+            raw.delays[at] = frames
+        for name in ["words", "threshold", "machines", "id", "base"]:
+            setattr(raw, name, getattr(self, name))
+        return raw
+
+
+@dataclass
+class Mark:
+    """What is to be otherwise in the next epoch. With nothing in it the frames begin anew, and that is all.
+
+    It is void, as if it weren't there, if its threshold is over 15 or a delay over 8, if it gives a delay to a player of another
+    machine, or if whoever is to come isn't welcome. Of each player the first mark of an epoch counts alone, even if it is void.
+    """
+
+    threshold: int = 0  # the new one; 0: as before
+    delays: Mapping[int, int] = field(default_factory=dict)  # new delays of players of the machine that puts it
+    comes: Collection[int] = ()  # the players that somebody who comes is to own
+    ticket: int = 0  # by what the program knows who comes
+
+    def _raw(self) -> Any:
+        raw = ffi.new("fazgrond_mark *", lib.fazgrond_mark_for())
+        raw.threshold, raw.ticket = self.threshold, self.ticket
+        for player, frames in self.delays.items():
+            put_at(raw.delays, player, frames)
+        for player in self.comes:
+            put_at(raw.comes, player, 1)
+        return raw
+
+
+class Ask(NamedTuple):
+    """Somebody who asks to come, by a mark."""
+
+    player: int  # by whose mark
+    ticket: int  # by what the program knows who it is
+    comes: list[int]  # which players it is to own
+
+
+def ask_of(raw: Any) -> Ask:
+    return Ask(raw.player, raw.ticket, [at + 1 for at in range(PLAYERS) if raw.comes[at]])

@@ -1,0 +1,186 @@
+//! Matches that go on in epochs: two machines mark, and come to the state of the game that is run once over all words, in the same epochs.
+
+use fazgrond::{Datagram, Epoch, Error, Event, Game, Handle, Mark, Match, Peer, Request, Row, Session, Settings};
+
+const FRAMES: u64 = 200;
+const TURN: u32 = 16;
+
+/// 31 times the number and the words.
+struct Sum(u32);
+
+impl Sum {
+    fn add(&mut self, words: impl Iterator<Item = u32>) {
+        self.0 = words.fold(self.0, |sum, word| (31 * sum + word) % 1_000_003);
+    }
+}
+
+impl Game for Sum {
+    type State = u32;
+
+    fn save(&self) -> u32 {
+        self.0
+    }
+
+    fn load(&mut self, state: &u32) {
+        self.0 = *state;
+    }
+
+    fn advance(&mut self, row: &Row) {
+        self.add(row.cells().map(|word| word.expect("nobody has left")));
+    }
+}
+
+fn word_of(player: u8, frame: u64) -> u32 {
+    (frame / (3 + u64::from(player)) % 5) as u32 + u32::from(player)
+}
+
+struct Machine {
+    me: u8,
+    session: Session<Sum>,
+    peer: Peer,
+    epochs: Vec<Epoch>,
+    here: Vec<Datagram>,
+    coming: Vec<Datagram>,
+}
+
+fn of(me: u8) -> Match {
+    Match::new(2, me, &[0, 1], 70 + u64::from(me)).number(7)
+}
+
+fn machine(me: u8) -> Machine {
+    let settings = Settings::new(2, &[me + 1]);
+    let mut session = Session::open(&settings, Sum(0)).unwrap();
+    let epoch = Epoch::first(&of(me), &settings);
+    assert_eq!((&epoch.owners[..], &epoch.delays[..]), (&[Some(0), Some(1)][..], &[0, 0][..]));
+    assert_eq!((epoch.id, epoch.base, epoch.words, epoch.threshold, epoch.machines), (0, 0, 1, 8, 2));
+    let peer = Peer::open_lasting(&mut session, &of(me), &epoch).unwrap();
+    assert_eq!(peer.epoch(), Some(epoch.clone()));
+    Machine { me, session, peer, epochs: vec![epoch], here: Vec::new(), coming: Vec::new() }
+}
+
+impl Machine {
+    /// The frame of the whole match.
+    fn frame(&self) -> u64 {
+        self.epochs[self.epochs.len() - 1].base + u64::from(self.session.frame())
+    }
+
+    /// Goes on in the next epoch if this one is over.
+    fn go_on(&mut self) {
+        let before = self.frame();
+        if let Some(frames) = self.peer.go_on(&mut self.session).unwrap() {
+            self.epochs.push(self.peer.epoch().unwrap());
+            assert_eq!((self.session.frame(), self.frame()), (frames, before));
+        }
+    }
+
+    /// A turn, and what it sends.
+    fn turn(&mut self, mark: Option<&Mark>, now: u32) -> Vec<Datagram> {
+        for bytes in std::mem::take(&mut self.here) {
+            let _ = self.peer.receive(&mut self.session, &bytes, now);
+        }
+        self.peer.poll(&mut self.session, now).unwrap();
+        if let Some(ask) = self.peer.ask() {
+            assert_eq!((ask.player, ask.ticket, ask.comes), (2, 9, vec![1]));
+            self.peer.answer(2, false);
+        }
+        self.go_on();
+        let frame = self.frame();
+        if self.peer.is_running() && frame < FRAMES {
+            if let Some(mark) = mark {
+                self.peer.mark(&self.session, self.me + 1, mark).unwrap();
+                assert_eq!(self.peer.mark(&self.session, self.me + 1, mark), Err(Error::Marked));
+                assert_eq!(self.peer.mark(&self.session, 2 - self.me, mark), Err(Error::InvalidPlayer));
+            }
+            let _ = self.session.add_local_input(self.me + 1, word_of(self.me, frame));
+        }
+        self.peer.turn(&mut self.session, now).unwrap();
+        while let Some(event) = self.peer.event() {
+            assert!(!matches!(event, Event::Left { .. } | Event::Dropped | Event::Desync { .. }), "{event:?}");
+        }
+        let sent = self.peer.send(&self.session, 1 - self.me, now).unwrap();
+        sent.into_iter().chain(self.peer.send_before(1 - self.me, now)).collect()
+    }
+}
+
+/// Which mark a machine puts in a turn. The second one's newcomer isn't welcome.
+fn mark_in(turn: u32, me: u8) -> Option<Mark> {
+    match (turn, me) {
+        (40, 0) => Some(Mark::new()),
+        (80, 1) => Some(Mark::new().newcomer(9, &[1])),
+        (120, 0) => Some(Mark::new().threshold(6)),
+        _ => None,
+    }
+}
+
+#[test]
+fn a_match_goes_on_in_epochs() {
+    let mut all = [machine(0), machine(1)];
+    for turn in 0..600 {
+        for it in &mut all {
+            it.here = std::mem::take(&mut it.coming);
+        }
+        for me in 0..2u8 {
+            let sent = all[usize::from(me)].turn(mark_in(turn, me).as_ref(), turn * TURN);
+            all[usize::from(1 - me)].coming.extend(sent);
+        }
+    }
+    let mut alone = Sum(0);
+    for frame in 0..FRAMES {
+        alone.add((0..2).map(|player| word_of(player, frame)));
+    }
+    let [one, two] = &all;
+    assert_eq!(one.epochs, two.epochs);
+    assert_eq!(one.epochs.iter().map(|it| it.threshold).collect::<Vec<_>>(), [8, 8, 6]);
+    for it in &all {
+        let settled = it.epochs[2].base + u64::from(it.session.settled());
+        assert_eq!((it.frame(), settled, it.session.game().0), (FRAMES, FRAMES, alone.0));
+    }
+}
+
+#[test]
+fn jobs_are_over_with_their_epoch() {
+    let mut all = [machine(0), machine(1)];
+    let mut job = None;
+    for turn in 0..200 {
+        for it in &mut all {
+            it.here = std::mem::take(&mut it.coming);
+        }
+        for me in 0..2u8 {
+            let mark = (turn == 60 && me == 0).then(Mark::new);
+            let sent = all[usize::from(me)].turn(mark.as_ref(), turn * TURN);
+            all[usize::from(1 - me)].coming.extend(sent);
+        }
+        let it = &mut all[0];
+        if turn == 50 {
+            job = it.session.guess(2, &[77], it.session.frame() + 2).unwrap();
+        }
+    }
+    assert_eq!(all[0].epochs.len(), 2);
+    let done = job.expect("frames were to be run").run(&mut Sum(0));
+    assert_eq!(all[0].session.graft(done), Err(Error::NoJob));
+}
+
+/// What a handle's caller is to do goes on by its slots: the next epoch begins with the state in slot 0.
+#[test]
+fn a_handle_goes_on() {
+    let settings = Settings::new(2, &[1]);
+    let mut handle = Handle::open(&settings).unwrap();
+    let mut peer = Peer::open_lasting(&mut handle, &of(0), &Epoch::first(&of(0), &settings)).unwrap();
+    assert_eq!(peer.go_on(&mut handle), Ok(None));
+    assert!(handle.requests().all(|request| !matches!(request, Request::Step(_))));
+    assert_eq!((peer.ask(), peer.send_before(1, 0).is_none()), (None, true));
+}
+
+#[test]
+fn what_is_refused() {
+    let settings = Settings::new(2, &[1]);
+    let mut session = Session::open(&settings, Sum(0)).unwrap();
+    let mut peer = Peer::open(&mut session, &of(0)).unwrap();
+    assert_eq!(peer.mark(&session, 1, &Mark::new()), Err(Error::NoMarks));
+    assert_eq!((peer.epoch(), peer.ask(), peer.go_on(&mut session)), (None, None, Ok(None)));
+    peer.answer(1, true);
+    let epoch = Epoch { threshold: 7, ..Epoch::first(&of(0), &settings) };
+    assert_eq!(Peer::open_lasting(&mut session, &of(0), &epoch).map(|_| ()), Err(Error::InvalidRequest));
+    let epoch = Epoch { delays: vec![1, 0], ..Epoch::first(&of(0), &settings) };
+    assert_eq!(Peer::open_lasting(&mut session, &of(0), &epoch).map(|_| ()), Err(Error::InvalidRequest));
+}
