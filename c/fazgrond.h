@@ -691,8 +691,9 @@ int32_t fazgrond_peer_answer(fazgrond_peer *peer, uint8_t player, uint32_t is_we
  * The numbers of all jobs are forgotten: none of their requests may be carried out any more. So if threads carry some out, have them
  * end before you take these requests, and graft or forget none of those jobs.
  *
- * FAZGROND_PENDING: requests of the session weren't taken yet. Other answers are those of fazgrond_open and fazgrond_peer_open; nothing is
- * changed then. FAZGROND_INVALID_REQUEST among them: the others go on without this machine, since it has left for them. */
+ * FAZGROND_PENDING: the last requests of the epoch before weren't taken yet. Other answers are those of fazgrond_open and
+ * fazgrond_peer_open: this epoch stays as it is, but that words held back may have been handed over. FAZGROND_INVALID_REQUEST among them:
+ * the others go on without this machine, since it has left for them. */
 int32_t fazgrond_peer_go_on(fazgrond_peer *peer, fazgrond_session *session, uint32_t *frames);
 
 /* What is to be sent to a machine that may still be in the epoch before, in each turn after fazgrond_peer_send for it: a datagram, as
