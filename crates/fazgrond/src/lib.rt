@@ -12,6 +12,10 @@
 //!   again on the thread that draws.
 //!   Where the line between two of three or more machines may break, a [`relaying::Relay`] stands beside the peer: then others carry
 //!   what goes between the two.
+//! - **In epochs** a match goes on when somebody comes, comes back, or is to have another delay: a mark ([`Peer::mark`]) on a word says so,
+//!   and where it counts the epoch ends. A [`Chain`] has the terms of this epoch ([`epochs`]) and says when it is over; [`Epochs`] has it
+//!   beside the peer, and the epoch before as long as somebody may still be in it. [`onward::go_on`] starts the next one: its session
+//!   begins with the state at the end of this one.
 //! - **Beside other threads**: [`Host`] has a session, [`Link`]s that bring remote words from the network's thread, and the
 //!   workers of a [`Crew`], which run guesses ahead.
 //! - **Guesses** worth making: [`Habits`] has what was seen of a player, and chooses them. [`PlayerHabits`] chooses them by parts of
@@ -38,6 +42,9 @@ pub use roll_branch::Job;
 pub use roll_branch::PackedRoute;
 pub use roll_branch::extend;
 pub use roll_cert as claims;
+pub use roll_chain::Chain;
+pub use roll_chain::Opening;
+pub use roll_epoch as epochs;
 pub use roll_frame::Advice;
 pub use roll_frame::Cell;
 pub use roll_frame::Claim;
@@ -77,8 +84,10 @@ pub use roll_link::Remote;
 pub use roll_link::SendFault;
 pub use roll_member::JoinRefusal;
 pub use roll_member::Taken;
+pub use roll_onward as onward;
 pub use roll_peer::Field;
 pub use roll_peer::Ignored;
+pub use roll_peer::MarkRefusal;
 pub use roll_peer::MatchSettings;
 pub use roll_peer::OpenRefusal;
 pub use roll_peer::OtherSession;
@@ -86,6 +95,7 @@ pub use roll_peer::Peer;
 pub use roll_peer::PeerEvent;
 pub use roll_peer::PeerRefusal;
 pub use roll_peer::Received;
+pub use roll_peer::Seating;
 pub use roll_peer::Stage;
 pub use roll_peer::Stats;
 pub use roll_peer::ends_in_roll;
@@ -100,6 +110,9 @@ pub use roll_pool::WORKER_LIMIT;
 pub use roll_pool::WorkerEnd;
 pub use roll_pool::start_all;
 pub use roll_relay as relaying;
+pub use roll_seam::Epochs;
+pub use roll_seam::Past;
+pub use roll_seam::relay_for;
 pub use roll_session::Call;
 pub use roll_session::Grafted;
 pub use roll_session::Heard;
@@ -112,6 +125,7 @@ pub use roll_session::Reached;
 pub use roll_session::ReplayFault;
 pub use roll_session::Request;
 pub use roll_session::Session;
+pub use roll_session::Settling;
 pub use roll_session::Source;
 pub use roll_session::StartFault;
 pub use roll_spectate::Feed;
@@ -133,3 +147,5 @@ pub use roll_viewer::Viewer;
 pub use roll_viewer::ViewerLine;
 pub use roll_viewer::WAITING_LIMIT;
 pub use roll_wire::DATAGRAM_LIMIT;
+pub use roll_wire::Mark;
+pub use roll_wire::Newcomer;

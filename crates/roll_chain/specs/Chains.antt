@@ -6,7 +6,7 @@ use Rattle.roll_epoch.specs.Ids.{key_of}
 use Rattle.roll_epoch.specs.Seats.{machines_to, owners_with_absent}
 use Rattle.roll_epoch.specs.declared.terms.Terms.{Terms}
 use Rattle.roll_frame.specs.declared.profile.Profile.{Profile}
-use Rattle.roll_mesh.specs.Machines.{owner_of}
+use Rattle.roll_mesh.specs.Machines.{is_in, owner_of}
 use Rattle.roll_mesh.specs.Meshes.{Seated}
 use Rattle.roll_mesh.specs.declared.limits.TheConstants.{MACHINE_LIMIT, PLAYER_LIMIT}
 use Rattle.roll_peer.specs.Marking.{is_numbered}
@@ -47,6 +47,12 @@ abbrev pub answered : Chain → ℕ → Bool → Chain
 answered chain player is_welcome =
     if is_numbered player
     then record chain { welcome = slice_set chain.welcome (player - 1) (Some is_welcome) } else chain
+
+-- ---- who was there before
+
+-- whether a machine is in this epoch and was in the one before
+abbrev pub has_stayed : Chain → ℕ → Bool
+has_stayed chain machine = is_in chain.stays machine
 
 -- ---- who has come
 

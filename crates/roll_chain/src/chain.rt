@@ -2,7 +2,7 @@
 ghost use Rattle.std.specs.Prelude.{◌≡◌, ◌<◌, true};
 ghost use Rattle.std.specs.List.{list_all, list_any, range_with_len};
 ghost use Rattle.roll_mesh.specs.declared.limits.TheConstants.{MACHINE_LIMIT, PLAYER_LIMIT};
-ghost use Rattle.roll_chain.specs.Chains.{answered, first_chain, has_given, is_past_over, is_seen, is_word_of, numbers_in, settings_in};
+ghost use Rattle.roll_chain.specs.Chains.{answered, first_chain, has_given, has_stayed, is_past_over, is_seen, is_word_of, numbers_in, settings_in};
 
 use roll_epoch::{Terms, key_of};
 use roll_frame::Profile;
@@ -63,6 +63,13 @@ impl Chain {
         if player != 0 && usize::from(player) <= PLAYER_LIMIT {
             self.welcome[usize::from(player) - 1] = Some(is_welcome);
         }
+    }
+
+    /// Whether a machine is in this epoch and was in the one before. Of the epoch with which the match was opened here nobody has.
+    pub fn has_stayed(&self, machine: u8) -> bool
+        ensures { result ≡ has_stayed self.now machine }
+    {
+        usize::from(machine) < MACHINE_LIMIT && self.stays[usize::from(machine)]
     }
 
     /// Whether the epoch before needn't be told on: each other machine that isn't gone has come to this one, since a word of one of its

@@ -8,17 +8,19 @@ use Rattle.roll_epoch.specs.declared.marks.Ending.{Ending}
 use Rattle.roll_peer.specs.Peered.{Peered}
 use Rattle.roll_requests.specs.Asked.{Asked}
 use Rattle.roll_requests.specs.declared.request.Request.{Request}
+use Rattle.roll_requests.specs.Ended.{Ended}
 use Rattle.roll_seam.specs.Again.{given_again, ArePlayed}
+use Rattle.roll_seam.specs.Calls.{DeclinesCall, MakesCall}
 use Rattle.roll_seam.specs.Epochs.{HasGoneOn, HasNotGoneOn}
 use Rattle.roll_seam.specs.GoingOn.{GoesOn, IsWhyNotGone}
 use Rattle.roll_seam.specs.declared.epochs.Epochs.{Epochs}
 use Rattle.roll_seam.specs.declared.past.Past.{Past}
 use Rattle.roll_seam.specs.declared.refusal.SeamRefusal.{SeamRefusal}
 
-pub gone_on : (old new : Epochs) (peer next : Peered) (relay carrying : Option Carrying) (session started after : Asked) (closing : List Request)
-    (past : Past) (o : Opening) (e : Ending) (all : Bool) → IsOver session.seen old.chain peer e → o ≡ opening_after session.seen old.chain peer e
+pub gone_on : (old new : Epochs Ended) (peer next : Peered) (relay carrying : Option Carrying) (session started after : Asked) (closing : List Request)
+    (past : Past Ended) (o : Opening) (e : Ending) (all : Bool) → IsOver session.seen old.chain peer e → o ≡ opening_after session.seen old.chain peer e
     → new.past ≡ Some past → GoesOn o old.chain new.chain peer next relay carrying session started past closing
-    → ArePlayed started (given_again new.chain.terms next.settings.me past.session.seen o.end) after all
+    → ArePlayed MakesCall DeclinesCall started (given_again new.chain.terms next.settings.me past.session.seen o.end) after all
     → HasGoneOn old new peer next relay carrying session after closing
 gone_on old new peer next relay carrying session started after closing past o e all over is there goes again = record {
   ending = e;
@@ -28,10 +30,10 @@ gone_on old new peer next relay carrying session started after closing past o e 
   past_is = there;
   goes_on = subst (λ (x : Opening). GoesOn x old.chain new.chain peer next relay carrying session started past closing) is goes;
   all = all;
-  again = subst (λ (x : Opening). ArePlayed started (given_again new.chain.terms next.settings.me past.session.seen x.end) after all) is again;
+  again = subst (λ (x : Opening). ArePlayed MakesCall DeclinesCall started (given_again new.chain.terms next.settings.me past.session.seen x.end) after all) is again;
 }
 
-pub not_gone_on : (old : Epochs) (peer : Peered) (session : Asked) (why : SeamRefusal) (o : Opening) (e : Ending) → IsOver session.seen old.chain peer e
+pub not_gone_on : (old : Epochs Ended) (peer : Peered) (session : Asked) (why : SeamRefusal) (o : Opening) (e : Ending) → IsOver session.seen old.chain peer e
     → o ≡ opening_after session.seen old.chain peer e → IsWhyNotGone o old.chain session why → HasNotGoneOn old peer session why
 not_gone_on old peer session why o e over is refused = record {
   ending = e;

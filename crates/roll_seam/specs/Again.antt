@@ -2,24 +2,21 @@
 use Rattle.std.specs.Prelude.{◌≡◌, ◌⊎◌, ℕ, zero, suc, ◌+◌, ◌-◌, ◌==◌, List, [], ◌∷◌, ◌++◌, Bool, true, false, if◌then◌else◌, slice_index}
 use Rattle.roll_epoch.specs.Ends.{owner_of}
 use Rattle.roll_epoch.specs.declared.terms.Terms.{Terms}
-use Rattle.roll_frame.specs.declared.reply.Reply.{Reply}
 use Rattle.roll_member.specs.Seam.{given_at}
 use Rattle.roll_mesh.specs.declared.limits.TheConstants.{PLAYER_LIMIT}
-use Rattle.roll_requests.specs.Asked.{Asked}
-use Rattle.roll_requests.specs.Made.{IsMade, IsNotMade, KeepsLeading}
-use Rattle.roll_requests.specs.declared.declined.Declined.{Declined}
 use Rattle.roll_session.specs.Seen.{Seen}
 use Rattle.roll_session.specs.declared.event.Call.{Call}
 use Rattle.roll_session.specs.declared.event.Call.TheVariants.{Local, Advance}
 
 -- ---- calls, one after another
 
--- calls are made in their order, up to the first that is declined, if one is
-abbrev pub ArePlayed : (old : Asked) → List Call → (new : Asked) → (all : Bool) → Type 0
-ArePlayed old [] new all = (new ≡ old) × (all ≡ true)
-ArePlayed old (call ∷ more) new all =
-    ((mid : Asked) × (said : Reply) × IsMade old mid call said × KeepsLeading old mid × ArePlayed mid more new all)
-    ⊎ ((why : Declined) × IsNotMade old new call why × KeepsLeading old new × (all ≡ false))
+module _ {S : Type 0} (makes declines : S → S → Call → Type 0) where
+  -- calls are made in their order, up to the first that is declined, if one is
+  abbrev pub ArePlayed : (old : S) → List Call → (new : S) → (all : Bool) → Type 0
+  ArePlayed old [] new all = (new ≡ old) × (all ≡ true)
+  ArePlayed old (call ∷ more) new all =
+      ((mid : S) × makes old mid call × ArePlayed mid more new all)
+      ⊎ (declines old new call × (all ≡ false))
 
 -- ---- which calls
 

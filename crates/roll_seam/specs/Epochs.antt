@@ -13,65 +13,68 @@ use Rattle.roll_peer.specs.declared.received.Ignored.TheVariants.{NotSealed}
 use Rattle.roll_peer.specs.declared.refusal.OtherSession.{OtherSession}
 use Rattle.roll_requests.specs.Asked.{Asked}
 use Rattle.roll_requests.specs.declared.request.Request.{Request}
+use Rattle.roll_requests.specs.Ended.{Ended}
 use Rattle.roll_seam.specs.Again.{given_again, ArePlayed}
+use Rattle.roll_seam.specs.Calls.{DeclinesCall, MakesCall}
 use Rattle.roll_seam.specs.GoingOn.{GoesOn, IsWhyNotGone}
 use Rattle.roll_seam.specs.Pasts.{turned_past, Hears, IsNextOf, Sends}
 use Rattle.roll_seam.specs.declared.epochs.Epochs.{Epochs}
 use Rattle.roll_seam.specs.declared.past.Past.{Past}
 use Rattle.roll_seam.specs.declared.refusal.SeamRefusal.{SeamRefusal}
+use Rattle.roll_session.specs.Seen.{Seen, Step}
 
 -- ---- a turn
 
 -- what each of two networks of this machine knows of who is there, the other knows too
-abbrev pub heard_in : Epochs → Past → Peered → Peered
+abbrev pub heard_in : {S : Type 0} → Epochs S → Past S → Peered → Peered
 heard_in e past peer = heard_until e.chain.stays past.peer MACHINE_LIMIT peer
 
-abbrev pub gone_in : Epochs → Past → Peered → List Bool
+abbrev pub gone_in : {S : Type 0} → Epochs S → Past S → Peered → List Bool
 gone_in e past peer = gone_in_either e.chain peer past.peer
 
-abbrev pub shared_by : Option Past → Epochs → Peered → Peered
+abbrev pub shared_by : {S : Type 0} → Option (Past S) → Epochs S → Peered → Peered
 shared_by None e peer = peer
 shared_by (Some past) e peer = parted_until (gone_in e past peer) MACHINE_LIMIT (heard_in e past peer)
 
-abbrev pub shared_peer : Epochs → Peered → Peered
+abbrev pub shared_peer : {S : Type 0} → Epochs S → Peered → Peered
 shared_peer e peer = shared_by e.past e peer
 
-abbrev pub shared_past : Epochs → Peered → Option Past
-shared_past e peer =
-    option_map {T = Past} (λ past. record past { peer = parted_until (gone_in e past peer) MACHINE_LIMIT past.peer }) e.past
+abbrev pub shared_past : {S : Type 0} → Epochs S → Peered → Option (Past S)
+shared_past {S} e peer =
+    option_map {T = Past S} (λ past. record past { peer = parted_until (gone_in e past peer) MACHINE_LIMIT past.peer }) e.past
 
 -- the epoch before is forgotten once nobody is in it any more; else a turn begins for what it carries
-abbrev pub kept_past : Epochs → Peered → Option Past
+abbrev pub kept_past : {S : Type 0} → Epochs S → Peered → Option (Past S)
 kept_past e peer = if is_past_over peer then None else option_map turned_past e.past
 
 -- what is known and told is shared, and then the epoch before kept or forgotten
-abbrev pub turned_in : Epochs → Peered → Epochs
+abbrev pub turned_in : {S : Type 0} → Epochs S → Peered → Epochs S
 turned_in e peer = record e { past = kept_past (record e { past = shared_past e peer }) (shared_peer e peer) }
 
-abbrev pub judged_in : Epochs → Peered → Peered
+abbrev pub judged_in : {S : Type 0} → Epochs S → Peered → Peered
 judged_in e peer = judged_until e.chain PLAYER_LIMIT peer
 
 -- ---- the epoch before
 
 -- it hears bytes, or there is none
-abbrev pub HearsBefore : (bytes : List ℕ) → (now : ℕ) → (old new : Epochs) → Result Unit Ignored → Type 0
-HearsBefore bytes now old new said =
+abbrev pub HearsBefore : {S : Type 0} → (seen : S → Seen) → Step → (bytes : List ℕ) → (now : ℕ) → (old new : Epochs S) → Result Unit Ignored → Type 0
+HearsBefore seen step bytes now old new said =
     (new.chain ≡ old.chain)
     × MatchOption old.past
     ((new.past ≡ None) × (said ≡ Err NotSealed))
-    (λ past. IsSomeAnd new.past (λ later. Hears bytes now past later said))
+    (λ past. IsSomeAnd new.past (λ later. Hears seen step bytes now past later said))
 
 -- it sends to a machine that wasn't seen in this one
-abbrev pub SendsBefore : Peered → (machine now : ℕ) → (old new : Epochs) → Result (Option (List ℕ)) OtherSession → Type 0
-SendsBefore peer machine now old new said =
+abbrev pub SendsBefore : {S : Type 0} → (seen : S → Seen) → Peered → (machine now : ℕ) → (old new : Epochs S) → Result (Option (List ℕ)) OtherSession → Type 0
+SendsBefore seen peer machine now old new said =
     (new.chain ≡ old.chain)
     × (((is_seen peer machine ≡ true) × ((new.past ≡ old.past) × (said ≡ Ok None)))
     ⊎ ((is_seen peer machine ≡ false) × MatchOption old.past
     ((new.past ≡ None) × (said ≡ Ok None))
-    (λ past. IsSomeAnd new.past (λ later. Sends machine now past later said))))
+    (λ past. IsSomeAnd new.past (λ later. Sends seen machine now past later said))))
 
 -- what goes out in it beside that
-abbrev pub IsNextBefore : (old new : Epochs) → Option (ℕ × List ℕ) → Type 0
+abbrev pub IsNextBefore : {S : Type 0} → (old new : Epochs S) → Option (ℕ × List ℕ) → Type 0
 IsNextBefore old new said =
     (new.chain ≡ old.chain)
     × MatchOption old.past
@@ -81,31 +84,31 @@ IsNextBefore old new said =
 -- ---- the next epoch
 
 -- nothing is changed
-pub record IsUnmoved (old new : Epochs) (peer next : Peered) (relay carrying : Option Carrying) (session started : Asked) : Type 0 where
+pub record IsUnmoved (old new : Epochs Ended) (peer next : Peered) (relay carrying : Option Carrying) (session started : Asked) : Type 0 where
   pub epochs : new ≡ old
   pub peer_is : next ≡ peer
   pub relay_is : carrying ≡ relay
   pub session_is : started ≡ session
 
 -- this one is over, and the next one has begun; what own players gave past the end was given again, as far as that is taken
-pub record HasGoneOn (old new : Epochs) (peer next : Peered) (relay carrying : Option Carrying) (session after : Asked) (closing : List Request)
+pub record HasGoneOn (old new : Epochs Ended) (peer next : Peered) (relay carrying : Option Carrying) (session after : Asked) (closing : List Request)
     : Type 0 where
   pub ending : Ending
   pub over : IsOver session.seen old.chain peer ending
   pub started : Asked
-  pub past : Past
+  pub past : Past Ended
   pub past_is : new.past ≡ Some past
   pub goes_on : GoesOn (opening_after session.seen old.chain peer ending) old.chain new.chain peer next relay carrying session started past closing
   pub all : Bool
-  pub again : ArePlayed started (given_again new.chain.terms next.settings.me past.session.seen ending.frame) after all
+  pub again : ArePlayed MakesCall DeclinesCall started (given_again new.chain.terms next.settings.me past.session.seen ending.frame) after all
 
 -- or the next one doesn't open
-pub record HasNotGoneOn (old : Epochs) (peer : Peered) (session : Asked) (why : SeamRefusal) : Type 0 where
+pub record HasNotGoneOn (old : Epochs Ended) (peer : Peered) (session : Asked) (why : SeamRefusal) : Type 0 where
   pub ending : Ending
   pub over : IsOver session.seen old.chain peer ending
   pub refused : IsWhyNotGone (opening_after session.seen old.chain peer ending) old.chain session why
 
-abbrev pub GoesOnIn : (old new : Epochs) → (peer next : Peered) → (relay carrying : Option Carrying) → (session after : Asked)
+abbrev pub GoesOnIn : (old new : Epochs Ended) → (peer next : Peered) → (relay carrying : Option Carrying) → (session after : Asked)
     → Result (Option (List Request)) SeamRefusal → Type 0
 GoesOnIn old new peer next relay carrying session after (Ok None) =
     IsUnmoved old new peer next relay carrying session after

@@ -14,7 +14,7 @@ use Rattle.roll_peer.specs.Following.{IsFollowedAs}
 use Rattle.roll_peer.specs.Peered.{IsWhyNot, Peered}
 use Rattle.roll_peer.specs.declared.refusal.OpenRefusal.TheVariants.{NoMemory as NoneLeft}
 use Rattle.roll_requests.specs.Asked.{Asked, Leads}
-use Rattle.roll_requests.specs.Ended.{end_refusal, IsEnded}
+use Rattle.roll_requests.specs.Ended.{end_refusal, Ended, IsEnded}
 use Rattle.roll_requests.specs.declared.request.Request.{Request}
 use Rattle.roll_session.specs.Changes.{IsWhy}
 use Rattle.roll_session.specs.Started.{first_seen}
@@ -35,7 +35,7 @@ pub record IsStartedAs (settings : Settings) (limit : ℕ) (e : Asked) : Type 0 
 -- how the next epoch opens: its session starts, its network follows this one's, and opened so also what carries beside it; this one's
 -- network, what it carried and its session, which has ended by these last requests, are the epoch before
 pub record GoesOn (o : Opening) (old new : Chain) (peer next : Peered) (relay carrying : Option Carrying) (session started : Asked)
-    (past : Past) (closing : List Request) : Type 0 where
+    (past : Past Ended) (closing : List Request) : Type 0 where
   pub starts : IsStartedAs o.settings session.limit started
   pub follows : IsFollowedAs started.seen (settings_in old.base o.terms) peer o.seating next
   pub chain : new ≡ followed_by old o

@@ -1,5 +1,6 @@
 pub mod Carrying
 pub mod Again
+pub mod Calls
 pub mod GoingOn
 pub mod Pasts
 pub mod Epochs

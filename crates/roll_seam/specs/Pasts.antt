@@ -11,11 +11,11 @@ use Rattle.roll_peer.specs.declared.received.Received.{Received}
 use Rattle.roll_peer.specs.declared.refusal.OtherSession.{OtherSession}
 use Rattle.roll_relay.specs.Relaying.{IsNext}
 use Rattle.roll_relay.specs.declared.heard.Heard.{Heard}
-use Rattle.roll_session.specs.Gameless.{still}
+use Rattle.roll_session.specs.Seen.{Seen, Step}
 use Rattle.roll_seam.specs.declared.past.Past.{Past}
 
 -- a turn begins for what it carries
-abbrev pub turned_past : Past → Past
+abbrev pub turned_past : {S : Type 0} → Past S → Past S
 turned_past past = record past { relay = option_map (turned (moment_of past.peer)) past.relay }
 
 -- ---- hearing
@@ -24,47 +24,49 @@ abbrev pub done : {T : Type 0} → Result T Ignored → Result Unit Ignored
 done (Ok x) = Ok tt
 done (Err why) = Err why
 
-abbrev pub beside : Past → Beside
-beside past = record { session = past.session.seen; peer = past.peer }
+module _ {S : Type 0} (seen : S → Seen) (step : Step) where
+  abbrev pub beside : Past S → Beside
+  beside past = record { session = seen past.session; peer = past.peer }
 
--- bytes are heard that came straight, or they aren't
-pub record HearsStraight (bytes : List ℕ) (now : ℕ) (old new : Past) (said : Result Unit Ignored) : Type 0 where
-  pub result : Result Received Ignored
-  pub hears : HearsBytes still (beside old) (beside new) now bytes result
-  pub said_is : said ≡ done result
+  -- bytes are heard that came straight, or they aren't
+  pub record HearsStraight (bytes : List ℕ) (now : ℕ) (old new : Past S) (said : Result Unit Ignored) : Type 0 where
+    pub result : Result Received Ignored
+    pub hears : HearsBytes step (beside old) (beside new) now bytes result
+    pub said_is : said ≡ done result
 
--- or by who carries
-pub record HearsCarried (bytes : List ℕ) (now : ℕ) (old new : Past) (here there : Carrying) (said : Result Unit Ignored) : Type 0 where
-  pub result : Result Heard Ignored
-  pub hears : HearsBy still now (relayed old.session.seen old.peer here) (relayed new.session.seen new.peer there) bytes result
-  pub said_is : said ≡ done result
+  -- or by who carries
+  pub record HearsCarried (bytes : List ℕ) (now : ℕ) (old new : Past S) (here there : Carrying) (said : Result Unit Ignored) : Type 0 where
+    pub result : Result Heard Ignored
+    pub hears : HearsBy step now (relayed (seen old.session) old.peer here) (relayed (seen new.session) new.peer there) bytes result
+    pub said_is : said ≡ done result
 
-abbrev pub Hears : (bytes : List ℕ) → (now : ℕ) → (old new : Past) → Result Unit Ignored → Type 0
-Hears bytes now old new said = MatchOption old.relay
-    ((new.relay ≡ None) × HearsStraight bytes now old new said)
-    (λ here. IsSomeAnd new.relay (λ there. HearsCarried bytes now old new here there said))
+  abbrev pub Hears : (bytes : List ℕ) → (now : ℕ) → (old new : Past S) → Result Unit Ignored → Type 0
+  Hears bytes now old new said = MatchOption old.relay
+      ((new.relay ≡ None) × HearsStraight bytes now old new said)
+      (λ here. IsSomeAnd new.relay (λ there. HearsCarried bytes now old new here there said))
 
 -- ---- sending
 
--- what is sent to a machine in a turn; nothing to one that is gone, to this one, or where there is none; or the session is another, and
--- nothing is changed but the clock
-pub record SendsStraight (machine now : ℕ) (old new : Past) (said : Result (Option (List ℕ)) OtherSession) : Type 0 where
-  pub sent : IfOk said (λ sent. MatchOption sent (is_lost old.peer machine ≡ true)
-      (λ bytes. IsSent old.session.seen (meeting old.session.seen (ticking now old.peer)) machine bytes))
-  pub counted : IfOk said (λ sent. new.peer ≡ after_send (meeting old.session.seen (ticking now old.peer)) machine)
-  pub accepted : IfOk said (λ sent. IsOf old.session.seen old.peer.member)
-  pub other : OnErr said (IsOther old.session.seen old.peer)
-  pub unchanged : OnErr said (new.peer ≡ ticking now old.peer)
+module _ {S : Type 0} (seen : S → Seen) where
+  -- what is sent to a machine in a turn; nothing to one that is gone, to this one, or where there is none; or the session is another, and
+  -- nothing is changed but the clock
+  pub record SendsStraight (machine now : ℕ) (old new : Past S) (said : Result (Option (List ℕ)) OtherSession) : Type 0 where
+    pub sent : IfOk said (λ sent. MatchOption sent (is_lost old.peer machine ≡ true)
+        (λ bytes. IsSent (seen old.session) (meeting (seen old.session) (ticking now old.peer)) machine bytes))
+    pub counted : IfOk said (λ sent. new.peer ≡ after_send (meeting (seen old.session) (ticking now old.peer)) machine)
+    pub accepted : IfOk said (λ sent. IsOf (seen old.session) old.peer.member)
+    pub other : OnErr said (IsOther (seen old.session) old.peer)
+    pub unchanged : OnErr said (new.peer ≡ ticking now old.peer)
 
-abbrev pub Sends : (machine now : ℕ) → (old new : Past) → Result (Option (List ℕ)) OtherSession → Type 0
-Sends machine now old new said =
-    (new.session ≡ old.session)
-    × MatchOption old.relay
-    ((new.relay ≡ None) × SendsStraight machine now old new said)
-    (λ here. IsSomeAnd new.relay (λ there. SendsBy old.session.seen now machine old.peer new.peer here there said))
+  abbrev pub Sends : (machine now : ℕ) → (old new : Past S) → Result (Option (List ℕ)) OtherSession → Type 0
+  Sends machine now old new said =
+      (new.session ≡ old.session)
+      × MatchOption old.relay
+      ((new.relay ≡ None) × SendsStraight machine now old new said)
+      (λ here. IsSomeAnd new.relay (λ there. SendsBy (seen old.session) now machine old.peer new.peer here there said))
 
 -- what goes out beside that: nothing if it carries nothing
-pub record IsNextOf (old new : Past) (said : Option (ℕ × List ℕ)) : Type 0 where
+pub record IsNextOf {S : Type 0} (old new : Past S) (said : Option (ℕ × List ℕ)) : Type 0 where
   pub peer : new.peer ≡ old.peer
   pub session : new.session ≡ old.session
   pub next : MatchOption old.relay

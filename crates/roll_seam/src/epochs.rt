@@ -1,7 +1,8 @@
-//! A match that goes on in epochs, beside a session whose game is played elsewhere.
+//! A match that goes on in epochs, beside a session.
 ghost use Rattle.std.specs.Prelude.{◌≡◌, None, option_map};
 ghost use Rattle.roll_held.specs.Relayed.{bytes_of};
 ghost use Rattle.roll_seam.specs.Again.{given_again, ArePlayed};
+ghost use Rattle.roll_seam.specs.Calls.{DeclinesCall, MakesCall};
 ghost use Rattle.roll_seam.specs.Epochs.{judged_in, kept_past, shared_past, shared_peer, turned_in, GoesOnIn, HearsBefore, IsNextBefore, SendsBefore};
 
 use crate::again::Again;
@@ -12,23 +13,24 @@ use arrayvec::ArrayVec;
 use roll_chain::{Chain, is_seen};
 use roll_peer::{Ignored, OtherSession, Peer};
 use roll_relay::Relay;
-use roll_requests::{Closing, Elsewhere};
+use roll_requests::{Closing, Elsewhere, Ended};
+use roll_session::Networked;
 use roll_wire::DATAGRAM_LIMIT;
 use std::alloc::Global;
 
 /// What a match that goes on in epochs has beside its network: how this epoch opened, and the one before, as long as somebody may still
 /// be in it. Give its calls always the same network and session.
 #[derive(Drop)]
-pub struct Epochs {
+pub struct Epochs<S> {
     /// How the match goes on.
     pub chain: Chain,
     /// The epoch before.
-    pub past: Option<Past>,
+    pub past: Option<Past<S>>,
 }
 
-impl Epochs {
+impl<S: Networked + Drop> Epochs<S> {
     /// A match that begins so.
-    pub fn new(chain: Chain) -> Epochs
+    pub fn new(chain: Chain) -> Epochs<S>
         ensures { result ≡ record { chain = chain; past = None } }
     {
         Epochs { chain, past: None }
@@ -72,7 +74,7 @@ impl Epochs {
     ///
     /// As of the network's call; `NotSealed` if there is no epoch before.
     pub fn receive(&mut self, bytes: &[u8], now: u32) -> Result<(), Ignored>
-        ensures { HearsBefore bytes.now now self.old self.new result }
+        ensures { HearsBefore S.seen S.step bytes.now now self.old self.new result }
     {
         match &mut self.past {
             Some(past) => past.receive(bytes, now),
@@ -91,7 +93,7 @@ impl Epochs {
         machine: u8,
         now: u32,
     ) -> Result<Option<ArrayVec<u8, DATAGRAM_LIMIT>>, OtherSession>
-        ensures { SendsBefore peer.now machine now self.old self.new (bytes_of (λ bytes. bytes.items) result) }
+        ensures { SendsBefore S.seen peer.now machine now self.old self.new (bytes_of (λ bytes. bytes.items) result) }
     {
         if is_seen(peer, machine) {
             return Ok(None);
@@ -111,7 +113,9 @@ impl Epochs {
             None => None,
         }
     }
+}
 
+impl Epochs<Ended> {
     /// Goes on in the next epoch, if this one is over: the session starts anew, and so does the network. What own players gave past the
     /// end is given again, and frames past it are run again. Answers the last requests of the session that ended: they are to be carried
     /// out before those of the new one. None if the epoch isn't over. Marks are judged first.
@@ -157,8 +161,8 @@ impl Epochs {
     }
 
     /// What own players gave past the end of the epoch before is given again.
-    fn play_again(&self, peer: &Peer, past: &Past, session: &mut Elsewhere, end: u32) -> bool
-        ensures { ArePlayed session.old
+    fn play_again(&self, peer: &Peer, past: &Past<Ended>, session: &mut Elsewhere, end: u32) -> bool
+        ensures { ArePlayed MakesCall DeclinesCall session.old
             (given_again self.now.chain.terms peer.now.settings.me past.now.session.seen end) session.new result }
     {
         let again = Again {

@@ -27,7 +27,7 @@ pub(crate) fn go_on(
     relay: &mut Option<Relay>,
     session: &mut Elsewhere,
     opening: &Opening,
-) -> Result<(Past, Closing), SeamRefusal>
+) -> Result<(Past<Ended>, Closing), SeamRefusal>
     ensures goes_on { IfOk result (λ it. GoesOn opening.now chain.old chain.new peer.old peer.new relay.old relay.new
         session.old session.new it.0 it.1) }
     ensures chain { OnErr result (chain.new ≡ chain.old) }

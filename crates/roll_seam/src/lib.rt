@@ -1,4 +1,4 @@
-//! A match that goes on in epochs, beside a session whose game is played elsewhere: from one epoch to the next.
+//! A match that goes on in epochs, beside a session: from one epoch to the next, where its game is played elsewhere.
 #![tactic(auto)]
 
 mod again;
@@ -6,9 +6,12 @@ mod carrying;
 mod epochs;
 mod going_on;
 mod past;
+mod plays;
 mod refusal;
 
+pub use again::Again;
 pub use carrying::relay_for;
 pub use epochs::Epochs;
 pub use past::Past;
+pub use plays::Plays;
 pub use refusal::SeamRefusal;

@@ -6,21 +6,21 @@ ghost use Rattle.roll_seam.specs.Pasts.{done, turned_past, Hears, IsNextOf, Send
 use arrayvec::ArrayVec;
 use roll_peer::{Ignored, OtherSession, Peer};
 use roll_relay::Relay;
-use roll_requests::Ended;
+use roll_session::Networked;
 use roll_wire::DATAGRAM_LIMIT;
 
 /// The epoch before, as long as somebody may still be in it: its network, what that carries, and its session.
 #[derive(Drop)]
-pub struct Past {
+pub struct Past<S> {
     /// Its network. Silence isn't looked for here: who is gone in one of the two epochs is gone in both.
     pub peer: Peer,
     /// What it carries for others.
     pub relay: Option<Relay>,
     /// Its session.
-    pub session: Ended,
+    pub session: S,
 }
 
-impl Past {
+impl<S: Networked> Past<S> {
     /// A turn begins for what is carried.
     pub(crate) fn turn(&mut self)
         ensures { self.new ≡ turned_past self.old }
@@ -36,7 +36,7 @@ impl Past {
     ///
     /// As of the network's call.
     pub fn receive(&mut self, bytes: &[u8], now: u32) -> Result<(), Ignored>
-        ensures { Hears bytes.now now self.old self.new result }
+        ensures { Hears S.seen S.step bytes.now now self.old self.new result }
     {
         let Past {
             peer,
@@ -59,7 +59,7 @@ impl Past {
         machine: u8,
         now: u32,
     ) -> Result<Option<ArrayVec<u8, DATAGRAM_LIMIT>>, OtherSession>
-        ensures { Sends machine now self.old self.new (bytes_of (λ bytes. bytes.items) result) }
+        ensures { Sends S.seen machine now self.old self.new (bytes_of (λ bytes. bytes.items) result) }
     {
         let Past {
             peer,

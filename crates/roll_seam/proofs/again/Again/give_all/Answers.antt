@@ -5,24 +5,24 @@ use Rattle.roll_seam.proofs.Played.{more_words, no_words, words_stopped}
 use Rattle.roll_seam.proofs.again.Again.give_all.Goals as goal
 
 pub loop-place-init : goal.loop-place-init
-loop-place-init c = no_words c.args.self.now.terms.now c.args.self.now.me c.args.self.now.past.now.seen c.args.frame c.args.session.now
+loop-place-init g c = no_words g.S.Plays.makes g.S.Plays.declines c.args.self.now.terms.now c.args.self.now.me (g.P.Networked.seen c.args.self.now.past.now) c.args.frame c.args.session.now
 
 pub returns-then-not-give : goal.returns-then-not-give
-returns-then-not-give c =
+returns-then-not-give g c =
     let i = c.args.self.now in
     let p = c.loop-place.place in
     let inside : p + 1 ≤ PLAYER_LIMIT = omega (arith, c.loop-place-test.true) in
     let all : (p + 1) + (PLAYER_LIMIT - (p + 1)) ≡ PLAYER_LIMIT = omega (arith, inside) in
-    let gave : ArePlayed c.loop-place.session (word_of i.terms.now i.me i.past.now.seen c.args.frame p) c.give.new.session false =
-    subst (λ (b : Bool). ArePlayed c.loop-place.session (word_of i.terms.now i.me i.past.now.seen c.args.frame p) c.give.new.session b) c.if-not-give.true c.give.ensures in
-    let stopped = more_words i.terms.now i.me i.past.now.seen c.args.frame p c.args.session.now c.loop-place.session c.give.new.session false c.loop-place.invariant gave in
-    subst (λ (n : ℕ). ArePlayed c.args.session.now (words_until i.terms.now i.me i.past.now.seen c.args.frame n) c.give.new.session false) all
-    (words_stopped i.terms.now i.me i.past.now.seen c.args.frame (p + 1) (PLAYER_LIMIT - (p + 1)) c.args.session.now c.give.new.session stopped)
+    let gave : ArePlayed g.S.Plays.makes g.S.Plays.declines c.loop-place.session (word_of i.terms.now i.me (g.P.Networked.seen i.past.now) c.args.frame p) c.give.new.session false =
+    subst (λ (b : Bool). ArePlayed g.S.Plays.makes g.S.Plays.declines c.loop-place.session (word_of i.terms.now i.me (g.P.Networked.seen i.past.now) c.args.frame p) c.give.new.session b) c.if-not-give.true c.give.ensures in
+    let stopped = more_words g.S.Plays.makes g.S.Plays.declines i.terms.now i.me (g.P.Networked.seen i.past.now) c.args.frame p c.args.session.now c.loop-place.session c.give.new.session false c.loop-place.invariant gave in
+    subst (λ (n : ℕ). ArePlayed g.S.Plays.makes g.S.Plays.declines c.args.session.now (words_until i.terms.now i.me (g.P.Networked.seen i.past.now) c.args.frame n) c.give.new.session false) all
+    (words_stopped g.S.Plays.makes g.S.Plays.declines i.terms.now i.me (g.P.Networked.seen i.past.now) c.args.frame (p + 1) (PLAYER_LIMIT - (p + 1)) c.args.session.now c.give.new.session stopped)
 
 pub loop-place-preserved : goal.loop-place-preserved
-loop-place-preserved c =
+loop-place-preserved g c =
     let i = c.args.self.now in
     let p = c.loop-place.place in
-    let gave : ArePlayed c.loop-place.session (word_of i.terms.now i.me i.past.now.seen c.args.frame p) c.give.new.session true =
-    subst (λ (b : Bool). ArePlayed c.loop-place.session (word_of i.terms.now i.me i.past.now.seen c.args.frame p) c.give.new.session b) c.if-not-give.false c.give.ensures in
-    more_words i.terms.now i.me i.past.now.seen c.args.frame p c.args.session.now c.loop-place.session c.give.new.session true c.loop-place.invariant gave
+    let gave : ArePlayed g.S.Plays.makes g.S.Plays.declines c.loop-place.session (word_of i.terms.now i.me (g.P.Networked.seen i.past.now) c.args.frame p) c.give.new.session true =
+    subst (λ (b : Bool). ArePlayed g.S.Plays.makes g.S.Plays.declines c.loop-place.session (word_of i.terms.now i.me (g.P.Networked.seen i.past.now) c.args.frame p) c.give.new.session b) c.if-not-give.false c.give.ensures in
+    more_words g.S.Plays.makes g.S.Plays.declines i.terms.now i.me (g.P.Networked.seen i.past.now) c.args.frame p c.args.session.now c.loop-place.session c.give.new.session true c.loop-place.invariant gave

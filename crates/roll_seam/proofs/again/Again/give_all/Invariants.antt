@@ -3,4 +3,4 @@ use Rattle.roll_seam.specs.Again.{words_until, ArePlayed}
 use Rattle.roll_seam.proofs.again.Again.give_all.Given as goal
 
 abbrev pub invariant-loop-place : goal.invariant-loop-place
-invariant-loop-place l = ArePlayed l.fn.session (words_until l.self.terms.now l.self.me l.self.past.now.seen l.frame l.place) l.session true
+invariant-loop-place g l = ArePlayed g.S.Plays.makes g.S.Plays.declines l.fn.session (words_until l.self.terms.now l.self.me (g.P.Networked.seen l.self.past.now) l.frame l.place) l.session true

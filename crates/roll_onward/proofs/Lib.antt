@@ -1,0 +1,3 @@
+pub mod KnownRows
+pub mod Runs
+pub mod Onward
