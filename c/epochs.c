@@ -1,10 +1,10 @@
 /* Matches that go on in epochs: what the calls answer and refuse; seams by marks that change nothing, a delay or the threshold, by two
  * marks at once and many one after another, beside a machine that stops, over broken lines, under loss and with words held back; who
- * asks to come; and worlds that were drawn. Which rows each machine has settled in which epoch, by which mark an epoch ended and how the
- * next one opened, is compared with that of the others, with the words that the players gave, and with what the marks say; each state
- * with that of the game that is run once over the rows. The last line is `N passed, M failed`. `epochs COUNT [SEED]` draws so many
- * worlds, in place of 60; `epochs few` plays few of each kind, `epochs each` one; `epochs long` plays on past the last frame that a session
- * has. */
+ * asks to come; who watches over a seam; and worlds that were drawn. Which rows each machine has settled in which epoch, by which mark an
+ * epoch ended, how the next one opened and who has stayed in it, is compared with that of the others, with the words that the players
+ * gave, and with what the marks say; each state with that of the game that is run once over the rows. The last line is
+ * `N passed, M failed`. `epochs COUNT [SEED]` draws so many worlds, in place of 60; `epochs few` plays few of each kind, `epochs each`
+ * one; `epochs long` plays on past the last frame that a session has. */
 #include <fazgrond.h>
 #include <setjmp.h>
 #include <stdbool.h>
@@ -31,7 +31,7 @@ static void is(int64_t got, int64_t wanted, int line) {
 
 /* ---- A match, whose turns take 16 milliseconds. */
 
-enum { MOST = 5, SLOTS = 64, KEPT = 4096, EPOCHS = 64, MARKS = 256, PLANS = 16, UNDER_WAY = 1024, TURN = 16, MOST_DELAY = 8 };
+enum { MOST = 5, SLOTS = 64, KEPT = 4096, EPOCHS = 64, MARKS = 256, PLANS = 16, UNDER_WAY = 1024, TURN = 16, MOST_DELAY = 8, FIRST_DELAY = 2 };
 
 typedef struct datagram {
     uint32_t due;
@@ -80,6 +80,7 @@ typedef struct terms {
     uint32_t machines, players, words, threshold, limit, held_turns, silent_after;
     uint32_t owners[FAZGROND_PLAYERS], delays[FAZGROND_PLAYERS];
     uint32_t frames, latency, jitter, loss, answers;
+    bool tells_all; /* what has come is played before an epoch ends, so that all its rows are told of it afterwards */
 } terms;
 
 /* A mark that a machine has put on a word: in which epoch, and on that of which frame of it. */
@@ -243,6 +244,38 @@ static void see_settled(machine *self) {
 
 /* ---- Its machines. */
 
+static bool owns(const fazgrond_epoch *epoch, uint32_t me) {
+    for (uint32_t player = 0; player < FAZGROND_PLAYERS; player++)
+        if (epoch->owners[player] == me)
+            return true;
+    return false;
+}
+
+/* Whether a machine has left by the last row of an epoch: with one player, so with all. */
+static bool has_left(const fazgrond_epoch *epoch, const fazgrond_row *last, uint32_t me) {
+    for (uint32_t player = 0; player < with.players; player++)
+        if (epoch->owners[player] == me && is_gone(last, player))
+            return true;
+    return false;
+}
+
+static uint32_t has_stayed(machine *self, uint32_t me) {
+    uint32_t flag = 77;
+    OK(fazgrond_peer_has_stayed(&self->peer, (uint8_t)me, &flag));
+    return flag;
+}
+
+/* Whoever owns a player in this epoch and in the one before, and hadn't left when that ended, has stayed. Of a machine's first epoch
+ * nobody has. */
+static void see_who_stayed(machine *self) {
+    const fazgrond_epoch *epoch = epoch_of(self), *before = epoch - 1;
+    for (uint32_t me = 0; me < 256; me++) {
+        bool stays = self->epoch_count > 1 && me < FAZGROND_MACHINES && owns(epoch, me) && owns(before, me)
+            && !has_left(before, &self->records[(epoch->base - 1) % KEPT].row, me);
+        IS(has_stayed(self, me), stays);
+    }
+}
+
 static fazgrond_epoch first_epoch(void) {
     fazgrond_epoch epoch = { .size = sizeof epoch, .words = with.words, .threshold = with.threshold, .machines = with.machines };
     memcpy(epoch.owners, with.owners, sizeof epoch.owners);
@@ -302,6 +335,7 @@ static void open_machine(uint32_t me, const fazgrond_epoch *epoch, state opening
     fazgrond_epoch said = *epoch_of(self);
     said.machines = epoch->machines; /* which wasn't read */
     IS(memcmp(&said, epoch, sizeof said), 0);
+    see_who_stayed(self);
 }
 
 static void begin(terms of) {
@@ -325,9 +359,22 @@ static void close_machine(machine *self) {
     self->on_the_way = 0;
 }
 
+/* Who watches an epoch at one of its machines: both ends of the line, which of the machine's epochs it is, and how many rows came. */
+typedef struct watcher {
+    fazgrond_line line;
+    fazgrond_viewer viewer;
+    uint32_t host, epoch, rows;
+} watcher;
+
+static watcher watching[2];
+
 static void close_all(void) {
     for (uint32_t me = 0; me < MOST; me++)
         close_machine(&all[me]);
+    for (uint32_t at = 0; at < 2; at++) {
+        fazgrond_line_close(&watching[at].line);
+        fazgrond_viewer_close(&watching[at].viewer);
+    }
 }
 
 /* ---- Marks. */
@@ -467,12 +514,26 @@ static void begin_epoch(uint32_t me, uint64_t before, uint32_t frames) {
     waits_for_its_requests(self);
     self->is_closing = true;
     carry_out_all(self);
+    see_who_stayed(self);
     give_again(me, frames);
+    see_settled(self);
+}
+
+/* What has come is played. */
+static void synchronize(machine *self) {
+    uint32_t has_news;
+    fazgrond_row row;
+    OK(fazgrond_has_news(&self->session, &has_news));
+    if (has_news != 0)
+        OK(fazgrond_synchronize_input(&self->session, &row));
+    carry_out_all(self);
     see_settled(self);
 }
 
 static void go_on(uint32_t me) {
     machine *self = &all[me];
+    if (with.tells_all)
+        synchronize(self);
     uint64_t before = shown_of(self);
     uint32_t frames = 77;
     int32_t code = fazgrond_peer_go_on(&self->peer, &self->session, &frames);
@@ -704,14 +765,6 @@ static void is_no_mark_before(const fazgrond_epoch *epoch, uint64_t end) {
             IS(marks[at].frame + 1 >= end, true);
 }
 
-/* Whether a machine has left by the last row of an epoch: with one player, so with all. */
-static bool has_left(const fazgrond_epoch *epoch, const fazgrond_row *last, uint32_t me) {
-    for (uint32_t player = 0; player < with.players; player++)
-        if (epoch->owners[player] == me && is_gone(last, player))
-            return true;
-    return false;
-}
-
 static uint32_t free_machine(const uint32_t *owners) {
     for (uint32_t me = 0;; me++) {
         bool is_free = true;
@@ -749,8 +802,10 @@ static void is_next(const fazgrond_epoch *epoch, const fazgrond_epoch *next, con
         uint32_t delay = by->mark.delays[player];
         IS(next->owners[player], owners[player]);
         IS(next->owners[player] >= FAZGROND_MACHINES || next->owners[player] < next->machines, true);
-        if (next->owners[player] < FAZGROND_MACHINES && next->owners[player] == epoch->owners[player])
-            IS(next->delays[player], delay != FAZGROND_AS_BEFORE ? delay : epoch->delays[player]);
+        if (next->owners[player] >= FAZGROND_MACHINES)
+            continue;
+        bool is_as_before = next->owners[player] == epoch->owners[player] && !has_left(epoch, last, epoch->owners[player]);
+        IS(next->delays[player], delay != FAZGROND_AS_BEFORE ? delay : is_as_before ? epoch->delays[player] : FIRST_DELAY);
     }
 }
 
@@ -810,6 +865,14 @@ static void run_to_the_end(uint32_t turns) {
 }
 
 static uint32_t epochs_played(void) { return all[first_here()].epoch_count; }
+
+/* On until a machine is in the second epoch. */
+static void run_to_the_seam(uint32_t me) {
+    for (uint32_t time = 0; all[me].epoch_count == 1; time++) {
+        IS(time < 100, true);
+        run(1);
+    }
+}
 
 /* ---- Seams. */
 
@@ -1143,6 +1206,13 @@ static void answers_late(uint32_t late, uint32_t turns) {
     IS(epochs_played(), 2);
 }
 
+/* Whom of the first three a machine knows to have been in the epoch before. */
+static void have_stayed(uint32_t me, uint32_t zero, uint32_t one, uint32_t two) {
+    IS(has_stayed(&all[me], 0), zero);
+    IS(has_stayed(&all[me], 1), one);
+    IS(has_stayed(&all[me], 2), two);
+}
+
 /* Who is welcome gets the lowest machine's number that is free and the player, opens the epoch with the state at its beginning, and
  * plays. */
 static void comes(uint32_t marker, uint32_t late) {
@@ -1157,12 +1227,139 @@ static void comes(uint32_t marker, uint32_t late) {
     IS(epoch.machines >= 3, true);
     with.machines = 3;
     open_machine(2, &epoch, all[0].records[(epoch.base - 1) % KEPT].after);
+    have_stayed(0, 1, 1, 0);
+    have_stayed(1, 1, 1, 0);
+    have_stayed(2, 0, 0, 0);
     run(150);
     IS(all[2].settled > epoch.base + 40, true);
     OK(put(2, 2, mark_of_delay(2, 1)));
     run_to_the_end(2000);
     IS(epochs_played(), 3);
     IS(epoch_of(&all[0])->delays[2], 1);
+    for (uint32_t me = 0; me < 3; me++)
+        have_stayed(me, 1, 1, 1);
+}
+
+/* One of three stops, and whoever comes gets its player and its number: it hasn't stayed. */
+static void comes_in_place(uint32_t stopped, uint32_t marker) {
+    open_all(terms_for(3));
+    run(80);
+    stop(stopped);
+    run(120);
+    all_agree();
+    OK(put(marker, marker, mark_of_who_comes(stopped, 8)));
+    run_to_the_seam(marker);
+    run(60);
+    fazgrond_epoch epoch = *epoch_of(&all[marker]);
+    IS(epoch.owners[stopped], stopped);
+    close_machine(&all[stopped]);
+    open_machine(stopped, &epoch, all[marker].records[(epoch.base - 1) % KEPT].after);
+    have_stayed(marker, stopped != 0, stopped != 1, stopped != 2);
+    have_stayed(stopped, 0, 0, 0);
+    run(150);
+    OK(put(stopped, stopped, mark_of_nothing()));
+    run_to_the_end(2000);
+    IS(epochs_played(), 3);
+    for (uint32_t me = 0; me < 3; me++)
+        have_stayed(me, 1, 1, 1);
+}
+
+/* ---- Who watches. */
+
+static fazgrond_line_settings line_of(uint32_t host, uint64_t number) {
+    fazgrond_line_settings settings = { .number = number, .draw = ++openings, .host = host, .machines = with.machines };
+    memcpy(settings.owners, with.owners, sizeof settings.owners);
+    return settings;
+}
+
+/* Somebody begins to watch the epoch in which a machine is. */
+static watcher *watch_at(uint32_t host) {
+    uint32_t epoch = all[host].epoch_count - 1;
+    watcher *of = &watching[epoch];
+    fazgrond_line_settings there = line_of(host, 1000 + epoch), here = line_of(host, 1000 + epoch);
+    *of = (watcher){ .host = host, .epoch = epoch };
+    OK(fazgrond_line_open(&of->line, &there));
+    OK(fazgrond_viewer_open(&of->viewer, &here));
+    return of;
+}
+
+/* What the host sends, of its epoch or of the one before. */
+static int32_t tell(watcher *of, uint8_t *bytes, size_t *length) {
+    machine *host = &all[of->host];
+    if (of->epoch + 1 == host->epoch_count)
+        return fazgrond_line_send(&of->line, &host->session, now_of(of->host), bytes, FAZGROND_DATAGRAM, length);
+    return fazgrond_line_send_before(&of->line, &host->peer, now_of(of->host), bytes, FAZGROND_DATAGRAM, length);
+}
+
+/* Until both ends have heard each other, what tells of rows isn't sealed for the other one. */
+static void is_heard(int32_t code) { IS(code == FAZGROND_NOT_SEALED ? FAZGROND_OK : code, FAZGROND_OK); }
+
+/* The rows that came are those that the host has settled in that epoch. */
+static void see_rows(watcher *of) {
+    const machine *host = &all[of->host];
+    fazgrond_row row;
+    while (fazgrond_viewer_row(&of->viewer, &row) == FAZGROND_OK) {
+        uint64_t frame = host->epochs[of->epoch].base + of->rows++;
+        IS(frame < host->settled, true);
+        IS(host->records[frame % KEPT].epoch, of->epoch);
+        IS(is_same_row(&host->records[frame % KEPT].row, &row), true);
+    }
+}
+
+static void watch(watcher *of, uint32_t turns) {
+    static uint8_t bytes[FAZGROND_DATAGRAM];
+    uint32_t rows;
+    size_t length;
+    for (; turns > 0; turns--) {
+        run(1);
+        OK(fazgrond_viewer_send(&of->viewer, turn * TURN, bytes, sizeof bytes, &length));
+        is_heard(fazgrond_line_receive(&of->line, bytes, length, now_of(of->host)));
+        OK(tell(of, bytes, &length));
+        is_heard(fazgrond_viewer_receive(&of->viewer, bytes, length, turn * TURN, &rows));
+        see_rows(of);
+    }
+}
+
+/* Once all have come, nothing is told of the epoch before any more. */
+static void is_forgotten(watcher *of) {
+    static uint8_t bytes[FAZGROND_DATAGRAM];
+    size_t length = 7777;
+    run(60);
+    IS(tell(of, bytes, &length), FAZGROND_NOTHING);
+    IS(length, 7777);
+    watch(watch_at(of->host), 40);
+    IS(watching[1].rows > 40, true);
+}
+
+/* So many turns before the mark somebody doesn't hear the host any more, or begins to watch after the seam. The host hears no machine then,
+ * so that it doesn't know whether all have come, and goes on telling of the epoch before. */
+static void is_told_past_the_seam(uint32_t unheard, uint32_t host) {
+    watcher *of = NULL;
+    terms all_told = terms_for(3);
+    all_told.tells_all = true;
+    open_all(all_told);
+    run(60);
+    if (unheard > 0) {
+        of = watch_at(host);
+        watch(of, 20);
+        IS(of->rows > 40, true);
+        run(unheard);
+    }
+    OK(put(1, 1, mark_of_nothing()));
+    if (of == NULL)
+        of = watch_at(host);
+    run_to_the_seam(host);
+    all[host].on_the_way = 0;
+    for (uint32_t other = 0; other < 3; other++)
+        cut(host, other, true);
+    IS(of->rows < epoch_of(&all[host])->base, true);
+    watch(of, 20);
+    IS(of->rows, epoch_of(&all[host])->base);
+    for (uint32_t other = 0; other < 3; other++)
+        cut(host, other, false);
+    is_forgotten(of);
+    run_to_the_end(1000);
+    IS(epochs_played(), 2);
 }
 
 /* ---- What calls refuse. */
@@ -1198,13 +1395,14 @@ static void refuses_closed(uint32_t unused, uint32_t none) {
     fazgrond_epoch epoch;
     fazgrond_mark mark = mark_of_nothing();
     fazgrond_ask ask;
-    uint32_t frames = 77;
+    uint32_t frames = 77, flag = 77;
     size_t length = 77;
     (void)unused, (void)none;
     open_all(terms_for(2));
     for (uint32_t at = 0; at < 2; at++) {
         fazgrond_peer *other = at == 0 ? &peer : session;
         IS(fazgrond_peer_epoch(other, &epoch), FAZGROND_IS_CLOSED);
+        IS(fazgrond_peer_has_stayed(other, 0, &flag), FAZGROND_IS_CLOSED);
         IS(fazgrond_peer_mark(other, &all[0].session, 1, &mark), FAZGROND_IS_CLOSED);
         IS(fazgrond_peer_ask(other, &ask), FAZGROND_IS_CLOSED);
         IS(fazgrond_peer_answer(other, 1, 1), FAZGROND_IS_CLOSED);
@@ -1213,7 +1411,28 @@ static void refuses_closed(uint32_t unused, uint32_t none) {
     }
     IS(fazgrond_peer_mark(&all[0].peer, &closed, 1, &mark), FAZGROND_IS_CLOSED);
     IS(fazgrond_peer_go_on(&all[0].peer, &closed, &frames), FAZGROND_IS_CLOSED);
-    IS(frames + length, 154);
+    IS(frames + flag + length, 231);
+}
+
+/* The same of a line of the epoch before, which takes two handles; and none is told of before the first seam. */
+static void refuses_closed_lines(uint32_t unused, uint32_t none) {
+    static uint8_t bytes[FAZGROND_DATAGRAM];
+    fazgrond_line closed = FAZGROND_CLOSED;
+    fazgrond_peer gone = FAZGROND_CLOSED;
+    size_t length = 77;
+    (void)unused, (void)none;
+    open_all(terms_for(2));
+    fazgrond_line *line = &watch_at(0)->line;
+    fazgrond_line *no_lines[] = { &closed, (fazgrond_line *)&all[0].peer, (fazgrond_line *)&all[0].session,
+                                  (fazgrond_line *)&watching[0].viewer };
+    fazgrond_peer *no_peers[] = { &gone, (fazgrond_peer *)&all[0].session, (fazgrond_peer *)line };
+    for (uint32_t at = 0; at < 4; at++)
+        IS(fazgrond_line_send_before(no_lines[at], &all[0].peer, 0, bytes, sizeof bytes, &length), FAZGROND_IS_CLOSED);
+    for (uint32_t at = 0; at < 3; at++)
+        IS(fazgrond_line_send_before(line, no_peers[at], 0, bytes, sizeof bytes, &length), FAZGROND_IS_CLOSED);
+    IS(fazgrond_line_send_before(line, &all[0].peer, 0, bytes, sizeof bytes, &length), FAZGROND_NOTHING);
+    IS(length, 77);
+    OK(fazgrond_line_send(line, &all[0].session, 0, bytes, sizeof bytes, &length));
 }
 
 static int32_t opened(const fazgrond_match *match, const fazgrond_epoch *epoch) {
@@ -1266,7 +1485,7 @@ static void has_no_epochs(uint32_t is_carrying, uint32_t none) {
     static uint8_t bytes[FAZGROND_DATAGRAM];
     fazgrond_mark mark = mark_of_nothing();
     fazgrond_ask ask;
-    uint32_t frames = 77;
+    uint32_t frames = 77, flag = 77;
     size_t length = 77;
     (void)none;
     begin(terms_for(2));
@@ -1279,12 +1498,14 @@ static void has_no_epochs(uint32_t is_carrying, uint32_t none) {
     epoch.id = 77;
     IS(fazgrond_peer_epoch(&self->peer, &epoch), FAZGROND_NOTHING);
     IS(epoch.id, 77);
+    IS(fazgrond_peer_has_stayed(&self->peer, 0, &flag), FAZGROND_NOTHING);
     IS(fazgrond_peer_mark(&self->peer, &self->session, 1, &mark), FAZGROND_NO_MARKS);
     IS(fazgrond_peer_ask(&self->peer, &ask), FAZGROND_NOTHING);
     IS(fazgrond_peer_answer(&self->peer, 1, 1), FAZGROND_NOTHING);
     IS(fazgrond_peer_go_on(&self->peer, &self->session, &frames), FAZGROND_NOTHING);
     IS(fazgrond_peer_send_before(&self->peer, 1, 0, bytes, sizeof bytes, &length), FAZGROND_NOTHING);
-    IS(frames + length, 154);
+    IS(fazgrond_line_send_before(&watch_at(0)->line, &self->peer, 0, bytes, sizeof bytes, &length), FAZGROND_NOTHING);
+    IS(frames + flag + length, 231);
 }
 
 /* What is sent of the epoch before needs room for a datagram; it isn't written if there is less. */
@@ -1297,10 +1518,7 @@ static void needs_room(uint32_t unused, uint32_t none) {
     open_all(terms_for(2));
     run(80);
     OK(put(0, 0, mark_of_nothing()));
-    for (uint32_t time = 0; epochs_played() == 1; time++) {
-        IS(time < 100, true);
-        run(1);
-    }
+    run_to_the_seam(0);
     IS(fazgrond_peer_send_before(&all[0].peer, 1, now_of(0), bytes, sizeof bytes - 1, &length), FAZGROND_TOO_SHORT);
     IS(length, 7777);
     IS(memcmp(bytes, before, sizeof bytes), 0);
@@ -1313,6 +1531,31 @@ static void needs_room(uint32_t unused, uint32_t none) {
     IS(fazgrond_peer_send_before(&all[0].peer, 1, now_of(0), bytes, sizeof bytes, &length), FAZGROND_NOTHING);
     IS(length, 7777);
     run_to_the_end(1000);
+}
+
+/* So does what is sent to who watches the epoch before; and nothing is, once that line has ended. */
+static void needs_room_for_lines(uint32_t unused, uint32_t none) {
+    static uint8_t bytes[FAZGROND_DATAGRAM], before[FAZGROND_DATAGRAM];
+    size_t length = 7777;
+    (void)unused, (void)none;
+    memset(bytes, 3, sizeof bytes);
+    memcpy(before, bytes, sizeof bytes);
+    open_all(terms_for(2));
+    run(80);
+    fazgrond_line *line = &watch_at(0)->line;
+    IS(fazgrond_line_send_before(line, &all[0].peer, now_of(0), bytes, sizeof bytes - 1, &length), FAZGROND_TOO_SHORT);
+    OK(put(0, 0, mark_of_nothing()));
+    run_to_the_seam(0);
+    IS(fazgrond_line_send_before(line, &all[0].peer, now_of(0), bytes, 0, &length), FAZGROND_TOO_SHORT);
+    IS(fazgrond_line_send_before(line, &all[0].peer, now_of(0), bytes, sizeof bytes - 1, &length), FAZGROND_TOO_SHORT);
+    IS(length, 7777);
+    IS(memcmp(bytes, before, sizeof bytes), 0);
+    OK(fazgrond_line_send_before(line, &all[0].peer, now_of(0), bytes, sizeof bytes, &length));
+    IS(length > 0 && length <= FAZGROND_DATAGRAM, true);
+    length = 7777;
+    IS(fazgrond_line_bye(line, bytes, sizeof bytes, &length), FAZGROND_NOTHING); /* they haven't heard each other */
+    IS(fazgrond_line_send_before(line, &all[0].peer, now_of(0), bytes, sizeof bytes, &length), FAZGROND_NOTHING);
+    IS(length, 7777);
 }
 
 /* A session beside which another peer stands is refused, and the match goes on with its own. */
@@ -1456,11 +1699,13 @@ static void tries(const char *name, void (*of)(uint32_t, uint32_t), uint32_t one
 static void try_refusals(void) {
     tries("marks are refused", refuses_marks, 0, 0);
     tries("closed handles", refuses_closed, 0, 0);
+    tries("closed lines", refuses_closed_lines, 0, 0);
     tries("openings are refused", refuses_openings, 0, 0);
     tries("another session", refuses_another_session, 0, 0);
     tries("a match without epochs", has_no_epochs, 0, 0);
     tries("a match without epochs that carries", has_no_epochs, 1, 0);
     tries("room for the epoch before", needs_room, 0, 0);
+    tries("room for lines of the epoch before", needs_room_for_lines, 0, 0);
 }
 
 /* What a mark says: delays and thresholds, each with some others. */
@@ -1515,6 +1760,14 @@ static void try_comers(void) {
     tries("one answers late", answers_late, 1, 90);
     tries("somebody comes", comes, 0, 0);
     tries("somebody comes", comes, 1, 40);
+    for (uint32_t stopped = 1; stopped < 3; stopped++) /* what the first machine had is what the others are compared with */
+        tries("somebody comes in another's place", comes_in_place, stopped, (stopped + 1) % 3);
+}
+
+static void try_watchers(void) {
+    for (uint32_t host = 0; host < 3; host++)
+        for (uint32_t unheard = 0; unheard <= 40; unheard += 20)
+            tries("who watches is told past the seam", is_told_past_the_seam, unheard, host);
 }
 
 /* All of them, or of what has many cases some. */
@@ -1524,6 +1777,7 @@ static void try_all(uint32_t every) {
     try_stops(every);
     try_lines(every);
     try_comers();
+    try_watchers();
     for (uint32_t latency = 1; latency <= 6; latency += every < 4 ? 1 : 3)
         for (uint32_t machines = 2; machines <= 3; machines++)
             tries("who stands at a seam", stands_at_no_seam, latency, machines);
@@ -1537,6 +1791,7 @@ static void try_one_of_each(void) {
     tries("a line that loses", is_lossy, 30, 3);
     tries("a machine stops near a mark", stops_near, 1, 2);
     tries("somebody comes", comes, 0, 0);
+    tries("who watches is told past the seam", is_told_past_the_seam, 20, 0);
 }
 
 int main(int count, char **words) {

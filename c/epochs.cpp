@@ -1,5 +1,5 @@
 // The classes go on in epochs as the calls of C do: two machines mark, and come to the state of the game that is run once over all
-// words, in the same epochs.
+// words, in the same epochs. Somebody watches each of them, and is told of the first epoch after its end.
 #include <fazgrond.hpp>
 
 namespace {
@@ -23,6 +23,8 @@ struct Machine {
     std::uint32_t me;
     fazgrond::Session session;
     fazgrond::Peer peer;
+    fazgrond::Line line;
+    fazgrond::Viewer viewer;
     bool is_right = true;
     State state = 0;
     std::vector<State> slots = std::vector<State>(257);
@@ -38,8 +40,26 @@ struct Machine {
         fazgrond_one_number(&match, 7);
         fazgrond::Epoch epoch = fazgrond_epoch_for(&match, &settings);
         must(session.open(settings));
+        is(!peer.has_stayed(0) && !peer.has_stayed(1));
         must(peer.open_lasting(session, match, epoch));
         epochs.push_back(epoch);
+        is(!peer.has_stayed(0) && !peer.has_stayed(1));
+        open_line(match);
+    }
+
+    void open_line(const fazgrond::Match &match) {
+        fazgrond::Datagram sent;
+        fazgrond::LineSettings settings{};
+        settings.number = 8;
+        settings.host = me;
+        settings.machines = 2;
+        std::copy(std::begin(match.owners), std::end(match.owners), settings.owners);
+        is(line.send_before(peer, 0, sent) == Code::is_closed);
+        settings.draw = 21;
+        must(line.open(settings));
+        settings.draw = 22;
+        must(viewer.open(settings));
+        is(line.send_before(peer, 0, sent) == Code::nothing);
     }
 
     void must(Code code) { is_right = is_right && code == Code::ok; }
@@ -61,6 +81,21 @@ struct Machine {
     std::uint64_t frame() { return epochs.back().base + session.frame().value_or(0); }
 };
 
+// Who begins to watch only now is told all rows of the epoch before, since no word of the other machine in this one has come.
+void tell_past(Machine &self) {
+    fazgrond::Datagram sent;
+    std::uint64_t rows = 0;
+    for (std::uint32_t now = 0; now < 20 * turn_time; now += turn_time) {
+        self.must(self.line.send_before(self.peer, now, sent));
+        (void)self.viewer.receive(sent.bytes.data(), sent.length, now);
+        for (; auto row = self.viewer.row(); rows++)
+            self.is(row->words[0] == word_of(0, rows) && row->words[1] == word_of(1, rows));
+        self.must(self.viewer.send(now, sent));
+        (void)self.line.receive(sent.bytes.data(), sent.length, now);
+    }
+    self.is(rows == self.epochs[1].base);
+}
+
 // Who asks to come by the second machine's mark isn't welcome.
 void go_on(Machine &self) {
     if (auto ask = self.peer.ask()) {
@@ -69,12 +104,18 @@ void go_on(Machine &self) {
     }
     std::uint64_t before = self.frame();
     std::uint32_t reached = 0;
+    fazgrond_row row; // what has come is played first, so that all rows are told of the epoch that may be over
+    if (self.session.has_news().value_or(false))
+        self.must(self.session.synchronize_input(row, self.carry_out()));
     Code code = self.peer.go_on(self.session, reached, self.carry_out());
     if (code == Code::ok) {
         auto epoch = self.peer.epoch();
         self.is(epoch && self.session.frame() == reached);
         if (epoch)
             self.epochs.push_back(*epoch);
+        self.is(self.peer.has_stayed(0) && self.peer.has_stayed(1) && !self.peer.has_stayed(2));
+        if (self.epochs.size() == 2)
+            tell_past(self);
     } else
         self.is(code == Code::nothing);
     self.is(self.frame() == before);
@@ -133,8 +174,15 @@ State alone() {
     return state;
 }
 
+// Once both have come to the next epoch, nothing is told of the one before, though the line hasn't ended.
+bool is_past_over(Machine &self) {
+    fazgrond::Datagram sent;
+    auto seen = self.line.look(0);
+    return seen && seen->is_playing != 0 && seen->has_ended == 0 && self.line.send_before(self.peer, 0, sent) == Code::nothing;
+}
+
 bool has_come(Machine &self, const std::vector<fazgrond::Epoch> &others) {
-    if (!self.is_right || self.epochs.size() != 3 || others.size() != 3)
+    if (!self.is_right || !is_past_over(self) || self.epochs.size() != 3 || others.size() != 3)
         return false;
     for (std::size_t at = 0; at < 3; at++)
         if (self.epochs[at].id != others[at].id || self.epochs[at].base != others[at].base)

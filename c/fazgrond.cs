@@ -318,6 +318,7 @@ public static unsafe class Fazgrond
     [DllImport(Library)] public static extern int fazgrond_peer_open_lasting(Peer* peer, Session* session, Match* match,
                                                                              Epoch* epoch);
     [DllImport(Library)] public static extern int fazgrond_peer_epoch(Peer* peer, Epoch* epoch);
+    [DllImport(Library)] public static extern int fazgrond_peer_has_stayed(Peer* peer, byte machine, uint* flag);
     [DllImport(Library)] public static extern int fazgrond_peer_mark(Peer* peer, Session* session, byte player, Mark* mark);
     [DllImport(Library)] public static extern int fazgrond_peer_ask(Peer* peer, Ask* ask);
     [DllImport(Library)] public static extern int fazgrond_peer_answer(Peer* peer, byte player, uint is_welcome);
@@ -328,6 +329,8 @@ public static unsafe class Fazgrond
     [DllImport(Library)] public static extern int fazgrond_line_receive(Line* line, byte* bytes, UIntPtr length, uint now);
     [DllImport(Library)] public static extern int fazgrond_line_send(Line* line, Session* session, uint now, byte* @out,
                                                                      UIntPtr room, UIntPtr* length);
+    [DllImport(Library)] public static extern int fazgrond_line_send_before(Line* line, Peer* peer, uint now, byte* @out,
+                                                                            UIntPtr room, UIntPtr* length);
     [DllImport(Library)] public static extern int fazgrond_line_bye(Line* line, byte* @out, UIntPtr room, UIntPtr* length);
     [DllImport(Library)] public static extern int fazgrond_line_look(Line* line, uint now, LineState* state);
     [DllImport(Library)] public static extern int fazgrond_viewer_open(Viewer* viewer, LineSettings* settings);

@@ -662,6 +662,10 @@ int32_t fazgrond_peer_open_lasting(fazgrond_peer *peer, fazgrond_session *sessio
  * FAZGROND_NOTHING: the match doesn't go on in epochs. */
 int32_t fazgrond_peer_epoch(fazgrond_peer *peer, fazgrond_epoch *epoch);
 
+/* Whether a machine is in this epoch and was in the one before: `flag` is 1 if so, else 0, as of one that has come in with this epoch. Of
+ * the epoch with which the peer was opened it is 0 for all. FAZGROND_NOTHING: as above. */
+int32_t fazgrond_peer_has_stayed(fazgrond_peer *peer, uint8_t machine, uint32_t *flag);
+
 /* Puts a mark on the next word that this player gives, counted from 1. If another machine's mark ends the epoch before, it is forgotten:
  * see whether the next epoch is as you wanted it, and put the mark again if it isn't.
  * FAZGROND_NO_MARKS: the match doesn't go on in epochs.
@@ -755,6 +759,13 @@ int32_t fazgrond_line_receive(fazgrond_line *line, const uint8_t *bytes, size_t 
  * viewer has, as many as fit. Always give it the same session. FAZGROND_NOTHING once the line has ended. */
 int32_t fazgrond_line_send(fazgrond_line *line, fazgrond_session *session, uint32_t now, uint8_t *out, size_t room,
                            size_t *length);
+
+/* In a match that goes on in epochs a line is of one epoch, since rows are counted from its first frame on. Once the next one has begun,
+ * this call makes the datagrams of the line of the epoch before, of rows of its session, as fazgrond_line_send does of the one that is
+ * played; open another line for the new epoch. Rows are settled by rollbacks alone: to have all of the epoch told, call
+ * fazgrond_synchronize_input before fazgrond_peer_go_on if fazgrond_has_news, and carry out its requests, and hold no words back.
+ * FAZGROND_NOTHING too if there is no epoch before, or nobody can be in it any more. */
+int32_t fazgrond_line_send_before(fazgrond_line *line, fazgrond_peer *peer, uint32_t now, uint8_t *out, size_t room, size_t *length);
 
 /* The datagram that says that the host leaves the viewer: the line has ended. Send it a few times. FAZGROND_NOTHING: the two
  * haven't heard each other, so that nobody is to be told; the line has ended all the same. */

@@ -414,6 +414,12 @@ public:
     // How this epoch opened. Nothing if the match doesn't go on in epochs.
     std::optional<Epoch> epoch() { return asked<Epoch>(handle.get(), fazgrond_peer_epoch); }
 
+    // Whether a machine is in this epoch and was in the one before, and hasn't come in with this one. False of each in the epoch with which
+    // the peer was opened, and if the match doesn't go on in epochs.
+    bool has_stayed(std::uint8_t machine) {
+        return asked<std::uint32_t>(handle.get(), fazgrond_peer_has_stayed, machine).value_or(0) != 0;
+    }
+
     // Puts a mark on the next word that this player of this machine gives: the epoch ends there. Begin with fazgrond_mark_for.
     Code mark(Session &session, std::uint8_t player, const Mark &mark) {
         return Code(fazgrond_peer_mark(handle.get(), session.handle.get(), player, &mark));
@@ -441,6 +447,8 @@ public:
     }
 
 private:
+    friend class Line;
+
     Owned<fazgrond_peer> handle;
 };
 
@@ -460,6 +468,12 @@ public:
     // The datagram to send to the viewer in this turn. The answer is nothing once the line has ended.
     Code send(Session &session, std::uint32_t now, Datagram &out) {
         return Code(fazgrond_line_send(handle.get(), session.handle.get(), now, out.bytes.data(), out.bytes.size(), &out.length));
+    }
+
+    // The same of a line of the epoch before, in a match that goes on in epochs: a line is of one epoch, so open another one for the next.
+    // The answer is nothing too if there is no epoch before, or nobody can be in it any more.
+    Code send_before(Peer &peer, std::uint32_t now, Datagram &out) {
+        return Code(fazgrond_line_send_before(handle.get(), peer.handle.get(), now, out.bytes.data(), out.bytes.size(), &out.length));
     }
 
     // The line ends. The answer is nothing if nobody is to be told.

@@ -850,6 +850,12 @@ function Peer:epoch()
     return epoch
 end
 
+-- Whether a machine is in this epoch and was in the one before, and hasn't come in with this one. False of each in the epoch with which
+-- the peer was opened; nil and "nothing" if the match doesn't go on in epochs.
+function Peer:has_stayed(machine)
+    return flagged(lib.fazgrond_peer_has_stayed(open(self), u8(machine), number))
+end
+
 local MARK = set_of [[threshold ticket comes delays]]
 
 -- Puts a mark on the next word that a player of this machine gives: the epoch ends after that frame. The mark may have a new
@@ -961,6 +967,13 @@ end
 -- The datagram to send to the viewer in this turn; nil and "nothing" once the line has ended.
 function Line:send(now)
     return written(lib.fazgrond_line_send(open(self), open(self.session), milliseconds(now), bytes_out, DATAGRAM, size))
+end
+
+-- The same of a line of the epoch before, in a match that goes on in epochs, by its peer. Rows are counted from an epoch's first frame
+-- on, so a line is of one epoch: open another one for the next. nil and "nothing" too if there is no epoch before, or nobody can be in
+-- it any more.
+function Line:send_before(peer, now)
+    return written(lib.fazgrond_line_send_before(open(self), open(peer), milliseconds(now), bytes_out, DATAGRAM, size))
 end
 
 -- The line ends: the datagram that says so, or nil and "nothing" if nobody is to be told.

@@ -251,6 +251,7 @@ typedef struct fazgrond_ask {
 int32_t fazgrond_peer_open_lasting(fazgrond_peer *peer, fazgrond_session *session, const fazgrond_match *match, const
     fazgrond_epoch *epoch);
 int32_t fazgrond_peer_epoch(fazgrond_peer *peer, fazgrond_epoch *epoch);
+int32_t fazgrond_peer_has_stayed(fazgrond_peer *peer, uint8_t machine, uint32_t *flag);
 int32_t fazgrond_peer_mark(fazgrond_peer *peer, fazgrond_session *session, uint8_t player, const fazgrond_mark *mark);
 int32_t fazgrond_peer_ask(fazgrond_peer *peer, fazgrond_ask *ask);
 int32_t fazgrond_peer_answer(fazgrond_peer *peer, uint8_t player, uint32_t is_welcome);
@@ -284,6 +285,8 @@ typedef struct fazgrond_line_state {
 int32_t fazgrond_line_open(fazgrond_line *line, const fazgrond_line_settings *settings);
 int32_t fazgrond_line_receive(fazgrond_line *line, const uint8_t *bytes, size_t length, uint32_t now);
 int32_t fazgrond_line_send(fazgrond_line *line, fazgrond_session *session, uint32_t now, uint8_t *out, size_t room, size_t
+    *length);
+int32_t fazgrond_line_send_before(fazgrond_line *line, fazgrond_peer *peer, uint32_t now, uint8_t *out, size_t room, size_t
     *length);
 int32_t fazgrond_line_bye(fazgrond_line *line, uint8_t *out, size_t room, size_t *length);
 int32_t fazgrond_line_look(fazgrond_line *line, uint32_t now, fazgrond_line_state *state);

@@ -276,8 +276,11 @@ public static unsafe class Peers
         LineState state;
         Must(fazgrond_viewer_look(viewer, 3200, &state));
         Is("rows at the viewer", state.Rows, Frames);
+        Is("who has stayed without epochs", (ulong)StayedOf(both[0].Peer), (ulong)Nothing);
+        Is("what is told before an epoch", (ulong)ToldBefore(line, both[0].Peer), (ulong)Nothing);
         fazgrond_viewer_close(viewer);
         fazgrond_line_close(line);
+        Is("what a closed line tells", (ulong)ToldBefore(line, both[0].Peer), (ulong)IsClosed);
         foreach (var machine in both)
         {
             fazgrond_peer_close(machine.Peer);
@@ -285,6 +288,18 @@ public static unsafe class Peers
             Is("a closed handle", (ulong)FrameOf(machine.Session), (ulong)IsClosed);
         }
         Carry();
+    }
+
+    static int StayedOf(Peer* peer)
+    {
+        uint flag;
+        return fazgrond_peer_has_stayed(peer, 1, &flag);
+    }
+
+    static int ToldBefore(Line* line, Peer* peer)
+    {
+        UIntPtr length;
+        return fazgrond_line_send_before(line, peer, 3200, bytes, (UIntPtr)Datagram, &length);
     }
 
     static int FrameOf(Session* session)

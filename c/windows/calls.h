@@ -69,6 +69,7 @@ CALL(int32_t, fazgrond_peer_open_lasting,
      (fazgrond_peer *peer, fazgrond_session *session, const fazgrond_match *match, const fazgrond_epoch *epoch),
      (peer, session, match, epoch))
 CALL(int32_t, fazgrond_peer_epoch, (fazgrond_peer *peer, fazgrond_epoch *epoch), (peer, epoch))
+CALL(int32_t, fazgrond_peer_has_stayed, (fazgrond_peer *peer, uint8_t machine, uint32_t *flag), (peer, machine, flag))
 CALL(int32_t, fazgrond_peer_mark,
      (fazgrond_peer *peer, fazgrond_session *session, uint8_t player, const fazgrond_mark *mark),
      (peer, session, player, mark))
@@ -84,6 +85,9 @@ CALL(int32_t, fazgrond_line_receive, (fazgrond_line *line, const uint8_t *bytes,
 CALL(int32_t, fazgrond_line_send,
      (fazgrond_line *line, fazgrond_session *session, uint32_t now, uint8_t *out, size_t room, size_t *length),
      (line, session, now, out, room, length))
+CALL(int32_t, fazgrond_line_send_before,
+     (fazgrond_line *line, fazgrond_peer *peer, uint32_t now, uint8_t *out, size_t room, size_t *length),
+     (line, peer, now, out, room, length))
 CALL(int32_t, fazgrond_line_bye, (fazgrond_line *line, uint8_t *out, size_t room, size_t *length), (line, out, room, length))
 CALL(int32_t, fazgrond_line_look, (fazgrond_line *line, uint32_t now, fazgrond_line_state *state), (line, now, state))
 CALL(int32_t, fazgrond_viewer_open, (fazgrond_viewer *viewer, const fazgrond_line_settings *settings), (viewer, settings))

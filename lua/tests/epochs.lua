@@ -1,5 +1,5 @@
 -- A match that goes on in epochs: two machines mark, and come to the state of the game that is run once over all words, in the same
--- epochs.
+-- epochs. Somebody watches each of them, and is told of the first epoch after its end.
 local fazgrond = require "fazgrond"
 local Sum = require "sum"
 
@@ -15,13 +15,32 @@ local function word_of(player, frame)
     return math.floor(frame / (2 + player)) % 5 + player
 end
 
+-- Which machines were in the epoch before, and are in this one.
+local function stayed(peer)
+    local found = {}
+    for machine = 0, 255 do
+        if peer:has_stayed(machine) then
+            table.insert(found, machine)
+        end
+    end
+    return table.concat(found, " ")
+end
+
+local function line_of(host, draw)
+    return { number = 8, draw = draw, host = host, machines = 2, owners = { 0, 1 } }
+end
+
 local function new_machine(me)
     local settings = { players = 2, locals = { me + 1 } }
     local match = { me = me, machines = 2, owners = { 0, 1 }, number = 7, draw = 70 + me, silent_after = 0, notify_after = 0 }
     local epoch = fazgrond.epoch(match, settings)
     local session = assert(fazgrond.session(settings, Sum.new(31, 1000003)))
     local peer = assert(fazgrond.peer(session, match, epoch))
-    return { me = me, session = session, peer = peer, epochs = { peer:epoch() }, here = {}, coming = {} }
+    is(stayed(peer), "")
+    is(peer:has_stayed(me), false)
+    local line, viewer = assert(fazgrond.line(session, line_of(me, 21))), assert(fazgrond.viewer(line_of(me, 22)))
+    is(select(2, line:send_before(peer, 0)), "nothing")
+    return { me = me, session = session, peer = peer, line = line, viewer = viewer, epochs = { peer:epoch() }, here = {}, coming = {} }
 end
 
 -- The frame of the whole match.
@@ -29,8 +48,27 @@ local function frame_of(self)
     return tonumber(self.epochs[#self.epochs].base) + self.session:frame()
 end
 
+-- Who begins to watch only now is told all rows of the epoch before, since no word of the other machine in this one has come.
+local function tell_past(self)
+    local frame = 0
+    for now = 0, 19 * TURN, TURN do
+        self.viewer:receive(assert(self.line:send_before(self.peer, now)), now)
+        for words, gone in self.viewer:rows() do
+            is(words[1], word_of(1, frame))
+            is(words[2], word_of(2, frame))
+            is(gone, 0)
+            frame = frame + 1
+        end
+        self.line:receive(assert(self.viewer:send(now)), now)
+    end
+    is(frame, tonumber(self.epochs[2].base))
+end
+
 local function go_on(self)
     local before = frame_of(self)
+    if self.session:has_news() then -- what has come is played first, so that all rows are told of the epoch that may be over
+        assert(self.session:synchronize_input())
+    end
     local frames, why = self.peer:go_on()
     if not frames then
         is(why, "nothing")
@@ -39,6 +77,10 @@ local function go_on(self)
     table.insert(self.epochs, self.peer:epoch())
     is(self.session:frame(), frames)
     is(frame_of(self), before)
+    is(stayed(self.peer), "0 1")
+    if #self.epochs == 2 then
+        tell_past(self)
+    end
 end
 
 -- Who asks to come by the second machine's mark isn't welcome.
@@ -108,6 +150,10 @@ for _, self in ipairs(all) do
     is(self.session.game.state, alone.state)
     is(self.epochs[2].threshold, 8)
     is(last.threshold, 6)
+    local seen = self.line:look(0)
+    is(seen.is_playing, true)
+    is(seen.has_ended, false)
+    is(select(2, self.line:send_before(self.peer, 0)), "nothing")
     for at, epoch in ipairs(self.epochs) do
         is(epoch.id, all[1].epochs[at].id)
         is(epoch.base, all[1].epochs[at].base)
@@ -133,5 +179,8 @@ for _, call in ipairs { "epoch", "ask", "go_on" } do
 end
 is(select(2, peer:answer(1, true)), "nothing")
 is(select(2, peer:send_before(1, 0)), "nothing")
+is(select(2, peer:has_stayed(0)), "nothing")
+local line = assert(fazgrond.line(session, line_of(0, 21)))
+is(select(2, line:send_before(peer, 0)), "nothing")
 local other = fazgrond.epoch(match, { players = 2, locals = { 1 }, threshold = 7 })
 is(select(2, fazgrond.peer(session, match, other)), "invalid_request")

@@ -291,6 +291,9 @@ end
 local lent = assert(fazgrond.peer(assert(new_session()), MATCH))
 lent.session:close()
 fails("the session is closed", lent.poll, lent, 0)
+local told, gone = assert(fazgrond.line(assert(new_session()), LINE)), assert(fazgrond.peer(assert(new_session()), MATCH))
+gone:close()
+fails("the peer is closed", told.send_before, told, gone, 0)
 
 -- Sentences, and the version.
 is(fazgrond.version(), "0.1.1")

@@ -209,8 +209,10 @@ def all_kinds():
         peer: [lambda: peer.receive(b"", 0), lambda: peer.hear(b"", 0), lambda: peer.poll(0), lambda: peer.turn(0),
                lambda: peer.is_running, lambda: peer.send(1, 0), lambda: peer.bye(1), lambda: peer.disconnect(1), peer.event,
                lambda: peer.note_settled(0), lambda: peer.stats(1), peer.waiting, peer.rerun, peer.hand_over, peer.hand_over_due,
-               lambda: peer.is_pressed, lambda: session.guess_waiting(peer, 1)],
-        line: [lambda: line.receive(b"", 0), lambda: line.send(0), line.bye, lambda: line.look(0)],
+               lambda: peer.is_pressed, lambda: session.guess_waiting(peer, 1), peer.epoch, lambda: peer.has_stayed(1),
+               lambda: peer.send_before(1, 0), lambda: line.send_before(peer, 0)],
+        line: [lambda: line.receive(b"", 0), lambda: line.send(0), line.bye, lambda: line.look(0),
+               lambda: line.send_before(peer, 0)],
         viewer: [lambda: viewer.receive(b"", 0), lambda: viewer.send(0), viewer.bye, viewer.row, lambda: viewer.look(0)],
         habits: [lambda: habits.note(1), lambda: habits.guesses(1)],
         taker: [lambda: taker.name, taker.look, lambda: taker.send(1, 1), lambda: taker.receive(1, b""), taker.state,
@@ -665,8 +667,13 @@ def lasting(me):
     epoch, session = Epoch.first(of, settings), Session(settings, Sum())
     assert epoch == Epoch([0, 1], [0, 0], 8, 1, 0, 0, 2)
     peer = Peer(session, of, epoch)
-    assert peer.epoch() == epoch
+    assert peer.epoch() == epoch and stayed(peer) == []
     return session, peer, [epoch]
+
+
+def stayed(peer):
+    """Which machines were in the epoch before, and are in this one."""
+    return [machine for machine in range(256) if peer.has_stayed(machine)]
 
 
 MARKS = {40: (0, None), 80: (1, Mark(comes=[1], ticket=9)), 120: (0, Mark(threshold=6, delays={1: 0}))}
@@ -684,9 +691,11 @@ def goes_on(session, peer, epochs):
         assert ask == Ask(2, 9, [1])
         peer.answer(ask.player, False)
     before = epochs[-1].base + session.frame
+    if session.has_news:  # what has come is played first, so that all rows are told of the epoch that may be over
+        session.synchronize_input()
     if (frames := peer.go_on()) is not None:
         epochs.append(peer.epoch())
-        assert session.frame == frames
+        assert session.frame == frames and stayed(peer) == [0, 1]
     assert epochs[-1].base + session.frame == before
     return before
 
@@ -708,16 +717,22 @@ def plays(session, peer, epochs, me, turn, frames):
     return [it for it in [peer.send(1 - me, now), peer.send_before(1 - me, now)] if it is not None]
 
 
+def both_play(machines, came, turn, frames):
+    """A turn of both machines: what they send each other."""
+    ways = [[], []]
+    for me, (session, peer, epochs) in enumerate(machines):
+        for datagram in came[me]:
+            peer.hear(datagram, 16 * turn)
+        ways[1 - me] += plays(session, peer, epochs, me, turn, frames)
+    return ways
+
+
 @test
 def a_match_goes_on_in_epochs():
     """As rust/fazgrond/tests/epochs.rs has it."""
     frames, machines, ways, job = 200, [lasting(0), lasting(1)], [[], []], None
     for turn in range(600):
-        came, ways = ways, [[], []]
-        for me, (session, peer, epochs) in enumerate(machines):
-            for datagram in came[me]:
-                peer.hear(datagram, 16 * turn)
-            ways[1 - me] += plays(session, peer, epochs, me, turn, frames)
+        ways = both_play(machines, ways, turn, frames)
         if turn == 110:
             job = machines[0][0].guess(2, [77], machines[0][0].frame + 2)
     due = Sum()
@@ -730,6 +745,41 @@ def a_match_goes_on_in_epochs():
     close(*[it[:2] for it in machines])
 
 
+def told_past(line, viewer, peer):
+    """The rows of the epoch before, of which somebody is told who begins to watch now."""
+    rows = []
+    for now in range(0, 320, 16):
+        hears(viewer, line.send_before(peer, now), now)
+        rows += viewer.rows()
+        hears(line, viewer.send(now), now)
+    return rows
+
+
+def hears(end, datagram, now):
+    try:
+        end.receive(datagram, now)
+    except Refused as why:
+        assert why.answer == Answer.NOT_SEALED  # it hasn't heard the other end yet
+
+
+@test
+def who_watches_is_told_of_the_epoch_before():
+    """As long as no word of the other machine in this one has come."""
+    machines, ways, turn = [lasting(0), lasting(1)], [[], []], 0
+    (session, peer, epochs), other, settings = *machines, LineSettings(8, 0, 2, [0, 1])
+    with Line(session, settings) as line, Viewer(settings) as viewer:
+        while len(epochs) == 1:
+            assert line.send_before(peer, 0) is None and turn < 100
+            ways, turn = both_play(machines, ways, turn, 200), turn + 1
+        due = [Row(tuple(pressed(me, frame) for me in range(2))) for frame in range(epochs[1].base)]
+        refused(Answer.OTHER_SESSION, line.send_before, other[1], 0)
+        assert told_past(line, viewer, peer) == due
+        for more in range(20):
+            ways = both_play(machines, ways, turn + more, 200)
+        assert line.send_before(peer, 0) is None and line.look(0)[3:5] == (True, False)
+    close(*[it[:2] for it in machines])
+
+
 @test
 def a_match_that_does_not_go_on_in_epochs():
     settings, of = Settings(2, [1]), Match(0, 2, [0, 1], 7, draw=70)
@@ -737,6 +787,8 @@ def a_match_that_does_not_go_on_in_epochs():
         peer = Peer(kind, of)
         refused(Answer.NO_MARKS, peer.mark, 1)
         assert (peer.epoch(), peer.ask(), peer.go_on(), peer.send_before(1, 0)) == (None, None, None, None)
+        with Line(kind, LineSettings(8, 0, 2, [0, 1])) as line:
+            assert line.send_before(peer, 0) is None and stayed(peer) == []
         peer.answer(1, True)
         close((kind, peer))
     session, other = Session(settings, Sum()), Epoch.first(of, Settings(2, [1], threshold=7))

@@ -197,6 +197,7 @@ export class Peer extends Handle {
   handOverDue(): number;
   get isPressed(): boolean;
   epoch(): Epoch | null;
+  hasStayed(machine: number): boolean;
   mark(player: number, mark?: Mark): number;
   ask(): Ask | null;
   answer(player: number, isWelcome: boolean): number;
@@ -207,6 +208,7 @@ export class Peer extends Handle {
 export class Line extends Handle {
   receive(bytes: Uint8Array, now: number): number;
   send(now: number): Uint8Array | null;
+  sendBefore(peer: Peer, now: number): Uint8Array | null;
   bye(): Uint8Array | null;
   look(now: number): raw.LineState | null;
 }

@@ -728,6 +728,11 @@ export class Peer extends Sealed {
     return { ...told, owners: owners.slice(0, players), delays: delays.slice(0, players) };
   }
 
+  /** Whether a machine is in this epoch and was in the one before: false of each in the epoch with which the peer was opened. */
+  hasStayed(machine) {
+    return this.told(this.library.calls.peer_has_stayed(this.open, machine, this.library.room)) === 1;
+  }
+
   /** Puts a mark on the next word that a player of this machine gives: the epoch ends after that frame. */
   mark(player, mark = {}) {
     const { library } = this;
@@ -795,6 +800,15 @@ export class Line extends Sealed {
   send(now) {
     const { calls, bytes, room } = this.library;
     return this.written(calls.line_send(this.open, this.session.open, now >>> 0, bytes, raw.DATAGRAM, room));
+  }
+
+  /**
+   * The same of a line of the epoch before, in a match that goes on in epochs: a line is of one epoch, so open another one for the next.
+   * Null too if there is no epoch before, or nobody can be in it any more.
+   */
+  sendBefore(peer, now) {
+    const { calls, bytes, room } = this.library;
+    return this.written(calls.line_send_before(this.open, peer.open, now >>> 0, bytes, raw.DATAGRAM, room));
   }
 
   bye() {

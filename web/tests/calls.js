@@ -7,7 +7,8 @@ const name = options.get("name");
 
 async function run() {
   const library = await Fazgrond.load();
-  const printed = Object.fromEntries(["twoPeers", "watch", "guess", "refused", "lines"].map((one) => [one, examples[one](library)]));
+  const names = ["twoPeers", "watch", "guess", "refused", "lines", "epochs"];
+  const printed = Object.fromEntries(names.map((one) => [one, examples[one](library)]));
   const turns = Number(options.get("turns") ?? 0);
   return { printed, cost: turns > 0 ? examples.turnsOf(library, turns) : null, memory: library.memory.buffer.byteLength };
 }

@@ -6,6 +6,7 @@ const UNDER_WAY = 64;
 
 const { LEFT, DESYNC, TIME_SYNC } = { LEFT: 1101, DESYNC: 1102, TIME_SYNC: 1005 };
 const GONE = [LEFT, 1104, 1109]; // gone, dropped, cut off
+const NOTHING = 203;
 
 function must(code, answer = 0) {
   if (code !== answer) throw new Error(`the answer was ${code}`);
@@ -252,6 +253,78 @@ export function lines(library) {
   }
   const told = all.map(({ session, gone }) => `settled ${session.settled} state ${session.game.state}, ${gone} told of\n`);
   for (const { peer, session } of all) {
+    peer.close();
+    session.close();
+  }
+  return told.join("");
+}
+
+/** How many machines were in the epoch before, and are in this one. */
+const stayed = (peer) => Array.from({ length: 256 }, (_, machine) => peer.hasStayed(machine)).filter(Boolean).length;
+
+function lasting(library, me) {
+  const settings = { players: 2, local: [me + 1] };
+  const match = { me, machines: 2, owners: [0, 1], number: 7n, draw: 70 + me };
+  const session = library.session(settings, new Sum());
+  const peer = library.peer(session, match, library.epoch(match, settings));
+  return { me, session, peer, epochs: [peer.epoch()], stayed: [stayed(peer)], here: [], coming: [], missing: 0 };
+}
+
+/** How many rows of the epoch before somebody isn't told, or wrongly, who begins to watch now. */
+function missingOf(library, { me, session, peer, epochs }) {
+  const settings = { number: 8n, host: me, machines: 2, owners: [0, 1] };
+  const line = library.line(session, { ...settings, draw: 21 });
+  const viewer = library.viewer({ ...settings, draw: 22 });
+  let missing = Number(epochs[1].base);
+  for (let now = 0, frame = 0; now < 20 * TURN; now += TURN) {
+    viewer.receive(line.sendBefore(peer, now), now);
+    for (let row = viewer.row(); row !== null; row = viewer.row(), frame++)
+      missing -= row.words.every((word, player) => word === pressedOf(player, frame)) ? 1 : 0;
+    line.receive(viewer.send(now), now);
+  }
+  line.close();
+  viewer.close();
+  return missing;
+}
+
+function goOn(library, it) {
+  if (it.session.hasNews) it.session.synchronizeInput(); // so that all rows are told of the epoch that may be over
+  const code = it.peer.goOn();
+  if (code === NOTHING) return;
+  must(code);
+  it.epochs.push(it.peer.epoch());
+  it.stayed.push(stayed(it.peer));
+  if (it.epochs.length === 2) it.missing = missingOf(library, it);
+}
+
+function lastingTurn(library, it, turn, frames) {
+  const { me, session, peer } = it;
+  for (const bytes of it.here) peer.receive(bytes, turn * TURN);
+  must(peer.poll(turn * TURN));
+  goOn(library, it);
+  const frame = Number(it.epochs.at(-1).base) + session.frame;
+  if (turn === 40 + 60 * me) must(peer.mark(me + 1));
+  if (peer.isRunning) session.turn(frame < frames ? [pressedOf(me, frame)] : null);
+  return [peer.send(1 - me, turn * TURN), peer.sendBefore(1 - me, turn * TURN)].filter((bytes) => bytes !== null);
+}
+
+/** Two machines, each of which ends an epoch by a mark. Of the first one somebody is told who begins to watch after its end. */
+export function epochs(library) {
+  const frames = 200;
+  const both = [0, 1].map((me) => lasting(library, me));
+  const line = library.line(both[0].session, { number: 8n, draw: 21, host: 0, machines: 2, owners: [0, 1] });
+  if (line.sendBefore(both[0].peer, 0) !== null) throw new Error("there is no epoch before");
+  for (let turn = 0; turn < 600; turn++) {
+    for (const it of both) [it.here, it.coming] = [it.coming, []];
+    for (const it of both) both[1 - it.me].coming.push(...lastingTurn(library, it, turn, frames));
+  }
+  if (line.sendBefore(both[0].peer, 0) !== null) throw new Error("all have come to this epoch");
+  line.close();
+  const told = both.map(({ session, epochs: seen, stayed: counts, missing }) => {
+    const settled = Number(seen.at(-1).base) + session.settled;
+    return `settled ${settled} state ${session.game.state}, stayed ${counts.join(" ")}, ${missing} rows are missing\n`;
+  });
+  for (const { peer, session } of both) {
     peer.close();
     session.close();
   }

@@ -43,6 +43,9 @@ export async function play(channel: RTCDataChannel, me: 0 | 1): Promise<number> 
   const lasting = library.peer(session, { me, machines: 2, owners: [0, 1], number: 7n }, peer.epoch() ?? undefined);
   if (lasting.mark(me + 1, { threshold: 8, comes: [2], ticket: 5n }) === Answer.OK && lasting.goOn() === Answer.OK)
     console.log(lasting.ask()?.comes, lasting.answer(1, true), lasting.sendBefore(1 - me, 16));
+  const line = library.line(session, { number: 8n, host: me, machines: 2, owners: [0, 1] });
+  const last: Uint8Array | null = lasting.hasStayed(1 - me) === true ? line.sendBefore(lasting, 16) : null;
+  if (last !== null) channel.send(last);
   const job: Job<Int32Array> | null = session.guess(2, [3], 3);
   job?.run(new Places());
   const row: Row | null = session.settledRow(0);

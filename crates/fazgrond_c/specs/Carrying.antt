@@ -1,5 +1,5 @@
 -- What a call of a peer that carries comes to.
-use Rattle.std.specs.Prelude.{◌≡◌, ◌≢◌, ℕ, ℤ, pos, List, Option, Some, None, option_map, IfNone, IfSome, IsSomeAnd, MatchOption, Result, IfErr, IfOk, OnErr}
+use Rattle.std.specs.Prelude.{◌≡◌, ℕ, ℤ, List, Option, None, option_map, IfNone, IfSome, IsSomeAnd, MatchOption, Result, IfErr, IfOk, OnErr}
 use Rattle.roll_carry.specs.Carrying.{turned, Carrying}
 use Rattle.roll_held.specs.Relayed.{relayed, relayed_beside, HearsBy, HearsHeldBy, SendsBy}
 use Rattle.roll_held.specs.Told.{as_told, roomless, IsHeldFault}

@@ -1,25 +1,20 @@
 -- What a call of a peer whose match goes on in epochs comes to.
-use Rattle.std.specs.Prelude.{◌≡◌, ◌≢◌, ◌⊎◌, ℕ, ◌+◌, ◌-◌, ℤ, pos, List, [], length, Bool, true, false, not, Option, Some, None, option_map, option_and_then, IfSome, IfNone, IsSomeAnd, MatchOption, Result, Ok, Err, slice_get, if◌then◌else◌}
-use Rattle.roll_carry.specs.Carrying.{Carrying}
-use Rattle.roll_chain.specs.Chains.{answered, first_chain, settings_in}
+use Rattle.std.specs.Prelude.{◌≡◌, ◌≢◌, ◌⊎◌, ℕ, ◌+◌, ◌-◌, ℤ, pos, List, [], Bool, Option, Some, None, option_map, option_and_then, IfSome, IfNone, IsSomeAnd, MatchOption, Result, Ok, Err, slice_get, if◌then◌else◌}
+use Rattle.roll_chain.specs.Chains.{answered, has_stayed}
 use Rattle.roll_chain.specs.Judging.{first_asking, IsOver}
-use Rattle.roll_chain.specs.Seams.{local_delay}
 use Rattle.roll_chain.specs.declared.chain.Chain.{Chain}
 use Rattle.roll_epoch.specs.declared.marks.Ending.{Ending}
-use Rattle.roll_epoch.specs.declared.terms.Terms.{Terms}
-use Rattle.roll_frame.specs.declared.settings.Settings.{Settings}
-use Rattle.roll_held.specs.Told.{IsHeldFault}
-use Rattle.roll_held.specs.declared.fault.HeldFault.{HeldFault}
 use Rattle.roll_peer.specs.Marking.{IsMarkedAs, IsWhyUnmarked}
-use Rattle.roll_peer.specs.Marks.{mark_at}
 use Rattle.roll_peer.specs.Peered.{Peered}
 use Rattle.roll_peer.specs.declared.received.Ignored.{Ignored}
 use Rattle.roll_peer.specs.declared.refusal.MarkRefusal.{MarkRefusal}
 use Rattle.roll_peer.specs.declared.refusal.OtherSession.{OtherSession}
+use Rattle.roll_requests.specs.Ended.{Ended}
 use Rattle.roll_requests.specs.declared.request.Request.{Request}
 use Rattle.roll_seam.specs.Epochs.{judged_in, shared_peer, turned_in, GoesOnIn, HearsBefore, SendsBefore, IsNextBefore as IsNextOfPast}
 use Rattle.roll_seam.specs.declared.epochs.Epochs.{Epochs}
 use Rattle.roll_seam.specs.declared.refusal.SeamRefusal.{SeamRefusal}
+use Rattle.roll_session.specs.Gameless.{still}
 use Rattle.roll_session.specs.Seen.{Seen}
 use Rattle.roll_wire.specs.declared.datagram.Mark.{Mark}
 use Rattle.roll_wire.specs.declared.datagram.Marked.{Marked}
@@ -42,7 +37,7 @@ use Rattle.fazgrond_c.specs.declared.network.Network.{Network}
 -- ---- a turn
 
 -- a turn begins for the epochs of a match, if there are any
-abbrev pub turned_with : Option Epochs → Network → Network
+abbrev pub turned_with : Option (Epochs Ended) → Network → Network
 turned_with None network = network
 turned_with (Some e) network =
     record network { peer = judged_in e (shared_peer e network.peer); epochs = Some (turned_in e network.peer) }
@@ -52,15 +47,19 @@ epoch_turned network = turned_with network.epochs network
 
 -- ---- the epoch before
 
+-- what is known of the players of a session that has ended
+abbrev pub seen_of : Ended → Seen
+seen_of e = e.seen
+
 -- it hears bytes, or they aren't heard; without epochs they are sealed for nothing here
-abbrev pub IsHeardBefore : (bytes : List ℕ) → (now : ℕ) → (old new : Option Epochs) → ℤ → Type 0
+abbrev pub IsHeardBefore : (bytes : List ℕ) → (now : ℕ) → (old new : Option (Epochs Ended)) → ℤ → Type 0
 IsHeardBefore bytes now old new code = MatchOption old
     ((new ≡ None) × (code ≡ pos 301))
-    (λ e. IsSomeAnd new (λ later. (result : Result Unit Ignored) × HearsBefore bytes now e later result
+    (λ e. IsSomeAnd new (λ later. (result : Result Unit Ignored) × HearsBefore seen_of still bytes now e later result
     × (code ≡ code_of_receipt result)))
 
 -- what goes out in it beside what is sent
-abbrev pub IsNextBefore : (old new : Option Epochs) → Option (ℕ × List ℕ) → Type 0
+abbrev pub IsNextBefore : (old new : Option (Epochs Ended)) → Option (ℕ × List ℕ) → Type 0
 IsNextBefore old new said = MatchOption old
     ((new ≡ None) × (said ≡ None))
     (λ e. IsSomeAnd new (λ later. IsNextOfPast e later said))
@@ -78,7 +77,7 @@ pub record IsSentBefore (machine now : ℕ) (old new : Network) (before wrote : 
   pub result : Result (Option (List ℕ)) OtherSession
   pub sent : MatchOption old.epochs
       ((new.epochs ≡ None) × (result ≡ Ok None))
-      (λ e. IsSomeAnd new.epochs (λ later. SendsBefore old.peer machine now e later result))
+      (λ e. IsSomeAnd new.epochs (λ later. SendsBefore seen_of old.peer machine now e later result))
   pub written : AreSent result before wrote had size code
   pub rest : new ≡ record old { epochs = new.epochs }
 
@@ -86,6 +85,10 @@ pub record IsSentBefore (machine now : ℕ) (old new : Network) (before wrote : 
 
 abbrev pub epoch_in : Network → Option EpochIn
 epoch_in network = option_map (λ e. epoch_out e.chain.terms) network.epochs
+
+-- whether a machine is in it and was in the one before, as a number
+abbrev pub stayed_in : (machine : ℕ) → Network → Option ℕ
+stayed_in machine network = option_map (λ e. if has_stayed e.chain machine then 1 else 0) network.epochs
 
 -- ---- marks
 
@@ -173,8 +176,8 @@ frames_by (Ok (Some closing)) frame had = frame
 frames_by (Err why) frame had = had
 
 -- a match goes on in its next epoch, or it doesn't
-pub record GoesOnWith (e : Epochs) (old new : Network) (before after : Live) (had wrote : ℕ) (code : ℤ) : Type 0 where
-  pub later : Epochs
+pub record GoesOnWith (e : Epochs Ended) (old new : Network) (before after : Live) (had wrote : ℕ) (code : ℤ) : Type 0 where
+  pub later : Epochs Ended
   pub later_is : new.epochs ≡ Some later
   pub result : Result (Option (List Request)) SeamRefusal
   pub goes : GoesOnIn e later (judged_in e old.peer) new.peer old.relay new.relay before.session after.session result
@@ -215,7 +218,7 @@ GoesOnJudged old new before after had wrote code =
     ⊎ (is_over_in old before × GoesOnTold old new before after had wrote code)
 
 -- marks are judged
-abbrev pub judged_with : Option Epochs → Network → Network
+abbrev pub judged_with : Option (Epochs Ended) → Network → Network
 judged_with None network = network
 judged_with (Some e) network = record network { peer = judged_in e network.peer }
 

@@ -101,12 +101,6 @@ module _ {L : Type 0} (kind : Option Open → Option L) where
     pub alone : session_in lent ≡ None → (code ≡ pos 201) × (new ≡ old)
     pub made : IfSome (session_in lent) (λ live. Makes kind (does live) old new code)
 
-  -- one that writes into a buffer
-  pub record FillsFor (does : Live → L → L → List ℕ → List ℕ → ℕ → ℕ → ℤ → Type 0)
-      (lent old new : Option Open) (before after : List ℕ) (had size : ℕ) (code : ℤ) : Type 0 where
-    pub alone : session_in lent ≡ None → IsNothing 201 old new before after had size code
-    pub made : IfSome (session_in lent) (λ live. FillsBy (does live) old new before after had size code)
-
   -- a call of both that writes into a buffer
   pub record FillsBeside (does : L × Live → L × Live → List ℕ → List ℕ → ℕ → ℕ → ℤ → Type 0)
       (old new : Option Open) (lent after : Option Open) (before wrote : List ℕ) (had size : ℕ) (code : ℤ)
@@ -116,6 +110,13 @@ module _ {L : Type 0} (kind : Option Open → Option L) where
     pub made : IfSome (kind old) (λ it. IfSome (session_in lent) (λ live.
         IsSomeAnd (kind new) (λ it_now. IsSomeAnd (session_in after) (λ now.
         Fills does (it, live) (it_now, now) before wrote had size code))))
+
+module _ {L M : Type 0} (lender : Option Open → Option M) (kind : Option Open → Option L) where
+  -- a call that writes into a buffer, and only reads what another handle has open
+  pub record FillsFor (does : M → L → L → List ℕ → List ℕ → ℕ → ℕ → ℤ → Type 0)
+      (lent old new : Option Open) (before after : List ℕ) (had size : ℕ) (code : ℤ) : Type 0 where
+    pub alone : lender lent ≡ None → IsNothing 201 old new before after had size code
+    pub made : IfSome (lender lent) (λ it. FillsBy kind (does it) old new before after had size code)
 
 module _ {L T : Type 0} (kind : Option Open → Option L) where
   -- a call of both that may write something

@@ -20,7 +20,6 @@ use Rattle.fazgrond_c.specs.PeerKinds.{code_of_open, AreMatched, HasNoRoom}
 use Rattle.fazgrond_c.specs.Waiting.{IsHeldFor}
 use Rattle.fazgrond_c.specs.declared.epoch_kinds.EpochIn.{EpochIn}
 use Rattle.fazgrond_c.specs.declared.epoch_kinds.TheConstants.{EPOCH_SIZE}
-use Rattle.fazgrond_c.specs.declared.live.Live.{Live}
 use Rattle.fazgrond_c.specs.declared.network.Network.{Network}
 use Rattle.fazgrond_c.specs.declared.open.Open.{Open}
 use Rattle.fazgrond_c.specs.declared.peer_kinds.MatchIn.{MatchIn}

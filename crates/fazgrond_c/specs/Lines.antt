@@ -1,7 +1,9 @@
 -- What a call of a line at its host comes to.
-use Rattle.std.specs.Prelude.{◌≡◌, ◌⊎◌, ℕ, ℤ, pos, List, Option, Some, None, IfNone, IfSome, if◌then◌else◌}
+use Rattle.std.specs.Prelude.{◌≡◌, ◌⊎◌, ℕ, ℤ, pos, List, Option, Some, None, option_and_then, IfNone, IfSome, MatchOption, if◌then◌else◌}
 use Rattle.roll_frame.specs.Core.{Core}
 use Rattle.roll_contact.specs.Contacts.{is_playing}
+use Rattle.roll_requests.specs.Ended.{Ended}
+use Rattle.roll_seam.specs.declared.past.Past.{Past}
 use Rattle.roll_viewer.specs.Ends.{Hosted, host_sends, host_told, ignored_by_host, opened_host, HostHears}
 use Rattle.roll_viewer.specs.Lines.{after_bye, after_refusal, farewell, fault_of, is_silent, opened as what_is_in, silence}
 use Rattle.roll_viewer.specs.Seeing.{TellsRows}
@@ -9,11 +11,13 @@ use Rattle.roll_viewer.specs.declared.line.Line.{Line}
 use Rattle.roll_viewer.specs.declared.refusal.LineFault.{LineFault}
 use Rattle.roll_viewer.specs.declared.refusal.LineRefusal.{LineRefusal}
 use Rattle.roll_viewer.specs.declared.settings.LineSettings.{LineSettings}
+use Rattle.fazgrond_c.specs.Handles.{IsNothing}
 use Rattle.fazgrond_c.specs.LineKinds.{code_of_fault, code_of_line, AreTold, HasNoRoom}
 use Rattle.fazgrond_c.specs.Peers.{code_unless}
 use Rattle.fazgrond_c.specs.Written.{AreWritten}
 use Rattle.fazgrond_c.specs.declared.line_kinds.LineIn.{LineIn}
 use Rattle.fazgrond_c.specs.declared.line_kinds.LineState.{LineState}
+use Rattle.fazgrond_c.specs.declared.network.Network.{Network}
 
 -- whom a viewer names as the sender: no machine of a match has this number
 abbrev pub VIEWER : ℕ
@@ -63,6 +67,15 @@ pub record IsTelling (core : Core) (now : ℕ) (old new : Hosted) (before after 
   pub told : new ≡ host_told old core now
   pub rows : TellsRows core old.had
   pub written : AreWritten bytes before after had size code
+
+-- the same of settled rows of the epoch before, as long as that is kept
+abbrev pub past_in : Network → Option (Past Ended)
+past_in network = option_and_then (λ e. e.past) network.epochs
+
+abbrev pub IsTellingBefore : Network → (now : ℕ) → (old new : Hosted) → (before after : List ℕ) → (had size : ℕ) → ℤ → Type 0
+IsTellingBefore network now old new before after had size code = MatchOption (past_in network)
+    (IsNothing 203 old new before after had size code)
+    (λ past. IsTelling past.session.seen.core now old new before after had size code)
 
 -- the bytes by which the host says that it leaves are written, if the viewer's draw is believed, and the line has ended
 pub record IsHostsBye (old new : Hosted) (before after : List ℕ) (had size : ℕ) (code : ℤ)

@@ -1,7 +1,7 @@
 //! Calls of an open peer whose match goes on in epochs.
 ghost use Rattle.std.specs.Prelude.{◌≡◌, true, false, option_map};
 ghost use Rattle.fazgrond_c.specs.Handles.{Fills};
-ghost use Rattle.fazgrond_c.specs.Epochs.{asking_in, asks_in, epoch_in, is_over_in, judged_network, newcomer_at, GoesOnBeside, GoesOnFrom, GoesOnJudged, IsAnsweredIn, IsHeardBefore, IsMarked, IsMarkedIn, IsNextBefore, IsNextIn, IsSentBefore};
+ghost use Rattle.fazgrond_c.specs.Epochs.{asking_in, asks_in, epoch_in, is_over_in, judged_network, newcomer_at, stayed_in, GoesOnBeside, GoesOnFrom, GoesOnJudged, IsAnsweredIn, IsHeardBefore, IsMarked, IsMarkedIn, IsNextBefore, IsNextIn, IsSentBefore};
 
 use crate::calls::{NOTHING, OTHER_VERSION, PENDING, TOO_SHORT};
 use crate::carrying;
@@ -148,6 +148,16 @@ pub fn epoch(network: &Network) -> Option<EpochIn>
 {
     match &network.epochs {
         Some(epochs) => Some(EpochIn::of(epochs.chain.terms())),
+        None => None,
+    }
+}
+
+/// Whether a machine was in the epoch before, as a number.
+pub fn has_stayed(network: &Network, machine: u8) -> Option<u32>
+    ensures { result ≡ stayed_in machine network.now }
+{
+    match &network.epochs {
+        Some(epochs) => Some(u32::from(epochs.chain.has_stayed(machine))),
         None => None,
     }
 }

@@ -6,7 +6,7 @@ ghost use Rattle.roll_peer.specs.Peered.{IsWhyNot};
 ghost use Rattle.roll_peer.specs.Settings.{seat_of};
 ghost use Rattle.roll_mesh.specs.declared.limits.TheConstants.{PLAYER_LIMIT};
 ghost use Rattle.fazgrond_c.specs.Handles.{network_in, FillsBy, Makes, MakesBeside, ReadsSome, Writes, WritesBeside};
-ghost use Rattle.fazgrond_c.specs.Epochs.{asking_in, epoch_in, GoesOnBeside, IsAnsweredIn, IsMarkedIn, IsSentBefore};
+ghost use Rattle.fazgrond_c.specs.Epochs.{asking_in, epoch_in, stayed_in, GoesOnBeside, IsAnsweredIn, IsMarkedIn, IsSentBefore};
 ghost use Rattle.fazgrond_c.specs.Lasting.{are_delayed, is_delayed, is_played, IsOpenedLasting, IsOpenedWithout, OpensLasting};
 
 use crate::calls::{CLOSED, NOTHING, OTHER_VERSION, open_in};
@@ -23,6 +23,7 @@ use roll_epoch::Terms;
 use roll_frame::{Refusal, Settings};
 use roll_mesh::PLAYER_LIMIT;
 use roll_peer::{MatchSettings, OpenRefusal, Peer};
+use roll_requests::Ended;
 use roll_seam::{Epochs, relay_for};
 use roll_session::Networked;
 use std::alloc::Global;
@@ -92,7 +93,7 @@ fn open_epochs(
     live: &Live,
     base: MatchSettings,
     terms: Terms,
-) -> Result<(Peer, Epochs), OpenRefusal>
+) -> Result<(Peer, Epochs<Ended>), OpenRefusal>
     ensures opened { IfOk result (λ it. IsOpenedWithout base terms live.now.session.seen it.0) }
     ensures epochs { IfOk result (λ it. it.1 ≡ record {
       chain = first_chain base live.now.session.seen.settings.profile terms;
@@ -162,6 +163,35 @@ pub extern "C" fn fazgrond_peer_epoch(
     match there {
         Some(there) => {
             *epoch = there;
+            0
+        }
+        None => NOTHING,
+    }
+}
+
+/// Whether a machine is in this epoch and was in the one before.
+#[unsafe(no_mangle)]
+pub extern "C" fn fazgrond_peer_has_stayed(
+    alloc: Global,
+    handle: &mut Handle,
+    machine: u8,
+    flag: &mut u32,
+) -> i32
+    ensures { ReadsSome network_in (stayed_in machine) handle.old.hold.value handle.new.hold.value
+        flag.old flag.new result }
+{
+    let Some(held) = handle.take(alloc) else {
+        return CLOSED;
+    };
+    let Open::Peer(network) = &*held else {
+        handle.put(held);
+        return CLOSED;
+    };
+    let there = epoch_calls::has_stayed(network, machine);
+    handle.put(held);
+    match there {
+        Some(there) => {
+            *flag = there;
             0
         }
         None => NOTHING,

@@ -1,14 +1,15 @@
 //! Calls of an open line at its host.
 ghost use Rattle.std.specs.Prelude.{◌≡◌};
 ghost use Rattle.fazgrond_c.specs.Handles.{Fills};
-ghost use Rattle.fazgrond_c.specs.Lines.{host_state, HostHearsBytes, IsHostsBye, IsTelling};
+ghost use Rattle.fazgrond_c.specs.Lines.{host_state, HostHearsBytes, IsHostsBye, IsTelling, IsTellingBefore};
 
 use crate::calls::{NOTHING, TOO_SHORT};
 use crate::line_kinds::LineState;
 use crate::line_refusal::code_of_line;
-use crate::live::Live;
+use crate::network::Network;
 use crate::peer_calls::write;
 use roll_contact::Stage;
+use roll_session::Settling;
 use roll_viewer::ViewerLine;
 use roll_wire::DATAGRAM_LIMIT;
 
@@ -22,19 +23,48 @@ pub fn receive(line: &mut ViewerLine, bytes: &[u8], now: u32) -> i32
     }
 }
 
-/// Writes what is to be sent to the viewer.
-pub fn send(line: &mut ViewerLine, live: &Live, now: u32, out: &mut [u8], size: &mut usize) -> i32
-    ensures { Fills (IsTelling live.now.session.seen.core now) line.old line.new out.old out.new
+/// Writes what is to be sent to the viewer of a session.
+pub fn send<S: Settling>(
+    line: &mut ViewerLine,
+    session: &S,
+    now: u32,
+    out: &mut [u8],
+    size: &mut usize,
+) -> i32
+    ensures { Fills (IsTelling (S.seen session.now).core now) line.old line.new out.old out.new
         size.old size.new result }
 {
     if out.len() < DATAGRAM_LIMIT {
         return TOO_SHORT;
     }
-    match line.send(&live.session, now) {
+    match line.send(session, now) {
         Some(bytes) => {
             write(out, size, &bytes);
             0
         }
+        None => NOTHING,
+    }
+}
+
+/// Writes what is to be sent to the viewer of the epoch before.
+pub fn send_before(
+    line: &mut ViewerLine,
+    network: &Network,
+    now: u32,
+    out: &mut [u8],
+    size: &mut usize,
+) -> i32
+    ensures { Fills (IsTellingBefore network.now now) line.old line.new out.old out.new size.old size.new
+        result }
+{
+    if out.len() < DATAGRAM_LIMIT {
+        return TOO_SHORT;
+    }
+    let Some(epochs) = &network.epochs else {
+        return NOTHING;
+    };
+    match &epochs.past {
+        Some(past) => send(line, &past.session, now, out, size),
         None => NOTHING,
     }
 }

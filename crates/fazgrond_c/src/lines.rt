@@ -1,16 +1,17 @@
 //! Lines to viewers, for games in other languages.
 ghost use Rattle.std.specs.Prelude.{◌≡◌, ◌≢◌, pos};
-ghost use Rattle.fazgrond_c.specs.Handles.{line_in, FillsBy, FillsFor, Makes, Opens, Reads};
-ghost use Rattle.fazgrond_c.specs.Lines.{host_state, HostHearsBytes, IsHostsBye, IsOpened, IsTelling, IsWhyClosed};
+ghost use Rattle.fazgrond_c.specs.Handles.{line_in, network_in, session_in, FillsBy, FillsFor, Makes, Opens, Reads};
+ghost use Rattle.fazgrond_c.specs.Lines.{host_state, HostHearsBytes, IsHostsBye, IsOpened, IsTelling, IsTellingBefore, IsWhyClosed};
 
 use crate::calls::{CLOSED, open_in};
 use crate::handle::Handle;
 use crate::line_calls;
 use crate::line_kinds::{LineIn, LineState};
 use crate::line_refusal::code_of_fault;
-use crate::live::Live;
+use crate::network::Network;
 use crate::open::Open;
 use roll_frame::Refusal;
+use roll_session::Settling;
 use roll_viewer::ViewerLine;
 use std::alloc::Global;
 
@@ -54,16 +55,16 @@ pub extern "C" fn fazgrond_line_receive(
     code
 }
 
-/// What to send to the viewer of an open session.
-fn tell(
+/// What to send to the viewer of a session.
+fn tell<S: Settling>(
     alloc: Global,
     handle: &mut Handle,
-    live: &Live,
+    session: &S,
     now: u32,
     out: &mut [u8],
     size: &mut usize,
 ) -> i32
-    ensures { FillsBy line_in (IsTelling live.now.session.seen.core now) handle.old.hold.value
+    ensures { FillsBy line_in (IsTelling (S.seen session.now).core now) handle.old.hold.value
         handle.new.hold.value out.old out.new size.old size.new result }
 {
     let Some(mut held) = handle.take(alloc) else {
@@ -73,7 +74,7 @@ fn tell(
         handle.put(held);
         return CLOSED;
     };
-    let code = line_calls::send(line, live, now, out, size);
+    let code = line_calls::send(line, session, now, out, size);
     handle.put(held);
     code
 }
@@ -88,7 +89,7 @@ pub extern "C" fn fazgrond_line_send(
     out: &mut [u8],
     size: &mut usize,
 ) -> i32
-    ensures told { FillsFor line_in (λ live. IsTelling live.session.seen.core now) session.old.hold.value
+    ensures told { FillsFor session_in line_in (λ live. IsTelling live.session.seen.core now) session.old.hold.value
         handle.old.hold.value handle.new.hold.value out.old out.new size.old size.new result }
     ensures session { session.new.hold.value ≡ session.old.hold.value }
 {
@@ -99,8 +100,58 @@ pub extern "C" fn fazgrond_line_send(
         session.put(lent);
         return CLOSED;
     };
-    let code = tell(alloc, handle, live, now, out, size);
+    let code = tell(alloc, handle, &live.session, now, out, size);
     session.put(lent);
+    code
+}
+
+/// What to send to the viewer beside an open network: the settled rows that it lacks of the epoch before.
+fn tell_before(
+    alloc: Global,
+    handle: &mut Handle,
+    network: &Network,
+    now: u32,
+    out: &mut [u8],
+    size: &mut usize,
+) -> i32
+    ensures { FillsBy line_in (IsTellingBefore network.now now) handle.old.hold.value
+        handle.new.hold.value out.old out.new size.old size.new result }
+{
+    let Some(mut held) = handle.take(alloc) else {
+        return CLOSED;
+    };
+    let Open::Line(line) = &mut *held else {
+        handle.put(held);
+        return CLOSED;
+    };
+    let code = line_calls::send_before(line, network, now, out, size);
+    handle.put(held);
+    code
+}
+
+/// What to send to the viewer: the settled rows that it lacks of the epoch before.
+#[unsafe(no_mangle)]
+pub extern "C" fn fazgrond_line_send_before(
+    alloc: Global,
+    handle: &mut Handle,
+    peer: &mut Handle,
+    now: u32,
+    out: &mut [u8],
+    size: &mut usize,
+) -> i32
+    ensures told { FillsFor network_in line_in (λ network. IsTellingBefore network now) peer.old.hold.value
+        handle.old.hold.value handle.new.hold.value out.old out.new size.old size.new result }
+    ensures peer { peer.new.hold.value ≡ peer.old.hold.value }
+{
+    let Some(lent) = peer.take(alloc) else {
+        return CLOSED;
+    };
+    let Open::Peer(network) = &*lent else {
+        peer.put(lent);
+        return CLOSED;
+    };
+    let code = tell_before(alloc, handle, network, now, out, size);
+    peer.put(lent);
     code
 }
 

@@ -8,6 +8,7 @@ ghost use Rattle.roll_held.specs.declared.held.TheConstants.{TURN_LIMIT};
 use roll_held::{Held, RemoteWord};
 use roll_peer::Peer;
 use roll_relay::Relay;
+use roll_requests::Ended;
 use roll_seam::Epochs;
 
 /// The network of a match at one machine.
@@ -19,12 +20,17 @@ pub struct Network {
     /// What it carries for others, and has carried. None if it carries nothing.
     pub relay: Option<Relay>,
     /// How the match goes on, if it does so in epochs.
-    pub epochs: Option<Epochs>,
+    pub epochs: Option<Epochs<Ended>>,
 }
 
 impl Network {
     /// One that holds words back for so many turns at most; for 0, none.
-    pub fn new(peer: Peer, turns: u32, relay: Option<Relay>, epochs: Option<Epochs>) -> Network
+    pub fn new(
+        peer: Peer,
+        turns: u32,
+        relay: Option<Relay>,
+        epochs: Option<Epochs<Ended>>,
+    ) -> Network
         requires { turns ≤ TURN_LIMIT }
         ensures peer { result.peer ≡ peer }
         ensures held { IsHeldFor turns result.held }

@@ -7,11 +7,11 @@ from typing import Any, NamedTuple
 
 from ._raw import ffi, lib
 from .epoch import put_owners
-from .errors import said, said_or_nothing
+from .errors import Refused, said, said_or_nothing
 from .handle import Plays
-from .numbers import NO_PLAYER, PLAYERS
+from .numbers import NO_PLAYER, PLAYERS, Answer
 from .owned import Owned, written
-from .peer import CLOCK, drawn
+from .peer import CLOCK, Peer, drawn
 from .rows import Row, row_of
 
 
@@ -75,6 +75,16 @@ class Line(Owned):
         with self._lock:
             line, session = self._at(), self.session._at()
             return written(lambda out, room, length: lib.fazgrond_line_send(line, session, now & CLOCK, out, room, length))
+
+    def send_before(self, peer: Peer, now: int) -> bytes | None:
+        """The same of a line of the epoch before, in a match that goes on in epochs: `peer` is that of the line's session. Rows are
+        counted from an epoch's first frame on, so a line is of one epoch: open another one for the next. None too if there is no epoch
+        before, or nobody can be in it any more."""
+        if peer.session is not self.session:  # it has another lock
+            raise Refused(Answer.OTHER_SESSION)
+        with self._lock:
+            line, beside = self._at(), peer._at()
+            return written(lambda out, room, length: lib.fazgrond_line_send_before(line, beside, now & CLOCK, out, room, length))
 
     def bye(self) -> bytes | None:
         """The datagram that says that the host leaves the viewer: the line has ended. None if nobody is to be told."""

@@ -275,6 +275,12 @@ class Peer(Owned):
         with self._lock:
             return Epoch._of(epoch) if said_or_nothing(lib.fazgrond_peer_epoch(self._at(), epoch)) else None
 
+    def has_stayed(self, machine: int) -> bool:
+        """Whether a machine is in this epoch and was in the one before, and hasn't come in with this one. False of each in the epoch with
+        which the peer was opened, and if the match doesn't go on in epochs."""
+        with self._lock:
+            return said_or_nothing(lib.fazgrond_peer_has_stayed(self._at(), machine, self._word)) and bool(self._word[0])
+
     def mark(self, player: int, mark: Mark | None = None) -> None:
         """Puts a mark on the next word that a player of this machine gives: the epoch ends after that frame. If another machine's mark
         ends it before, this one is forgotten."""

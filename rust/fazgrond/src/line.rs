@@ -1,6 +1,6 @@
 use crate::error::{said, Error};
 use crate::owned::{answered, Owned};
-use crate::peer::{owners_of, Datagram, Plays};
+use crate::peer::{owners_of, Datagram, Peer, Plays};
 use crate::raw;
 use crate::row::{Row, PLAYERS};
 
@@ -86,8 +86,8 @@ pub struct Line {
     owned: Owned,
 }
 
-// SAFETY, of each call of the library below: `raw` is of what `open` made and `drop` closes, and a session's is of one that is open;
-// other pointers are to what lives past the call; and there is one call at a time, since none of them is `Sync`.
+// SAFETY, of each call of the library below: `raw` is of what `open` made and `drop` closes, and a session's or peer's is of one that is
+// open; other pointers are to what lives past the call; and there is one call at a time, since none of them is `Sync`.
 impl Line {
     /// Opens a line at its host.
     pub fn open(settings: &LineSettings) -> Result<Line, Error> {
@@ -110,6 +110,15 @@ impl Line {
     pub fn send(&mut self, session: &impl Plays, now: u32) -> Option<Datagram> {
         let made = Datagram::written(|out, room, length| unsafe {
             raw::fazgrond_line_send(self.raw(), session.raw(), now, out, room, length)
+        });
+        made.unwrap_or(None)
+    }
+
+    /// The same of a line of the epoch before, in a match that goes on in epochs. Rows are counted from an epoch's first frame on, so
+    /// a line is of one epoch: open another one for the next. None too if there is no epoch before, or nobody can be in it any more.
+    pub fn send_before(&mut self, peer: &Peer, now: u32) -> Option<Datagram> {
+        let made = Datagram::written(|out, room, length| unsafe {
+            raw::fazgrond_line_send_before(self.raw(), peer.raw(), now, out, room, length)
         });
         made.unwrap_or(None)
     }

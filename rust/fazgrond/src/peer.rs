@@ -475,7 +475,7 @@ impl Peer {
         Ok(peer)
     }
 
-    fn raw(&self) -> *mut raw::Peer {
+    pub(crate) fn raw(&self) -> *mut raw::Peer {
         self.owned.raw()
     }
 
@@ -626,6 +626,12 @@ impl Peer {
     /// frame, together. None if the match doesn't go on in epochs.
     pub fn epoch(&self) -> Option<Epoch> {
         answered(|out| unsafe { raw::fazgrond_peer_epoch(self.raw(), out) }).map(|raw| Epoch::of(&raw))
+    }
+
+    /// Whether a machine is in this epoch and was in the one before, and hasn't come in with this one. False of each in the epoch with
+    /// which the peer was opened, and if the match doesn't go on in epochs.
+    pub fn has_stayed(&self, machine: u8) -> bool {
+        answered(|out| unsafe { raw::fazgrond_peer_has_stayed(self.raw(), machine, out) }).unwrap_or(0u32) != 0
     }
 
     /// Puts a mark on the next word that a player of this machine gives: the epoch ends after that frame. If another machine's mark ends

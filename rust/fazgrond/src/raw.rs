@@ -303,6 +303,7 @@ unsafe extern "C" {
         epoch: *const Epoch,
     ) -> i32;
     pub fn fazgrond_peer_epoch(peer: *mut Peer, epoch: *mut Epoch) -> i32;
+    pub fn fazgrond_peer_has_stayed(peer: *mut Peer, machine: u8, flag: *mut u32) -> i32;
     pub fn fazgrond_peer_mark(peer: *mut Peer, session: *mut Session, player: u8, mark: *const Mark) -> i32;
     pub fn fazgrond_peer_ask(peer: *mut Peer, ask: *mut Ask) -> i32;
     pub fn fazgrond_peer_answer(peer: *mut Peer, player: u8, is_welcome: u32) -> i32;
@@ -320,6 +321,14 @@ unsafe extern "C" {
     pub fn fazgrond_line_send(
         line: *mut Line,
         session: *mut Session,
+        now: u32,
+        out: *mut u8,
+        room: usize,
+        length: *mut usize,
+    ) -> i32;
+    pub fn fazgrond_line_send_before(
+        line: *mut Line,
+        peer: *mut Peer,
         now: u32,
         out: *mut u8,
         room: usize,

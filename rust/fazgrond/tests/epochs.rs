@@ -1,6 +1,10 @@
 //! Matches that go on in epochs: two machines mark, and come to the state of the game that is run once over all words, in the same epochs.
+//! Somebody watches each of them, and is told of the first epoch after its end.
 
-use fazgrond::{Datagram, Epoch, Error, Event, Game, Handle, Mark, Match, Peer, Request, Row, Session, Settings};
+use fazgrond::{
+    Datagram, Epoch, Error, Event, Game, Handle, Line, LineSettings, Mark, Match, Peer, Request, Row, Session,
+    Settings, Viewer,
+};
 
 const FRAMES: u64 = 200;
 const TURN: u32 = 16;
@@ -38,6 +42,8 @@ struct Machine {
     me: u8,
     session: Session<Sum>,
     peer: Peer,
+    line: Line,
+    viewer: Viewer,
     epochs: Vec<Epoch>,
     here: Vec<Datagram>,
     coming: Vec<Datagram>,
@@ -54,8 +60,20 @@ fn machine(me: u8) -> Machine {
     assert_eq!((&epoch.owners[..], &epoch.delays[..]), (&[Some(0), Some(1)][..], &[0, 0][..]));
     assert_eq!((epoch.id, epoch.base, epoch.words, epoch.threshold, epoch.machines), (0, 0, 1, 8, 2));
     let peer = Peer::open_lasting(&mut session, &of(me), &epoch).unwrap();
-    assert_eq!(peer.epoch(), Some(epoch.clone()));
-    Machine { me, session, peer, epochs: vec![epoch], here: Vec::new(), coming: Vec::new() }
+    assert_eq!((peer.epoch(), stayed(&peer)), (Some(epoch.clone()), Vec::new()));
+    let mut line = Line::open(&line_of(me, 21)).unwrap();
+    assert!(line.send_before(&peer, 0).is_none());
+    let viewer = Viewer::open(&line_of(me, 22)).unwrap();
+    Machine { me, session, peer, line, viewer, epochs: vec![epoch], here: Vec::new(), coming: Vec::new() }
+}
+
+fn line_of(host: u8, draw: u64) -> LineSettings {
+    LineSettings::new(8, draw, host, 2, &[0, 1])
+}
+
+/// Which machines were in the epoch before, and are in this one.
+fn stayed(peer: &Peer) -> Vec<u8> {
+    (0..=255).filter(|machine| peer.has_stayed(*machine)).collect()
 }
 
 impl Machine {
@@ -67,10 +85,33 @@ impl Machine {
     /// Goes on in the next epoch if this one is over.
     fn go_on(&mut self) {
         let before = self.frame();
+        // What has come is played first, so that all rows are told of the epoch that may be over.
+        if self.session.has_news() {
+            self.session.synchronize_input().unwrap();
+        }
         if let Some(frames) = self.peer.go_on(&mut self.session).unwrap() {
             self.epochs.push(self.peer.epoch().unwrap());
             assert_eq!((self.session.frame(), self.frame()), (frames, before));
+            assert_eq!(stayed(&self.peer), [0, 1]);
+            if self.epochs.len() == 2 {
+                self.tell_past();
+            }
         }
+    }
+
+    /// Who begins to watch only now is told all rows of the epoch before, since no word of the other machine in this one has come.
+    fn tell_past(&mut self) {
+        let mut frame = 0;
+        for now in 0..20 {
+            let sent = self.line.send_before(&self.peer, now * TURN).expect("the past is kept");
+            let _ = self.viewer.receive(&sent, now * TURN);
+            while let Some(row) = self.viewer.row() {
+                assert!(row.cells().eq((0..2).map(|player| Some(word_of(player, frame)))), "frame {frame}: {row:?}");
+                frame += 1;
+            }
+            let _ = self.line.receive(&self.viewer.send(now * TURN).unwrap(), now * TURN);
+        }
+        assert_eq!(frame, self.epochs[1].base);
     }
 
     /// A turn, and what it sends.
@@ -131,9 +172,11 @@ fn a_match_goes_on_in_epochs() {
     let [one, two] = &all;
     assert_eq!(one.epochs, two.epochs);
     assert_eq!(one.epochs.iter().map(|it| it.threshold).collect::<Vec<_>>(), [8, 8, 6]);
-    for it in &all {
+    for it in &mut all {
         let settled = it.epochs[2].base + u64::from(it.session.settled());
         assert_eq!((it.frame(), settled, it.session.game().0), (FRAMES, FRAMES, alone.0));
+        let seen = it.line.look(0);
+        assert_eq!((seen.is_playing, seen.has_ended, it.line.send_before(&it.peer, 0).is_none()), (true, false, true));
     }
 }
 
@@ -178,6 +221,7 @@ fn what_is_refused() {
     let mut peer = Peer::open(&mut session, &of(0)).unwrap();
     assert_eq!(peer.mark(&session, 1, &Mark::new()), Err(Error::NoMarks));
     assert_eq!((peer.epoch(), peer.ask(), peer.go_on(&mut session)), (None, None, Ok(None)));
+    assert!(stayed(&peer).is_empty() && Line::open(&line_of(0, 21)).unwrap().send_before(&peer, 0).is_none());
     peer.answer(1, true);
     let epoch = Epoch { threshold: 7, ..Epoch::first(&of(0), &settings) };
     assert_eq!(Peer::open_lasting(&mut session, &of(0), &epoch).map(|_| ()), Err(Error::InvalidRequest));

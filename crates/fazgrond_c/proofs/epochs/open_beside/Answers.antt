@@ -1,4 +1,4 @@
-use Rattle.std.proofs.Common.{◌≡◌, ◌∙◌, rules, w32, inl, inr, refl, sym, subst, ap, Some, Option}
+use Rattle.std.proofs.Common.{◌≡◌, ◌∙◌, rules, w32, inr, refl, sym, subst, ap, Some, Option}
 use Rattle.std.specs.Prelude.{FitsSigned, pos}
 use Rattle.std.proofs.lemmas.Int.{to_z-of_z}
 use Rattle.roll_carry.specs.Carrying.{Carrying}
