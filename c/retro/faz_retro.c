@@ -31,6 +31,7 @@ static const char usage[] =
     "                   the check found it right\n"
     "  --hold N         words that come late wait for up to N turns while a helper plays their frames again (2 or more, as the\n"
     "                   check found it right; without helpers 0)\n"
+    "  --rejoin         who has left comes back with the same words; all say it, and who joins names its --port\n"
     "  --port N         the port of who joins or watches (any)\n"
     "  --timeout MS     a machine that is silent so long is gone (5000)\n"
     "  --headless       no window; --bot SEED plays by itself; --frames N ends then; --digests FILE has those of all frames\n"
@@ -54,7 +55,7 @@ static struct {
     char *option_words; /* of the command line, or the host's */
     const char *options, *ports, *save, *key, *join, *watch, *play, *view;
     long from_frame, host, machines, seats, delays[SEATS], threshold, helpers, hold, port, timeout, frames, bot, lag, jitter, loss, speed;
-    bool is_verbose, is_unchecked, goes_again;
+    bool is_verbose, is_unchecked, goes_again, lasts;
 } self = { .machines = 2, .seats = 1, .delays = { 1, 1 }, .helpers = -1, .hold = -1, .timeout = 5000, .speed = 1, .from_frame = -1,
            .wish = { .broker = "nats://127.0.0.1:4222" } };
 
@@ -76,6 +77,7 @@ static const option options[] = {
     { "--from", &self.from_frame, NULL, NULL },     { "--hold", &self.hold, NULL, NULL },
     { "--figures", NULL, &self.wish.figures, NULL },
     { "--headless", NULL, NULL, &self.wish.is_headless }, { "--again", NULL, NULL, &self.goes_again },
+    { "--rejoin", NULL, NULL, &self.lasts },
     { "--unchecked", NULL, NULL, &self.is_unchecked }, { "--verbose", NULL, NULL, &self.is_verbose },
     { NULL, NULL, NULL, NULL },
 };
@@ -142,7 +144,28 @@ static bool take_verdict(void) {
     return true;
 }
 
+/* Why --rejoin can't be had with what else was said; null if it can. */
+static const char *no_rejoin(void) {
+    return !CAN_LAST ? "the library of this program is too old for --rejoin"
+        : self.host == 0 && self.join == NULL ? "--rejoin is for who plays: with --host or --join"
+        : self.join != NULL && self.port == 0 ? "--rejoin needs --port N: the same when this machine comes back"
+        : self.helpers > 0 || self.hold > 0 ? "with --rejoin no helper plays ahead, and no word is held back"
+        : self.wish.cast != NULL ? "a match with --rejoin can't be published"
+        : self.wish.picture != NULL ? "a match with --rejoin has no picture" : NULL;
+}
+
+/* Whether what was said goes together. */
+static bool take_rejoin(void) {
+    const char *why = self.lasts ? no_rejoin() : NULL;
+    if (why != NULL)
+        return fail(why), false;
+    if (self.lasts)
+        self.helpers = self.hold = 0;
+    return true;
+}
+
 static void take_wish(void) {
+    self.wish.lasts = self.lasts;
     self.wish.frames = (uint32_t)self.frames;
     self.wish.helpers = (uint32_t)self.helpers;
     self.wish.silent_after = (uint32_t)self.timeout;
@@ -174,26 +197,21 @@ static bool open_core(core_state *opening) {
                           .rom = strong_digest_of(self.from.rom.at, self.from.rom.size),
                           .save_ram = strong_digest_of(self.from.save_ram.at, self.from.save_ram.size),
                           .options = strong_digest_of(options_text, strlen(options_text)), .opening = core_digest(one),
-                          .reloads = self.verdict.safety == SAFE_IF_RELOADED };
+                          .reloads = self.verdict.safety == SAFE_IF_RELOADED, .lasts = self.lasts };
     snprintf(self.facts.name, sizeof self.facts.name, "%.30s %.30s", one->info.library_name, one->info.library_version);
     return true;
 }
 
 /* The meeting. */
 
-/* An opening as it is sent: the digest of the picture before it, and the state. */
-enum { PICTURE = 8 };
-
 static bool give_all(const core_state *opening) {
-    uint8_t *image = malloc(PICTURE + opening->size);
+    uint8_t *image = malloc(STATE_HEAD + opening->size);
     bool is_given = image != NULL;
-    for (int at = 0; at < PICTURE && is_given; at++)
-        image[at] = (uint8_t)(opening->picture >> 8 * at);
     if (is_given)
-        memcpy(image + PICTURE, opening->at, opening->size);
+        state_write(opening, image);
     is_given = is_given && meeting_give(&self.meeting, SAVE_RAM, self.from.save_ram.at, self.from.save_ram.size)
         && meeting_give(&self.meeting, CORE_OPTIONS, options_text, strlen(options_text))
-        && meeting_give(&self.meeting, OPENING, image, PICTURE + opening->size);
+        && meeting_give(&self.meeting, OPENING, image, STATE_HEAD + opening->size);
     free(image);
     return is_given || fail("there is no memory for what guests may take") == 0;
 }
@@ -202,7 +220,7 @@ static bool give_all(const core_state *opening) {
 static void limit_all(void) {
     self.meeting.limits[SAVE_RAM] = (uint32_t)self.main.core.get_memory_size(RETRO_MEMORY_SAVE_RAM);
     self.meeting.limits[CORE_OPTIONS] = OPTIONS_TEXT - 1;
-    self.meeting.limits[OPENING] = (uint32_t)(PICTURE + self.main.core.serialize_size());
+    self.meeting.limits[OPENING] = (uint32_t)(STATE_HEAD + self.main.core.serialize_size());
 }
 
 /* The core anew, with what was taken of the host. */
@@ -212,11 +230,9 @@ static const char *open_anew(core_state *opening) {
 }
 
 static const char *load_opening(const bytes *came, core_state *opening) {
-    core_state it = { .at = came->at + PICTURE, .size = came->size - PICTURE };
-    if (came->size <= PICTURE)
+    core_state it;
+    if (!state_read(came->at, came->size, &it))
         return "the host's opening is cut short";
-    for (int at = 0; at < PICTURE; at++)
-        it.picture |= (uint64_t)came->at[at] << 8 * at;
     if (!core_load(&self.main.core, &it) || !state_copy(opening, &it))
         return "the core refuses the host's opening";
     self.facts.opening = core_digest(&self.main.core);
@@ -271,6 +287,10 @@ static bool meet(core_state *opening) {
     uint8_t bytes[2048];
     long length;
     self.meeting.facts = self.facts;
+    for (int seat = 0; seat < SEATS; seat++) {
+        long delay = self.delays[seat];
+        self.meeting.delays[seat] = (uint8_t)(delay >= 0 && delay < UINT8_MAX ? delay : UINT8_MAX);
+    }
     limit_all();
     if (self.host > 0 && !give_all(opening))
         return false;
@@ -348,10 +368,10 @@ static int play(core_state *opening) {
         else {
             came = match_play(&it);
             write_save_ram(&it);
-            if (came != DESYNCED)
+            if (came != DESYNCED && came != UNHEARD)
                 linger(&it);
         }
-        goes_on = came == DESYNCED && wants_again() && match_go_back(&it);
+        goes_on = came == UNHEARD || (came == DESYNCED && wants_again() && match_go_back(&it));
         match_close(&it);
         states_begin(&self.states, self.facts.reloads, self.wish.digests != NULL);
         goes_on = goes_on && meet(&it.opening);
@@ -419,7 +439,7 @@ int main(int count, char **words) {
     if (status == 0 && is_check)
         status = check_core(&self.from, self.frames > 0 ? (uint32_t)self.frames : 600, &found) ? 0 : 1;
     else if (status == 0)
-        status = take_verdict() ? run() : 1;
+        status = take_rejoin() && take_verdict() ? run() : 1;
     free(self.option_words);
     free(self.from.library.at);
     free(self.from.rom.at);

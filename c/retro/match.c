@@ -16,36 +16,40 @@ enum { MOST_LATE = 20 /* turns that are made up for */, FLOOD = 256, MARK_EVERY 
        SLICE = 1000 /* microseconds between two looks at a helper */,
        ENDING = 90 /* turns in which a desync is still told to the others */ };
 
-static void say(match *self, const char *what, uint32_t machine) {
+void match_say(match *self, const char *what, uint32_t number) {
     char text[TOLD];
-    snprintf(text, sizeof text, what, machine);
+    snprintf(text, sizeof text, what, number);
     fprintf(stderr, "%s\n", text);
     if (!self->is_over)
         memcpy(self->told, text, sizeof text);
 }
 
-static void end(match *self, const char *why) {
+void match_end(match *self, const char *why) {
     snprintf(self->told, sizeof self->told, "the match is over: %s", why);
     fprintf(stderr, "%s\n", self->told);
     self->is_over = true;
 }
 
-static void fail(match *self, const char *why) {
-    end(self, why);
+void match_fail(match *self, const char *why) {
+    match_end(self, why);
     self->has_failed = true;
 }
 
 /* What a call answers that isn't refused in a match that goes as it should. */
-static void must(match *self, int32_t code) {
+void match_must(match *self, int32_t code) {
     uint8_t text[160];
     if (code == FAZGROND_OK || self->has_failed)
         return;
     size_t length = fazgrond_text(code, text, sizeof text - 1);
     text[length < sizeof text ? length : sizeof text - 1] = 0;
-    fail(self, (const char *)text);
+    match_fail(self, (const char *)text);
 }
 
 /* The beginning. */
+
+static void send_to(match *self, uint32_t machine, const uint8_t *bytes, size_t length) {
+    net_send(self->meeting->net, &self->meeting->all.machine[self->place_of[machine]], bytes, length);
+}
 
 /* Three machines or more carry for each other where a line breaks. A library before 0.1.1 can't. */
 #if FAZGROND_VERSION >= 0x000101
@@ -57,7 +61,15 @@ static void send_more(match *self) {
     uint8_t bytes[FAZGROND_DATAGRAM], to;
     size_t length;
     while (fazgrond_peer_send_more(&self->peer, &to, bytes, sizeof bytes, &length) == FAZGROND_OK)
-        net_send(self->meeting->net, &self->meeting->all.machine[to], bytes, length);
+        send_to(self, to, bytes, length);
+}
+
+/* What a machine needs that may still be in the epoch before. */
+static void send_before(match *self, uint32_t to, uint32_t now) {
+    uint8_t bytes[FAZGROND_DATAGRAM];
+    size_t length;
+    if (fazgrond_peer_send_before(&self->peer, (uint8_t)to, now, bytes, sizeof bytes, &length) == FAZGROND_OK)
+        send_to(self, to, bytes, length);
 }
 #else
 static int32_t open_peer(match *self, const fazgrond_match *match) {
@@ -65,35 +77,58 @@ static int32_t open_peer(match *self, const fazgrond_match *match) {
 }
 
 static void send_more(match *self) { (void)self; }
+static void send_before(match *self, uint32_t to, uint32_t now) { (void)self, (void)to, (void)now; }
 #endif
 
-static bool open_session(match *self) {
+/* The players of this machine are the session's own. */
+static void seat_players(match *self, fazgrond_settings *settings) {
     const agreement *all = &self->meeting->all;
-    fazgrond_settings settings = fazgrond_settings_for(all->players);
-    fazgrond_match match = fazgrond_match_for(all->machines, all->me);
-    settings.profile = all->threshold > 8 || all->players > 4 ? FAZGROND_WIDE : FAZGROND_GGPO;
-    settings.threshold = all->threshold;
+    self->seats = self->far = 0;
     for (uint32_t player = 0; player < FAZGROND_PLAYERS; player++) {
-        settings.masks[player] = ~(uint32_t)WORD_RESET;
-        match.owners[player] = all->owners[player];
+        settings->masks[player] = ~(uint32_t)WORD_RESET;
         if (all->owners[player] == all->me && self->seats < SEATS) {
-            settings.local |= 1u << player;
-            settings.delays[player] = self->wish->delays[self->seats];
+            settings->local |= 1u << player;
+            settings->delays[player] = all->delays[player];
             self->hands[self->seats] = hand_of(self->wish->bot, player);
             self->next_words[self->seats] = hand_word(&self->hands[self->seats]);
             self->locals[self->seats++] = player + 1;
         } else if (player < all->players)
             self->far |= 1u << player;
     }
+}
+
+bool match_open(match *self, uint32_t me) {
+    const agreement *all = &self->meeting->all;
+    fazgrond_settings settings = fazgrond_settings_for(all->players);
+    fazgrond_match match = fazgrond_match_for(all->machines, me);
+    settings.profile = all->threshold > 8 || all->players > 4 ? FAZGROND_WIDE : FAZGROND_GGPO;
+    settings.threshold = all->threshold;
+    seat_players(self, &settings);
+    memcpy(match.owners, all->owners, sizeof match.owners);
     memcpy(match.numbers, all->numbers, sizeof match.numbers);
+    if (self->wish->lasts)
+        fazgrond_one_number(&match, all->numbers[0]);
     match.draw = net_draw();
     match.digest = all->digest;
     match.silent_after = self->wish->silent_after;
     match.notify_after = 750;
     match.held_turns = self->wish->hold;
-    must(self, fazgrond_open(&self->session, &settings));
-    must(self, fazgrond_limit_slots(&self->session, SLOTS));
-    must(self, open_peer(self, &match));
+    match_must(self, fazgrond_open(&self->session, &settings));
+    match_must(self, fazgrond_limit_slots(&self->session, SLOTS));
+    match_must(self, self->wish->lasts ? lasting_open_peer(self, &match, &settings) : open_peer(self, &match));
+    return !self->has_failed;
+}
+
+/* Opens what a match has from its beginning, or asks to come into one that runs. */
+static bool open_all(match *self) {
+    if (self->wish->lasts)
+        lasting_begin(self);
+    if (self->lasting.is_coming)
+        return true;
+    if (!match_open(self, self->meeting->all.me) || !casting_open(self))
+        return false;
+    if (self->wish->lasts)
+        lasting_host(self);
     return !self->has_failed;
 }
 
@@ -103,16 +138,15 @@ static bool begin(match *self) {
     self->peer = (fazgrond_peer)FAZGROND_CLOSED;
     self->holding = (holding){ .session = &self->session, .peer = &self->peer, .helpers = &self->helpers,
                                .turns = self->wish->hold };
+    for (uint32_t at = 0; at < FAZGROND_MACHINES; at++)
+        self->place_of[at] = at;
     if (!runner_open(self->main, &self->opening)
         || !helpers_begin(&self->helpers, self->wish->helpers, self->wish->hold > 0, self->from, self->states, why, sizeof why)) {
-        fail(self, why);
+        match_fail(self, why);
         return false;
     }
-    if (!open_session(self) || !casting_open(self)) {
-        self->has_failed = true;
-        return false;
-    }
-    return true;
+    self->has_failed |= !open_all(self);
+    return !self->has_failed;
 }
 
 /* A turn: what has come. */
@@ -126,8 +160,8 @@ static void open_lines(match *self) {
         settings.number = strong_digest_of((uint64_t[2]){ it->key, it->viewer[self->open_lines].line_draw }, 16) | 1;
         memcpy(settings.owners, it->all.owners, sizeof settings.owners);
         self->lines[self->open_lines] = (fazgrond_line)FAZGROND_CLOSED;
-        must(self, fazgrond_line_open(&self->lines[self->open_lines], &settings));
-        say(self, "viewer %" PRIu32 " is there", self->open_lines);
+        match_must(self, fazgrond_line_open(&self->lines[self->open_lines], &settings));
+        match_say(self, "viewer %" PRIu32 " is there", self->open_lines);
     }
 }
 
@@ -137,7 +171,14 @@ static void hear(match *self, uint32_t now) {
     long length;
     for (int count = 0; count < FLOOD && (length = net_next(self->meeting->net, &from, bytes, sizeof bytes)) >= 0; count++) {
         uint32_t viewer = 0;
-        if (meeting_hear(self->meeting, &from, bytes, (size_t)length))
+        uint8_t sender;
+        bool is_state = fazgrond_state_sender(bytes, (size_t)length, &sender) == FAZGROND_OK;
+        bool is_of_meeting = meeting_hear(self->meeting, &from, bytes, (size_t)length);
+        if (self->wish->lasts && (is_state || !is_of_meeting)) { /* a state may also be that of the match */
+            lasting_hear(self, &from, bytes, (size_t)length, now);
+            continue;
+        }
+        if (is_of_meeting)
             continue;
         while (viewer < self->open_lines && !address_is(&from, &self->meeting->viewer[viewer].at))
             viewer++;
@@ -158,7 +199,7 @@ static bool is_last_step(const fazgrond_request *requests, size_t at, size_t cou
     return is_last;
 }
 
-static void obey_all(match *self) {
+void match_obey(match *self) {
     fazgrond_request requests[16];
     size_t count;
     uint32_t steps = self->main->steps, loads = self->main->loads;
@@ -166,10 +207,12 @@ static void obey_all(match *self) {
         for (size_t at = 0; at < count && !self->has_failed; at++) {
             self->main->core.is_shown = is_last_step(requests, at, count);
             if (!runner_obey(self->main, &requests[at]))
-                fail(self, "the core refuses to save or load a state");
+                match_fail(self, "the core refuses to save or load a state");
+            else
+                lasting_note(self, &requests[at]);
         }
-    self->again = self->main->steps - steps;
-    self->jumps = self->main->loads > loads;
+    self->again += self->main->steps - steps;
+    self->jumps |= self->main->loads > loads;
 }
 
 static uint32_t word_of(match *self, uint32_t seat) {
@@ -215,7 +258,7 @@ static int32_t give_anyway(match *self) {
     int32_t code = give(self);
     if (code != FAZGROND_PREDICTION_THRESHOLD || !waits_for_held(self))
         return code;
-    must(self, holding_give_all(&self->holding));
+    match_must(self, holding_give_all(&self->holding));
     return give(self);
 }
 
@@ -223,16 +266,16 @@ static void play(match *self) {
     fazgrond_reached reached;
     fazgrond_row row;
     uint32_t has_news = 0;
-    must(self, holding_sort(&self->holding));
+    match_must(self, holding_sort(&self->holding));
     int32_t given = give_anyway(self);
     holding_run(&self->holding, self->frame + (given == FAZGROND_OK)); /* now, as this frame's words of the players here are known */
-    must(self, fazgrond_has_news(&self->session, &has_news));
+    match_must(self, fazgrond_has_news(&self->session, &has_news));
     self->waits += given != FAZGROND_OK && !has_all(self);
     if (given == FAZGROND_OK)
-        must(self, fazgrond_advance_frame(&self->session, &reached));
+        match_must(self, fazgrond_advance_frame(&self->session, &reached));
     else if (has_news != 0) /* too far ahead, or told to wait: it shows at least what has come */
-        must(self, fazgrond_synchronize_input(&self->session, &row));
-    obey_all(self);
+        match_must(self, fazgrond_synchronize_input(&self->session, &row));
+    match_obey(self);
     self->unseen += given == FAZGROND_OK && self->again == 0;
     if (given == FAZGROND_OK && self->again > 0)
         self->again--; /* the new one */
@@ -241,17 +284,19 @@ static void play(match *self) {
         && (self->far & ~holding_players(&self->holding)) == 0;
     if (self->again > self->deepest)
         self->deepest = self->again;
-    must(self, fazgrond_frame(&self->session, &self->frame));
+    match_must(self, fazgrond_frame(&self->session, &self->frame));
+    self->frame += self->lasting.base;
     helpers_guess(&self->helpers, &self->session, self->far & ~holding_players(&self->holding));
 }
 
 /* Notes what is settled, for the other machines, and keeps a state of it at times. */
 static void note_settled(match *self) {
     uint32_t slot;
-    must(self, fazgrond_settled_slot(&self->session, &self->settled, &slot));
+    match_must(self, fazgrond_settled_slot(&self->session, &self->settled, &slot));
     if (self->has_failed)
         return;
-    must(self, fazgrond_peer_note_settled(&self->peer, &self->session, self->states->slots[slot].digest));
+    self->settled += self->lasting.base;
+    match_must(self, fazgrond_peer_note_settled(&self->peer, &self->session, self->states->slots[slot].digest));
     if (self->marks[0].state.at != NULL && self->settled < self->marks[0].frame + MARK_EVERY)
         return;
     core_state oldest = self->marks[MARKS - 1].state;
@@ -259,18 +304,19 @@ static void note_settled(match *self) {
     self->marks[0].state = oldest;
     self->marks[0].frame = self->settled;
     if (!state_copy(&self->marks[0].state, &self->states->slots[slot].state))
-        fail(self, "there is no memory");
+        match_fail(self, "there is no memory");
 }
 
 /* A turn: what happened, and what is sent. */
 
-static void leave(match *self, const fazgrond_event *event) {
-    if (self->has_desync)
+void match_leave(match *self, uint32_t machine) {
+    if (self->has_desync || (self->gone >> machine & 1) != 0)
         return;
-    say(self, "machine %" PRIu32 " has left", event->machine);
-    self->gone |= 1u << event->machine;
-    if ((self->gone | 1u << self->meeting->all.me) == (1u << self->meeting->all.machines) - 1)
-        end(self, "nobody else is there");
+    self->gone |= 1u << machine;
+    bool lasts = self->wish->lasts;
+    match_say(self, lasts ? "machine %" PRIu32 " has left; it can come back" : "machine %" PRIu32 " has left", machine);
+    if (!lasts && (self->gone | 1u << self->meeting->all.me) == (1u << self->meeting->all.machines) - 1)
+        match_end(self, "nobody else is there");
 }
 
 /* It plays no more, but goes on for a while to tell the others. Of several frames the first one counts. */
@@ -282,30 +328,52 @@ static void part(match *self, uint32_t machine, uint32_t frame) {
     }
     self->desync = self->has_desync && self->desync < frame ? self->desync : frame;
     self->has_desync = true;
+    self->meeting->over = self->meeting->all.draw;
+}
+
+/* This machine is out of the match. */
+static void drop(match *self) {
+    static const char why[] = "the others regard this machine as gone, or too few are heard";
+    if (!self->wish->lasts) {
+        match_fail(self, why);
+        return;
+    }
+    match_say(self, why, 0);
+    lasting_return(self);
 }
 
 static void react(match *self, const fazgrond_event *event) {
+    uint32_t machine = self->place_of[event->machine % FAZGROND_MACHINES];
     switch (event->code) {
-    case FAZGROND_SYNCHRONIZED: say(self, "machine %" PRIu32 " is there", event->machine); break;
-    case FAZGROND_RUNNING: say(self, "the match begins", 0); self->told[0] = 0; break;
+    case FAZGROND_SYNCHRONIZED: match_say(self, "machine %" PRIu32 " is there", machine); break;
+    case FAZGROND_RUNNING: match_say(self, "the match begins", 0); self->told[0] = 0; break;
     case FAZGROND_TIME_SYNC: self->wait = event->frames_ahead; break;
-    case FAZGROND_INTERRUPTED: say(self, "machine %" PRIu32 " is silent", event->machine); break;
-    case FAZGROND_STALLED: say(self, "machine %" PRIu32 " gives no words", event->machine); break;
-    case FAZGROND_RESUMED: say(self, "machine %" PRIu32 " is heard again", event->machine); break;
-    case FAZGROND_MISSING: say(self, "machine %" PRIu32 " isn't there", event->machine); break;
+    case FAZGROND_INTERRUPTED: match_say(self, "machine %" PRIu32 " is silent", machine); break;
+    case FAZGROND_STALLED: match_say(self, "machine %" PRIu32 " gives no words", machine); break;
+    case FAZGROND_RESUMED: match_say(self, "machine %" PRIu32 " is heard again", machine); break;
+    case FAZGROND_MISSING:
+        if (self->lasting.base == 0) /* later it is one that has just come, or is gone again */
+            match_say(self, "machine %" PRIu32 " isn't there", machine);
+        break;
 #if FAZGROND_VERSION >= 0x000101
-    case FAZGROND_CUT_OFF: say(self, "too few of the others are heard: over in %" PRIu32 " ms", event->disconnect_in); break;
+    case FAZGROND_CUT_OFF:
+        match_say(self, "too few of the others are heard: over in %" PRIu32 " ms", event->disconnect_in);
+        break;
 #endif
-    case FAZGROND_RESTARTED: say(self, "machine %" PRIu32 " was begun anew, and can't come back", event->machine); break;
+    case FAZGROND_RESTARTED:
+        match_say(self, self->wish->lasts ? "machine %" PRIu32 " was begun anew"
+                                          : "machine %" PRIu32 " was begun anew, and can't come back", machine);
+        break;
     case FAZGROND_DISCONNECTED:
-        say(self, "player %" PRIu32 " has left", event->player);
+        if ((self->far >> (event->player - 1) & 1) != 0)
+            match_say(self, "player %" PRIu32 " has left", event->player);
         self->far &= ~(1u << (event->player - 1));
         self->holding.is_forced = true; /* the peer has handed over all that waited */
         break;
-    case FAZGROND_LEFT: leave(self, event); break;
-    case FAZGROND_DROPPED: fail(self, "the others regard this machine as gone, or too few are heard"); break;
-    case FAZGROND_MISMATCH: fail(self, "another machine means another match"); break;
-    case FAZGROND_DESYNC: part(self, event->machine, event->frame); break;
+    case FAZGROND_LEFT: match_leave(self, machine); break;
+    case FAZGROND_DROPPED: drop(self); break;
+    case FAZGROND_MISMATCH: match_fail(self, "another machine means another match"); break;
+    case FAZGROND_DESYNC: part(self, machine, self->lasting.base + event->frame); break;
     default: break;
     }
 }
@@ -313,9 +381,11 @@ static void react(match *self, const fazgrond_event *event) {
 static void send_all(match *self, uint32_t now) {
     uint8_t bytes[FAZGROND_DATAGRAM];
     size_t length;
-    for (uint32_t at = 0; at < self->meeting->all.machines; at++)
+    for (uint32_t at = 0; at < FAZGROND_MACHINES; at++) {
         if (fazgrond_peer_send(&self->peer, &self->session, (uint8_t)at, now, bytes, sizeof bytes, &length) == FAZGROND_OK)
-            net_send(self->meeting->net, &self->meeting->all.machine[at], bytes, length);
+            send_to(self, at, bytes, length);
+        send_before(self, at, now);
+    }
     send_more(self);
     for (uint32_t at = 0; at < self->open_lines; at++) {
         fazgrond_line_state seen;
@@ -329,10 +399,10 @@ static void send_all(match *self, uint32_t now) {
 static void say_bye(match *self) {
     uint8_t bytes[FAZGROND_DATAGRAM];
     size_t length;
-    for (uint32_t at = 0; at < self->meeting->all.machines; at++)
+    for (uint32_t at = 0; at < FAZGROND_MACHINES; at++)
         for (int times = 0; times < BYES; times++)
             if (fazgrond_peer_bye(&self->peer, (uint8_t)at, bytes, sizeof bytes, &length) == FAZGROND_OK)
-                net_send(self->meeting->net, &self->meeting->all.machine[at], bytes, length);
+                send_to(self, at, bytes, length);
     send_more(self);
     for (uint32_t at = 0; at < self->open_lines; at++)
         for (int times = 0; times < BYES; times++)
@@ -346,11 +416,11 @@ static void show(match *self) {
     char text[LINES][ROOM];
     const char *lines[LINES];
     int count = 0;
-    for (uint32_t at = 0; at < self->meeting->all.machines; at++) {
+    for (uint32_t at = 0; at < FAZGROND_MACHINES; at++) {
         fazgrond_stats it;
-        if (at != self->meeting->all.me && fazgrond_peer_stats(&self->peer, (uint8_t)at, &it) == FAZGROND_OK && it.is_measured != 0)
-            snprintf(text[count++], ROOM, "machine %u: ping %u ms, ahead %d, lost %u", at, it.round_trip, -it.frames_behind,
-                     it.lost);
+        if (fazgrond_peer_stats(&self->peer, (uint8_t)at, &it) == FAZGROND_OK && it.is_measured != 0)
+            snprintf(text[count++], ROOM, "machine %u: ping %u ms, ahead %d, lost %u", self->place_of[at], it.round_trip,
+                     -it.frames_behind, it.lost);
     }
     snprintf(text[count++], ROOM, "frame %u, again %u, waits %u", self->frame, self->all_again, self->waits);
     if (self->wish->hold > 0)
@@ -363,19 +433,13 @@ static void show(match *self) {
     self->main->is_fresh = false;
 }
 
-static void turn(match *self) {
-    uint32_t now = net_now(self->meeting->net), is_running = 0;
+static void hear_events(match *self) {
     fazgrond_event event;
-    self->again = 0;
-    self->jumps = false;
-    if (!helpers_collect(&self->helpers, &self->session))
-        fail(self, "a helper's core refuses to save or load a state");
-    must(self, holding_turn(&self->holding));
-    hear(self, now);
-    open_lines(self);
-    must(self, fazgrond_peer_poll(&self->peer, &self->session, now));
-    must(self, fazgrond_peer_is_running(&self->peer, &is_running));
-    self->is_running = is_running != 0;
+    while (fazgrond_peer_event(&self->peer, &event) == FAZGROND_OK)
+        react(self, &event);
+}
+
+static void play_on(match *self) {
     if (self->meeting->has_parted)
         part(self, self->meeting->parted_with, self->meeting->parted_at);
     if (self->has_desync) {
@@ -383,12 +447,56 @@ static void turn(match *self) {
         self->is_over |= self->ending-- == 0;
     } else if (self->is_running && !self->has_failed)
         play(self);
+}
+
+/* A turn of a match that lasts. What is settled is asked before it is played, so that no row past the end of an epoch counts.
+ * What happened is heard before that ends, as it is forgotten then. */
+static void play_lasting(match *self, uint32_t now) {
+    hear_events(self);
+    if (!self->lasting.is_coming && lasting_is_out(self))
+        drop(self);
+    if (self->lasting.is_coming)
+        return;
+    if (self->is_running && !self->has_desync && !self->has_failed)
+        lasting_turn(self, now);
     note_settled(self);
-    casting_turn(self);
-    while (fazgrond_peer_event(&self->peer, &event) == FAZGROND_OK)
-        react(self, &event);
+    play_on(self);
+    hear_events(self);
+}
+
+static void take_part(match *self, uint32_t now) {
+    uint32_t is_running = 0;
+    if (!helpers_collect(&self->helpers, &self->session))
+        match_fail(self, "a helper's core refuses to save or load a state");
+    match_must(self, holding_turn(&self->holding));
+    hear(self, now);
+    open_lines(self);
+    match_must(self, fazgrond_peer_poll(&self->peer, &self->session, now));
+    match_must(self, fazgrond_peer_is_running(&self->peer, &is_running));
+    self->is_running = is_running != 0;
+    if (self->wish->lasts)
+        play_lasting(self, now);
+    else {
+        play_on(self);
+        note_settled(self);
+        casting_turn(self);
+        hear_events(self);
+    }
     self->astray += self->wish->hold > 0 && !self->holding.is_forced ? self->again : 0;
     send_all(self, now);
+}
+
+static void turn(match *self) {
+    uint32_t now = net_now(self->meeting->net);
+    self->again = 0;
+    self->jumps = false;
+    if (self->lasting.is_coming) {
+        hear(self, now);
+        lasting_come(self, now);
+    } else
+        take_part(self, now);
+    if (self->wish->lasts)
+        lasting_tell(self, now);
     if (!self->wish->is_headless)
         show(self);
 }
@@ -397,7 +505,7 @@ static void turn(match *self) {
 static bool is_done(match *self) {
     if (self->wish->frames == 0 || self->settled < self->wish->frames)
         return false;
-    for (uint32_t at = 0; at < self->meeting->all.machines; at++) {
+    for (uint32_t at = 0; at < FAZGROND_MACHINES; at++) {
         fazgrond_stats it;
         if (fazgrond_peer_stats(&self->peer, (uint8_t)at, &it) == FAZGROND_OK && it.words_queued > 0)
             return false;
@@ -449,7 +557,7 @@ static void rest(match *self, int64_t micros) {
         bool is_run = holding_is_run(&self->holding);
         net_rest(self->meeting->net, is_run && left > SLICE ? SLICE : left);
         if (is_run && !holding_go_on(&self->holding, self->frame))
-            fail(self, "a helper's core refuses to save or load a state");
+            match_fail(self, "a helper's core refuses to save or load a state");
         left = end - clock_micros();
     } while (left > 0);
 }
@@ -459,9 +567,9 @@ static void finish(match *self) {
     fazgrond_row row;
     if (self->has_failed || self->holding.waiting == 0)
         return;
-    must(self, holding_give_all(&self->holding));
-    must(self, fazgrond_synchronize_input(&self->session, &row));
-    obey_all(self);
+    match_must(self, holding_give_all(&self->holding));
+    match_must(self, fazgrond_synchronize_input(&self->session, &row));
+    match_obey(self);
     note_settled(self);
 }
 
@@ -485,7 +593,16 @@ outcome match_play(match *self) {
     bool is_written = replay_write_all(self), goes_on = !self->has_failed && !self->has_desync;
     is_written = write_figures(self) && is_written;
     is_written = casting_close(goes_on ? "the match was closed" : "the match can't go on") && is_written;
-    return self->has_desync ? DESYNCED : self->has_failed || !is_written ? FAILED : ENDED;
+    return self->has_desync ? DESYNCED : self->lasting.is_lost ? UNHEARD : self->has_failed || !is_written ? FAILED : ENDED;
+}
+
+bool match_row(match *self, uint32_t frame, fazgrond_row *row) {
+    if (!self->wish->lasts)
+        return fazgrond_settled_row(&self->session, frame, row) == FAZGROND_OK;
+    const fazgrond_row *kept = frame < self->settled ? trail_row(&self->lasting.trail, frame) : NULL;
+    if (kept != NULL)
+        *row = *kept;
+    return kept != NULL;
 }
 
 bool match_go_back(match *self) {
@@ -499,7 +616,7 @@ bool match_go_back(match *self) {
     }
     for (uint32_t frame = self->marks[from].frame; frame < to; frame++) {
         fazgrond_row row;
-        if (fazgrond_settled_row(&self->session, frame, &row) != FAZGROND_OK)
+        if (!match_row(self, frame, &row))
             return false;
         core_step(&self->main->core, row.words, row.count);
         if (!core_save(&self->main->core, &self->opening)
@@ -512,6 +629,7 @@ bool match_go_back(match *self) {
 }
 
 void match_close(match *self) {
+    lasting_close(self);
     fazgrond_peer_close(&self->peer);
     fazgrond_close(&self->session);
     for (uint32_t at = 0; at < self->open_lines; at++)

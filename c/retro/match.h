@@ -4,6 +4,7 @@
 
 #include "figures.h"
 #include "holding.h"
+#include "lasting.h"
 #include "meet.h"
 #include "pads.h"
 
@@ -20,9 +21,11 @@ typedef struct wish {
     const char *digests, *replay, *picture, *figures; /* files that are written; null: not */
     const char *cast, *broker; /* the name under which the match is published or watched on a broker; null: it isn't */
     uint32_t from, speed;      /* who watches there begins at this frame; the clock runs so many times as fast */
+    bool lasts;                /* who has left can come back */
 } wish;
 
-typedef enum outcome { ENDED, FAILED, DESYNCED } outcome;
+/* UNHEARD: this machine was to come into a match, and hears nobody of it. */
+typedef enum outcome { ENDED, FAILED, DESYNCED, UNHEARD } outcome;
 
 typedef struct match {
     const wish *wish;
@@ -37,6 +40,8 @@ typedef struct match {
     fazgrond_peer peer;
     helpers helpers;
     holding holding;
+    lasting lasting;
+    uint32_t place_of[FAZGROND_MACHINES]; /* which machine of the agreement each machine of the session's peer is */
     figures figures;
     fazgrond_line lines[VIEWERS];
     uint32_t open_lines, rows_seen[VIEWERS]; /* how many rows a viewer has */
@@ -51,7 +56,7 @@ typedef struct match {
     bool is_running, is_over, has_failed;
     uint32_t desync, ending; /* the frame at which another machine had another state, if has_desync; turns until it ends */
     bool has_desync;
-    uint32_t gone; /* bits of machines */
+    uint32_t gone; /* bits of the agreement's machines */
     struct { uint32_t frame; core_state state; } marks[MARKS]; /* settled states, far apart, the newest first */
     char told[TOLD];
 } match;
@@ -62,6 +67,19 @@ outcome match_play(match *self);
 /* After a desync: makes the last state that the machines have surely had alike the opening. */
 bool match_go_back(match *self);
 
+/* The settled row of a frame that was played here; false if there is none. */
+bool match_row(match *self, uint32_t frame, fazgrond_row *row);
+
 /* Gives back what a match has, but not the opening. */
 void match_close(match *self);
+
+/* What a match that lasts needs of it. `must`: what a call answers that isn't refused in a match that goes as it should. `open`:
+ * its session and its peer, of which this is machine `me`. `obey`: all requests. */
+void match_say(match *self, const char *what, uint32_t number);
+void match_end(match *self, const char *why);
+void match_fail(match *self, const char *why);
+void match_must(match *self, int32_t code);
+bool match_open(match *self, uint32_t me);
+void match_obey(match *self);
+void match_leave(match *self, uint32_t machine);
 #endif

@@ -9,7 +9,7 @@
 #include <stdlib.h>
 #include <string.h>
 
-enum { HEAD = 12, HELLO = 1, TABLE = 2, REFUSAL = 3, PARTED = 4, OFFER = 5, VERSION = 2 };
+enum { HEAD = 12, HELLO = 1, TABLE = 2, REFUSAL = 3, PARTED = 4, OFFER = 5, RUNS = 6, VERSION = 3 };
 /* How pieces of states go: whom they name as their sender; how many an ask is for, and how many asks a turn has; the most that the
  * host gives all others in so many milliseconds. */
 enum { HOST = 0, GUEST = 1, ASKS = 2, MOST_GIVEN = 64, GIVEN_IN = 50 };
@@ -45,6 +45,16 @@ static void take_text(cursor *self, char *text, size_t size) {
     for (size_t at = 0; at < size; at++)
         text[at] = (char)take(self, 1);
     text[size - 1] = 0;
+}
+
+static void put_bytes(cursor *self, const uint8_t *from, size_t size) {
+    for (size_t at = 0; at < size; at++)
+        put(self, from[at], 1);
+}
+
+static void take_bytes(cursor *self, uint8_t *to, size_t size) {
+    for (size_t at = 0; at < size; at++)
+        to[at] = (uint8_t)take(self, 1);
 }
 
 static cursor begin(uint8_t kind) {
@@ -85,17 +95,36 @@ static uint64_t digest_of_all(const meeting *self) {
 
 /* What each says of itself. */
 
+static void put_facts(cursor *made, const facts *from) {
+    put(made, from->core, 8);
+    put(made, from->rom, 8);
+    put(made, from->save_ram, 8);
+    put(made, from->options, 8);
+    put(made, from->opening, 8);
+    put(made, from->reloads, 1);
+    put(made, from->lasts, 1);
+    put_text(made, from->name, sizeof from->name);
+}
+
+static facts take_facts(cursor *heard) {
+    facts theirs;
+    theirs.core = take(heard, 8);
+    theirs.rom = take(heard, 8);
+    theirs.save_ram = take(heard, 8);
+    theirs.options = take(heard, 8);
+    theirs.opening = take(heard, 8);
+    theirs.reloads = take(heard, 1) != 0;
+    theirs.lasts = take(heard, 1) != 0;
+    take_text(heard, theirs.name, sizeof theirs.name);
+    return theirs;
+}
+
 static void send_hello(meeting *self) {
     cursor made = begin(HELLO);
     put(&made, self->nonce, 8);
     put(&made, self->players, 1);
-    put(&made, self->facts.core, 8);
-    put(&made, self->facts.rom, 8);
-    put(&made, self->facts.save_ram, 8);
-    put(&made, self->facts.options, 8);
-    put(&made, self->facts.opening, 8);
-    put(&made, self->facts.reloads, 1);
-    put_text(&made, self->facts.name, sizeof self->facts.name);
+    put_bytes(&made, self->delays, sizeof self->delays);
+    put_facts(&made, &self->facts);
     send_sealed(self, &self->host, &made);
 }
 
@@ -108,6 +137,8 @@ static const char *difference(const meeting *self, const facts *theirs, char *te
     }
     return theirs->rom != mine->rom ? "another ROM than the host's"
         : theirs->reloads != mine->reloads ? "one of the two machines hasn't checked the core: faz-retro check"
+        : theirs->lasts != mine->lasts ? mine->lasts ? "the host plays with --rejoin, and this machine without"
+                                                     : "the host plays without --rejoin, and this machine with it"
         : self->has_key ? NULL /* it is given the rest */
         : theirs->options != mine->options ? "other options of the core than the host's; with a key they would be sent"
         : theirs->save_ram != mine->save_ram ? "another save RAM than the host's; with a key it would be sent"
@@ -127,6 +158,20 @@ static void send_refusal(const meeting *self, const guest *to, const char *why) 
     send_sealed(self, &to->at, &made);
 }
 
+static void put_players(cursor *made, const agreement *all) {
+    for (int at = 0; at < FAZGROND_PLAYERS; at++) {
+        put(made, all->owners[at], 1);
+        put(made, all->delays[at], 1);
+    }
+}
+
+static void take_players(cursor *heard, agreement *all) {
+    for (int at = 0; at < FAZGROND_PLAYERS; at++) {
+        all->owners[at] = (uint32_t)take(heard, 1);
+        all->delays[at] = (uint32_t)take(heard, 1);
+    }
+}
+
 /* What the host tells a guest: the same of all but its numbers and its own place. */
 static void send_table(const meeting *self, const guest *to, uint32_t place) {
     cursor made = begin(TABLE);
@@ -136,13 +181,38 @@ static void send_table(const meeting *self, const guest *to, uint32_t place) {
     put(&made, self->all.players, 1);
     put(&made, self->all.threshold, 1);
     put(&made, to->line_draw, 8);
-    for (int at = 0; at < FAZGROND_PLAYERS; at++)
-        put(&made, self->all.owners[at], 1);
+    put(&made, to->players > 0 ? self->all.draw : 0, 8);
+    put_players(&made, &self->all);
     for (uint32_t at = 0; at < FAZGROND_MACHINES; at++) {
         put(&made, to->players > 0 ? self->draws[place][at] : 0, 8);
         put_address(&made, &self->machine[at].at);
     }
     send_sealed(self, &to->at, &made);
+}
+
+/* That the match runs. The nonce is that of a hello which this answers, else 0. */
+static void send_runs(const meeting *self, const address *to, uint32_t place, uint64_t nonce, bool is_gone) {
+    cursor made = begin(RUNS);
+    put(&made, nonce, 8);
+    put(&made, self->all.me, 1);
+    put(&made, place, 1);
+    put(&made, is_gone, 1);
+    put(&made, self->all.base, 4);
+    put(&made, self->all.machines, 1);
+    put(&made, self->all.players, 1);
+    put(&made, self->all.threshold, 1);
+    put(&made, self->all.draw, 8);
+    put(&made, self->all.digest, 8);
+    put_players(&made, &self->all);
+    for (uint32_t at = 0; at < FAZGROND_MACHINES; at++)
+        put_address(&made, &self->all.machine[at]);
+    put_facts(&made, &self->facts);
+    send_sealed(self, to, &made);
+}
+
+void meeting_tell(const meeting *self, uint32_t machine, bool is_gone) {
+    if (self->is_running)
+        send_runs(self, &self->all.machine[machine], machine, 0, is_gone);
 }
 
 /* What the host gives: its facts, and what the states are called. One that it hasn't has no length. */
@@ -166,11 +236,14 @@ static void agree(meeting *self) {
     agreement *all = &self->all;
     all->machines = self->machines;
     for (uint32_t one = 0; one < self->machines; one++)
-        for (uint32_t seat = 0; seat < self->machine[one].players; seat++)
+        for (uint32_t seat = 0; seat < self->machine[one].players; seat++) {
+            all->delays[all->players] = self->machine[one].delays[seat];
             all->owners[all->players++] = one;
+        }
+    all->draw = self->facts.lasts ? net_draw() : 0;
     for (uint32_t one = 0; one < self->machines; one++)
-        for (uint32_t other = 0; other < one; other++)
-            self->draws[one][other] = self->draws[other][one] = net_draw();
+        for (uint32_t other = 0; other <= one; other++)
+            self->draws[one][other] = self->draws[other][one] = self->facts.lasts ? all->draw : net_draw();
     for (uint32_t one = 0; one < self->machines; one++) {
         all->numbers[one] = number_of(self, self->draws[0][one]);
         all->machine[one] = self->machine[one].at;
@@ -180,18 +253,6 @@ static void agree(meeting *self) {
     self->is_agreed = true;
 }
 
-static facts take_facts(cursor *heard) {
-    facts theirs;
-    theirs.core = take(heard, 8);
-    theirs.rom = take(heard, 8);
-    theirs.save_ram = take(heard, 8);
-    theirs.options = take(heard, 8);
-    theirs.opening = take(heard, 8);
-    theirs.reloads = take(heard, 1) != 0;
-    take_text(heard, theirs.name, sizeof theirs.name);
-    return theirs;
-}
-
 /* Why there is no seat for a guest whom the host doesn't know yet; null if there is one. */
 static const char *no_seat(const meeting *self, const guest *one) {
     uint32_t seated = one->players;
@@ -199,15 +260,17 @@ static const char *no_seat(const meeting *self, const guest *one) {
         seated += self->machine[at].players;
     if (one->players > 0 && (self->is_agreed || seated > FAZGROND_PLAYERS))
         return "the match has begun, or there are enough players";
+    if (one->players == 0 && self->facts.lasts)
+        return "nobody can watch a match with --rejoin";
     return one->players == 0 && self->viewers == VIEWERS ? "enough watch it" : NULL;
 }
 
-/* Whether a machine of the match is there. */
-static bool is_known(const meeting *self, const address *from) {
-    bool is_one = false;
+/* Which machine of the match is there; 0 if none is. */
+static uint32_t machine_at(const meeting *self, const address *from) {
+    uint32_t found = 0;
     for (uint32_t at = 1; at < self->machines && self->is_agreed; at++)
-        is_one |= address_is(&self->machine[at].at, from);
-    return is_one;
+        found = address_is(&self->machine[at].at, from) ? at : found;
+    return found;
 }
 
 /* Somebody hasn't yet what the host has. It has no seat until it has, since it may never come to that. */
@@ -236,22 +299,47 @@ static void give(meeting *self, const guest *to, const uint8_t *bytes, size_t le
             net_send(self->net, &to->at, out, size);
 }
 
+/* A machine of the match was begun anew. How the game is by then, it is told as it comes in. */
+static void welcome_back(meeting *self, const guest *one, const facts *theirs, uint32_t place) {
+    char text[160];
+    facts alike = *theirs;
+    alike.opening = self->facts.opening;
+    const char *why = difference(self, &alike, text, sizeof text);
+    if (why == NULL && one->players != self->machine[place].players)
+        why = "the match runs, with another number of players at this machine";
+    if (why != NULL)
+        send_refusal(self, one, why);
+    else if (first_other(&self->facts, &alike) != GIVEN)
+        teach(self, one);
+    else
+        send_runs(self, &one->at, place, one->nonce, true);
+}
+
+/* Somebody who isn't there yet. */
+static const char *refuses(const meeting *self, const guest *one, const facts *theirs, char *text, size_t room) {
+    const char *why = difference(self, theirs, text, room);
+    return why != NULL ? why : no_seat(self, one);
+}
+
 static void take_hello(meeting *self, const address *from, cursor *heard) {
     guest one = { .at = *from, .nonce = take(heard, 8) };
     one.players = (uint32_t)take(heard, 1);
+    take_bytes(heard, one.delays, sizeof one.delays);
     facts theirs = take_facts(heard);
     guest *list = one.players > 0 ? self->machine : self->viewer;
-    uint32_t *count = one.players > 0 ? &self->machines : &self->viewers, place = 0;
+    uint32_t *count = one.players > 0 ? &self->machines : &self->viewers, place = 0, known = machine_at(self, from);
     char text[160];
     if (heard->is_short)
         return;
     while (place < *count && list[place].nonce != one.nonce)
         place++;
-    if (place == *count && is_known(self, from))
-        return; /* it waits for a new match already */
-    const char *why = difference(self, &theirs, text, sizeof text);
-    if (why == NULL && place == *count)
-        why = no_seat(self, &one);
+    bool is_new = place == *count;
+    if (is_new && known > 0) { /* else it waits for a new match already */
+        if (self->is_running)
+            welcome_back(self, &one, &theirs, known);
+        return;
+    }
+    const char *why = is_new ? refuses(self, &one, &theirs, text, sizeof text) : difference(self, &theirs, text, sizeof text);
     if (why != NULL) {
         send_refusal(self, &one, why);
         return;
@@ -260,7 +348,7 @@ static void take_hello(meeting *self, const address *from, cursor *heard) {
         teach(self, &one);
         return;
     }
-    if (place == *count) {
+    if (is_new) {
         one.line_draw = net_draw();
         list[(*count)++] = one;
     }
@@ -277,8 +365,8 @@ static void take_table(meeting *self, const address *from, cursor *heard) {
     all->players = (uint32_t)take(heard, 1);
     all->threshold = (uint32_t)take(heard, 1);
     all->line = number_of(self, take(heard, 8));
-    for (int at = 0; at < FAZGROND_PLAYERS; at++)
-        all->owners[at] = (uint32_t)take(heard, 1);
+    all->draw = take(heard, 8);
+    take_players(heard, all);
     for (int at = 0; at < FAZGROND_MACHINES; at++) {
         all->numbers[at] = number_of(self, take(heard, 8));
         all->machine[at] = take_address(heard);
@@ -287,6 +375,84 @@ static void take_table(meeting *self, const address *from, cursor *heard) {
     self->is_agreed = !heard->is_short && all->machines >= 2 && all->machines <= FAZGROND_MACHINES
         && all->players <= FAZGROND_PLAYERS;
     all->digest = digest_of_all(self);
+}
+
+/* How many players a machine of a match has. */
+static uint32_t players_at(const agreement *all, uint32_t machine) {
+    uint32_t players = 0;
+    for (int at = 0; at < FAZGROND_PLAYERS; at++)
+        players += all->owners[at] == machine;
+    return players;
+}
+
+/* A match runs in which this machine was. What it hasn't as the others, a guest is given by the host first. */
+static bool is_own_match(meeting *self, const agreement *all, const facts *theirs) {
+    facts alike = *theirs;
+    char text[160];
+    alike.opening = self->facts.opening;
+    bool is_one = difference(self, &alike, text, sizeof text) == NULL && first_other(&self->facts, &alike) == GIVEN
+        && players_at(all, all->me) == self->players;
+    if (!is_one && self->is_host && self->strange != all->draw)
+        fputs("a match is played that this machine was in with another core, ROM, save RAM, options or number of players\n", stderr);
+    self->strange = is_one ? 0 : all->draw;
+    return is_one;
+}
+
+static void join_running(meeting *self, const agreement *all) {
+    self->all = *all;
+    self->machines = all->machines;
+    for (uint32_t at = 0; at < all->machines; at++) {
+        self->all.numbers[at] = number_of(self, all->draw);
+        self->machine[at] = (guest){ .at = all->machine[at], .players = players_at(all, at) };
+    }
+    self->is_agreed = true;
+}
+
+/* What another machine says of a match that runs. */
+typedef struct news {
+    agreement all; /* with this machine's own number */
+    facts facts;
+    uint64_t nonce;
+    uint32_t sender;
+    bool is_gone;
+} news;
+
+static news take_news(cursor *heard) {
+    news it = { .all.runs = true };
+    it.nonce = take(heard, 8);
+    it.sender = (uint32_t)take(heard, 1);
+    it.all.me = (uint32_t)take(heard, 1);
+    it.is_gone = take(heard, 1) != 0;
+    it.all.base = (uint32_t)take(heard, 4);
+    it.all.machines = (uint32_t)take(heard, 1);
+    it.all.players = (uint32_t)take(heard, 1);
+    it.all.threshold = (uint32_t)take(heard, 1);
+    it.all.draw = take(heard, 8);
+    it.all.digest = take(heard, 8);
+    take_players(heard, &it.all);
+    for (int at = 0; at < FAZGROND_MACHINES; at++)
+        it.all.machine[at] = take_address(heard);
+    it.facts = take_facts(heard);
+    return it;
+}
+
+/* Who waits takes it, if it is of this machine's match. Without a key a host does, as it hears all who say hello, and a guest if its
+ * own hello is answered. Who plays in the match learns that it is gone for another. */
+static void take_runs(meeting *self, const address *from, cursor *heard) {
+    news it = take_news(heard);
+    bool is_whole = !heard->is_short && it.all.machines <= FAZGROND_MACHINES && it.all.players <= FAZGROND_PLAYERS
+        && it.all.me < it.all.machines && it.sender < it.all.machines && it.sender != it.all.me;
+    if (!is_whole || !self->facts.lasts || it.all.draw == self->over || (it.all.me == 0) != self->is_host)
+        return;
+    if (self->is_agreed) {
+        self->is_out = it.is_gone && it.all.draw == self->all.draw && it.all.me == self->all.me;
+        self->out_of = it.sender;
+        self->out_from = it.all.base;
+        return;
+    }
+    it.all.machine[it.sender] = *from;
+    if ((self->is_host || self->has_key || it.nonce == self->nonce) && is_own_match(self, &it.all, &it.facts))
+        join_running(self, &it.all);
 }
 
 /* What a guest takes. */
@@ -431,11 +597,12 @@ bool meeting_hear(meeting *self, const address *from, const uint8_t *bytes, size
         take_parting(self, &heard);
     if (kind == PARTED || version != VERSION || !is_sealed(bytes, length, (seal_key){ .number = self->key }))
         return true;
-    if (self->is_host) {
-        if (kind == HELLO)
-            take_hello(self, from, &heard);
+    if (kind == RUNS)
+        take_runs(self, from, &heard);
+    else if (self->is_host && kind == HELLO)
+        take_hello(self, from, &heard);
+    if (kind == RUNS || self->is_host)
         return true;
-    }
     if (self->is_agreed || !address_is(from, &self->host) || take(&heard, 8) != self->nonce)
         return true;
     if (kind == TABLE)
@@ -452,7 +619,7 @@ bool meeting_hear(meeting *self, const address *from, const uint8_t *bytes, size
 static void start(meeting *self, uint32_t players) {
     self->nonce = net_draw();
     self->players = players;
-    self->is_agreed = self->is_refused = self->has_parted = false;
+    self->is_agreed = self->is_refused = self->has_parted = self->is_running = self->is_out = false;
     self->machines = self->viewers = 0;
     self->is_taking = false;
     memset(self->has_taken, 0, sizeof self->has_taken);
@@ -469,7 +636,8 @@ void meeting_host(meeting *self, uint32_t wanted, uint32_t players, uint32_t thr
     self->wanted = wanted;
     self->all.threshold = threshold;
     self->all.digest = digest_of_all(self);
-    self->machine[self->machines++] = (guest){ .nonce = self->nonce, .players = players };
+    self->machine[self->machines] = (guest){ .nonce = self->nonce, .players = players };
+    memcpy(self->machine[self->machines++].delays, self->delays, sizeof self->delays);
 }
 
 void meeting_join(meeting *self, const address *host, uint32_t players) {

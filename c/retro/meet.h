@@ -1,7 +1,8 @@
 /* Before a match: who plays what with whom. The host hears all others, and tells each of them the match, by datagrams on the
  * match's own socket, which are sealed with the players' common key. Who has another core or ROM is refused, in words. If the
  * players have told a key, who has other save RAM, options or another opening is given the host's, in pieces, and is heard again
- * once it has taken them over; without a key it is refused too, since anybody could be the host. */
+ * once it has taken them over; without a key it is refused too, since anybody could be the host. Into a match that lasts who has
+ * left can come back: those who play tell a machine that isn't heard that the match runs, and it comes into that one. */
 #ifndef RETRO_MEET_H
 #define RETRO_MEET_H
 
@@ -17,6 +18,7 @@ enum { SAVE_RAM, CORE_OPTIONS, OPENING, GIVEN };
 typedef struct facts {
     uint64_t core, rom, save_ram, options, opening;
     bool reloads;  /* each state is loaded as it is saved */
+    bool lasts;    /* who has left can come back */
     char name[64]; /* of the core, with its version */
 } facts;
 
@@ -24,12 +26,16 @@ typedef struct guest {
     address at;
     uint64_t nonce, line_draw; /* that it drew for this meeting; of a viewer's line */
     uint32_t players;          /* how many sit there; 0: it watches */
+    uint8_t delays[FAZGROND_PLAYERS]; /* by how many frames the words of each of them count later */
 } guest;
 
 /* What was agreed on. */
 typedef struct agreement {
-    uint32_t me, machines, players, threshold, owners[FAZGROND_PLAYERS];
+    uint32_t me, machines, players, threshold, owners[FAZGROND_PLAYERS], delays[FAZGROND_PLAYERS];
     uint64_t numbers[FAZGROND_MACHINES], line, digest; /* line: of a viewer's line */
+    uint64_t draw; /* of a match that lasts: all its numbers are made of it */
+    bool runs;     /* such a match has begun already, and this machine comes into it */
+    uint32_t base; /* how many of its frames came before its epoch */
     address machine[FAZGROND_MACHINES];
 } agreement;
 
@@ -39,7 +45,13 @@ typedef struct meeting {
     uint64_t key, nonce;
     bool has_key; /* the players have told one */
     uint32_t players, wanted; /* how many sit here; of the host: how many machines there are to be */
+    uint8_t delays[FAZGROND_PLAYERS]; /* of those who sit here */
     bool is_host, is_agreed, is_refused;
+    bool is_running; /* in a match that lasts: who is begun anew can come in */
+    uint64_t over;   /* the draw of a match into which nobody comes any more */
+    uint64_t strange; /* that of one that was heard of, and isn't this machine's */
+    bool is_out;     /* another machine has said that this one is gone for it, .. */
+    uint32_t out_of, out_from; /* .. which one, and the base of its epoch */
     bool has_parted;                 /* in the match: another machine has said that it found a desync .. */
     uint32_t parted_with, parted_at; /* .. which one, and at which frame */
     char why[160];
@@ -75,6 +87,9 @@ void meeting_turn(meeting *self);
 bool meeting_has_taken(meeting *self, int *which, bytes *out);
 void meeting_refuse(meeting *self, const char *why);
 void meeting_close(meeting *self);
+
+/* In a match that lasts and runs: tells one of its machines so, and whether that is gone. */
+void meeting_tell(const meeting *self, uint32_t machine, bool is_gone);
 
 /* In a match: tells all others that this machine has found a desync at this frame. */
 void meeting_part(const meeting *self, uint32_t frame);

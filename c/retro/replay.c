@@ -6,7 +6,7 @@
 
 static const char head[8] = "FZREPLAY";
 
-enum { VERSION = 1 };
+enum { VERSION = 1, LATER = 2 /* the rows of a machine that came back: those before a frame aren't there */ };
 
 /* Numbers of four bytes, the lowest first. */
 static bool put(FILE *file, uint32_t number) {
@@ -32,32 +32,40 @@ static uint64_t take_long(bytes *from) {
 }
 
 static uint32_t last_frame(const match *self) {
-    return self->wish->frames > 0 && self->wish->frames < self->settled ? self->wish->frames : self->settled;
+    uint32_t first = self->lasting.trail.first;
+    uint32_t last = self->wish->frames > 0 && self->wish->frames < self->settled ? self->wish->frames : self->settled;
+    return last > first ? last : first;
+}
+
+static bool write_rows(match *self, FILE *file) {
+    bool goes_on = true;
+    for (uint32_t frame = self->lasting.trail.first; frame < last_frame(self) && goes_on; frame++) {
+        fazgrond_row row;
+        goes_on = match_row(self, frame, &row) && put(file, row.gone);
+        for (uint32_t at = 0; at < self->meeting->all.players && goes_on; at++)
+            goes_on = put(file, row.words[at]);
+    }
+    return goes_on;
 }
 
 static bool write_replay(match *self, FILE *file) {
     const facts *it = self->facts;
-    uint32_t players = self->meeting->all.players, rows = last_frame(self);
-    bool goes_on = fwrite(head, 1, sizeof head, file) == sizeof head && put(file, VERSION) && put_long(file, it->core)
-        && put_long(file, it->rom) && put_long(file, it->options) && put(file, self->states->reloads) && put(file, players)
-        && put(file, rows) && put_long(file, self->opening.picture) && put(file, (uint32_t)self->opening.size)
-        && fwrite(self->opening.at, 1, self->opening.size, file) == self->opening.size;
-    for (uint32_t frame = 0; frame < rows && goes_on; frame++) {
-        fazgrond_row row;
-        goes_on = fazgrond_settled_row(&self->session, frame, &row) == FAZGROND_OK && put(file, row.gone);
-        for (uint32_t at = 0; at < players && goes_on; at++)
-            goes_on = put(file, row.words[at]);
-    }
-    return goes_on;
+    uint32_t first = self->lasting.trail.first;
+    const core_state *opening = first > 0 ? &self->lasting.opening : &self->opening;
+    return fwrite(head, 1, sizeof head, file) == sizeof head && put(file, first > 0 ? LATER : VERSION)
+        && (first == 0 || put(file, first)) && put_long(file, it->core) && put_long(file, it->rom) && put_long(file, it->options)
+        && put(file, self->states->reloads) && put(file, self->meeting->all.players) && put(file, last_frame(self) - first)
+        && put_long(file, opening->picture) && put(file, (uint32_t)opening->size)
+        && fwrite(opening->at, 1, opening->size, file) == opening->size && write_rows(self, file);
 }
 
 /* A line for each settled frame: the digest of the state after it. */
 static bool write_digests(match *self, FILE *file) {
     uint64_t path = OPENING_PATH;
     uint32_t lacking = 0;
-    for (uint32_t frame = 0; frame < last_frame(self); frame++) {
+    for (uint32_t frame = self->lasting.trail.first; frame < last_frame(self); frame++) {
         fazgrond_row row;
-        if (fazgrond_settled_row(&self->session, frame, &row) != FAZGROND_OK)
+        if (!match_row(self, frame, &row))
             return false;
         path = path_after(path, &row);
         uint64_t digest = notes_find(&self->states->notes, path);
@@ -142,7 +150,9 @@ bool replay_read(const char *path, replay *out) {
     bool is_one = all.size > sizeof head && memcmp(all.at, head, sizeof head) == 0;
     rest.at += is_one ? sizeof head : 0;
     rest.size -= is_one ? sizeof head : 0;
-    is_one = is_one && take(&rest) == VERSION;
+    uint32_t version = take(&rest);
+    is_one = is_one && (version == VERSION || version == LATER);
+    out->first = version == LATER ? take(&rest) : 0;
     out->facts.core = take_long(&rest);
     out->facts.rom = take_long(&rest);
     out->facts.options = take_long(&rest);

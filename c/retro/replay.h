@@ -9,7 +9,7 @@
 typedef struct replay {
     facts facts;
     bool reloads;
-    uint32_t players, count;
+    uint32_t players, first, count; /* from this frame of the match on, so many */
     core_state opening;
     fazgrond_row *rows;
 } replay;

@@ -9,11 +9,19 @@
 
 enum { SLOTS = 833 /* without guesses 257, and nine for each of 64 jobs */, OPENING_PATH = 1 };
 
-/* A state. `path` is a digest of the rows that lead to it from the opening. */
+/* A state. `path` is a digest of the rows that lead to it from the opening, `frame` how many frames of the match do. */
 typedef struct slot {
     core_state state;
     uint64_t path, digest;
+    uint32_t frame;
 } slot;
+
+/* By which row each frame was stepped last, from a frame of the match on. Rows of settled frames never change. */
+typedef struct trail {
+    uint32_t first;
+    size_t count, room;
+    fazgrond_row *rows;
+} trail;
 
 /* The digests of all states that were ever saved, by their paths, if they are asked for. */
 typedef struct notes {
@@ -35,8 +43,11 @@ typedef struct states {
 typedef struct runner {
     core core;
     states *states;
+    trail *trail; /* on which its steps are kept; null: they aren't */
+    slot *at;     /* which has the current state; null if it wasn't saved yet */
+    slot spare;   /* for a state that nobody asked for */
     uint64_t path;
-    uint32_t loads, steps, saves;
+    uint32_t frame, loads, steps, saves;
     bool is_fresh; /* the last request that it carried out was a step: there is a picture and sound of it */
 } runner;
 
@@ -46,12 +57,30 @@ bool runner_obey(runner *self, const fazgrond_request *request);
 /* Makes a state the current one, with nothing before it, and puts it into slot 0. */
 bool runner_open(runner *self, const core_state *opening);
 
+/* The same of the state at a frame of the match, which was saved as it is. */
+bool runner_open_at(runner *self, const core_state *state, uint32_t frame);
+
+/* Steps by a row, and saves into slot 0. */
+bool runner_follow(runner *self, const fazgrond_row *row);
+
+/* The row of a frame; null if it isn't on the trail. */
+const fazgrond_row *trail_row(const trail *self, uint32_t frame);
+void trail_free(trail *self);
+
 uint64_t path_after(uint64_t path, const fazgrond_row *row);
 
 /* The digest that was noted for a path; 0 if there is none. */
 uint64_t notes_find(const notes *self, uint64_t path);
 
 bool state_copy(core_state *to, const core_state *from);
+
+/* A state as it is sent: the digest of the picture before it, and its bytes. `out` has room for so many more. */
+enum { STATE_HEAD = 8 };
+
+void state_write(const core_state *from, uint8_t *out);
+
+/* The state that such bytes are; it lies in them. False if they are cut short. */
+bool state_read(uint8_t *from, size_t length, core_state *out);
 
 /* Begins anew, without any state. */
 void states_begin(states *self, bool reloads, bool is_noted);

@@ -35,11 +35,12 @@ static void show(playback *self, uint32_t played, const char *what, uint32_t of)
 
 outcome watch_replay(const replay *from, runner *on, const wish *wish) {
     playback made;
-    uint32_t count = wish->frames > 0 && wish->frames < from->count ? wish->frames : from->count;
+    uint32_t all = from->first + from->count, count = wish->frames > 0 && wish->frames < all ? wish->frames : all;
     bool goes_on = begin(&made, on, &from->opening, from->reloads, wish->digests);
+    made.frame = from->first;
     int64_t due = clock_micros(), length = (int64_t)(1e6 / on->core.av.timing.fps);
     while (goes_on && made.frame < count && (wish->is_headless || window_goes_on())) {
-        goes_on = playback_step(&made, &from->rows[made.frame]);
+        goes_on = playback_step(&made, &from->rows[made.frame - from->first]);
         if (wish->is_headless)
             continue;
         show(&made, 1, "replay", count);

@@ -11,6 +11,7 @@
  *   born=N    the game begins otherwise
  *   short     states have a byte less
  *   long      states have a byte more
+ *   touchy    a frame goes otherwise if its state wasn't saved before it, or was saved twice
  *   deaf      a state of another beginning is taken, and changes nothing
  *   more      there is another option */
 #define _GNU_SOURCE
@@ -28,7 +29,8 @@
 enum { WIDTH = 64, HEIGHT = 48, SAMPLES = 800, PADS = 8, SAVED = 64 };
 
 static struct state { uint32_t frame, rest, born; uint8_t ram[2048], save[SAVED]; } state;
-static uint32_t hidden, runs, loads, speed = 1;
+static uint32_t hidden, runs, loads, touched, speed = 1;
+static bool is_loaded;
 static retro_environment_t ask;
 static retro_video_refresh_t show;
 static retro_audio_sample_batch_t hear;
@@ -144,6 +146,10 @@ void retro_run(void) {
         state.ram[5] += (uint8_t)hidden;
     if (fault("wild") != 0)
         state.ram[5] += (uint8_t)runs;
+    if (fault("touchy") != 0)
+        state.ram[5] += (uint8_t)touched;
+    touched = 0;
+    is_loaded = false;
     hidden = 1;
     state.frame++;
     state.rest = fault("rest") != 0 ? runs & 0xff : 0;
@@ -153,6 +159,7 @@ void retro_run(void) {
 /* The last byte means nothing, so that a state may have one less. */
 size_t retro_serialize_size(void) { return sizeof state + 1 - (fault("short") != 0) + (fault("long") != 0); }
 bool retro_serialize(void *to, size_t size) {
+    touched += !is_loaded;
     return size >= sizeof state && memset(to, 0, size) != NULL && memcpy(to, &state, sizeof state) != NULL;
 }
 bool retro_unserialize(const void *from, size_t size) {
@@ -163,6 +170,8 @@ bool retro_unserialize(const void *from, size_t size) {
     if (fault("deaf") != 0 && born != state.born)
         return true;
     hidden = 0;
+    touched = 1;
+    is_loaded = true;
     memcpy(&state, from, sizeof state);
     return true;
 }

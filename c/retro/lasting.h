@@ -1,0 +1,64 @@
+/* A match that lasts (--rejoin): who has left can come back. It goes on in epochs (fazgrond.h), and who comes is given the core's
+ * state with which an epoch began (rejoin/rejoin.h). Frames are those of the match: those before an epoch count. */
+#ifndef RETRO_LASTING_H
+#define RETRO_LASTING_H
+
+#include "net.h"
+#include "states.h"
+
+#include "../rejoin/rejoin.h"
+
+#if FAZGROND_VERSION >= 0x000101
+enum { CAN_LAST = 1 };
+#else
+enum { CAN_LAST = 0 };
+#endif
+
+typedef struct lasting {
+    bool is_coming, is_lost;     /* this machine comes into the match; it hears nobody of it */
+    uint32_t base;               /* so many frames of the match came before this epoch */
+    uint32_t heard_at[FAZGROND_MACHINES], told_at; /* when each machine was heard, and those told that weren't */
+    trail trail;
+    core_state opening;          /* the state at the first frame of the trail, if that isn't the match's opening */
+#if FAZGROND_VERSION >= 0x000101
+    bool is_at_seam;
+    fazgrond_epoch epoch;
+    faz_hosting hosting;
+    faz_comer comer;
+#endif
+} lasting;
+
+struct match;
+
+/* The match begins, or this machine comes into one that runs. */
+void lasting_begin(struct match *self);
+
+/* The others regard this machine as gone: it comes in again. */
+void lasting_return(struct match *self);
+
+/* Opens the peer beside an open session. */
+int32_t lasting_open_peer(struct match *self, const fazgrond_match *match, const fazgrond_settings *settings);
+
+/* The session is open, and its first state in slot 0. */
+void lasting_host(struct match *self);
+
+/* A datagram came that isn't of a meeting. */
+void lasting_hear(struct match *self, const address *from, const uint8_t *bytes, size_t length, uint32_t now);
+
+/* In each turn while the match runs, before it is played: goes on in the next epoch if this one is over, and lets others in. */
+void lasting_turn(struct match *self, uint32_t now);
+
+/* A request was carried out. */
+void lasting_note(struct match *self, const fazgrond_request *request);
+
+/* Tells those that are gone, or aren't heard, that the match runs. */
+void lasting_tell(struct match *self, uint32_t now);
+
+/* Whether another machine has told this one so, and this one has to come in there. */
+bool lasting_is_out(struct match *self);
+
+/* In each turn while this machine comes in. */
+void lasting_come(struct match *self, uint32_t now);
+
+void lasting_close(struct match *self);
+#endif
