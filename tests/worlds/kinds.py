@@ -1,9 +1,9 @@
 """Worlds: what can happen to machines and lines, drawn at random."""
 import random
 
-from epochs import Terms
+from epochs import FORGERS, Mark, Terms
 from machine import Settings
-from world import Plan, RandomFates, RandomMarks, RandomWords
+from world import Plan, PlannedMarks, RandomFates, RandomMarks, RandomWords
 
 QUIET = 300
 OPENED = 250        # by this turn all that opened in the first turns play with each other
@@ -284,6 +284,101 @@ def anything(seed):
     return scene.plan()
 
 
+class MarkScene(Scene):
+    """A world whose marks come one after another, each once all are in the epoch before."""
+
+    APART = 150
+
+    def __init__(self, seed, kind):
+        super().__init__(seed, kind, machines=(2, 3, 3, 4, 5), silent_after=3000)
+        self.marks, self.staying, self.spent, self.stopped = [], list(self.machines), set(), {}
+        self.owned = list(self.owners)
+        self.turn = OPENED
+
+    def own(self, one):
+        return [p for p, owner in enumerate(self.owned) if owner == one]
+
+    def wait(self):
+        """Until all are where they will be."""
+        self.turn += self.draw.randrange(self.APART, self.APART + 60)
+
+    def give(self):
+        """A mark of a machine that stays. Who has given a void one gives none any more in this epoch."""
+        draw = self.draw
+        able = [m for m in self.staying if m not in self.spent]
+        one = draw.choice(able)
+        if len(able) > 1 and draw.random() < .2:
+            self.spent.add(one)
+            self.marks.append((self.turn, one, self.void_mark(one)))
+        else:
+            self.spent = set()
+            delays = tuple((p, draw.randrange(6)) for p in self.own(one) if draw.random() < .5)
+            self.marks.append((self.turn, one, Mark(None, (), delays, draw.choice([0, 0, 4, 6, 8, 12]))))
+        self.wait()
+
+    def void_mark(self, one):
+        """One by which nothing can be otherwise: a threshold or delay that is too great, another's delay, or somebody who isn't welcome."""
+        others = [p for p, owner in enumerate(self.owned) if owner != one]
+        another = Mark(None, (), ((self.draw.choice(others), 1),), 0)
+        return self.draw.choice([Mark(None, (), (), 16), Mark(None, (), ((self.own(one)[0], 9),), 0), another, Mark(FORGERS, (7,), (), 0)])
+
+    def stop(self):
+        """A machine stops, and is gone some time later."""
+        one = self.draw.choice([m for m in self.staying if m in self.machines])
+        self.staying.remove(one)
+        self.spent.discard(one)
+        self.stopped[one] = self.turn
+        self.at(self.turn, "stop", one)
+        self.turn += self.silent_turns * 3 // 2
+        self.wait()
+
+    def come(self, newcomer):
+        """A newcomer comes for a player of somebody who is gone. All who stay are told of it."""
+        player = next(p for p, owner in enumerate(self.owned) if owner in self.stopped)
+        self.owned = [None if owner in self.stopped else owner for owner in self.owned]
+        self.at(self.turn, "come", newcomer, self.bits())
+        for m in self.staying:
+            self.at(self.turn, "told", m, newcomer, player)
+        self.owned[player] = newcomer
+        self.staying.append(newcomer)
+        self.spent = set()
+        self.wait()
+
+    def marked(self):
+        """The plan, with these marks."""
+        self.turns = self.turn + 100
+        self.changes(self.draw.randrange(20, 80), self.turns - 100, self.stopped)
+        self.live(list(self.staying), sorted(self.stopped))
+        plan = self.plan()
+        plan.marks = PlannedMarks(self.marks)
+        return plan
+
+
+def marks(seed):
+    """Marks come one after another, lines come and go, and somebody may stop. Each epoch is the one that the last mark says."""
+    scene = MarkScene(seed, "marks")
+    scene.open_all()
+    events = scene.draw.randrange(2, 5)
+    stops_after = scene.draw.randrange(events) if scene.count > 2 and scene.draw.random() < .5 else None
+    for at in range(events):
+        scene.give()
+        if at == stops_after:
+            scene.stop()
+    return scene.marked()
+
+
+def returns(seed):
+    """As marks, but somebody else comes in the place of one who stopped, perhaps twice. So may he himself, opened anew."""
+    scene = MarkScene(seed, "returns")
+    scene.open_all()
+    for newcomer in range(scene.count, scene.count + (1 if scene.count == 2 else scene.draw.choice([1, 2]))):
+        scene.stop()
+        scene.come(newcomer)
+        if scene.draw.random() < .7:
+            scene.give()
+    return scene.marked()
+
+
 class EpochScene(Scene):
     """A world of a match that goes on in epochs. All lines work."""
 
@@ -408,8 +503,8 @@ def parted(seed):
 class Everything(EpochScene):
     """Epochs, and lines that come and go, also those of newcomers; but each has one host to which its line works."""
 
-    def __init__(self, seed):
-        super().__init__(seed, "everything", silent_after=3000)
+    def __init__(self, seed, kind="everything"):
+        super().__init__(seed, kind, silent_after=3000)
         self.loss, self.late = self.draw.choice([0, .02, .1]), self.draw.choice([1, 3, 6])
         self.kept = set()
 
@@ -444,5 +539,21 @@ def everything(seed):
     return scene.plan()
 
 
+class Carried(Everything):
+    """As everything, but the lines of newcomers work."""
+
+    def pairs(self):
+        return Scene.pairs(self)
+
+
+def carried(seed):
+    """As everything, but newcomers have lines that work: so their hellos needn't be carried."""
+    scene = Carried(seed, "carried")
+    scene.fill()
+    scene.break_lines()
+    return scene.plan()
+
+
 KINDS = {it.__name__: it
-         for it in (lines, split, stops, deaf, swallows, forges, openings, leaps, stalls, anything, epochs, hard, parted, everything)}
+         for it in (lines, split, stops, deaf, swallows, forges, openings, leaps, stalls, anything, marks, returns, epochs, hard,
+                    parted, everything, carried)}

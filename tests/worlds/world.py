@@ -87,6 +87,22 @@ class RandomMarks:
         return Mark(newcomer, () if newcomer is None else (player,), delays, draw.choice([0, 6, 8]))
 
 
+class PlannedMarks:
+    """Marks that machines put on their next words, each from a turn on: a turn, a machine and a mark. Else for newcomers that have caught
+    up."""
+
+    def __init__(self, planned):
+        self.planned = planned
+
+    def next(self, turn, machine, guest):
+        """The mark of a machine's next word; None if it wants nothing."""
+        due = next((one for one in self.planned if one[0] <= turn and one[1] == machine.name), None)
+        if due:
+            self.planned.remove(due)
+            return due[2]
+        return Mark(guest[0], (guest[1],), (), 0) if guest else None
+
+
 class World:
     """A run."""
 
