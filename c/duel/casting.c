@@ -9,7 +9,7 @@
 enum { PATIENCE = 10000 /* milliseconds that the broker has at the end */ };
 
 static faz_cast *cast;
-static int players;
+static int players, published; /* of a match that is played here: so many frames */
 
 bool casting_open(const casting *settings, const duel *opening) {
     const char *why;
@@ -27,12 +27,18 @@ bool casting_open(const casting *settings, const duel *opening) {
 }
 
 void casting_turn(GGPOSession *session, field_in *field) {
-    fazgrond_session *match = cast != NULL ? fazggpo_get_session(session) : NULL;
+    fazgrond_row row = { .count = (uint32_t)players };
     unsigned char *buffer;
-    int frame, length;
-    if (match != NULL && GGPO_SUCCEEDED(fazggpo_get_settled_state(session, &frame, &buffer, &length))
-        && field(buffer, length) != NULL)
-        faz_cast_turn(cast, match, (uint32_t)frame, field(buffer, length));
+    int frame, length, gone;
+    if (cast == NULL || !GGPO_SUCCEEDED(fazggpo_get_settled_state(session, &frame, &buffer, &length)) || field(buffer, length) == NULL)
+        return;
+    for (; published < frame; published++) {
+        if (!GGPO_SUCCEEDED(fazggpo_get_settled_input(session, published, row.words, sizeof row.words, &gone)))
+            return;
+        row.gone = (uint32_t)gone;
+        faz_cast_row(cast, &row);
+    }
+    faz_cast_settled(cast, (uint32_t)frame, field(buffer, length));
 }
 
 void casting_frame(const uint32_t *words, uint32_t gone, int frame, const duel *field) {

@@ -28,6 +28,7 @@ static const char usage[] =
     "  --speed N     a clock that runs N times as fast\n"
     "  --synctest N  no network: all players are local, and each N frames are played twice\n"
     "  --helpers N   so many threads play what may come ahead, up to 8\n"
+    "  --rejoin      who stops can come back, if all machines say so: begin it again with the same words\n"
     "  --cast MATCH --broker URL    publishes the match with this name, on a broker (nats://127.0.0.1:4222)\n";
 
 enum { TURN = 16667, PAST_LAST = 32, LINES = 6, MOST_BEHIND = 6, CATCH_UP = 8 };
@@ -47,7 +48,7 @@ static struct {
     char told[DUEL_SHIPS][64];
     /* What the command line says. */
     long frames, lag, loss, junk, speed, delay, timeout, sync_frames, bot, match, watch, helpers;
-    bool is_headless;
+    bool is_headless, can_rejoin;
     casting cast;
 } self = { .speed = 1, .delay = 1, .timeout = 5000, .cast = { .broker = "nats://127.0.0.1:4222", .rate = 60 } };
 
@@ -103,6 +104,14 @@ static void say(int player, const char *what, int number) {
         fprintf(stderr, "player %d%s\n", player, self.told[player - 1]);
 }
 
+/* Another part of the match has begun. */
+static void tell_epoch(int frame, int came) {
+    fprintf(stderr, "the match goes on from frame %d\n", frame);
+    for (int player = 1; player <= self.players; player++)
+        if ((came >> (player - 1) & 1) != 0)
+            say(player, " is back", 0);
+}
+
 static bool on_event(GGPOEvent *event) {
     switch (event->code) {
     case GGPO_EVENTCODE_CONNECTED_TO_PEER: say(event->u.connected.player, ": there", 0); break;
@@ -115,6 +124,7 @@ static bool on_event(GGPOEvent *event) {
             event->u.connection_interrupted.disconnect_timeout);
         break;
     case GGPO_EVENTCODE_CONNECTION_RESUMED: say(event->u.connection_resumed.player, "", 0); break;
+    case FAZGGPO_EVENTCODE_EPOCH: tell_epoch(event->u.epoch.frame, event->u.epoch.came); break;
     case FAZGGPO_EVENTCODE_DESYNC:
     case FAZGGPO_EVENTCODE_MISMATCH:
     case FAZGGPO_EVENTCODE_DROPPED:
@@ -271,7 +281,7 @@ static const option options[] = {
     { "--timeout", &self.timeout, NULL, NULL }, { "--synctest", &self.sync_frames, NULL, NULL },
     { "--watch", &self.watch, NULL, NULL },     { "--helpers", &self.helpers, NULL, NULL },
     { "--cast", NULL, &self.cast.match, NULL }, { "--broker", NULL, &self.cast.broker, NULL },
-    { "--headless", NULL, NULL, &self.is_headless }, { NULL, NULL, NULL, NULL },
+    { "--headless", NULL, NULL, &self.is_headless }, { "--rejoin", NULL, NULL, &self.can_rejoin }, { NULL, NULL, NULL, NULL },
 };
 
 static bool is_viewer(const char *word) { return strncmp(word, "viewer:", 7) == 0; }
@@ -324,6 +334,8 @@ static bool set_up(void) {
     ggpo_set_disconnect_timeout(self.session, (int)self.timeout);
     if (self.match > 0)
         fazggpo_set_match(self.session, (uint64_t)self.match);
+    if (self.can_rejoin && !GGPO_SUCCEEDED(fazggpo_rejoin(self.session)))
+        return false;
     return GGPO_SUCCEEDED(fazggpo_set_line(self.session, (int)self.lag, (int)self.loss, (int)self.junk))
         && GGPO_SUCCEEDED(fazggpo_set_speed(self.session, (int)self.speed));
 }

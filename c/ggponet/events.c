@@ -6,7 +6,8 @@ int ggponet_disconnect_in(const GGPOSession *session, uint32_t time) {
 }
 
 static int handle_of(const GGPOSession *session, uint32_t of) {
-    return of < (uint32_t)session->machines ? session->machine[of].handle : GGPO_INVALID_HANDLE;
+    int place = ggponet_place_of(session, of);
+    return place >= 0 && place < session->machines ? session->machine[place].handle : GGPO_INVALID_HANDLE;
 }
 
 static void log_event(GGPOSession *session, const fazgrond_event *event) {
@@ -21,20 +22,24 @@ static bool is_logged_alone(uint32_t code) { return code >= FAZGROND_RESTARTED; 
 /* The first that is heard of a machine. */
 static void tell_connected(GGPOSession *session, const fazgrond_event *event) {
     GGPOEvent told;
-    if (event->machine >= (uint32_t)session->machines || session->machine[event->machine].is_known)
+    int place = ggponet_place_of(session, event->machine);
+    if (place < 0 || place >= session->machines || session->machine[place].is_known)
         return;
-    session->machine[event->machine].is_known = true;
+    session->machine[place].is_known = true;
     memset(&told, 0, sizeof told);
     told.code = GGPO_EVENTCODE_CONNECTED_TO_PEER;
     told.u.connected.player = handle_of(session, event->machine);
     session->call.on_event(&told);
 }
 
-/* A word of a player's input has left. Whether the player has, with all of them. */
+/* A word of a player's input has left. Whether the player has now, with all of them: of one who has left before, each epoch tells it
+ * again. */
 static bool note_left(GGPOSession *session, int word) {
     if (word < 1 || word > ggponet_all_words(session))
         return false;
     player *of = &session->player[ggponet_handle_of_word(session, word) - 1];
+    if (of->has_left)
+        return false;
     of->has_left = ++of->words_gone == session->words;
     return of->has_left;
 }

@@ -124,6 +124,7 @@ GGPOErrorCode ggpo_close_session(GGPOSession *session) {
         return ggponet_refuse(session, GGPO_ERRORCODE_INVALID_REQUEST, "a helper is still at work");
     ggponet_close_lines(session);
     ggponet_close_match(session);
+    ggponet_close_seats(session);
     ggponet_close_port(session);
     ggponet_free_jobs(session);
     ggponet_free_states(session);
@@ -132,14 +133,32 @@ GGPOErrorCode ggpo_close_session(GGPOSession *session) {
     return GGPO_OK;
 }
 
+/* Which machine's address this is, by its place; -1 if it is none's. */
+static int place_at(const GGPOSession *session, const struct sockaddr_in *from) {
+    for (int at = 0; at < session->machines; at++)
+        if (at != session->place && ggponet_is_address(from, &session->machine[at].address))
+            return at;
+    return -1;
+}
+
+/* A datagram of a machine is the match's, or of who comes there. */
+static void take_of_place(GGPOSession *session, int place, int sender, const uint8_t *bytes, size_t length) {
+    bool is_of_match = sender < MACHINES && ggponet_place_of(session, (uint32_t)sender) == place;
+    if (!is_of_match
+        || fazgrond_peer_receive(&session->peer, &session->rollback, bytes, length, ggponet_millis(session)) != FAZGROND_OK)
+        ggponet_hear_who_comes(session, place, bytes, length);
+}
+
 /* Gives a datagram to whom it is for, by the address that it came from; a machine's has to name that machine. */
 static void take(GGPOSession *session, const struct sockaddr_in *from, const uint8_t *bytes, size_t length) {
     int sender = length > SENDER_AT ? bytes[SENDER_AT] : MACHINES, at;
     if (session->is_spectating) {
         if (ggponet_is_address(from, &session->machine[HOST].address))
             ggponet_hear_host(session, bytes, length);
-    } else if (sender < session->machines && sender != session->me
-               && ggponet_is_address(from, &session->machine[sender].address))
+    } else if (session->can_rejoin && (at = place_at(session, from)) >= 0)
+        take_of_place(session, at, sender, bytes, length);
+    else if (sender < session->machines && sender != session->me
+             && ggponet_is_address(from, &session->machine[sender].address))
         fazgrond_peer_receive(&session->peer, &session->rollback, bytes, length, ggponet_millis(session));
     else if ((at = ggponet_spectator_at(session, from)) >= 0)
         ggponet_hear_spectator(session, at, bytes, length);
@@ -168,6 +187,8 @@ static void send_if_due(GGPOSession *session) {
         ggponet_send_to_host(session);
         return;
     }
+    ggponet_host_turn(session);
+    ggponet_ask_to_come(session);
     ggponet_send_to_machines(session);
     ggponet_send_to_spectators(session);
 }
@@ -193,6 +214,10 @@ static void tell_events(GGPOSession *session) {
 
 static GGPOErrorCode idle_once(GGPOSession *session) {
     GGPOErrorCode code = hear(session);
+    if (code == GGPO_OK && !session->is_spectating)
+        code = ggponet_come(session);
+    if (code == GGPO_OK && !session->is_spectating)
+        code = ggponet_go_on(session);
     if (code == GGPO_OK && !session->is_spectating)
         code = ggponet_roll_back(session);
     ggponet_note_settled(session);
@@ -294,6 +319,10 @@ static GGPOErrorCode add_to_match(GGPOSession *session, GGPOPlayerHandle handle,
         return ggponet_refuse(session, GGPO_ERRORCODE_NOT_SYNCHRONIZED, "not all players are added");
     code = hear(session);
     if (code == GGPO_OK)
+        code = ggponet_come(session);
+    if (code == GGPO_OK)
+        code = ggponet_go_on(session);
+    if (code == GGPO_OK)
         code = ggponet_give_words(session, handle, words);
     if (code == GGPO_OK)
         send_if_due(session);
@@ -356,6 +385,30 @@ GGPOErrorCode ggpo_advance_frame(GGPOSession *session) {
     return GGPO_OK;
 }
 
+/* The row of a settled frame: of this epoch, or one that is remembered of those before it. */
+static bool find_settled(GGPOSession *session, int frame, fazgrond_row *row) {
+    if (frame >= session->base)
+        return fazgrond_settled_row(&session->rollback, (uint32_t)(frame - session->base), row) == FAZGROND_OK;
+    const settled_row *one = &session->rows_before[frame % ROWS_BEFORE];
+    *row = one->row;
+    return one->frame == frame && row->count > 0;
+}
+
+GGPOErrorCode fazggpo_get_settled_input(GGPOSession *session, int frame, void *values, int size, int *disconnect_flags) {
+    fazgrond_row row;
+    if (session == NULL)
+        return GGPO_ERRORCODE_INVALID_SESSION;
+    if (values == NULL || size < session->players * session->input_size)
+        return ggponet_refuse(session, GGPO_ERRORCODE_INVALID_REQUEST, "room of %d bytes for %d inputs", size, session->players);
+    if (session->is_spectating || session->sync_frames != 0 || frame < 0 || !find_settled(session, frame, &row))
+        return ggponet_refuse(session, GGPO_ERRORCODE_INVALID_REQUEST, "frame %d isn't settled, or isn't remembered", frame);
+    memset(values, 0, (size_t)size);
+    ggponet_write_row(session, &row, values);
+    if (disconnect_flags != NULL)
+        *disconnect_flags = ggponet_flags_of(session, &row);
+    return GGPO_OK;
+}
+
 GGPOErrorCode fazggpo_get_settled(GGPOSession *session, int *frame) {
     fazgrond_line_state state = { 0 };
     uint32_t settled = 0;
@@ -367,12 +420,12 @@ GGPOErrorCode fazggpo_get_settled(GGPOSession *session, int *frame) {
         *frame = session->after[0].frame;
         return GGPO_OK;
     }
-    if (!session->is_open)
+    if (!session->is_open || session->is_coming)
         return ggponet_refuse(session, GGPO_ERRORCODE_NOT_SYNCHRONIZED, "the match is not open");
     int32_t code = session->is_spectating ? fazgrond_viewer_look(&session->viewer, ggponet_millis(session), &state)
                                           : fazgrond_settled(&session->rollback, &settled);
     if (code != FAZGROND_OK)
         return ggponet_refused(session, code);
-    *frame = (int)(session->is_spectating ? state.settled : settled);
+    *frame = session->base + (int)(session->is_spectating ? state.settled : settled);
     return GGPO_OK;
 }

@@ -107,6 +107,9 @@ enum {
                                             * for too long */
 };
 
+/* Of a match into which players come back (fazggpo_rejoin): another part of it has begun, with who is there now. */
+enum { FAZGGPO_EVENTCODE_EPOCH = 1201 };
+
 /* A machine is told by its first player, a spectator by its handle, and to a spectator its host by 0. */
 typedef struct GGPOEvent {
     GGPOEventCode code;
@@ -147,6 +150,10 @@ typedef struct GGPOEvent {
             int field; /* what is another one there: 1 how many machines, 2 who sits where, 3 the size of inputs, or the game;
                         * at a spectator 0, as that isn't known */
         } mismatch;
+        struct {
+            int frame; /* the first one of the part that begins */
+            int came;  /* bit p - 1 is set if player p came in with it: it has left no more */
+        } epoch;
     } u;
 } GGPOEvent;
 
@@ -283,6 +290,25 @@ GGPO_API struct fazgrond_peer *__cdecl fazggpo_get_peer(GGPOSession *session);
 /* The state after all settled frames, as save_game_state made it, and how many these are. It stays until the next call. It is
  * refused with GGPO_ERRORCODE_NOT_SYNCHRONIZED if there is none yet. */
 GGPO_API GGPOErrorCode __cdecl fazggpo_get_settled_state(GGPOSession *session, int *frame, unsigned char **buffer, int *length);
+
+/* What the game was given for a settled frame: all players' inputs as ggpo_synchronize_input gives them, and who had left. Of parts of a
+ * match that are over (fazggpo_rejoin) the last 256 frames are remembered. It is refused with GGPO_ERRORCODE_INVALID_REQUEST if the frame
+ * isn't settled, or isn't remembered, and for a session that watches. */
+GGPO_API GGPOErrorCode __cdecl fazggpo_get_settled_input(GGPOSession *session, int frame, void *values, int size,
+                                                         int *disconnect_flags);
+
+/* ---- Players who come back.
+ *
+ * If all machines of a match have called this before it opens, a player whose program stopped can come back: the program is begun again
+ * with the same players and addresses, and makes the same calls. The others go on meanwhile. To the program that comes back it is as a
+ * rollback: within ggpo_idle load_game_state is called with a state that another machine has made, and advance_frame for each frame
+ * since; until then inputs are refused with GGPO_ERRORCODE_NOT_SYNCHRONIZED. So what save_game_state makes has to mean the same at
+ * each machine: no pointers. Everywhere FAZGGPO_EVENTCODE_EPOCH tells who has come. The player's inputs count 2 frames later from
+ * then on, whatever ggpo_set_frame_delay said.
+ *
+ * Such a match has no last frame, and neither spectators nor guesses (GGPO_ERRORCODE_UNSUPPORTED). A machine that is heard and isn't
+ * in the match has to be that of a player who stopped: its other program is put out at once. */
+GGPO_API GGPOErrorCode __cdecl fazggpo_rejoin(GGPOSession *session);
 
 /* ---- Guesses: where a processor is idle, it can play frames before the inputs come that would need them. A guess is that a remote
  * player goes on with its last input for some frames, and then goes back to the one before. If it comes true, a rollback loads a

@@ -282,6 +282,8 @@ GGPOErrorCode fazggpo_guess(GGPOSession *session, int jobs) {
         return GGPO_ERRORCODE_INVALID_SESSION;
     if (session->is_spectating || session->sync_frames != 0)
         return ggponet_refuse(session, GGPO_ERRORCODE_UNSUPPORTED, "guesses are for matches");
+    if (session->can_rejoin)
+        return ggponet_refuse(session, GGPO_ERRORCODE_UNSUPPORTED, "guesses aren't for a match into which players come back");
     if (jobs < 0 || jobs > MOST_JOBS)
         return ggponet_refuse(session, GGPO_ERRORCODE_INVALID_REQUEST, "%d jobs; 0 to %d were expected", jobs, MOST_JOBS);
     if (session->guesses == NULL)

@@ -11,6 +11,9 @@
 #include "ggponet.h"
 
 #include <fazgrond.h>
+#if FAZGROND_VERSION >= 0x000101
+#include "../rejoin/rejoin.h"
+#endif
 #include <stdio.h>
 #include <stdlib.h>
 #include <string.h>
@@ -29,6 +32,7 @@ enum {
     MACHINES = 8,
     MOST_SYNC_FRAMES = 64, /* of a sync test */
     SENDER_AT = 12,        /* where a packet has its sender's number */
+    ROWS_BEFORE = 256,     /* rows that are remembered of epochs that are over */
     HOST = 0,              /* a spectator's only machine */
     HOST_HANDLE = 0,       /* GGPO's numbers for the two ends of a spectator's line */
     SPECTATOR_HANDLE = 1000
@@ -51,6 +55,12 @@ typedef struct saved {
     int checksum;
     int frame;
 } saved;
+
+/* The settled row of a frame of the match. */
+typedef struct settled_row {
+    int frame;
+    fazgrond_row row;
+} settled_row;
 
 /* A datagram that is on its way for a while, on a bad line. */
 typedef struct delayed {
@@ -106,9 +116,24 @@ struct GGPOSession {
     uint64_t digest;
     uint32_t silent_after;
     uint32_t notify_after;
-    int me;
-    int machines;
-    machine machine[MACHINES + GGPO_MAX_SPECTATORS]; /* the spectators come after all machines */
+    int me;       /* which machine this is, in this epoch of the match .. */
+    int place;    /* .. and in its first one: so addresses are numbered */
+    int machines; /* how many places there are */
+    int place_of[MACHINES];
+    machine machine[MACHINES + GGPO_MAX_SPECTATORS]; /* by places; the spectators come after all machines */
+
+    /* A match into which players come back. */
+    bool can_rejoin;
+    bool is_coming;  /* this machine follows the match, and isn't in it yet */
+    bool is_at_seam; /* the next epoch has begun, and the state at its first frame isn't saved yet */
+    int base;   /* how many frames of the match came before this epoch */
+    settled_row rows_before[ROWS_BEFORE]; /* the last settled rows, each at the place of its frame */
+    int remembered; /* so many frames of the match have had theirs there */
+#if FAZGROND_VERSION >= 0x000101
+    fazgrond_epoch epoch;
+    faz_hosting hosting;
+    faz_comer comer;
+#endif
 
     /* Spectators, and what is watched if this session is one. */
     fazgrond_line line[GGPO_MAX_SPECTATORS];
@@ -231,6 +256,8 @@ GGPOErrorCode ggponet_read_address_of(GGPOSession *session, const GGPOPlayer *ad
 
 /* Opens the match, if all players are there and it isn't open. */
 GGPOErrorCode ggponet_open_match(GGPOSession *session);
+/* Opens a session with these settings, and its peer in this epoch of the match. */
+GGPOErrorCode ggponet_open_lasting(GGPOSession *session, const fazgrond_settings *settings);
 void ggponet_close_match(GGPOSession *session);
 /* Sees who is silent, who has left, and whether the match begins. */
 GGPOErrorCode ggponet_poll(GGPOSession *session);
@@ -245,6 +272,23 @@ GGPOErrorCode ggponet_advance_match(GGPOSession *session);
 void ggponet_send_to_machines(GGPOSession *session);
 /* A datagram that says goodbye goes out more than once. */
 void ggponet_send_bye(GGPOSession *session, int to, const uint8_t *bytes, size_t length);
+
+/* ---- rejoin.c */
+
+GGPOErrorCode ggponet_open_seats(GGPOSession *session);
+void ggponet_close_seats(GGPOSession *session);
+int ggponet_place_of(const GGPOSession *session, uint32_t machine);
+/* Which machine has this place now; MACHINES if none has. */
+int ggponet_machine_at(const GGPOSession *session, int place);
+/* Those who come get this state, that of the first frame of an epoch. */
+void ggponet_host_from(GGPOSession *session, const saved *state);
+/* Goes on in the next epoch, if this one is over. */
+GGPOErrorCode ggponet_go_on(GGPOSession *session);
+void ggponet_host_turn(GGPOSession *session);
+void ggponet_hear_who_comes(GGPOSession *session, int place, const uint8_t *bytes, size_t length);
+/* A machine that isn't in the match asks whether it runs, and comes in if it does. */
+void ggponet_ask_to_come(GGPOSession *session);
+GGPOErrorCode ggponet_come(GGPOSession *session);
 
 /* ---- spectators.c */
 

@@ -33,6 +33,9 @@ static void place_players(GGPOSession *session) {
     session->me = -1;
     for (int at = 0; at < session->players; at++)
         session->player[at].machine = machine_of(session, at + 1);
+    session->place = session->me;
+    for (int at = 0; at < MACHINES; at++)
+        session->place_of[at] = at;
 }
 
 static fazgrond_settings the_settings(const GGPOSession *session) {
@@ -79,7 +82,37 @@ static void send_more(GGPOSession *session, by_line *send) {
     uint8_t bytes[FAZGROND_DATAGRAM], to;
     size_t length;
     while (fazgrond_peer_send_more(&session->peer, &to, bytes, sizeof bytes, &length) == FAZGROND_OK)
-        send(session, to, bytes, length);
+        send(session, ggponet_place_of(session, to), bytes, length);
+}
+
+/* What a machine needs that may still be in the epoch before. */
+static void send_before(GGPOSession *session, int to) {
+    uint8_t bytes[FAZGROND_DATAGRAM];
+    size_t length;
+    if (session->can_rejoin
+        && fazgrond_peer_send_before(&session->peer, (uint8_t)to, ggponet_millis(session), bytes, sizeof bytes, &length)
+            == FAZGROND_OK)
+        ggponet_send_to(session, ggponet_place_of(session, (uint32_t)to), bytes, length);
+}
+
+GGPOErrorCode ggponet_open_lasting(GGPOSession *session, const fazgrond_settings *settings) {
+    fazgrond_match match = the_match(session);
+    match.me = (uint32_t)session->me;
+    if (!ggponet_new_draw(&match.draw))
+        return ggponet_no_draw(session);
+    int32_t answer = fazgrond_open(&session->rollback, settings);
+    if (answer == FAZGROND_OK)
+        answer = fazgrond_peer_open_lasting(&session->peer, &session->rollback, &match, &session->epoch);
+    return ggponet_refused(session, answer);
+}
+
+/* The first epoch. Which delays the others have is their own affair. */
+static GGPOErrorCode open_first_epoch(GGPOSession *session) {
+    fazgrond_settings settings = the_settings(session);
+    fazgrond_match match = the_match(session);
+    session->epoch = fazgrond_epoch_for(&match, &settings);
+    GGPOErrorCode code = ggponet_open_lasting(session, &settings);
+    return code == GGPO_OK ? ggponet_open_seats(session) : code;
 }
 #else
 static int32_t open_peer(GGPOSession *session, const fazgrond_match *match) {
@@ -90,10 +123,21 @@ static void send_more(GGPOSession *session, by_line *send) {
     (void)session;
     (void)send;
 }
+
+static void send_before(GGPOSession *session, int to) {
+    (void)session;
+    (void)to;
+}
+
+static GGPOErrorCode open_first_epoch(GGPOSession *session) {
+    return ggponet_refuse(session, GGPO_ERRORCODE_UNSUPPORTED, "the library is too old for players who come back");
+}
 #endif
 
 /* Opens the session and its peer. */
 static GGPOErrorCode open_both(GGPOSession *session) {
+    if (session->can_rejoin)
+        return open_first_epoch(session);
     fazgrond_settings settings = the_settings(session);
     fazgrond_match match = the_match(session);
     if (!ggponet_new_draw(&match.draw))
@@ -131,12 +175,14 @@ GGPOErrorCode ggponet_poll(GGPOSession *session) {
 void ggponet_send_to_machines(GGPOSession *session) {
     uint8_t bytes[FAZGROND_DATAGRAM];
     size_t length;
-    for (int to = 0; to < session->machines; to++)
-        if (to != session->me
-            && fazgrond_peer_send(&session->peer, &session->rollback, (uint8_t)to, ggponet_millis(session), bytes, sizeof bytes,
-                                  &length)
-                == FAZGROND_OK)
-            ggponet_send_to(session, to, bytes, length);
+    for (int to = 0; to < session->machines; to++) {
+        if (to == session->me)
+            continue;
+        if (fazgrond_peer_send(&session->peer, &session->rollback, (uint8_t)to, ggponet_millis(session), bytes, sizeof bytes, &length)
+            == FAZGROND_OK)
+            ggponet_send_to(session, ggponet_place_of(session, (uint32_t)to), bytes, length);
+        send_before(session, to);
+    }
     send_more(session, ggponet_send_to);
 }
 
@@ -151,7 +197,7 @@ static void say_bye(GGPOSession *session) {
     size_t length;
     for (int at = 0; at < session->machines; at++)
         if (fazgrond_peer_bye(&session->peer, (uint8_t)at, bytes, sizeof bytes, &length) == FAZGROND_OK)
-            ggponet_send_bye(session, at, bytes, length);
+            ggponet_send_bye(session, ggponet_place_of(session, (uint32_t)at), bytes, length);
     send_more(session, ggponet_send_bye);
 }
 
@@ -250,7 +296,7 @@ GGPOErrorCode ggpo_disconnect_player(GGPOSession *session, GGPOPlayerHandle hand
     if (of->type == GGPO_PLAYERTYPE_LOCAL)
         say_bye(session);
     for (int at = 0; at < session->machines; at++)
-        if (at != session->me && (of->type == GGPO_PLAYERTYPE_LOCAL || at == of->machine)) {
+        if (at != session->me && (of->type == GGPO_PLAYERTYPE_LOCAL || ggponet_place_of(session, (uint32_t)at) == of->machine)) {
             int32_t answer = fazgrond_peer_disconnect(&session->peer, (uint8_t)at);
             if (answer != FAZGROND_OK)
                 return ggponet_refused(session, answer);
@@ -272,7 +318,7 @@ GGPOErrorCode ggpo_get_network_stats(GGPOSession *session, GGPOPlayerHandle hand
     memset(stats, 0, sizeof *stats);
     if (!session->is_open || of->type == GGPO_PLAYERTYPE_LOCAL)
         return GGPO_OK;
-    int32_t code = fazgrond_peer_stats(&session->peer, (uint8_t)of->machine, &measured);
+    int32_t code = fazgrond_peer_stats(&session->peer, (uint8_t)ggponet_machine_at(session, of->machine), &measured);
     if (code != FAZGROND_OK)
         return ggponet_refused(session, code);
     stats->network.ping = measured.is_measured != 0 ? (int)measured.round_trip : 0;

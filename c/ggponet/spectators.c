@@ -10,6 +10,8 @@ int ggponet_spectator_at(const GGPOSession *session, const struct sockaddr_in *a
 
 GGPOErrorCode ggponet_add_spectator(GGPOSession *session, const GGPOPlayer *added, GGPOPlayerHandle *handle) {
     struct sockaddr_in address;
+    if (session->can_rejoin)
+        return ggponet_refuse(session, GGPO_ERRORCODE_UNSUPPORTED, "spectators aren't for a match into which players come back");
     if (session->spectators == GGPO_MAX_SPECTATORS)
         return ggponet_refuse(session, GGPO_ERRORCODE_TOO_MANY_SPECTATORS, "there are %d spectators already",
                               GGPO_MAX_SPECTATORS);

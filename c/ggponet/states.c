@@ -89,7 +89,11 @@ static const char *carry_out(GGPOSession *session, const fazgrond_request *reque
         return ggponet_load(session, slot) ? NULL : "load_game_state failed";
     case FAZGROND_SAVE:
         session->at = request->slot;
-        return !*is_stepped && ggponet_save(session, slot) ? NULL : "save_game_state failed";
+        if (*is_stepped || !ggponet_save(session, slot))
+            return "save_game_state failed";
+        if (session->is_at_seam && request->slot == 0 && session->frame == session->base)
+            ggponet_host_from(session, slot);
+        return NULL;
     case FAZGROND_STEP: return step(session, &request->row, is_stepped) ? NULL : "advance_frame failed";
     case FAZGROND_FREE:
         if (session->at == (int64_t)request->slot)
@@ -117,6 +121,7 @@ GGPOErrorCode ggponet_begin(GGPOSession *session) {
         return ggponet_broken(session, "save_game_state failed");
     session->at = 0;
     session->has_begun = true;
+    ggponet_host_from(session, &session->slots[0]);
     return GGPO_OK;
 }
 
@@ -154,7 +159,7 @@ GGPOErrorCode fazggpo_get_settled_state(GGPOSession *session, int *frame, unsign
     const saved *state = session->is_spectating ? NULL : settled_state(session, &settled);
     if (state == NULL)
         return ggponet_refuse(session, GGPO_ERRORCODE_NOT_SYNCHRONIZED, "no state is there yet");
-    *frame = (int)settled;
+    *frame = session->base + (int)settled;
     *buffer = state->buffer;
     *length = state->length;
     return GGPO_OK;

@@ -192,6 +192,8 @@ static void refused_watchers(void) {
     MUST(ggpo_get_network_stats(game.session, 1, &stats) == GGPO_ERRORCODE_UNSUPPORTED);
     MUST(ggpo_set_disconnect_timeout(game.session, 1) == GGPO_ERRORCODE_UNSUPPORTED);
     MUST(fazggpo_set_spectators(game.session, 1) == GGPO_ERRORCODE_UNSUPPORTED);
+    MUST(fazggpo_rejoin(game.session) == GGPO_ERRORCODE_UNSUPPORTED);
+    MUST(fazggpo_get_settled_input(game.session, 0, inputs, sizeof inputs, NULL) == GGPO_ERRORCODE_INVALID_REQUEST);
     MUST(fazggpo_get_watched(game.session, 1000, &frame) == GGPO_ERRORCODE_INVALID_PLAYER_HANDLE);
     MUST(fazggpo_get_settled(game.session, &frame) == GGPO_OK && frame == 0);
     MUST(fazggpo_get_peer(game.session) == NULL && fazggpo_get_peer(NULL) == NULL);
@@ -228,6 +230,33 @@ static void late_spectator(void) {
     end();
     MUST(ggpo_start_synctest(&game.session, &calls, name, 2, sizeof(int), 1) == GGPO_OK);
     MUST(add(GGPO_PLAYERTYPE_SPECTATOR, 3, "127.0.0.1") == GGPO_ERRORCODE_INVALID_REQUEST);
+    end();
+}
+
+/* Players come back into a match that isn't open yet, and has neither spectators nor guesses. */
+static void refused_rejoins(void) {
+    int inputs[2];
+    MUST(fazggpo_rejoin(NULL) == GGPO_ERRORCODE_INVALID_SESSION);
+    MUST(ggpo_start_session(&game.session, &calls, name, 2, sizeof(int), 0) == GGPO_OK);
+    MUST(fazggpo_rejoin(game.session) == GGPO_OK && fazggpo_rejoin(game.session) == GGPO_OK);
+    MUST(fazggpo_guess(game.session, 4) == GGPO_ERRORCODE_UNSUPPORTED);
+    MUST(add(GGPO_PLAYERTYPE_LOCAL, 1, NULL) == GGPO_OK && add(GGPO_PLAYERTYPE_REMOTE, 2, "127.0.0.1") == GGPO_OK);
+    MUST(add(GGPO_PLAYERTYPE_SPECTATOR, 3, "127.0.0.1") == GGPO_ERRORCODE_UNSUPPORTED);
+    MUST(ggpo_idle(game.session, 0) == GGPO_OK && fazggpo_rejoin(game.session) == GGPO_ERRORCODE_UNSUPPORTED);
+    MUST(fazggpo_get_settled_input(game.session, 0, inputs, sizeof inputs, NULL) == GGPO_ERRORCODE_INVALID_REQUEST);
+    MUST(fazggpo_get_settled_input(game.session, -1, inputs, sizeof inputs, NULL) == GGPO_ERRORCODE_INVALID_REQUEST);
+    MUST(fazggpo_get_settled_input(game.session, 0, inputs, sizeof inputs - 1, NULL) == GGPO_ERRORCODE_INVALID_REQUEST);
+    MUST(fazggpo_get_settled_input(NULL, 0, inputs, sizeof inputs, NULL) == GGPO_ERRORCODE_INVALID_SESSION);
+    end();
+    MUST(ggpo_start_session(&game.session, &calls, name, 2, sizeof(int), 0) == GGPO_OK);
+    MUST(add(GGPO_PLAYERTYPE_SPECTATOR, 3, "127.0.0.1") == GGPO_OK);
+    MUST(fazggpo_rejoin(game.session) == GGPO_ERRORCODE_UNSUPPORTED);
+    end();
+    MUST(ggpo_start_session(&game.session, &calls, name, 2, sizeof(int), 0) == GGPO_OK);
+    MUST(fazggpo_guess(game.session, 4) == GGPO_OK && fazggpo_rejoin(game.session) == GGPO_ERRORCODE_UNSUPPORTED);
+    end();
+    MUST(ggpo_start_synctest(&game.session, &calls, name, 2, sizeof(int), 1) == GGPO_OK);
+    MUST(fazggpo_rejoin(game.session) == GGPO_ERRORCODE_UNSUPPORTED);
     end();
 }
 
@@ -345,6 +374,7 @@ int main(void) {
     refused_sessions();
     refused_watchers();
     late_spectator();
+    refused_rejoins();
 #ifndef _WIN32
     nothing_random();
 #endif
