@@ -20,6 +20,8 @@ public static unsafe class Fazgrond
     public const int Asked = 16;
     public const int DigestBytes = 32;
     public const int NoMachine = 255;
+    public const int WindowReach = 1024;
+    public const int WindowPlaces = 17;
     public const uint Ggpo = 0, Wide = 1;
     public const uint Load = 1, Save = 2, Step = 3, Free = 4, JobLoad = 5, JobSave = 6, JobStep = 7;
     public const uint Local = 1, Remote = 2, Disconnect = 3, Sync = 4, Advance = 5, Graft = 6;
@@ -263,6 +265,14 @@ public static unsafe class Fazgrond
         public UIntPtr Left;
     }
 
+    [StructLayout(LayoutKind.Sequential)]
+    public struct Window
+    {
+        public ulong Highest;
+        public fixed ulong Runs[Fazgrond.WindowPlaces];
+        public fixed ulong Bits[Fazgrond.WindowPlaces];
+    }
+
     [DllImport(Library)] public static extern uint fazgrond_version();
     [DllImport(Library)] public static extern UIntPtr fazgrond_text(int code, byte* @out, UIntPtr room);
     [DllImport(Library)] public static extern int fazgrond_open(Session* session, Settings* settings);
@@ -368,6 +378,8 @@ public static unsafe class Fazgrond
     [DllImport(Library)] public static extern int fazgrond_state_ask(ulong number, byte me, ulong which, uint frame, byte* @out,
                                                                      UIntPtr room, UIntPtr* size);
     [DllImport(Library)] public static extern int fazgrond_state_told(ulong number, byte* bytes, UIntPtr length, StateName* name);
+    [DllImport(Library)] public static extern uint fazgrond_window_is_new(Window* window, ulong number);
+    [DllImport(Library)] public static extern uint fazgrond_window_note(Window* window, ulong number);
 
     public static Settings fazgrond_settings_for(uint players)
     {

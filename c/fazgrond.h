@@ -961,6 +961,29 @@ uint64_t fazgrond_state_digest(const fazgrond_state_name *name, uint64_t digest)
 int32_t fazgrond_state_ask(uint64_t number, uint8_t me, uint64_t which, uint32_t frame, uint8_t *out, size_t room, size_t *size);
 int32_t fazgrond_state_told(uint64_t number, const uint8_t *bytes, size_t length, fazgrond_state_name *name);
 
+/* ---- which numbers were taken
+ *
+ * Whoever encrypts datagrams gives each a number that counts up, and takes none twice, so that a datagram which somebody recorded
+ * and sends again does nothing. A window knows which numbers were taken, for one sender: none is taken twice, and in any order each
+ * that isn't over FAZGROND_WINDOW_REACH below the highest. It takes no memory but its own; copy it as you like. All zeros is one
+ * of which no number was taken: fazgrond_window window = {0}. Ask fazgrond_window_is_new first, which costs nothing, then open the
+ * datagram, and only if it is genuine call fazgrond_window_note: else whoever forges datagrams takes the numbers of yours. */
+
+#define FAZGROND_WINDOW_REACH 1024
+#define FAZGROND_WINDOW_PLACES 17
+
+typedef struct fazgrond_window {
+    uint64_t highest; /* that was taken; 0 if none was */
+    uint64_t runs[FAZGROND_WINDOW_PLACES]; /* which 64 numbers a place has, and a bit for each of them that was taken */
+    uint64_t bits[FAZGROND_WINDOW_PLACES];
+} fazgrond_window;
+
+/* Whether a number is new: 1 if it wasn't taken and isn't too old, else 0. */
+uint32_t fazgrond_window_is_new(const fazgrond_window *window, uint64_t number);
+
+/* Takes a number, if it is new: 1 if so. Else 0, and nothing has changed. */
+uint32_t fazgrond_window_note(fazgrond_window *window, uint64_t number);
+
 #ifdef __cplusplus
 }
 #endif

@@ -157,3 +157,8 @@ AT(fazgrond_heard, machine, 4);
 HAS(fazgrond_taker_state, 16);
 AT(fazgrond_taker_state, pieces, 0);
 AT(fazgrond_taker_state, left, 8);
+
+HAS(fazgrond_window, 280);
+AT(fazgrond_window, highest, 0);
+AT(fazgrond_window, runs, 8);
+AT(fazgrond_window, bits, 144);

@@ -361,6 +361,15 @@ int32_t fazgrond_state_sender(const uint8_t *bytes, size_t length, uint8_t *mach
 uint64_t fazgrond_state_digest(const fazgrond_state_name *name, uint64_t digest);
 int32_t fazgrond_state_ask(uint64_t number, uint8_t me, uint64_t which, uint32_t frame, uint8_t *out, size_t room, size_t *size);
 int32_t fazgrond_state_told(uint64_t number, const uint8_t *bytes, size_t length, fazgrond_state_name *name);
+static const int FAZGROND_WINDOW_REACH = 1024;
+static const int FAZGROND_WINDOW_PLACES = 17;
+typedef struct fazgrond_window {
+    uint64_t highest;
+    uint64_t runs[17];
+    uint64_t bits[17];
+} fazgrond_window;
+uint32_t fazgrond_window_is_new(const fazgrond_window *window, uint64_t number);
+uint32_t fazgrond_window_note(fazgrond_window *window, uint64_t number);
 ]]
 end
 
@@ -379,6 +388,8 @@ return {
         ASKED = 16,
         DIGEST_BYTES = 32,
         NO_MACHINE = 255,
+        WINDOW_REACH = 1024,
+        WINDOW_PLACES = 17,
         GGPO = 0,
         WIDE = 1,
         LOAD = 1,

@@ -133,3 +133,5 @@ CALL(int32_t, fazgrond_state_ask,
      (number, me, which, frame, out, room, size))
 CALL(int32_t, fazgrond_state_told, (uint64_t number, const uint8_t *bytes, size_t length, fazgrond_state_name *name),
      (number, bytes, length, name))
+CALL(uint32_t, fazgrond_window_is_new, (const fazgrond_window *window, uint64_t number), (window, number))
+CALL(uint32_t, fazgrond_window_note, (fazgrond_window *window, uint64_t number), (window, number))

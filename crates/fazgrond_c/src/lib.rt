@@ -40,6 +40,7 @@ mod viewer_calls;
 mod viewers;
 mod waiting;
 mod waiting_calls;
+mod windows;
 
 ghost use Rattle.fazgrond_c.specs.Texts.{sentence_of, version_of};
 

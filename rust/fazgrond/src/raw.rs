@@ -117,6 +117,14 @@ pub struct TakerState {
     pub left: usize,
 }
 
+#[repr(C)]
+#[derive(Default)]
+pub struct Window {
+    pub highest: u64,
+    pub runs: [u64; WINDOW_PLACES],
+    pub bits: [u64; WINDOW_PLACES],
+}
+
 pub const VERSION: u32 = 0x000101;
 pub const PLAYERS: usize = 8;
 pub const NO_PLAYER: u32 = 255;
@@ -130,6 +138,8 @@ pub const PIECE: usize = 1024;
 pub const ASKED: usize = 16;
 pub const DIGEST_BYTES: usize = 32;
 pub const NO_MACHINE: u8 = 255;
+pub const WINDOW_REACH: usize = 1024;
+pub const WINDOW_PLACES: usize = 17;
 
 pub const GGPO: u32 = 0;
 pub const WIDE: u32 = 1;
@@ -405,4 +415,6 @@ unsafe extern "C" {
         size: *mut usize,
     ) -> i32;
     pub fn fazgrond_state_told(number: u64, bytes: *const u8, length: usize, name: *mut StateName) -> i32;
+    pub fn fazgrond_window_is_new(window: *const Window, number: u64) -> u32;
+    pub fn fazgrond_window_note(window: *mut Window, number: u64) -> u32;
 }

@@ -1,0 +1,380 @@
+#include "ice.h"
+#include "seal.h"
+
+#include <sodium.h>
+#include <stdlib.h>
+#include <string.h>
+
+/* Milliseconds. */
+enum {
+    KEPT_ALIVE = 250,  /* something is sent after so much quiet */
+    HANDED_OVER = 100, /* the same while a way isn't heard yet */
+    SILENT = 1000,     /* another way is looked for */
+    TOLD_AGAIN = 600,  /* what carries signals may lose some */
+    TRIED = 4000,      /* a way that isn't there by then is given up for another one */
+    APART = 300,       /* between two ways that the other machine wants */
+    LATE = 1000,       /* what is on its way on the way before may still come */
+    SETTLED = 2000,    /* a way that has lasted so long stays */
+    LOOKED = 250       /* whether own addresses have changed */
+};
+
+enum { INBOX = 128, CLOSING = 4, HEAD = 4, SEALED = FAZGROND_DATAGRAM + SEAL_OVERHEAD, ADDRESS = 64, WORD = 256 };
+
+typedef struct way {
+    ice *ice; /* null: there is none */
+    uint32_t generation, begun, heard_at, kept_at;
+    bool is_up, is_heard, is_settled;
+    size_t told; /* how many of its texts are on their way */
+} way;
+
+typedef struct datagram {
+    size_t length;
+    uint8_t bytes[FAZGROND_DATAGRAM];
+} datagram;
+
+struct faz_line {
+    faz_line_settings settings;
+    char stun[ADDRESS], address[FAZ_LINE_RELAYS][ADDRESS], user[FAZ_LINE_RELAYS][WORD], password[FAZ_LINE_RELAYS][WORD];
+    seal seal;
+    way newest, before; /* `before` was heard; it carries on until the newest is */
+    ice *closing[CLOSING];
+    bool has_turned, was_up, was_blocked;
+    uint32_t now, heard_at, sent_at, told_at, looked_at, moved_at;
+    uint64_t addresses;
+    faz_line_state counts;
+    datagram inbox[INBOX];
+    uint32_t first, last;
+};
+
+bool faz_line_draw(faz_line_keys *keys) {
+    if (sodium_init() < 0)
+        return false;
+    seal_draw(keys->open, keys->secret);
+    return true;
+}
+
+static uint32_t since(const faz_line *self, uint32_t moment) {
+    uint32_t passed = self->now - moment;
+    return passed < UINT32_C(1) << 31 ? passed : 0;
+}
+
+/* ---- what comes */
+
+/* Whether bytes are a packet of this library in the name of a machine that isn't at the other end. */
+static bool is_misnamed(const faz_line *self, const uint8_t *bytes, size_t length) {
+    return length > 12 && memcmp(bytes, "FZG", 3) == 0 && bytes[12] != self->settings.other && bytes[12] != FAZGROND_NO_MACHINE;
+}
+
+static void keep(faz_line *self, const uint8_t *bytes, size_t length) {
+    if (is_misnamed(self, bytes, length)) {
+        self->counts.misnamed++;
+    } else if (self->last - self->first == INBOX) {
+        self->counts.dropped++;
+    } else {
+        datagram *to = &self->inbox[self->last++ % INBOX];
+        to->length = length;
+        memcpy(to->bytes, bytes, length);
+        self->counts.received++;
+    }
+}
+
+static void came(void *of, ice *from, const uint8_t *bytes, size_t length) {
+    faz_line *self = of;
+    uint8_t inside[FAZGROND_DATAGRAM];
+    switch (length > SEALED ? SEAL_FORGED : seal_take(&self->seal, inside, bytes, length)) {
+    case SEAL_FORGED: self->counts.forged++; return;
+    case SEAL_AGAIN: self->counts.again++; return;
+    case SEAL_OK: break;
+    }
+    self->heard_at = self->now;
+    self->was_up = true;
+    if (from == self->newest.ice && !self->newest.is_heard) {
+        self->newest.is_heard = true;
+        self->newest.heard_at = self->now;
+    }
+    if (length > SEAL_OVERHEAD)
+        keep(self, inside, length - SEAL_OVERHEAD);
+}
+
+bool faz_line_receive(faz_line *self, uint8_t *out, size_t room, size_t *length) {
+    if (self->first == self->last || room < self->inbox[self->first % INBOX].length)
+        return false;
+    datagram *from = &self->inbox[self->first++ % INBOX];
+    *length = from->length;
+    memcpy(out, from->bytes, from->length);
+    return true;
+}
+
+/* ---- what goes */
+
+static bool send_by(way *by, const uint8_t *bytes, size_t length) {
+    return by->ice != NULL && by->is_up && ice_send(by->ice, bytes, length);
+}
+
+/* By the newest way; until that is heard also by the one before: the other machine takes it once. */
+bool faz_line_send(faz_line *self, const uint8_t *bytes, size_t length) {
+    uint8_t sealed[SEALED];
+    if (length == 0 || length > FAZGROND_DATAGRAM || !(self->newest.is_up || self->before.is_up))
+        return false;
+    size_t size = seal_put(&self->seal, sealed, bytes, length);
+    bool is_sent = send_by(&self->newest, sealed, size);
+    if (!self->newest.is_heard && send_by(&self->before, sealed, size))
+        is_sent = true;
+    if (is_sent) {
+        self->sent_at = self->now;
+        self->counts.sent++;
+    }
+    return is_sent;
+}
+
+/* What isn't heard yet needs datagrams of its own: of those that go by both ways one is enough for the other machine. */
+static void keep_alive(faz_line *self, way *by) {
+    uint32_t quiet = by->is_heard && by == &self->newest ? since(self, self->sent_at) : since(self, by->kept_at);
+    uint8_t sealed[SEAL_OVERHEAD];
+    if (!by->is_up || quiet < (by->is_heard ? KEPT_ALIVE : HANDED_OVER) || since(self, by->kept_at) < HANDED_OVER)
+        return;
+    by->kept_at = self->now;
+    if (send_by(by, sealed, seal_put(&self->seal, sealed, NULL, 0)) && by == &self->newest)
+        self->sent_at = self->now;
+}
+
+/* ---- ways */
+
+/* Closes a way, by and by. */
+static void retire(faz_line *self, way *old) {
+    if (old->ice != NULL && !ice_close(old->ice, false)) {
+        size_t at = 0;
+        while (at + 1 < CLOSING && self->closing[at] != NULL)
+            at++;
+        if (self->closing[at] != NULL)
+            ice_close(self->closing[at], true);
+        self->closing[at] = old->ice;
+    }
+    memset(old, 0, sizeof *old);
+}
+
+/* Begins to look for the way of a generation, beside the one that was heard. */
+static bool begin(faz_line *self, uint32_t generation) {
+    ice_settings settings = {.line = &self->settings, .leads = self->settings.me < self->settings.other, .came = came, .of = self};
+    if (self->newest.is_heard) {
+        retire(self, &self->before);
+        self->before = self->newest;
+    } else {
+        retire(self, &self->newest);
+    }
+    self->newest = (way){.ice = ice_open(&settings), .generation = generation, .begun = self->now};
+    self->told_at = self->now;
+    return self->newest.ice != NULL;
+}
+
+static void look_at(way *of) {
+    if (of->ice != NULL)
+        of->is_up = ice_look(of->ice) == ICE_THERE;
+}
+
+/* Whether the newest way is being looked for: it isn't heard, hasn't failed, and has time. */
+static bool is_looking(const faz_line *self) {
+    const way *newest = &self->newest;
+    return newest->ice != NULL && !newest->is_heard && ice_look(newest->ice) != ICE_NONE && since(self, newest->begun) < TRIED;
+}
+
+static bool has_moved(faz_line *self) {
+    if (since(self, self->looked_at) < LOOKED)
+        return false;
+    uint64_t addresses = ice_addresses();
+    bool has = addresses != self->addresses;
+    self->addresses = addresses;
+    self->looked_at = self->now;
+    return has;
+}
+
+/* Another way is wanted if this machine has other addresses, or if nothing comes. */
+static void look_for_another(faz_line *self) {
+    bool moved = has_moved(self);
+    const way *newest = &self->newest;
+    if (moved && since(self, newest->begun) >= APART) {
+        begin(self, newest->generation + 1);
+    } else if (!is_looking(self) && since(self, newest->begun) >= TRIED && since(self, self->heard_at) >= SILENT) {
+        self->was_blocked = !self->was_up;
+        begin(self, newest->generation + 1);
+    } else if (newest->is_heard && since(self, self->heard_at) >= SILENT && since(self, newest->heard_at) >= SILENT) {
+        begin(self, newest->generation + 1);
+    }
+}
+
+static void tidy(faz_line *self) {
+    way *newest = &self->newest;
+    if (newest->is_heard && self->before.ice != NULL && since(self, newest->heard_at) >= LATE)
+        retire(self, &self->before);
+    if (newest->is_heard && newest->is_up && !newest->is_settled && since(self, newest->heard_at) >= SETTLED
+        && ice_way(newest->ice) != FAZ_LINE_RELAYED) {
+        ice_settle(newest->ice);
+        newest->is_settled = true;
+    }
+    for (size_t at = 0; at < CLOSING; at++)
+        if (self->closing[at] != NULL && ice_close(self->closing[at], false))
+            self->closing[at] = NULL;
+}
+
+void faz_line_turn(faz_line *self, uint32_t now) {
+    self->now = now;
+    if (!self->has_turned) {
+        self->has_turned = true;
+        self->newest.begun = self->heard_at = self->sent_at = self->told_at = self->looked_at = now;
+    }
+    for (way *each = &self->newest; each != NULL; each = each == &self->newest ? &self->before : NULL)
+        if (each->ice != NULL)
+            ice_turn(each->ice);
+    look_at(&self->newest);
+    look_at(&self->before);
+    keep_alive(self, &self->newest);
+    keep_alive(self, &self->before);
+    look_for_another(self);
+    tidy(self);
+}
+
+/* ---- signals */
+
+static void put_generation(uint8_t *out, uint32_t generation) {
+    for (int at = 0; at < HEAD; at++)
+        out[at] = (uint8_t)(generation >> (8 * (HEAD - 1 - at)));
+}
+
+static uint32_t generation_of(const uint8_t *bytes) {
+    return (uint32_t)bytes[0] << 24 | (uint32_t)bytes[1] << 16 | (uint32_t)bytes[2] << 8 | bytes[3];
+}
+
+/* Each way tells its texts, and all of them again until the other machine is heard by it. */
+bool faz_line_signal(faz_line *self, uint8_t *out, size_t room, size_t *length) {
+    way *newest = &self->newest;
+    uint8_t inside[FAZ_LINE_SIGNAL - NOTE_OVERHEAD];
+    size_t size = HEAD;
+    if (newest->ice == NULL || newest->is_heard || room < FAZ_LINE_SIGNAL)
+        return false;
+    if (newest->told > 0 && since(self, self->told_at) >= TOLD_AGAIN) {
+        newest->told = 0;
+        self->told_at = self->now;
+    }
+    for (const char *text; (text = ice_text(newest->ice, newest->told)) != NULL; newest->told++) {
+        size_t more = strlen(text) + 1;
+        if (size + more > sizeof inside)
+            break;
+        memcpy(inside + size, text, more);
+        size += more;
+    }
+    put_generation(inside, newest->generation);
+    *length = size == HEAD ? 0 : seal_note(&self->seal, out, inside, size);
+    return size > HEAD;
+}
+
+/* The way that a signal is for; null if it is for none that there is. */
+static way *way_for(faz_line *self, uint32_t generation) {
+    if (generation > self->newest.generation && since(self, self->newest.begun) >= APART)
+        begin(self, generation);
+    return generation == self->newest.generation ? &self->newest : generation == self->before.generation ? &self->before : NULL;
+}
+
+bool faz_line_signalled(faz_line *self, const uint8_t *bytes, size_t length) {
+    uint8_t inside[FAZ_LINE_SIGNAL - NOTE_OVERHEAD];
+    if (length > FAZ_LINE_SIGNAL || length < NOTE_OVERHEAD + HEAD + 1 || !seal_read(&self->seal, inside, bytes, length)) {
+        self->counts.forged++;
+        return false;
+    }
+    size_t size = length - NOTE_OVERHEAD;
+    way *to = way_for(self, generation_of(inside));
+    if (to == NULL || to->ice == NULL || inside[size - 1] != 0)
+        return true;
+    for (size_t at = HEAD; at < size; at += strlen((const char *)inside + at) + 1)
+        ice_told(to->ice, (const char *)inside + at);
+    return true;
+}
+
+/* ---- the line */
+
+void faz_line_look(const faz_line *self, faz_line_state *state) {
+    const way *by = self->newest.is_up && (self->newest.is_heard || !self->before.is_up) ? &self->newest : &self->before;
+    *state = self->counts;
+    state->silence = since(self, self->heard_at);
+    state->generation = self->newest.generation;
+    state->way = by->is_up ? ice_way(by->ice) : FAZ_LINE_NO_WAY;
+    state->stage = self->was_up ? (state->silence < SILENT ? FAZ_LINE_UP : FAZ_LINE_SILENT)
+                 : self->was_blocked ? FAZ_LINE_BLOCKED : FAZ_LINE_LOOKING;
+}
+
+uint64_t faz_line_number(const faz_line *self) {
+    return self->seal.number;
+}
+
+static bool copy(char *to, size_t room, const char **text) {
+    if (*text == NULL || strlen(*text) >= room)
+        return false;
+    strcpy(to, *text);
+    *text = to;
+    return true;
+}
+
+/* What is wrong with settings; null if they were copied. */
+static const char *copied(faz_line *self, const faz_line_settings *settings) {
+    self->settings = *settings;
+    self->settings.keys = NULL;
+    self->settings.their = NULL;
+    if (settings->keys == NULL || settings->their == NULL)
+        return "no keys are given";
+    if (settings->me >= FAZGROND_MACHINES || settings->other >= FAZGROND_MACHINES || settings->me == settings->other)
+        return "the two are not two machines of a match";
+    if (settings->relay_count > FAZ_LINE_RELAYS)
+        return "there are too many relays";
+    if (settings->stun != NULL && !copy(self->stun, ADDRESS, &self->settings.stun))
+        return "the STUN server's address is too long";
+    for (uint32_t at = 0; at < settings->relay_count; at++) {
+        faz_line_relay *relay = &self->settings.relays[at];
+        if (!copy(self->address[at], ADDRESS, &relay->address) || !copy(self->user[at], WORD, &relay->user)
+            || !copy(self->password[at], WORD, &relay->password))
+            return "a relay has no address, user or password, or one that is too long";
+    }
+    return NULL;
+}
+
+/* What is wrong with keys; null if they were taken. */
+static const char *keyed(faz_line *self, const faz_line_settings *settings) {
+    if (sodium_init() < 0)
+        return "the system gives no random numbers";
+    if (sodium_is_zero(settings->keys->secret, FAZ_LINE_KEY))
+        return "the keys were not drawn, or are another line's";
+    bool is_open = seal_open(&self->seal, settings->me < settings->other, settings->keys->open, settings->keys->secret, settings->their);
+    sodium_memzero(settings->keys, sizeof *settings->keys);
+    return is_open ? NULL : "the other machine's key is none";
+}
+
+faz_line *faz_line_open(const faz_line_settings *settings, const char **why) {
+    faz_line *self = calloc(1, sizeof *self);
+    if (self == NULL) {
+        *why = "there is no memory";
+        return NULL;
+    }
+    *why = copied(self, settings);
+    if (*why == NULL)
+        *why = keyed(self, settings);
+    if (*why == NULL && !begin(self, 1))
+        *why = "there is no memory, or no socket";
+    if (*why != NULL) {
+        faz_line_close(self);
+        return NULL;
+    }
+    self->addresses = ice_addresses();
+    return self;
+}
+
+void faz_line_close(faz_line *self) {
+    if (self == NULL)
+        return;
+    if (self->newest.ice != NULL)
+        ice_close(self->newest.ice, true);
+    if (self->before.ice != NULL)
+        ice_close(self->before.ice, true);
+    for (size_t at = 0; at < CLOSING; at++)
+        if (self->closing[at] != NULL)
+            ice_close(self->closing[at], true);
+    seal_close(&self->seal);
+    free(self);
+}
