@@ -12,6 +12,7 @@ use Rattle.roll_mesh.specs.Groups.{first_of, AreAlike}
 use Rattle.roll_mesh.specs.Machines.{is_orphan, none_offered}
 use Rattle.roll_mesh.specs.declared.limits.TheConstants.{INPUT_LIMIT, PLAYER_LIMIT}
 use Rattle.roll_mesh.specs.declared.packet.Offer.{Offer}
+use Rattle.roll_mesh.specs.declared.seat.Seat.{Seat}
 use Rattle.roll_session.specs.Answered.{IsPlayed}
 use Rattle.roll_session.specs.Changes.{remote_refusal, reserve_refusal, FitsLog, IsRefused, IsWhy}
 use Rattle.roll_session.specs.Headline.{words_of}
