@@ -306,17 +306,15 @@ heard_later other now contact =
     if nat_lt (since now other.heard_at) (since now contact.heard_at)
     then record contact { heard_at = other.heard_at; interrupted = false } else contact
 
--- the newest clock that came back is that of both networks
-abbrev pub newest_of_both : Contact → ℕ → Contact → Contact
-newest_of_both other now contact =
-    if is_fresh other.answered contact.answered now then record contact { answered = other.answered } else contact
-
--- and a clock came back when one came back to the other network, if that was later
+-- a clock came back when one came back to the other network, if that was later
 abbrev pub answered_later : Contact → ℕ → Contact → Contact
 answered_later other now contact =
-    let known = newest_of_both other now contact in
     if nat_lt (since now other.answered_at) (since now contact.answered_at)
-    then record known { answered_at = other.answered_at; unanswered = other.unanswered } else known
+    then record contact {
+      answered = other.answered;
+      answered_at = other.answered_at;
+      unanswered = other.unanswered;
+    } else contact
 
 -- with what another network of the same machine knows of the same opening of an end: both are heard together
 abbrev pub heard_too : Contact → ℕ → Contact → Contact

@@ -463,14 +463,12 @@ impl Contact {
         }
     }
 
-    /// The newest clock that came back is that of both; and it came back when one came back to the other network, if that was later.
+    /// A clock came back when one came back to the other network, if that was later.
     fn answer_later(&mut self, other: &Contact, now: u32)
         ensures { self.new ≡ answered_later other.now now self.old }
     {
-        if is_fresh(other.answered, self.answered, now) {
-            self.answered = other.answered;
-        }
         if since(now, other.answered_at) < since(now, self.answered_at) {
+            self.answered = other.answered;
             self.answered_at = other.answered_at;
             self.unanswered = other.unanswered;
         }
