@@ -1042,6 +1042,30 @@ static void stops_near(uint32_t who, uint32_t at) {
     IS(is_gone(&all[other].records[(with.frames - 1) % KEPT].row, stopped), true);
 }
 
+/* An epoch begins in which a player is nobody's, and one of three machines, which puts a mark at once, is alone for so many turns. Another
+ * stops then, so that the third one has words of it past that mark. Nobody waits for more of them than there are. */
+static void stops_as_it_begins(uint32_t alone, uint32_t delay) {
+    terms of = terms_for(3);
+    of.players = 4;
+    of.owners[3] = FAZGROND_NOBODY;
+    for (uint32_t player = 0; player < 3; player++)
+        of.delays[player] = delay;
+    open_all(of);
+    run(120);
+    OK(put(1, 1, mark_of_nothing()));
+    run_to_the_seam(0);
+    OK(put(0, 0, mark_of_nothing()));
+    cut(0, 1, true);
+    cut(0, 2, true);
+    all[0].on_the_way = 0;
+    run(alone);
+    stop(2);
+    cut(0, 1, false);
+    cut(0, 2, false);
+    run_to_the_end(1000);
+    IS(epochs_played(), 3);
+}
+
 /* ---- Bad lines. */
 
 /* Seams while a line of three is broken, with words held back or not, on lines that lose 30 % or nothing: nobody is gone. */
@@ -1740,6 +1764,9 @@ static void try_stops(uint32_t every) {
     for (uint32_t who = 0; who < 9; who++)
         for (uint32_t at = who % every; at <= 2 * AROUND; at += every)
             tries("a machine stops near a mark", stops_near, who, at);
+    for (uint32_t alone = 0; alone <= 2 * AROUND; alone += every)
+        for (uint32_t delay = 0; delay <= 4; delay += every < 4 ? 2 : 4)
+            tries("a machine stops as an epoch begins", stops_as_it_begins, alone, delay);
 }
 
 static void try_lines(uint32_t every) {
