@@ -15,7 +15,7 @@
 
 enum {
     SPARE = 65536, /* so many bytes more than here a state may have */
-    SILENT = 500, TELL_EVERY = 1000, /* milliseconds */
+    SILENT = 500, TELL_EVERY = 1000, OVER_A_SEAM = 2000, /* milliseconds */
     TICKETS = 1
 };
 
@@ -111,15 +111,21 @@ int32_t lasting_open_peer(match *self, const fazgrond_match *match, const fazgro
 void lasting_seat_viewer(match *self, uint32_t viewer) {
     uint64_t number = strong_digest_of((uint64_t[2]){ self->meeting->key, self->meeting->viewer[viewer].line_draw }, 16) | 1;
     self->lasting.hosting.seat[seat_of_viewer(viewer)] = (faz_seat){ .is_taken = true, .number = number };
+    self->lasting.followed_at[viewer] = net_now(self->meeting->net);
 }
 
-/* One that goes over a seam isn't heard on the new line yet. */
+/* One that goes over a seam isn't heard on the new line for a moment. */
 uint32_t lasting_rows_seen(match *self, uint32_t viewer, uint32_t now) {
-    faz_seat *seat = &self->lasting.hosting.seat[seat_of_viewer(viewer)];
-    fazgrond_line_state state;
-    if (fazgrond_line_look(&seat->line, now, &state) == FAZGROND_OK)
-        return state.has_ended != 0 || state.is_silent != 0 ? UINT32_MAX : self->lasting.base + state.rows;
-    return fazgrond_line_look(&seat->before, now, &state) == FAZGROND_OK && state.has_ended == 0 && state.is_silent == 0 ? 0 : UINT32_MAX;
+    uint32_t *followed_at = &self->lasting.followed_at[viewer];
+    fazgrond_line_state state = { 0 };
+    (void)fazgrond_line_look(&self->lasting.hosting.seat[seat_of_viewer(viewer)].line, now, &state);
+    if (state.is_playing != 0 && state.has_ended == 0 && state.is_silent == 0) {
+        *followed_at = now;
+        return self->lasting.base + state.rows;
+    }
+    if (state.has_ended != 0)
+        *followed_at = now - OVER_A_SEAM;
+    return now - *followed_at >= OVER_A_SEAM ? UINT32_MAX : 0;
 }
 
 void lasting_bye(match *self) { faz_hosting_bye(&self->lasting.hosting); }

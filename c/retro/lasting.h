@@ -33,6 +33,7 @@ typedef struct lasting {
     fazgrond_epoch epoch;
     faz_hosting hosting;
     faz_comer comer;
+    uint32_t followed_at[FAZ_SEATS - FAZGROND_MACHINES]; /* when each viewer was heard on a line of this epoch or one before */
 #endif
 } lasting;
 
