@@ -10,6 +10,7 @@ enum { PATIENCE = 10000 /* milliseconds that the broker has at the end */ };
 
 static faz_cast *cast;
 static int players, published; /* of a match that is played here: so many frames */
+static bool has_begun;         /* it is known from which frame on */
 
 bool casting_open(const casting *settings, const duel *opening) {
     const char *why;
@@ -26,11 +27,21 @@ bool casting_open(const casting *settings, const duel *opening) {
     return cast != NULL;
 }
 
+/* Rows from the first one on that this machine has: it may have come into a match that ran. */
+static bool begin(GGPOSession *session) {
+    if (!has_begun && GGPO_SUCCEEDED(fazggpo_get_settled_from(session, &published))) {
+        faz_cast_from(cast, (uint64_t)published);
+        has_begun = true;
+    }
+    return has_begun;
+}
+
 void casting_turn(GGPOSession *session, field_in *field) {
     fazgrond_row row = { .count = (uint32_t)players };
     unsigned char *buffer;
     int frame, length, gone;
-    if (cast == NULL || !GGPO_SUCCEEDED(fazggpo_get_settled_state(session, &frame, &buffer, &length)) || field(buffer, length) == NULL)
+    if (cast == NULL || !GGPO_SUCCEEDED(fazggpo_get_settled_state(session, &frame, &buffer, &length)) || field(buffer, length) == NULL
+        || !begin(session))
         return;
     for (; published < frame; published++) {
         if (!GGPO_SUCCEEDED(fazggpo_get_settled_input(session, published, row.words, sizeof row.words, &gone)))

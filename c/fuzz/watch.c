@@ -25,7 +25,7 @@ static uint32_t take_byte(input *in) { return in->left > 0 ? in->left--, *in->by
 
 /* A good message, to be changed perhaps. */
 static size_t make(input *in, uint8_t *bytes, uint64_t number) {
-    uint32_t what = take_byte(in), frame = take_byte(in) * FAZ_RUN % FRAMES, count = 1 + take_byte(in) % FAZ_RUN;
+    uint32_t what = take_byte(in), frame = take_byte(in) % FRAMES, count = 1 + take_byte(in) % (FAZ_RUN - frame % FAZ_RUN);
     fazgrond_row rows[FAZ_RUN] = { 0 };
     duel state;
     for (uint32_t at = 0; at < count; at++)

@@ -409,6 +409,20 @@ GGPOErrorCode fazggpo_get_settled_input(GGPOSession *session, int frame, void *v
     return GGPO_OK;
 }
 
+GGPOErrorCode fazggpo_get_settled_from(GGPOSession *session, int *frame) {
+    if (session == NULL)
+        return GGPO_ERRORCODE_INVALID_SESSION;
+    if (frame == NULL)
+        return ggponet_refuse(session, GGPO_ERRORCODE_INVALID_REQUEST, "no place for the frame");
+    if (session->is_spectating || session->sync_frames != 0 || !session->has_begun)
+        return ggponet_refuse(session, GGPO_ERRORCODE_NOT_SYNCHRONIZED, "no frame is settled yet");
+    fazgrond_row row;
+    *frame = session->base - session->came_from > ROWS_BEFORE ? session->base - ROWS_BEFORE : session->came_from;
+    while (*frame < session->base && !find_settled(session, *frame, &row))
+        (*frame)++;
+    return GGPO_OK;
+}
+
 GGPOErrorCode fazggpo_get_settled(GGPOSession *session, int *frame) {
     fazgrond_line_state state = { 0 };
     uint32_t settled = 0;

@@ -292,10 +292,14 @@ GGPO_API struct fazgrond_peer *__cdecl fazggpo_get_peer(GGPOSession *session);
 GGPO_API GGPOErrorCode __cdecl fazggpo_get_settled_state(GGPOSession *session, int *frame, unsigned char **buffer, int *length);
 
 /* What the game was given for a settled frame: all players' inputs as ggpo_synchronize_input gives them, and who had left. Of parts of a
- * match that are over (fazggpo_rejoin) the last 256 frames are remembered. It is refused with GGPO_ERRORCODE_INVALID_REQUEST if the frame
- * isn't settled, or isn't remembered, and for a session that watches. */
+ * match that are over (fazggpo_rejoin), and of what a machine that came back was told first, the last 1024 frames are remembered. It is
+ * refused with GGPO_ERRORCODE_INVALID_REQUEST if the frame isn't settled, or isn't remembered, and for a session that watches. */
 GGPO_API GGPOErrorCode __cdecl fazggpo_get_settled_input(GGPOSession *session, int frame, void *values, int size,
                                                          int *disconnect_flags);
+
+/* The first frame of which fazggpo_get_settled_input has the inputs: 0, but for a match whose parts are over, and on a machine that came
+ * back. It is refused with GGPO_ERRORCODE_NOT_SYNCHRONIZED before the first input. */
+GGPO_API GGPOErrorCode __cdecl fazggpo_get_settled_from(GGPOSession *session, int *frame);
 
 /* ---- Players who come back.
  *

@@ -32,7 +32,7 @@ enum {
     MACHINES = 8,
     MOST_SYNC_FRAMES = 64, /* of a sync test */
     SENDER_AT = 12,        /* where a packet has its sender's number */
-    ROWS_BEFORE = 256,     /* rows that are remembered of epochs that are over */
+    ROWS_BEFORE = 1024,    /* rows that are remembered of epochs that are over */
     HOST = 0,              /* a spectator's only machine */
     HOST_HANDLE = 0,       /* GGPO's numbers for the two ends of a spectator's line */
     SPECTATOR_HANDLE = 1000
@@ -128,7 +128,8 @@ struct GGPOSession {
     bool is_at_seam; /* the next epoch has begun, and the state at its first frame isn't saved yet */
     int base;   /* how many frames of the match came before this epoch */
     settled_row rows_before[ROWS_BEFORE]; /* the last settled rows, each at the place of its frame */
-    int remembered; /* so many frames of the match have had theirs there */
+    int remembered; /* so many frames of the match have had theirs there, .. */
+    int came_from;  /* .. from this one on: that of the state with which this machine came in */
 #if FAZGROND_VERSION >= 0x000101
     fazgrond_epoch epoch;
     faz_hosting hosting;

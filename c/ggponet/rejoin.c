@@ -108,12 +108,16 @@ static void tell_epoch(GGPOSession *session) {
     session->call.on_event(&told);
 }
 
+static void remember_row(GGPOSession *session, const fazgrond_row *row) {
+    session->rows_before[session->remembered % ROWS_BEFORE] = (settled_row){ session->remembered, *row };
+    session->remembered++;
+}
+
 /* Its settled rows are forgotten with the session that has them. */
 static void remember_rows(GGPOSession *session) {
     fazgrond_row row;
-    for (; fazgrond_settled_row(&session->rollback, (uint32_t)(session->remembered - session->base), &row) == FAZGROND_OK;
-         session->remembered++)
-        session->rows_before[session->remembered % ROWS_BEFORE] = (settled_row){ session->remembered, row };
+    while (fazgrond_settled_row(&session->rollback, (uint32_t)(session->remembered - session->base), &row) == FAZGROND_OK)
+        remember_row(session, &row);
 }
 
 /* The next epoch, if this one is over. It is to the game as a rollback. */
@@ -179,7 +183,6 @@ static GGPOErrorCode come_in(GGPOSession *session, const faz_next *next) {
     session->me = (int)next->me;
     session->hosting.me = next->me;
     session->is_coming = false;
-    session->remembered = session->base;
     place_machines(session);
     fazgrond_settings settings = settings_in(session, next->me);
     GGPOErrorCode code = ggponet_open_lasting(session, &settings);
@@ -195,7 +198,7 @@ static GGPOErrorCode load(GGPOSession *session, const faz_next *next) {
     memcpy(buffer, next->state, next->length);
     bool is_loaded = session->call.load_game_state(buffer, (int)next->length);
     free(buffer);
-    session->frame = (int)next->frame;
+    session->frame = session->came_from = session->remembered = (int)next->frame;
     return is_loaded ? GGPO_OK : ggponet_broken(session, "load_game_state failed");
 }
 
@@ -210,7 +213,9 @@ static GGPOErrorCode take_what_came(GGPOSession *session) {
             code = load(session, &next);
         else if (next.what == FAZ_IN)
             code = come_in(session, &next);
-        else if (!ggponet_step_again(session, &next.row))
+        else if (ggponet_step_again(session, &next.row))
+            remember_row(session, &next.row);
+        else
             code = ggponet_broken(session, "advance_frame failed");
     }
     return code;

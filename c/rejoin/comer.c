@@ -162,10 +162,18 @@ static void ask_host(faz_comer *self) {
         self->send(self->of, self->host, bytes, length);
 }
 
+/* Who only watches stays with a host that is heard, though the match stands still. */
+static bool is_watching(faz_comer *self, uint32_t now) {
+    fazgrond_line_state state;
+    return self->players == 0 && self->has_state
+        && fazgrond_viewer_look(&self->viewer, now, &state) == FAZGROND_OK && state.is_playing != 0
+        && state.is_silent == 0;
+}
+
 void faz_comer_turn(faz_comer *self, uint32_t now) {
     if (self->is_in)
         return;
-    self->moved_at = self->has_clock ? self->moved_at : now;
+    self->moved_at = self->has_clock && !is_watching(self, now) ? self->moved_at : now;
     self->has_clock = true;
     self->now = now;
     if (self->host != FAZGROND_NO_MACHINE && now - self->moved_at > PATIENCE)

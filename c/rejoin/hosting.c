@@ -225,6 +225,14 @@ void faz_hosting_turn(faz_hosting *self, uint32_t now) {
         }
 }
 
+void faz_hosting_bye(faz_hosting *self) {
+    uint8_t bytes[FAZGROND_DATAGRAM];
+    size_t length;
+    for (uint32_t at = 0; at < FAZ_SEATS; at++)
+        if (fazgrond_line_bye(&self->seat[at].line, bytes, sizeof bytes, &length) == FAZGROND_OK)
+            self->send(self->of, at, bytes, length);
+}
+
 void faz_hosting_close(faz_hosting *self) {
     for (int at = 0; at < FAZ_SEATS; at++) {
         fazgrond_line_close(&self->seat[at].line);

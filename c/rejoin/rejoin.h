@@ -74,6 +74,9 @@ void faz_hosting_answer(faz_hosting *self);
  * machine is proposed, and all are told what they lack. */
 void faz_hosting_turn(faz_hosting *self, uint32_t now);
 
+/* Says to all who follow this machine that it leaves. A datagram may be lost: call it a few times. */
+void faz_hosting_bye(faz_hosting *self);
+
 void faz_hosting_close(faz_hosting *self);
 
 /* ---- At who comes. */

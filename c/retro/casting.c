@@ -29,6 +29,7 @@ static struct {
     image *shown;
     bool reloads;
     faz_cast *cast;
+    uint32_t given; /* so many rows of the match */
     FILE *digests;
     uint32_t last;
 } self;
@@ -70,7 +71,8 @@ static bool set_up(const facts *facts, const core_state *opening) {
     return self.shown != NULL;
 }
 
-bool casting_open(const match *of) {
+/* Begins to publish, from the match's opening on if that is there. */
+static bool open_from(const match *of, const core_state *opening, uint64_t digest) {
     const char *why = "there is no memory, or no core more";
     const agreement *all = &of->meeting->all;
     char me[32];
@@ -81,7 +83,7 @@ bool casting_open(const match *of) {
     snprintf(me, sizeof me, "player%" PRIu32 "-%08" PRIx32, all->me, (uint32_t)net_draw());
     self.core = &self.own;
     if (set_up(of->facts, &of->opening) && core_open(self.core, of->from)
-        && write_image(self.shown, &of->opening, of->states->slots[0].digest)) {
+        && write_image(self.shown, opening, digest)) {
         faz_cast_settings made = { .servers = of->wish->broker, .match = of->wish->cast, .me = me, .game = &self.game,
                                    .opening = self.shown, .session = &session, .limit = of->wish->frames,
                                    .rate = (uint32_t)(of->main->core.av.timing.fps + 0.5) };
@@ -92,12 +94,26 @@ bool casting_open(const match *of) {
     return self.cast != NULL;
 }
 
+bool casting_open(const match *of) { return open_from(of, &of->opening, of->states->slots[0].digest); }
+
+bool casting_come(const match *of) {
+    if (self.cast == NULL && !open_from(of, &of->lasting.opening, of->lasting.opening_digest))
+        return false;
+    self.given = of->lasting.trail.first;
+    if (self.cast != NULL)
+        faz_cast_from(self.cast, self.given);
+    return true;
+}
+
 void casting_turn(match *of) {
     uint32_t frame, slot;
+    fazgrond_row row;
     if (self.cast == NULL || fazgrond_settled_slot(&of->session, &frame, &slot) != FAZGROND_OK)
         return;
+    for (; match_row(of, self.given, &row); self.given++)
+        faz_cast_row(self.cast, &row);
     if (write_image(self.shown, &of->states->slots[slot].state, of->states->slots[slot].digest))
-        faz_cast_turn(self.cast, &of->session, frame, self.shown);
+        faz_cast_settled(self.cast, of->settled, self.shown);
 }
 
 static void free_all(void) {
@@ -117,6 +133,7 @@ bool casting_close(const char *reason) {
     if (!has_all)
         fprintf(stderr, "the broker doesn't have all: %s\n", state.why != NULL ? state.why : "it is too slow");
     self.cast = NULL;
+    self.given = 0;
     core_close(&self.own);
     free_all();
     return has_all;
@@ -150,7 +167,7 @@ outcome casting_watch(runner *on, const wish *wish, const facts *facts, const co
         return fprintf(stderr, "the match can't be watched: %s\n", why), FAILED;
     self.core = &on->core;
     self.digests = wish->digests != NULL ? fopen(wish->digests, "wb") : NULL;
-    while (!now.has_ended && now.desync == FAZ_LATEST && (wish->is_headless || window_goes_on())
+    while (!now.has_ended && now.version == 0 && now.desync == FAZ_LATEST && (wish->is_headless || window_goes_on())
            && (wish->frames == 0 || self.last < wish->frames)) {
         turn(view, wish, &now);
         due += length;
@@ -158,11 +175,13 @@ outcome casting_watch(runner *on, const wish *wish, const facts *facts, const co
         if (rest > 0)
             nanosleep(&(struct timespec){ rest / 1000000, rest % 1000000 * 1000 }, NULL);
     }
+    if (now.version != 0)
+        fprintf(stderr, "the match is published in version %" PRIu32 " of its messages, which this program doesn't read\n", now.version);
     if (now.desync != FAZ_LATEST)
         fprintf(stderr, "desync at frame %" PRIu32 ": the players had another state\n", now.desync);
     faz_view_close(view);
     free_all();
     bool is_written = self.digests == NULL || fclose(self.digests) == 0;
     fprintf(stderr, "watched %" PRIu32 " frames\n", self.last);
-    return is_written && now.desync == FAZ_LATEST ? ENDED : FAILED;
+    return is_written && now.version == 0 && now.desync == FAZ_LATEST ? ENDED : FAILED;
 }

@@ -31,7 +31,7 @@ static const char usage[] =
     "                   the check found it right\n"
     "  --hold N         words that come late wait for up to N turns while a helper plays their frames again (2 or more, as the\n"
     "                   check found it right; without helpers 0)\n"
-    "  --rejoin         who has left comes back with the same words; all say it, and who joins names its --port\n"
+    "  --rejoin         who has left comes back with the same words; all say it, also who watches, and who joins names its --port\n"
     "  --port N         the port of who joins or watches (any)\n"
     "  --timeout MS     a machine that is silent so long is gone (5000)\n"
     "  --headless       no window; --bot SEED plays by itself; --frames N ends then; --digests FILE has those of all frames\n"
@@ -147,10 +147,9 @@ static bool take_verdict(void) {
 /* Why --rejoin can't be had with what else was said; null if it can. */
 static const char *no_rejoin(void) {
     return !CAN_LAST ? "the library of this program is too old for --rejoin"
-        : self.host == 0 && self.join == NULL ? "--rejoin is for who plays: with --host or --join"
+        : self.host == 0 && self.join == NULL && self.watch == NULL ? "--rejoin is said with --host, --join or --watch"
         : self.join != NULL && self.port == 0 ? "--rejoin needs --port N: the same when this machine comes back"
         : self.helpers > 0 || self.hold > 0 ? "with --rejoin no helper plays ahead, and no word is held back"
-        : self.wish.cast != NULL ? "a match with --rejoin can't be published"
         : self.wish.picture != NULL ? "a match with --rejoin has no picture" : NULL;
 }
 

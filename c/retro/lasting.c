@@ -1,6 +1,7 @@
 #define _POSIX_C_SOURCE 200809L
 #include "lasting.h"
 
+#include "casting.h"
 #include "match.h"
 
 #include "../duel/clock.h"
@@ -14,7 +15,7 @@
 
 enum {
     SPARE = 65536, /* so many bytes more than here a state may have */
-    SILENT = 500, TELL_EVERY = 1000, /* milliseconds */
+    SILENT = 500, TELL_EVERY = 1000, OVER_A_SEAM = 2000, /* milliseconds */
     TICKETS = 1
 };
 
@@ -26,6 +27,16 @@ static uint32_t place_at(const match *self, const address *from) {
     return place;
 }
 
+/* Viewers sit behind all machines. */
+static uint32_t seat_of_viewer(uint32_t viewer) { return FAZGROND_MACHINES + viewer; }
+
+static uint32_t seat_at(const match *self, const address *from) {
+    uint32_t viewer = 0;
+    while (viewer < self->open_lines && !address_is(from, &self->meeting->viewer[viewer].at))
+        viewer++;
+    return viewer < self->open_lines ? seat_of_viewer(viewer) : FAZ_SEATS;
+}
+
 /* The number of the line between two machines. */
 static uint64_t line_number(const match *self, uint32_t one, uint32_t other) {
     uint64_t all[] = { self->meeting->all.numbers[0], one < other ? one : other, one < other ? other : one };
@@ -34,7 +45,8 @@ static uint64_t line_number(const match *self, uint32_t one, uint32_t other) {
 
 static void send_by(void *of, uint32_t to, const uint8_t *bytes, size_t length) {
     match *self = of;
-    net_send(self->meeting->net, &self->meeting->all.machine[to], bytes, length);
+    const meeting *with = self->meeting;
+    net_send(with->net, to < FAZGROND_MACHINES ? &with->all.machine[to] : &with->viewer[to - FAZGROND_MACHINES].at, bytes, length);
 }
 
 /* A bit for each player of a machine. */
@@ -45,9 +57,27 @@ static uint32_t players_of(const agreement *all, uint32_t place) {
     return players;
 }
 
+/* The parts of the match are kept, for a record of it. */
+static void note_part(match *self, const fazgrond_epoch *epoch) {
+    lasting *it = &self->lasting;
+    if (it->part_count > 0 && it->parts[it->part_count - 1].base == epoch->base)
+        return;
+    match_part *more = realloc(it->parts, (it->part_count + 1) * sizeof *more);
+    if (more == NULL) {
+        match_must(self, FAZGROND_NO_MEMORY);
+        return;
+    }
+    match_part *made = &more[it->part_count++];
+    it->parts = more;
+    *made = (match_part){ .base = (uint32_t)epoch->base, .threshold = epoch->threshold };
+    memcpy(made->owners, epoch->owners, sizeof made->owners);
+    memcpy(made->delays, epoch->delays, sizeof made->delays);
+}
+
 /* The machines of an epoch have places, and players delays. */
 static void read_epoch(match *self) {
     agreement *all = &self->meeting->all;
+    note_part(self, &self->lasting.epoch);
     self->lasting.base = all->base = (uint32_t)self->lasting.epoch.base;
     for (uint32_t player = 0; player < all->players; player++) {
         uint32_t owner = self->lasting.epoch.owners[player];
@@ -65,6 +95,7 @@ int32_t lasting_open_peer(match *self, const fazgrond_match *match, const fazgro
     if (it->epoch.size == 0) {
         it->epoch = fazgrond_epoch_for(match, settings);
         memcpy(it->epoch.delays, all->delays, sizeof it->epoch.delays);
+        note_part(self, &it->epoch);
     }
     faz_hosting_close(&it->hosting);
     it->hosting = (faz_hosting){ .session = &self->session, .peer = &self->peer, .me = match->me, .digest = all->digest,
@@ -72,8 +103,32 @@ int32_t lasting_open_peer(match *self, const fazgrond_match *match, const fazgro
     for (uint32_t place = 0; place < all->machines; place++)
         it->hosting.seat[place] = (faz_seat){ .is_taken = place != all->me, .number = line_number(self, all->me, place),
                                               .ticket = TICKETS + place, .players = players_of(all, place) };
+    for (uint32_t viewer = 0; viewer < self->open_lines; viewer++)
+        lasting_seat_viewer(self, viewer);
     return fazgrond_peer_open_lasting(&self->peer, &self->session, match, &it->epoch);
 }
+
+void lasting_seat_viewer(match *self, uint32_t viewer) {
+    uint64_t number = strong_digest_of((uint64_t[2]){ self->meeting->key, self->meeting->viewer[viewer].line_draw }, 16) | 1;
+    self->lasting.hosting.seat[seat_of_viewer(viewer)] = (faz_seat){ .is_taken = true, .number = number };
+    self->lasting.followed_at[viewer] = net_now(self->meeting->net);
+}
+
+/* One that goes over a seam isn't heard on the new line for a moment. */
+uint32_t lasting_rows_seen(match *self, uint32_t viewer, uint32_t now) {
+    uint32_t *followed_at = &self->lasting.followed_at[viewer];
+    fazgrond_line_state state = { 0 };
+    (void)fazgrond_line_look(&self->lasting.hosting.seat[seat_of_viewer(viewer)].line, now, &state);
+    if (state.is_playing != 0 && state.has_ended == 0 && state.is_silent == 0) {
+        *followed_at = now;
+        return self->lasting.base + state.rows;
+    }
+    if (state.has_ended != 0)
+        *followed_at = now - OVER_A_SEAM;
+    return now - *followed_at >= OVER_A_SEAM ? UINT32_MAX : 0;
+}
+
+void lasting_bye(match *self) { faz_hosting_bye(&self->lasting.hosting); }
 
 /* An epoch has begun with the state in slot 0. */
 void lasting_host(match *self) {
@@ -174,10 +229,14 @@ bool lasting_is_out(match *self) {
 }
 
 void lasting_hear(match *self, const address *from, const uint8_t *bytes, size_t length, uint32_t now) {
-    uint32_t place = place_at(self, from);
+    uint32_t place = place_at(self, from), seat = seat_at(self, from);
     bool is_known = place < self->meeting->all.machines;
     if (is_known)
         self->lasting.heard_at[place] = now;
+    else if (seat < FAZ_SEATS) {
+        faz_hosting_hear(&self->lasting.hosting, seat, bytes, length, now);
+        return;
+    }
     if (!self->lasting.is_coming && fazgrond_peer_receive(&self->peer, &self->session, bytes, length, now) == FAZGROND_OK)
         return;
     if (is_known && self->lasting.is_coming)
@@ -227,11 +286,14 @@ static void load(match *self, const faz_next *next) {
     if (!state_read((uint8_t *)next->state, next->length, &state) || !runner_open_at(self->main, &state, (uint32_t)next->frame)
         || !state_copy(&self->lasting.opening, &state))
         match_fail(self, "the core refuses the match's state");
+    self->lasting.opening_digest = self->states->slots[0].digest;
+    self->lasting.part_count = 0;
 }
 
 /* The last row that is there is seen. */
 static void follow(match *self, const faz_next *next, uint32_t now) {
     fazgrond_line_state state;
+    note_part(self, &self->lasting.comer.table.epoch);
     self->main->core.is_shown = fazgrond_viewer_look(&self->lasting.comer.viewer, now, &state) != FAZGROND_OK
         || state.rows == self->lasting.comer.rows;
     if (!runner_follow(self->main, &next->row))
@@ -248,6 +310,8 @@ static void come_in(match *self, const faz_next *next) {
         return;
     lasting_host(self);
     tell_epoch(self);
+    if (!casting_come(self))
+        match_fail(self, "it can't be published");
     match_say(self, "this machine is in the match again, from frame %" PRIu32 " on", self->lasting.base);
 }
 
@@ -290,6 +354,7 @@ void lasting_close(match *self) {
     faz_comer_close(&self->lasting.comer);
     trail_free(&self->lasting.trail);
     free(self->lasting.opening.at);
+    free(self->lasting.parts);
     free(self->main->spare.state.at);
     self->main->spare = (slot){ 0 };
     self->main->trail = NULL;
@@ -304,6 +369,9 @@ void lasting_begin(match *self) { (void)self; }
 void lasting_return(match *self) { (void)self; }
 void lasting_host(match *self) { (void)self; }
 void lasting_note(match *self, const fazgrond_request *request) { (void)self, (void)request; }
+void lasting_seat_viewer(match *self, uint32_t viewer) { (void)self, (void)viewer; }
+uint32_t lasting_rows_seen(match *self, uint32_t viewer, uint32_t now) { return (void)self, (void)viewer, (void)now, 0; }
+void lasting_bye(match *self) { (void)self; }
 void lasting_turn(match *self, uint32_t now) { (void)self, (void)now; }
 void lasting_tell(match *self, uint32_t now) { (void)self, (void)now; }
 bool lasting_is_out(match *self) { return (void)self, false; }

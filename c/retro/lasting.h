@@ -14,17 +14,26 @@ enum { CAN_LAST = 1 };
 enum { CAN_LAST = 0 };
 #endif
 
+/* How a part of the match began: at which frame, with which owners and delays. All that this machine was in, or followed on its way in. */
+typedef struct match_part {
+    uint32_t base, threshold, owners[FAZGROND_PLAYERS], delays[FAZGROND_PLAYERS];
+} match_part;
+
 typedef struct lasting {
     bool is_coming, is_lost;     /* this machine comes into the match; it hears nobody of it */
     uint32_t base;               /* so many frames of the match came before this epoch */
     uint32_t heard_at[FAZGROND_MACHINES], told_at; /* when each machine was heard, and those told that weren't */
     trail trail;
-    core_state opening;          /* the state at the first frame of the trail, if that isn't the match's opening */
+    core_state opening;          /* the state at the first frame of the trail, if this machine came in there, and its digest */
+    uint64_t opening_digest;
+    match_part *parts;
+    size_t part_count;
 #if FAZGROND_VERSION >= 0x000101
     bool is_at_seam;
     fazgrond_epoch epoch;
     faz_hosting hosting;
     faz_comer comer;
+    uint32_t followed_at[FAZ_SEATS - FAZGROND_MACHINES]; /* when each viewer was heard on a line of this epoch or one before */
 #endif
 } lasting;
 
@@ -47,6 +56,12 @@ void lasting_hear(struct match *self, const address *from, const uint8_t *bytes,
 
 /* In each turn while the match runs, before it is played: goes on in the next epoch if this one is over, and lets others in. */
 void lasting_turn(struct match *self, uint32_t now);
+
+/* Somebody who watches is let in, with the number of its line; how many frames it has, UINT32_MAX if it is gone; and all of them are told
+ * that this machine leaves. */
+void lasting_seat_viewer(struct match *self, uint32_t viewer);
+uint32_t lasting_rows_seen(struct match *self, uint32_t viewer, uint32_t now);
+void lasting_bye(struct match *self);
 
 /* A request was carried out. */
 void lasting_note(struct match *self, const fazgrond_request *request);

@@ -155,13 +155,17 @@ static bool begin(match *self) {
 static void open_lines(match *self) {
     const meeting *it = self->meeting;
     for (; it->is_host && self->open_lines < it->viewers; self->open_lines++) {
+        match_say(self, "viewer %" PRIu32 " is there", self->open_lines);
+        if (self->wish->lasts) {
+            lasting_seat_viewer(self, self->open_lines);
+            continue;
+        }
         fazgrond_line_settings settings = { .draw = net_draw(), .digest = it->all.digest, .host = it->all.me,
                                             .machines = it->all.machines, .silent_after = self->wish->silent_after };
         settings.number = strong_digest_of((uint64_t[2]){ it->key, it->viewer[self->open_lines].line_draw }, 16) | 1;
         memcpy(settings.owners, it->all.owners, sizeof settings.owners);
         self->lines[self->open_lines] = (fazgrond_line)FAZGROND_CLOSED;
         match_must(self, fazgrond_line_open(&self->lines[self->open_lines], &settings));
-        match_say(self, "viewer %" PRIu32 " is there", self->open_lines);
     }
 }
 
@@ -391,7 +395,9 @@ static void send_all(match *self, uint32_t now) {
         fazgrond_line_state seen;
         if (fazgrond_line_send(&self->lines[at], &self->session, now, bytes, sizeof bytes, &length) == FAZGROND_OK)
             net_send(self->meeting->net, &self->meeting->viewer[at].at, bytes, length);
-        if (fazgrond_line_look(&self->lines[at], now, &seen) == FAZGROND_OK)
+        if (self->wish->lasts)
+            self->rows_seen[at] = lasting_rows_seen(self, at, now);
+        else if (fazgrond_line_look(&self->lines[at], now, &seen) == FAZGROND_OK)
             self->rows_seen[at] = seen.has_ended != 0 || seen.is_silent != 0 ? UINT32_MAX : seen.rows;
     }
 }
@@ -408,6 +414,8 @@ static void say_bye(match *self) {
         for (int times = 0; times < BYES; times++)
             if (fazgrond_line_bye(&self->lines[at], bytes, sizeof bytes, &length) == FAZGROND_OK)
                 net_send(self->meeting->net, &self->meeting->viewer[at].at, bytes, length);
+    for (int times = 0; times < BYES; times++)
+        lasting_bye(self);
     net_drain(self->meeting->net);
 }
 
@@ -460,6 +468,7 @@ static void play_lasting(match *self, uint32_t now) {
     if (self->is_running && !self->has_desync && !self->has_failed)
         lasting_turn(self, now);
     note_settled(self);
+    casting_turn(self);
     play_on(self);
     hear_events(self);
 }

@@ -260,8 +260,6 @@ static const char *no_seat(const meeting *self, const guest *one) {
         seated += self->machine[at].players;
     if (one->players > 0 && (self->is_agreed || seated > FAZGROND_PLAYERS))
         return "the match has begun, or there are enough players";
-    if (one->players == 0 && self->facts.lasts)
-        return "nobody can watch a match with --rejoin";
     return one->players == 0 && self->viewers == VIEWERS ? "enough watch it" : NULL;
 }
 

@@ -5,8 +5,9 @@
 #include <string.h>
 
 static const char head[8] = "FZREPLAY";
+enum { PART_BYTES = 4 * (3 + 2 * FAZGROND_PLAYERS) };
 
-enum { VERSION = 1, LATER = 2 /* the rows of a machine that came back: those before a frame aren't there */ };
+enum { VERSION = 1, IN_PARTS = 2 /* of a match into which players come back: its parts, from a frame on in which this machine came in */ };
 
 /* Numbers of four bytes, the lowest first. */
 static bool put(FILE *file, uint32_t number) {
@@ -37,9 +38,9 @@ static uint32_t last_frame(const match *self) {
     return last > first ? last : first;
 }
 
-static bool write_rows(match *self, FILE *file) {
+static bool write_rows(match *self, FILE *file, uint32_t from, uint32_t to) {
     bool goes_on = true;
-    for (uint32_t frame = self->lasting.trail.first; frame < last_frame(self) && goes_on; frame++) {
+    for (uint32_t frame = from; frame < to && goes_on; frame++) {
         fazgrond_row row;
         goes_on = match_row(self, frame, &row) && put(file, row.gone);
         for (uint32_t at = 0; at < self->meeting->all.players && goes_on; at++)
@@ -48,15 +49,39 @@ static bool write_rows(match *self, FILE *file) {
     return goes_on;
 }
 
+static bool put_all(FILE *file, const uint32_t *numbers) {
+    bool goes_on = true;
+    for (int at = 0; at < FAZGROND_PLAYERS && goes_on; at++)
+        goes_on = put(file, numbers[at]);
+    return goes_on;
+}
+
+/* Each part with its own rows. One that begins behind the last frame isn't written. */
+static bool write_parts(match *self, FILE *file) {
+    const lasting *it = &self->lasting;
+    uint32_t from = it->trail.first, last = last_frame(self), count = 0;
+    while (count < it->part_count && (count == 0 || it->parts[count].base < last))
+        count++;
+    bool goes_on = put(file, from) && put(file, count);
+    for (uint32_t at = 0; at < count && goes_on; at++) {
+        const match_part *one = &it->parts[at];
+        uint32_t to = at + 1 < count ? one[1].base : last;
+        goes_on = put(file, one->base) && put(file, one->threshold) && put_all(file, one->owners) && put_all(file, one->delays)
+            && put(file, to - from) && write_rows(self, file, from, to);
+        from = to;
+    }
+    return goes_on;
+}
+
 static bool write_replay(match *self, FILE *file) {
     const facts *it = self->facts;
-    uint32_t first = self->lasting.trail.first;
-    const core_state *opening = first > 0 ? &self->lasting.opening : &self->opening;
-    return fwrite(head, 1, sizeof head, file) == sizeof head && put(file, first > 0 ? LATER : VERSION)
-        && (first == 0 || put(file, first)) && put_long(file, it->core) && put_long(file, it->rom) && put_long(file, it->options)
-        && put(file, self->states->reloads) && put(file, self->meeting->all.players) && put(file, last_frame(self) - first)
-        && put_long(file, opening->picture) && put(file, (uint32_t)opening->size)
-        && fwrite(opening->at, 1, opening->size, file) == opening->size && write_rows(self, file);
+    bool lasts = self->wish->lasts;
+    const core_state *opening = self->lasting.opening.at != NULL ? &self->lasting.opening : &self->opening;
+    return fwrite(head, 1, sizeof head, file) == sizeof head && put(file, lasts ? IN_PARTS : VERSION) && put_long(file, it->core)
+        && put_long(file, it->rom) && put_long(file, it->options) && put(file, self->states->reloads)
+        && put(file, self->meeting->all.players) && (lasts || put(file, last_frame(self))) && put_long(file, opening->picture)
+        && put(file, (uint32_t)opening->size) && fwrite(opening->at, 1, opening->size, file) == opening->size
+        && (lasts ? write_parts(self, file) : write_rows(self, file, 0, last_frame(self)));
 }
 
 /* A line for each settled frame: the digest of the state after it. */
@@ -127,18 +152,55 @@ bool replay_write_all(match *self) {
     return write_one(self, self->wish->picture, write_script) && is_replay && is_digests;
 }
 
-static bool take_rows(bytes *from, replay *out) {
-    size_t each = 4 * ((size_t)out->players + 1);
-    if (out->players == 0 || out->players > FAZGROND_PLAYERS || from->size / each < out->count)
+/* So many rows more. */
+static bool take_rows(bytes *from, replay *out, uint32_t count) {
+    size_t each = 4 * ((size_t)out->players + 1), all = (size_t)out->count + count;
+    if (from->size / each < count || all > UINT32_MAX)
         return false;
-    out->rows = calloc((size_t)out->count + 1, sizeof *out->rows);
-    for (uint32_t frame = 0; frame < out->count && out->rows != NULL; frame++) {
-        out->rows[frame].count = out->players;
-        out->rows[frame].gone = take(from);
+    fazgrond_row *more = realloc(out->rows, (all + 1) * sizeof *more);
+    if (more == NULL)
+        return false;
+    out->rows = more;
+    memset(more + out->count, 0, (count + (size_t)1) * sizeof *more);
+    for (; out->count < all; out->count++) {
+        fazgrond_row *row = &more[out->count];
+        row->count = out->players;
+        row->gone = take(from);
         for (uint32_t at = 0; at < out->players; at++)
-            out->rows[frame].words[at] = take(from);
+            row->words[at] = take(from);
     }
-    return out->rows != NULL;
+    return true;
+}
+
+static void take_all(bytes *from, uint32_t *numbers) {
+    for (int at = 0; at < FAZGROND_PLAYERS; at++)
+        numbers[at] = take(from);
+}
+
+/* A part, and its rows: it begins where the one before ends, or, if it is the first, at the first frame or before it. */
+static bool take_part(bytes *from, replay *out) {
+    if (from->size < PART_BYTES)
+        return false;
+    match_part one = { .base = take(from) };
+    one.threshold = take(from);
+    take_all(from, one.owners);
+    take_all(from, one.delays);
+    uint64_t end = (uint64_t)out->first + out->count;
+    match_part *more = realloc(out->parts, (out->part_count + (size_t)1) * sizeof *more);
+    if (more == NULL)
+        return false;
+    out->parts = more;
+    more[out->part_count++] = one;
+    return (out->part_count == 1 ? one.base <= end : one.base == end) && take_rows(from, out, take(from));
+}
+
+static bool take_parts(bytes *from, replay *out) {
+    out->first = take(from);
+    uint32_t count = take(from);
+    bool goes_on = count > 0;
+    for (uint32_t at = 0; at < count && goes_on; at++)
+        goes_on = take_part(from, out);
+    return goes_on;
 }
 
 bool replay_read(const char *path, replay *out) {
@@ -151,30 +213,33 @@ bool replay_read(const char *path, replay *out) {
     rest.at += is_one ? sizeof head : 0;
     rest.size -= is_one ? sizeof head : 0;
     uint32_t version = take(&rest);
-    is_one = is_one && (version == VERSION || version == LATER);
-    out->first = version == LATER ? take(&rest) : 0;
+    is_one = is_one && (version == VERSION || version == IN_PARTS);
     out->facts.core = take_long(&rest);
     out->facts.rom = take_long(&rest);
     out->facts.options = take_long(&rest);
     out->reloads = take(&rest) != 0;
     out->players = take(&rest);
-    out->count = take(&rest);
+    uint32_t count = version == VERSION ? take(&rest) : 0;
     core_state opening = { .picture = take_long(&rest) };
     opening.size = take(&rest);
     opening.at = rest.at;
-    is_one = is_one && opening.size <= rest.size && state_copy(&out->opening, &opening);
+    is_one = is_one && out->players > 0 && out->players <= FAZGROND_PLAYERS && opening.size <= rest.size
+        && state_copy(&out->opening, &opening);
     if (is_one) {
         rest.at += opening.size;
         rest.size -= opening.size;
-        is_one = take_rows(&rest, out);
+        is_one = version == VERSION ? take_rows(&rest, out, count) : take_parts(&rest, out);
     }
     free(all.at);
+    if (!is_one)
+        replay_free(out);
     return is_one;
 }
 
 void replay_free(replay *self) {
     free(self->opening.at);
     free(self->rows);
+    free(self->parts);
 }
 
 static bool keep(playback *self) {

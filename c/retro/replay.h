@@ -12,6 +12,8 @@ typedef struct replay {
     uint32_t players, first, count; /* from this frame of the match on, so many */
     core_state opening;
     fazgrond_row *rows;
+    match_part *parts; /* of a match into which players come back; the first begins at the first frame or before it */
+    uint32_t part_count;
 } replay;
 
 /* Writes the files that were asked for: the replay, the digests of all settled frames, and the session's log as a script, of which

@@ -13,6 +13,7 @@
 enum {
     KEPT = 4096,       /* entries that wait for the broker: over a minute at 60 frames a second */
     SNAPS = 4,         /* snapshots among them */
+    PENDING = 256,     /* rows of an epoch that may end */
     NEAR = 32,         /* a state so close before a snapshot's frame is kept, and stepped up to it */
     AFTER_GAP = FAZ_CHAPTER + 2, /* free entries that end a gap */
     ACK = 1000,        /* milliseconds until a message is sent again */
@@ -36,7 +37,10 @@ struct faz_cast {
 
     /* The game's side. */
     uint32_t frame; /* the next row's */
-    int64_t gap;    /* the first frame that found no room, until a snapshot follows */
+    uint64_t base;  /* how many frames of the match came before those that sessions count */
+    int64_t gap;    /* the first frame that viewers may lack, until a snapshot follows */
+    bool is_full;   /* since that rows have found no room */
+    bool is_begun;  /* the opening was given, or never is */
     bool is_near;
     uint32_t near_frame;
     void *near;
@@ -88,13 +92,21 @@ static void push_snap(faz_cast *self) {
     uint32_t slot = 0;
     while (slot < SNAPS && atomic_load(&self->is_taken[slot]))
         slot++;
-    if (slot == SNAPS || room(self) < (self->gap != NO_GAP ? AFTER_GAP : 2))
+    if (slot == SNAPS || room(self) < (self->is_full ? AFTER_GAP : 2))
         return;
     memcpy(snap_at(self, slot), self->near, self->settings.game->size);
     atomic_store(&self->is_taken[slot], true);
     push(self, &(entry){ .kind = FAZ_SNAP, .frame = self->frame, .slot = slot,
                          .gap = self->gap != NO_GAP ? (uint32_t)self->gap : self->frame });
     self->gap = NO_GAP;
+    self->is_full = false;
+}
+
+/* The opening, which is the state near at first. */
+static void push_opening(faz_cast *self) {
+    if (!self->is_begun && self->frame == 0)
+        push_snap(self);
+    self->is_begun = true;
 }
 
 /* At a snapshot's frame: from the state that was kept close before it. */
@@ -109,9 +121,12 @@ static void note_chapter(faz_cast *self) {
 void faz_cast_row(faz_cast *self, const fazgrond_row *row) {
     if (self->frame >= self->settings.limit)
         return;
-    if (self->gap == NO_GAP && room(self) < 3) /* a snapshot and the end always find room */
-        self->gap = self->frame;
-    if (self->gap == NO_GAP)
+    push_opening(self);
+    if (!self->is_full && room(self) < 3) { /* a snapshot and the end always find room */
+        self->is_full = true;
+        self->gap = self->gap != NO_GAP ? self->gap : self->frame;
+    }
+    if (!self->is_full)
         push(self, &(entry){ .kind = FAZ_ROWS, .frame = self->frame, .row = *row });
     else
         atomic_fetch_add(&self->lost, 1);
@@ -122,6 +137,8 @@ void faz_cast_row(faz_cast *self, const fazgrond_row *row) {
 }
 
 void faz_cast_settled(faz_cast *self, uint32_t frame, const void *state) {
+    if (frame == 0)
+        push_opening(self);
     if (frame != self->frame || FAZ_CHAPTER - frame % FAZ_CHAPTER > NEAR)
         return;
     memcpy(self->near, state, self->settings.game->size);
@@ -129,14 +146,56 @@ void faz_cast_settled(faz_cast *self, uint32_t frame, const void *state) {
     self->is_near = true;
 }
 
-void faz_cast_turn(faz_cast *self, fazgrond_session *session, uint32_t frame, const void *state) {
-    fazgrond_row row;
-    while (self->frame < self->settings.limit && fazgrond_settled_row(session, self->frame, &row) == FAZGROND_OK)
-        faz_cast_row(self, &row);
-    faz_cast_settled(self, frame, state);
+/* A settled row of a session, so many rows after the next one. */
+static bool find_row(const faz_cast *self, fazgrond_session *session, uint32_t behind, fazgrond_row *row) {
+    uint64_t frame = (uint64_t)self->frame + behind;
+    return frame >= self->base && frame < self->settings.limit
+        && fazgrond_settled_row(session, (uint32_t)(frame - self->base), row) == FAZGROND_OK;
 }
 
+void faz_cast_turn(faz_cast *self, fazgrond_session *session, uint32_t frame, const void *state) {
+    fazgrond_row row;
+    while (find_row(self, session, 0, &row))
+        faz_cast_row(self, &row);
+    if (self->base + frame == self->frame)
+        faz_cast_settled(self, self->frame, state);
+}
+
+void faz_cast_from(faz_cast *self, uint64_t frame) {
+    uint32_t from = frame < self->settings.limit ? (uint32_t)frame : self->settings.limit;
+    if (from == self->frame)
+        return;
+    if (from > self->frame && self->gap == NO_GAP)
+        self->gap = self->frame;
+    self->is_begun = true;
+    self->is_near = false;
+    self->frame = from;
+}
+
+void faz_cast_epoch(faz_cast *self, uint64_t base) {
+    self->base = base;
+    faz_cast_from(self, base);
+}
+
+#if FAZGROND_VERSION >= 0x000101
+int32_t faz_cast_go_on(faz_cast *self, fazgrond_session *session, fazgrond_peer *peer, uint32_t *frames) {
+    fazgrond_row rows[PENDING];
+    fazgrond_epoch epoch;
+    uint32_t count = 0, from = self->frame;
+    while (count < PENDING && find_row(self, session, count, &rows[count]))
+        count++;
+    int32_t code = fazgrond_peer_go_on(peer, session, frames);
+    if (code != FAZGROND_OK || fazgrond_peer_epoch(peer, &epoch) != FAZGROND_OK)
+        return code;
+    for (uint32_t at = 0; at < count && (uint64_t)from + at < epoch.base; at++) /* rows past the end are played otherwise */
+        faz_cast_row(self, &rows[at]);
+    faz_cast_epoch(self, epoch.base);
+    return code;
+}
+#endif
+
 void faz_cast_end(faz_cast *self, const char *reason) {
+    push_opening(self);
     if (self->reason[0] != 0 || room(self) == 0)
         return;
     strncpy(self->reason, reason, sizeof self->reason - 1);
@@ -238,8 +297,14 @@ static bool send_snap(faz_cast *self, const entry *one) {
     return is_sent;
 }
 
+/* Whether a row goes on with the run: it is the next one, and nobody is back in it. */
+static bool is_next(const faz_cast *self, const entry *one) {
+    return self->run_count > 0 && one->frame == self->run_first + self->run_count
+        && (self->run[self->run_count - 1].gone & ~one->row.gone) == 0;
+}
+
 static bool send_row(faz_cast *self, const entry *one) {
-    if (self->run_count > 0 && one->frame != self->run_first + self->run_count && !send_run(self))
+    if (!is_next(self, one) && !send_run(self))
         return false;
     if (self->run_count == 0)
         self->run_first = one->frame;
@@ -354,7 +419,6 @@ faz_cast *faz_cast_open(const faz_cast_settings *settings, const char **why) {
         return NULL;
     }
     sem_init(&self->something, 0, 0);
-    push_snap(self);
     if (pthread_create(&self->thread, NULL, send_all, self) == 0)
         return self;
     *why = "no thread can be begun";

@@ -17,7 +17,7 @@ static const char usage[] =
     "  --from FRAME    from this frame on, without catching up; else from the last snapshot on\n"
     "  --live          from the newest frame on\n"
     "  --cushion N     so many frames are kept in hand (30)\n"
-    "  --export FILE   plays nothing: writes all of the match as a script for `rollduel play --game duel`\n"
+    "  --export FILE   plays nothing: writes all of the match, or --frames N, as a script for `rollduel play --game duel`\n"
     "  --headless      no window\n"
     "  --frames N      ends once frame N is shown, and prints its state\n"
     "  --states FILE   writes each state that is shown, one a line, as rollduel shows it\n"
@@ -46,6 +46,11 @@ static int fail(const char *why) {
     return 2;
 }
 
+static int fail_of_version(uint32_t version) {
+    fprintf(stderr, "faz-view: the match is published in version %u of its messages, which this program doesn't read\n", version);
+    return 2;
+}
+
 /* What is shown. */
 
 static void keep_row(const fazgrond_row *row) {
@@ -63,7 +68,7 @@ static void keep_row(const fazgrond_row *row) {
 static void on_seen(const void *state, const fazgrond_row *row, uint32_t frame, void *closure) {
     char text[512];
     (void)closure;
-    if (self.export != NULL)
+    if (self.export != NULL && !self.is_over)
         keep_row(row);
     if (self.out == NULL && (long)frame != self.frames)
         return;
@@ -168,6 +173,8 @@ static int watch(void) {
             fputs("faz-view: nothing of this match has come yet; it waits\n", stderr);
             self.is_waiting = true;
         }
+        if (now.version != 0)
+            return fail_of_version(now.version);
         if (clock_micros() - heard > self.wait * 1000000)
             return fail("nothing comes any more");
         if (self.export == NULL || played == 0) /* an export takes what is there at once */
@@ -213,10 +220,23 @@ static void write_frame(FILE *file, uint32_t local, size_t frame) {
     fputs("A\n", file);
 }
 
+/* Whether somebody is back in a frame of the match: then it is no script's. */
+static bool has_returned(void) {
+    for (size_t frame = 1; frame < self.count; frame++)
+        if ((self.rows[frame - 1].gone & ~self.rows[frame].gone) != 0) {
+            fprintf(stderr, "faz-view: somebody is back from frame %zu on, and a script is one session, in which who has left stays away; "
+                    "`--frames %zu` writes what is before\n", frame, frame);
+            return true;
+        }
+    return false;
+}
+
 /* The player who stayed longest is the local one: a local player can't leave, so the script ends with it. */
 static int write_script(void) {
     const faz_head *head = faz_view_head(self.view);
     uint32_t local = 0;
+    if (has_returned())
+        return 2;
     FILE *file = fopen(self.export, "w");
     if (file == NULL || head == NULL)
         return fail("the script can't be written");

@@ -5,7 +5,7 @@
 #include <stdio.h>
 #include <string.h>
 
-enum { HEAD = 14, KIND = 13, VERSION = 2, SUM = 16, FIRST = 4, HEAD_FIELDS = 20 + 4 * FAZGROND_PLAYERS, HELLO = 53 };
+enum { HEAD = 14, KIND = 13, VERSION = 3, SUM = 16, FIRST = 4, HEAD_FIELDS = 20 + 4 * FAZGROND_PLAYERS, HELLO = 53 };
 
 /* The draws of the two ends of a run's line. They are always the same, since a run is read by whoever gets it, whenever. */
 enum { HOST_DRAW = 1, VIEWER_DRAW = 2 };
@@ -100,6 +100,11 @@ size_t faz_write_head(uint8_t *out, uint64_t number, const faz_head *head) {
     return HEAD + HEAD_FIELDS + name;
 }
 
+uint32_t faz_other_version(const uint8_t *bytes, size_t length, uint64_t number) {
+    uint32_t version = is_packet(bytes, length, FAZ_HEAD, 2, number) ? (uint32_t)get(bytes + HEAD, 2) : VERSION;
+    return version == VERSION ? 0 : version;
+}
+
 bool faz_read_head(const uint8_t *bytes, size_t length, uint64_t number, faz_head *head) {
     if (!is_packet(bytes, length, FAZ_HEAD, HEAD_FIELDS + 1, number) || length >= HEAD + HEAD_FIELDS + FAZ_NAME)
         return false;
@@ -117,7 +122,8 @@ bool faz_read_head(const uint8_t *bytes, size_t length, uint64_t number, faz_hea
 }
 
 /* Rows: the first frame, and then a play as a host sends it by a viewer's line, on which the run's first frame is frame 0. The
- * line's number is the match's and the first frame, and its ends have draws that everybody knows. */
+ * line's number is the match's and the first frame, and its ends have draws that everybody knows. To such a line who has left stays
+ * away, so where somebody comes back another run begins. */
 
 static size_t put_short(uint8_t *out, uint32_t number) {
     size_t length = 0;
@@ -205,12 +211,13 @@ uint32_t faz_read_rows(const uint8_t *bytes, size_t length, uint64_t number, uin
     uint32_t frame = get_word(bytes), count = 0, taken;
     fazgrond_viewer viewer = FAZGROND_CLOSED;
     fazgrond_line_settings line = { .number = number + frame, .draw = VIEWER_DRAW, .machines = 2 };
+    const uint32_t room = FAZ_RUN - frame % FAZ_RUN;
     for (uint32_t player = 0; player < FAZGROND_PLAYERS; player++)
         line.owners[player] = player < players ? 0 : FAZGROND_NO_PLAYER;
-    if (frame % FAZ_RUN != 0 || frame >= FAZ_LAST_FRAME || fazgrond_viewer_open(&viewer, &line) != FAZGROND_OK)
+    if (frame >= FAZ_LAST_FRAME || fazgrond_viewer_open(&viewer, &line) != FAZGROND_OK)
         return 0;
     if (bytes[FIRST + KIND] == FAZ_ROWS && greet(&viewer, &line)
-        && fazgrond_viewer_receive(&viewer, bytes + FIRST, length - FIRST, 0, &taken) == FAZGROND_OK && taken <= FAZ_RUN)
+        && fazgrond_viewer_receive(&viewer, bytes + FIRST, length - FIRST, 0, &taken) == FAZGROND_OK && taken <= room)
         while (count < taken && fazgrond_viewer_row(&viewer, &rows[count]) == FAZGROND_OK)
             count++;
     fazgrond_viewer_close(&viewer);

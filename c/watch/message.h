@@ -9,7 +9,7 @@ extern "C" {
 #endif
 
 enum {
-    FAZ_RUN = 15,             /* the frames of a run: its first one is a multiple of this */
+    FAZ_RUN = 15,             /* the most frames of a run: the next one begins at a multiple of this, or before */
     FAZ_CHAPTER = 600,        /* the frames from a snapshot to the next */
     FAZ_LAST_FRAME = 1048576, /* as a session's */
     FAZ_NAME = 33,            /* room for the name of a match, a game or a publisher, with its end */
@@ -62,13 +62,17 @@ faz_kind faz_kind_of(const uint8_t *bytes, size_t length);
 /* The first frame of a run, and the frame of a snapshot, a digest or an end; 0 of what has none. */
 uint32_t faz_frame_of(const uint8_t *bytes, size_t length);
 
-/* Each writes a message, into FAZ_SMALL bytes, and says how many it wrote. Of rows there are 1 to FAZ_RUN. */
+/* Each writes a message, into FAZ_SMALL bytes, and says how many it wrote. Of rows there are 1 or more, up to the next frame that is a
+ * multiple of FAZ_RUN, and who is gone in one of them is gone in all that follow: where somebody comes back another run begins. */
 size_t faz_write_head(uint8_t *out, uint64_t number, const faz_head *head);
 size_t faz_write_rows(uint8_t *out, uint64_t number, uint32_t first, const fazgrond_row *rows, uint32_t count);
 size_t faz_write_sum(uint8_t *out, uint64_t number, const faz_sum *sum);
 size_t faz_write_end(uint8_t *out, uint64_t number, uint32_t frames, const char *reason);
 /* The same, into so many bytes more as a state has. */
 size_t faz_write_snap(uint8_t *out, uint64_t number, const faz_sum *sum, const void *state, size_t size);
+
+/* The version of a header that is whole, and of another version than is read here; 0 if it is none. */
+uint32_t faz_other_version(const uint8_t *bytes, size_t length, uint64_t number);
 
 /* Each reads a message, whatever the bytes are, and says whether it is one. How many rows; 0 if it is none. */
 bool faz_read_head(const uint8_t *bytes, size_t length, uint64_t number, faz_head *head);

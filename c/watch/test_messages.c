@@ -69,6 +69,21 @@ static void rows_there_and_back(void) {
             }
 }
 
+/* Runs that begin in the middle of 15 frames, up to their end. One row more is none. */
+static void parts_of_runs(void) {
+    for (uint32_t begin = 0; begin < FAZ_RUN; begin++)
+        for (uint32_t count = 1; count <= FAZ_RUN; count++) {
+            fazgrond_row rows[FAZ_RUN], back[FAZ_RUN];
+            uint32_t first, most = FAZ_RUN - begin;
+            for (uint32_t at = 0; at < count; at++)
+                rows[at] = row_of(2, 600 + begin + at);
+            size_t length = faz_write_rows(bytes, NUMBER, 600 + begin, rows, count);
+            MUST(faz_read_rows(bytes, length, NUMBER, 2, &first, back) == (count <= most ? count : 0));
+            for (uint32_t at = 0; at < count && count <= most; at++)
+                MUST(first == 600 + begin && is_same(&rows[at], &back[at]));
+        }
+}
+
 static bool is_read(size_t length, uint64_t number, uint32_t players) {
     fazgrond_row rows[FAZ_RUN];
     faz_head head;
@@ -126,7 +141,7 @@ static void sealed_ones(void) {
     head = the_head;
     head.players = 9;
     MUST(!is_read(faz_write_head(bytes, NUMBER, &head), NUMBER, 2));
-    MUST(!is_read(some_rows(NUMBER, 601, 1, 0), NUMBER, 2));
+    MUST(is_read(some_rows(NUMBER, 614, 1, 0), NUMBER, 2) && !is_read(some_rows(NUMBER, 614, 2, 0), NUMBER, 2));
     MUST(!is_read(some_rows(NUMBER, FAZ_LAST_FRAME / 15 * 15 + 15, 1, 0), NUMBER, 2));
     MUST(!is_read(some_rows(NUMBER, 600, 1, 0), NUMBER, 1)); /* a player too many */
     MUST(!is_read(some_snap(NUMBER, 600, 1), NUMBER, 2));
@@ -165,7 +180,7 @@ static void timelines(void) {
     MUST(take(seen, faz_write_head(bytes, number, &the_head)) == FAZ_NEW);
     MUST(take(seen, faz_write_head(bytes, number, &the_head)) == FAZ_REPEATED);
     MUST(take(seen, faz_write_head(bytes, number, &other)) == FAZ_OTHER);
-    MUST(faz_timeline_head(seen)->rate == 60);
+    MUST(faz_timeline_head(seen)->rate == 60 && faz_timeline_version(seen) == 0);
 
     /* a part of a run, other words for it, all of it, and the same again */
     MUST(take(seen, some_rows(number, 0, 7, 0)) == FAZ_NEW && faz_timeline_rows(seen, 0, 99) == 7);
@@ -177,6 +192,15 @@ static void timelines(void) {
     MUST(is_same(faz_timeline_row(seen, 14), &wanted) && faz_timeline_row(seen, 15) == NULL);
     MUST(take(seen, some_rows(number, 30, FAZ_RUN, 0)) == FAZ_NEW);
     MUST(faz_timeline_rows(seen, 0, 99) == 15 && faz_timeline_known(seen) == 45 && faz_timeline_row(seen, 30) != NULL);
+
+    /* who came in in the middle of a run, and who has all of it */
+    MUST(take(seen, some_rows(number, 97, 4, 0)) == FAZ_NEW && faz_timeline_rows(seen, 97, 99) == 4);
+    MUST(faz_timeline_row(seen, 96) == NULL && faz_timeline_row(seen, 101) == NULL && faz_timeline_known(seen) == 101);
+    MUST(take(seen, some_rows(number, 90, 8, 1)) == FAZ_OTHER && faz_timeline_row(seen, 96) == NULL);
+    MUST(take(seen, some_rows(number, 98, 2, 0)) == FAZ_REPEATED && take(seen, some_rows(number, 90, 5, 0)) == FAZ_NEW);
+    MUST(faz_timeline_rows(seen, 90, 99) == 5 && take(seen, some_rows(number, 90, FAZ_RUN, 0)) == FAZ_NEW);
+    MUST(faz_timeline_rows(seen, 90, 99) == FAZ_RUN && take(seen, some_rows(number, 99, 6, 0)) == FAZ_REPEATED);
+    MUST(take(seen, some_rows(number, 99, 6, 1)) == FAZ_OTHER);
 
     /* a gap that one publisher has, and a shorter one of another */
     MUST(take(seen, faz_write_sum(bytes, number, &(faz_sum){ 1200, 45, 7 })) == FAZ_NEW);
@@ -191,16 +215,32 @@ static void timelines(void) {
     MUST(take(seen, faz_write_end(bytes, number, 70, "all left")) == FAZ_NEW);
     MUST(take(seen, faz_write_end(bytes, number, 60, "who")) == FAZ_REPEATED);
     MUST(faz_timeline_end(seen, &frames, &reason) && frames == 70 && strcmp(reason, "all left") == 0);
-    MUST(faz_timeline_count(seen, FAZ_OTHER) == 4 && faz_timeline_count(seen, FAZ_MALFORMED) == 1);
+    MUST(faz_timeline_count(seen, FAZ_OTHER) == 6 && faz_timeline_count(seen, FAZ_MALFORMED) == 1);
+    faz_timeline_close(seen);
+}
+
+/* A header of another version is refused, and which one it is can be said until one comes that is read. */
+static void versions(void) {
+    faz_timeline *seen = faz_timeline_open(&duel_game, "cup");
+    uint64_t number = faz_number("cup");
+    size_t length = faz_write_head(bytes, number, &the_head);
+    MUST(faz_other_version(bytes, length, number) == 0 && bytes[14] == 0 && bytes[15] == 3);
+    bytes[15] = 2;
+    MUST(take(seen, length) == FAZ_MALFORMED && faz_timeline_version(seen) == 0); /* the seal is another one */
+    seal(bytes, length, (seal_key){ number, 0, 0 });
+    MUST(take(seen, length) == FAZ_MALFORMED && faz_timeline_version(seen) == 2 && faz_timeline_head(seen) == NULL);
+    MUST(take(seen, faz_write_head(bytes, number, &the_head)) == FAZ_NEW && faz_timeline_version(seen) == 0);
     faz_timeline_close(seen);
 }
 
 int main(void) {
     bytes_of_rows();
     rows_there_and_back();
+    parts_of_runs();
     changed_ones();
     sealed_ones();
     names();
     timelines();
+    versions();
     return 0;
 }

@@ -5,8 +5,9 @@
 
 enum { RUNS = FAZ_LAST_FRAME / FAZ_RUN + 1, CHAPTERS = FAZ_LAST_FRAME / FAZ_CHAPTER + 1 };
 
+/* The frames from a multiple of FAZ_RUN up to the next, with a bit for each that is there. */
 typedef struct run {
-    uint32_t count;
+    uint32_t there;
     fazgrond_row rows[FAZ_RUN];
 } run;
 
@@ -20,7 +21,7 @@ struct faz_timeline {
     uint64_t number;
     bool has_head, has_end;
     faz_head head;
-    uint32_t known, frames, counts[FAZ_OTHER + 1];
+    uint32_t known, frames, version, counts[FAZ_OTHER + 1];
     char reason[FAZ_REASON];
     void *state; /* a place to read one into */
     run *runs[RUNS];
@@ -51,6 +52,8 @@ void faz_timeline_close(faz_timeline *self) {
 
 static faz_taken take_head(faz_timeline *self, const uint8_t *bytes, size_t length) {
     faz_head head = { 0 };
+    uint32_t version = faz_other_version(bytes, length, self->number);
+    self->version = version != 0 ? version : self->version;
     if (!faz_read_head(bytes, length, self->number, &head) || head.size != self->game->size
         || strcmp(head.game, self->game->name) != 0)
         return FAZ_MALFORMED;
@@ -66,7 +69,8 @@ static bool is_same_row(const fazgrond_row *one, const fazgrond_row *other) {
         && memcmp(one->words, other->words, one->count * sizeof one->words[0]) == 0;
 }
 
-/* A run may have fewer rows than another of it, at the end of what a player who left has published. */
+/* Several messages may have rows of one run: who came in in its middle publishes the rest, and where a player is back another one
+ * begins. */
 static faz_taken take_rows(faz_timeline *self, const uint8_t *bytes, size_t length) {
     fazgrond_row rows[FAZ_RUN] = { 0 };
     uint32_t first, count = faz_read_rows(bytes, length, self->number, self->head.players, &first, rows);
@@ -77,13 +81,14 @@ static faz_taken take_rows(faz_timeline *self, const uint8_t *bytes, size_t leng
         *at = calloc(1, sizeof **at);
     if (*at == NULL)
         return FAZ_EARLY; /* no memory: it is asked for again */
-    for (uint32_t row = 0; row < count && row < (*at)->count; row++)
-        if (!is_same_row(&rows[row], &(*at)->rows[row]))
+    uint32_t place = first % FAZ_RUN, told = ((1u << count) - 1) << place;
+    for (uint32_t row = 0; row < count; row++)
+        if (((*at)->there >> (place + row) & 1) != 0 && !is_same_row(&rows[row], &(*at)->rows[place + row]))
             return FAZ_OTHER;
-    if (count <= (*at)->count)
+    if ((told & ~(*at)->there) == 0)
         return FAZ_REPEATED;
-    memcpy((*at)->rows, rows, sizeof rows);
-    (*at)->count = count;
+    memcpy((*at)->rows + place, rows, count * sizeof *rows);
+    (*at)->there |= told;
     if (first + count > self->known)
         self->known = first + count;
     return FAZ_NEW;
@@ -141,9 +146,11 @@ uint32_t faz_timeline_count(const faz_timeline *self, faz_taken taken) { return 
 
 const faz_head *faz_timeline_head(const faz_timeline *self) { return self->has_head ? &self->head : NULL; }
 
+uint32_t faz_timeline_version(const faz_timeline *self) { return self->has_head ? 0 : self->version; }
+
 const fazgrond_row *faz_timeline_row(const faz_timeline *self, uint32_t frame) {
     const run *at = frame < FAZ_LAST_FRAME ? self->runs[frame / FAZ_RUN] : NULL;
-    return at != NULL && frame % FAZ_RUN < at->count ? &at->rows[frame % FAZ_RUN] : NULL;
+    return at != NULL && (at->there >> frame % FAZ_RUN & 1) != 0 ? &at->rows[frame % FAZ_RUN] : NULL;
 }
 
 uint32_t faz_timeline_rows(const faz_timeline *self, uint32_t frame, uint32_t most) {

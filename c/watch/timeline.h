@@ -30,6 +30,9 @@ uint32_t faz_timeline_count(const faz_timeline *timeline, faz_taken taken);
 /* The header; null if it hasn't come. No other message is taken before it. */
 const faz_head *faz_timeline_head(const faz_timeline *timeline);
 
+/* If no header has come but one of another version, that version; else 0. */
+uint32_t faz_timeline_version(const faz_timeline *timeline);
+
 /* The row of this frame; null if it hasn't come. */
 const fazgrond_row *faz_timeline_row(const faz_timeline *timeline, uint32_t frame);
 

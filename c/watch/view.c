@@ -422,6 +422,7 @@ void faz_view_look(faz_view *self, faz_view_state *state) {
         .asked = self->asked,
         .malformed = faz_timeline_count(self->timeline, FAZ_MALFORMED),
         .other = faz_timeline_count(self->timeline, FAZ_OTHER),
+        .version = faz_timeline_version(self->timeline),
     };
     state->has_ended = faz_timeline_end(self->timeline, &frames, &state->reason) && self->is_shown && self->frame >= frames
         && self->quiet >= PATIENCE;

@@ -36,6 +36,7 @@ typedef struct faz_view_state {
     uint32_t gap_from, gap_to; /* the last of them: these frames, but not the last one, were never published */
     uint32_t asked;    /* how often rows were asked for that had not come by themselves */
     uint32_t malformed, other; /* messages that were dropped: FAZ_MALFORMED, FAZ_OTHER */
+    uint32_t version;  /* of the match's header, if this library doesn't read it; else 0 */
 } faz_view_state;
 
 /* Begins to watch. Null if it can't, and why: a text that stays. */

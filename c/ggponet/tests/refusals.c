@@ -194,6 +194,7 @@ static void refused_watchers(void) {
     MUST(fazggpo_set_spectators(game.session, 1) == GGPO_ERRORCODE_UNSUPPORTED);
     MUST(fazggpo_rejoin(game.session) == GGPO_ERRORCODE_UNSUPPORTED);
     MUST(fazggpo_get_settled_input(game.session, 0, inputs, sizeof inputs, NULL) == GGPO_ERRORCODE_INVALID_REQUEST);
+    MUST(fazggpo_get_settled_from(game.session, &frame) == GGPO_ERRORCODE_NOT_SYNCHRONIZED);
     MUST(fazggpo_get_watched(game.session, 1000, &frame) == GGPO_ERRORCODE_INVALID_PLAYER_HANDLE);
     MUST(fazggpo_get_settled(game.session, &frame) == GGPO_OK && frame == 0);
     MUST(fazggpo_get_peer(game.session) == NULL && fazggpo_get_peer(NULL) == NULL);
@@ -235,7 +236,7 @@ static void late_spectator(void) {
 
 /* Players come back into a match that isn't open yet, and has neither spectators nor guesses. */
 static void refused_rejoins(void) {
-    int inputs[2];
+    int inputs[2], frame;
     MUST(fazggpo_rejoin(NULL) == GGPO_ERRORCODE_INVALID_SESSION);
     MUST(ggpo_start_session(&game.session, &calls, name, 2, sizeof(int), 0) == GGPO_OK);
     MUST(fazggpo_rejoin(game.session) == GGPO_OK && fazggpo_rejoin(game.session) == GGPO_OK);
@@ -247,6 +248,9 @@ static void refused_rejoins(void) {
     MUST(fazggpo_get_settled_input(game.session, -1, inputs, sizeof inputs, NULL) == GGPO_ERRORCODE_INVALID_REQUEST);
     MUST(fazggpo_get_settled_input(game.session, 0, inputs, sizeof inputs - 1, NULL) == GGPO_ERRORCODE_INVALID_REQUEST);
     MUST(fazggpo_get_settled_input(NULL, 0, inputs, sizeof inputs, NULL) == GGPO_ERRORCODE_INVALID_SESSION);
+    MUST(fazggpo_get_settled_from(game.session, &frame) == GGPO_ERRORCODE_NOT_SYNCHRONIZED);
+    MUST(fazggpo_get_settled_from(game.session, NULL) == GGPO_ERRORCODE_INVALID_REQUEST);
+    MUST(fazggpo_get_settled_from(NULL, &frame) == GGPO_ERRORCODE_INVALID_SESSION);
     end();
     MUST(ggpo_start_session(&game.session, &calls, name, 2, sizeof(int), 0) == GGPO_OK);
     MUST(add(GGPO_PLAYERTYPE_SPECTATOR, 3, "127.0.0.1") == GGPO_OK);
