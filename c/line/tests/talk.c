@@ -204,7 +204,7 @@ static void say_result(talk *self) {
     faz_line_state *state = &self->seen;
     size_t count = self->count < MOST ? self->count : MOST;
     qsort(self->late, count, sizeof self->late[0], by_size);
-    printf("way %s stage %s generation %u sent %" PRIu64 " came %" PRIu64 " half %.1f most99 %.1f gap %.0f gap_at %.0f forged %" PRIu64
+    printf("way %s stage %s generation %u sent %" PRIu64 " came %" PRIu64 " half %.1f most99 %.1f gap %.0f at %.0f forged %" PRIu64
            " again %" PRIu64 " misnamed %" PRIu64 " dropped %" PRIu64 " broken %" PRIu64 " signals_refused %" PRIu64 " number %016" PRIx64 "\n",
            WAYS[state->way], STAGES[state->stage], state->generation, self->sent, self->count, count ? self->late[count / 2] / 1000.0 : 0,
            count ? self->late[count * 99 / 100] / 1000.0 : 0, (double)self->gap / 1000, (double)self->gap_at / 1000, state->forged,
