@@ -11,12 +11,15 @@ enum {
     HANDED_OVER = 100, /* the same while a way isn't heard yet */
     SILENT = 1000,     /* another way is looked for */
     TOLD_AGAIN = 600,  /* what carries signals may lose some */
-    TRIED = 4000,      /* a way that isn't there by then is given up for another one */
+    TRIED = 2000,      /* a way that isn't there by then is given up for another one, the next one after twice that.. */
     APART = 300,       /* between two ways that the other machine wants */
     LATE = 1000,       /* what is on its way on the way before may still come */
     SETTLED = 2000,    /* a way that has lasted so long stays */
     LOOKED = 250       /* whether own addresses have changed */
 };
+
+/* .. and none after more than four times that. */
+enum { DOUBLED = 2 };
 
 enum { INBOX = 128, CLOSING = 4, HEAD = 4, SEALED = FAZGROND_DATAGRAM + SEAL_OVERHEAD, ADDRESS = 64, WORD = 256 };
 
@@ -39,7 +42,8 @@ struct faz_line {
     way newest, before; /* `before` was heard; it carries on until the newest is */
     ice *closing[CLOSING];
     bool has_turned, was_up, was_blocked;
-    uint32_t now, heard_at, sent_at, told_at, looked_at, moved_at;
+    unsigned tries; /* how many ways were given up since something came */
+    uint32_t now, heard_at, sent_at, told_at, looked_at;
     uint64_t addresses;
     faz_line_state counts;
     datagram inbox[INBOX];
@@ -88,6 +92,7 @@ static void came(void *of, ice *from, const uint8_t *bytes, size_t length) {
     }
     self->heard_at = self->now;
     self->was_up = true;
+    self->tries = 0;
     if (from == self->newest.ice && !self->newest.is_heard) {
         self->newest.is_heard = true;
         self->newest.heard_at = self->now;
@@ -172,10 +177,9 @@ static void look_at(way *of) {
         of->is_up = ice_look(of->ice) == ICE_THERE;
 }
 
-/* Whether the newest way is being looked for: it isn't heard, hasn't failed, and has time. */
-static bool is_looking(const faz_line *self) {
-    const way *newest = &self->newest;
-    return newest->ice != NULL && !newest->is_heard && ice_look(newest->ice) != ICE_NONE && since(self, newest->begun) < TRIED;
+/* Whether there was time enough for the newest way. */
+static bool is_tried(const faz_line *self) {
+    return since(self, self->newest.begun) >= (uint32_t)TRIED << (self->tries < DOUBLED ? self->tries : DOUBLED);
 }
 
 static bool has_moved(faz_line *self) {
@@ -188,16 +192,18 @@ static bool has_moved(faz_line *self) {
     return has;
 }
 
-/* Another way is wanted if this machine has other addresses, or if nothing comes. */
+/* Another way is wanted if this machine has other addresses, or if nothing comes: for a second by one that was heard, and by another
+ * one for as long as it is tried. */
 static void look_for_another(faz_line *self) {
-    bool moved = has_moved(self);
     const way *newest = &self->newest;
-    if (moved && since(self, newest->begun) >= APART) {
+    bool is_silent = since(self, self->heard_at) >= SILENT;
+    if (has_moved(self) && since(self, newest->begun) >= APART) {
         begin(self, newest->generation + 1);
-    } else if (!is_looking(self) && since(self, newest->begun) >= TRIED && since(self, self->heard_at) >= SILENT) {
-        self->was_blocked = !self->was_up;
+    } else if (newest->is_heard && is_silent && since(self, newest->heard_at) >= SILENT) {
         begin(self, newest->generation + 1);
-    } else if (newest->is_heard && since(self, self->heard_at) >= SILENT && since(self, newest->heard_at) >= SILENT) {
+    } else if (!newest->is_heard && is_silent && is_tried(self)) {
+        self->tries++;
+        self->was_blocked = self->tries >= DOUBLED;
         begin(self, newest->generation + 1);
     }
 }

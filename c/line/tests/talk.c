@@ -48,10 +48,14 @@ typedef struct talk {
     faz_line_state seen;
 } talk;
 
-static uint64_t micros(void) {
+static uint64_t micros_of(clockid_t clock) {
     struct timespec now;
-    clock_gettime(CLOCK_MONOTONIC, &now);
+    clock_gettime(clock, &now);
     return (uint64_t)now.tv_sec * 1000000 + (uint64_t)now.tv_nsec / 1000;
+}
+
+static uint64_t micros(void) {
+    return micros_of(CLOCK_MONOTONIC);
 }
 
 static void pause_a_little(void) {
@@ -219,9 +223,9 @@ static void play(talk *self) {
         uint8_t bytes[FAZGROND_DATAGRAM];
         size_t length;
         carry_in(self);
-        uint64_t before = micros();
+        uint64_t before = micros_of(CLOCK_THREAD_CPUTIME_ID);
         faz_line_turn(self->line, (uint32_t)(now / 1000));
-        uint64_t used = micros() - before;
+        uint64_t used = micros_of(CLOCK_THREAD_CPUTIME_ID) - before;
         busy += used, turns++;
         if (used > most)
             most = used;
@@ -236,7 +240,7 @@ static void play(talk *self) {
         if (self->up == 0 && now - self->begun > (uint64_t)self->within * 1000000)
             break;
     }
-    printf("turn %.1f us, %.1f at most\n", (double)busy / (double)turns, (double)most);
+    printf("turn %.1f us of the processor, %.1f at most\n", (double)busy / (double)turns, (double)most);
 }
 
 static void read_options(talk *self, int argc, char **argv) {
