@@ -15,7 +15,8 @@ enum {
     APART = 300,       /* between two ways that the other machine wants */
     LATE = 1000,       /* what is on its way on the way before may still come */
     SETTLED = 2000,    /* a way that has lasted so long stays */
-    LOOKED = 250       /* whether own addresses have changed */
+    LOOKED = 250,      /* whether own addresses have changed */
+    LAST = 200         /* so long servers have to let go of what they hold for a line that is closed */
 };
 
 /* .. and none after more than four times that. */
@@ -147,15 +148,26 @@ static void keep_alive(faz_line *self, way *by) {
 
 /* Closes a way, by and by. */
 static void retire(faz_line *self, way *old) {
-    if (old->ice != NULL && !ice_close(old->ice, false)) {
+    if (old->ice != NULL && !ice_close(old->ice)) {
         size_t at = 0;
         while (at + 1 < CLOSING && self->closing[at] != NULL)
             at++;
         if (self->closing[at] != NULL)
-            ice_close(self->closing[at], true);
+            ice_drop(self->closing[at]);
         self->closing[at] = old->ice;
     }
     memset(old, 0, sizeof *old);
+}
+
+/* Goes on closing; true once all are gone. */
+static bool close_more(faz_line *self) {
+    bool is_over = true;
+    for (size_t at = 0; at < CLOSING; at++) {
+        if (self->closing[at] != NULL && ice_close(self->closing[at]))
+            self->closing[at] = NULL;
+        is_over = is_over && self->closing[at] == NULL;
+    }
+    return is_over;
 }
 
 /* Begins to look for the way of a generation, beside the one that was heard. */
@@ -217,9 +229,7 @@ static void tidy(faz_line *self) {
         ice_settle(newest->ice);
         newest->is_settled = true;
     }
-    for (size_t at = 0; at < CLOSING; at++)
-        if (self->closing[at] != NULL && ice_close(self->closing[at], false))
-            self->closing[at] = NULL;
+    close_more(self);
 }
 
 void faz_line_turn(faz_line *self, uint32_t now) {
@@ -374,13 +384,13 @@ faz_line *faz_line_open(const faz_line_settings *settings, const char **why) {
 void faz_line_close(faz_line *self) {
     if (self == NULL)
         return;
-    if (self->newest.ice != NULL)
-        ice_close(self->newest.ice, true);
-    if (self->before.ice != NULL)
-        ice_close(self->before.ice, true);
+    retire(self, &self->newest);
+    retire(self, &self->before);
+    for (int waited = 0; !close_more(self) && waited < LAST; waited++)
+        ice_wait();
     for (size_t at = 0; at < CLOSING; at++)
         if (self->closing[at] != NULL)
-            ice_close(self->closing[at], true);
+            ice_drop(self->closing[at]);
     seal_close(&self->seal);
     free(self);
 }

@@ -82,7 +82,7 @@ ice *ice_open(const ice_settings *settings) {
     self->settings = *settings;
     self->socket = socket(AF_INET, SOCK_DGRAM, 0);
     if (self->socket < 0 || fcntl(self->socket, F_SETFL, O_NONBLOCK) != 0 || bind(self->socket, (struct sockaddr *)&any, sizeof any) != 0) {
-        ice_close(self, true);
+        ice_drop(self);
         return NULL;
     }
     randombytes_buf(self->ours, WORD);
@@ -172,10 +172,17 @@ void ice_settle(ice *self) {
     (void)self;
 }
 
-bool ice_close(ice *self, bool now) {
-    (void)now;
+void ice_drop(ice *self) {
     if (self->socket >= 0)
         close(self->socket);
     free(self);
+}
+
+bool ice_close(ice *self) {
+    ice_drop(self);
     return true;
+}
+
+void ice_wait(void) {
+    nanosleep(&(struct timespec){.tv_nsec = 1000000}, NULL);
 }
