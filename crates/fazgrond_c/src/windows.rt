@@ -7,7 +7,7 @@ use roll_window::Window;
 /// Whether a number is new: 1 if so, else 0.
 #[unsafe(no_mangle)]
 pub extern "C" fn fazgrond_window_is_new(window: &Window, number: u64) -> u32
-    ensures answer { (taken : List ℕ) → IsWindowOf taken window.now
+    ensures { (taken : List ℕ) → IsWindowOf taken window.now
         → result ≡ (if is_new taken number then 1 else 0) }
 {
     u32::from(window.is_new(number))

@@ -45,8 +45,7 @@ impl Window {
 
     /// Whether a number is new: it wasn't taken, and none was taken that is over 1,024 above it.
     pub fn is_new(&self, number: u64) -> bool
-        ensures answer { (taken : List ℕ) → IsWindowOf taken self.now
-            → result ≡ is_new taken number }
+        ensures { (taken : List ℕ) → IsWindowOf taken self.now → result ≡ is_new taken number }
     {
         self.highest.saturating_sub(number) <= REACH && !self.has(number)
     }
