@@ -21,9 +21,9 @@ use Rattle.roll_session.specs.Headline.{words_of}
 use Rattle.roll_session.specs.Seen.{Seen, Step}
 use Rattle.roll_wire.specs.Spelling.{count_of as offered_of}
 use Rattle.roll_member.specs.Joined.{is_gone_at, is_local_at, AreCounts, IsTied}
-use Rattle.roll_member.specs.Taking.{news, news_at, shares, up_to, words_heard, Hearing, IsFair, TakesAll}
+use Rattle.roll_member.specs.Taking.{counted_to, news, news_at, shares, up_to, words_heard, Hearing, IsFair, TakesAll}
 use Rattle.roll_member.proofs.Known.{known_other}
-use Rattle.roll_member.proofs.Tied.{heard_step, taken_left, taken_own, taken_up, up_to_at, IsHeardUpTo}
+use Rattle.roll_member.proofs.Tied.{counted_under, heard_step, taken_left, taken_own, taken_up, up_to_at, IsHeardUpTo}
 use Rattle.roll_member.proofs.Taking.{news_length}
 
 abbrev size : Offer → ℕ
@@ -101,7 +101,7 @@ module _ (s : Seen) (mesh : Seated) (packet : Packet) (words : List ℕ) (end : 
     offers = packet.offers;
     words = shares packet.offers (words_heard mesh.seat.words packet.offers words);
     has = mesh.machine.has;
-    most = up_to end mesh.machine.has (taken mesh.seat packet mesh.machine).has;
+    most = up_to mesh.seat mesh.machine.gone end mesh.machine.has (taken mesh.seat packet mesh.machine).has;
   }
 
   pub fair_of : IsTied s mesh → hear_refusal mesh packet ≡ None → IsFair heard_of s
@@ -123,16 +123,17 @@ module _ (s : Seen) (mesh : Seated) (packet : Packet) (words : List ℕ) (end : 
       all_of = (taken mesh.seat packet mesh.machine).has
 
       most : List ℕ
-      most = up_to end has all_of
+      most = up_to mesh.seat mesh.machine.gone end has all_of
 
       up : (p : ℕ) → p < PLAYER_LIMIT → slice_index has p ≤ slice_index most p
-      up p lt = omega (arith, up_to_at end has all_of p lt)
+      up p lt = omega (arith, up_to_at mesh.seat mesh.machine.gone end has all_of p lt)
 
       under : (p : ℕ) → p < PLAYER_LIMIT → slice_index most p ≤ slice_index all_of p
       under p lt =
           omega (
             arith,
-            up_to_at end has all_of p lt,
+            up_to_at mesh.seat mesh.machine.gone end has all_of p lt,
+            counted_under mesh.seat mesh.machine.gone end all_of p,
             taken_up mesh.seat packet mesh.machine p (omega (arith, lt, tied.sized)),
           )
 
@@ -218,14 +219,21 @@ module _ (s : Seen) (mesh : Seated) (packet : Packet) (words : List ℕ) (end : 
           even : Evenly mesh.seat packet
           even = evenly mesh.seat packet (heard_even mesh packet fine)
 
+          all_alike : slice_index all_of p ≡ slice_index all_of q
+          all_alike = taken_alike mesh.seat mesh.machine packet tied.whole.grouped (omega (arith, tied.sized))
+              tied.whole.counts tied.whole.parts (heard_even mesh packet fine) p lt
+
+          counted_alike : counted_to mesh.seat mesh.machine.gone end all_of p
+              ≡ counted_to mesh.seat mesh.machine.gone end all_of q
+          counted_alike = rw (owners_alike mesh.seat tied.whole.grouped p lt, all_alike) refl
+
           most_alike : slice_index most p ≡ slice_index most q
           most_alike = omega (
             arith,
             tied.whole.counts p lt,
-            up_to_at end has all_of p lt,
-            up_to_at end has all_of q (first_below mesh.seat.words p lt),
-            taken_alike mesh.seat mesh.machine packet tied.whole.grouped (omega (arith, tied.sized))
-                tied.whole.counts tied.whole.parts (heard_even mesh packet fine) p lt,
+            up_to_at mesh.seat mesh.machine.gone end has all_of p lt,
+            up_to_at mesh.seat mesh.machine.gone end has all_of q (first_below mesh.seat.words p lt),
+            counted_alike,
           )
 
           alike : min (slice_index most p - (offer_at packet p).first)

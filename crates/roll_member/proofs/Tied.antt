@@ -36,7 +36,7 @@ use Rattle.roll_session.specs.Headline.{words_of}
 use Rattle.roll_session.specs.Seen.{Seen, Step}
 use Rattle.roll_member.specs.Joined.{count_of, held, known, words_known, are_fresh, are_seated, is_fresh_at, is_gone_at, is_local_at, is_seated_at, join_refusal, AreCounts, IsTied, IsTiedAt, IsWhole}
 use Rattle.roll_member.specs.Beside.{caught_up, IsSteady}
-use Rattle.roll_member.specs.Taking.{news_at, up_to, Hearing, IsFair, KeepsPlayers, TakesAll}
+use Rattle.roll_member.specs.Taking.{counted_to, news_at, up_to, Hearing, IsFair, KeepsPlayers, TakesAll}
 use Rattle.roll_member.proofs.Known.{known_alike, known_alone, known_other, known_stays}
 use Rattle.roll_member.proofs.Taking.{fed, keeps_none, news_length, IsFed}
 use Rattle.roll_frame.specs.declared.refusal.Refusal.{Refusal}
@@ -258,12 +258,21 @@ heard_holder seat reached packet words holder now e =
     ap (λ ws. record { mesh = hear seat (trimmed reached packet) holder.mesh; words = ws }) e
 
 -- no fewer than there are, and no more than count
-pub up_to_at : (end : ℕ) (has most : List ℕ) (p : ℕ) → p < PLAYER_LIMIT
-    → slice_index (up_to end has most) p ≡ max (slice_index has p) (min end (slice_index most p))
+pub up_to_at : (seat : Seat) (gone : List Bool) (end : ℕ) (has most : List ℕ) (p : ℕ) → p < PLAYER_LIMIT
+    → slice_index (up_to seat gone end has most) p ≡ max (slice_index has p) (counted_to seat gone end most p)
 unfolding up_to
-up_to_at end has most p lt =
-    get_or-map-range_with_len (λ p. max (slice_index has p) (min end (slice_index most p))) 0 PLAYER_LIMIT p p 0 lt
+up_to_at seat gone end has most p lt =
+    get_or-map-range_with_len (λ p. max (slice_index has p) (counted_to seat gone end most p)) 0 PLAYER_LIMIT p p 0 lt
     (omega arith)
+
+pub counted_under : (seat : Seat) (gone : List Bool) (end : ℕ) (most : List ℕ) (p : ℕ)
+    → counted_to seat gone end most p ≤ slice_index most p
+counted_under seat gone end most p = go (cases_Bool (is_orphan seat gone p))
+  where
+    go : (is_orphan seat gone p ≡ true) ⊎ (is_orphan seat gone p ≡ false)
+        → counted_to seat gone end most p ≤ slice_index most p
+    go (inl orphan) = rw orphan (omega arith)
+    go (inr isnt) = rw isnt (omega arith)
 
 -- the mesh hears of a packet what the session took of it, and they stay tied
 module _ (step : Step) (s0 s1 : Seen) (mesh : Seated) (packet : Packet) (words : List (List ℕ)) (end : ℕ)
@@ -286,14 +295,14 @@ module _ (step : Step) (s0 s1 : Seen) (mesh : Seated) (packet : Packet) (words :
         offers = packet.offers;
         words = words;
         has = mesh.machine.has;
-        most = up_to end mesh.machine.has (taken mesh.seat packet mesh.machine).has;
+        most = up_to mesh.seat mesh.machine.gone end mesh.machine.has (taken mesh.seat packet mesh.machine).has;
       }) s0
       → TakesAll step (record {
         input = mesh.seat.words;
         offers = packet.offers;
         words = words;
         has = mesh.machine.has;
-        most = up_to end mesh.machine.has (taken mesh.seat packet mesh.machine).has;
+        most = up_to mesh.seat mesh.machine.gone end mesh.machine.has (taken mesh.seat packet mesh.machine).has;
       }) s0 PLAYER_LIMIT s1 led why → AreCounts s1 mesh.seat reached → IsHeardUpTo
   heard_step led tied fine sized many fair takes counts = record {
     has = has;
@@ -324,7 +333,7 @@ module _ (step : Step) (s0 s1 : Seen) (mesh : Seated) (packet : Packet) (words :
       all = (taken mesh.seat packet mesh.machine).has
 
       most : List ℕ
-      most = up_to end mesh.machine.has all
+      most = up_to mesh.seat mesh.machine.gone end mesh.machine.has all
 
       h : Hearing
       h = record {
@@ -354,13 +363,14 @@ module _ (step : Step) (s0 s1 : Seen) (mesh : Seated) (packet : Packet) (words :
           )
 
       up : (p : ℕ) → p < PLAYER_LIMIT → slice_index mesh.machine.has p ≤ slice_index most p
-      up p lt = omega (arith, up_to_at end mesh.machine.has all p lt)
+      up p lt = omega (arith, up_to_at mesh.seat mesh.machine.gone end mesh.machine.has all p lt)
 
       under : (p : ℕ) → p < PLAYER_LIMIT → slice_index most p ≤ slice_index all p
       under p lt =
           omega (
             arith,
-            up_to_at end mesh.machine.has all p lt,
+            up_to_at mesh.seat mesh.machine.gone end mesh.machine.has all p lt,
+            counted_under mesh.seat mesh.machine.gone end all p,
             taken_up mesh.seat packet mesh.machine p (omega (arith, lt, sized)),
           )
 

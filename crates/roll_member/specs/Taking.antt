@@ -9,9 +9,10 @@ use Rattle.roll_frame.specs.declared.entry.Entry.TheVariants.{Remote}
 use Rattle.roll_frame.specs.declared.limits.TheConstants.{QUEUE_LIMIT}
 use Rattle.roll_frame.specs.declared.refusal.Refusal.{Refusal}
 use Rattle.roll_mesh.specs.Groups.{first_of, AreAlike}
-use Rattle.roll_mesh.specs.Machines.{none_offered}
+use Rattle.roll_mesh.specs.Machines.{is_orphan, none_offered}
 use Rattle.roll_mesh.specs.declared.limits.TheConstants.{INPUT_LIMIT, PLAYER_LIMIT}
 use Rattle.roll_mesh.specs.declared.packet.Offer.{Offer}
+use Rattle.roll_mesh.specs.declared.seat.Seat.{Seat}
 use Rattle.roll_session.specs.Answered.{IsPlayed}
 use Rattle.roll_session.specs.Changes.{remote_refusal, reserve_refusal, FitsLog, IsRefused, IsWhy}
 use Rattle.roll_session.specs.Headline.{words_of}
@@ -134,10 +135,15 @@ pub record Hearing : Type 0 where
   pub has : List ℕ
   pub most : List ℕ
 
--- how many words of each player may be taken of a packet of which so many count, if none of a frame from the end on is taken
-unfoldable pub up_to : (end : ℕ) → (has most : List ℕ) → List ℕ
-up_to end has most =
-    map (λ p. max (slice_index has p) (min end (slice_index most p))) (range_with_len 0 PLAYER_LIMIT)
+-- how many words of player p count, if none of a frame from the end on does, but for a player whose owner is gone
+abbrev pub counted_to : Seat → (gone : List Bool) → (end : ℕ) → (most : List ℕ) → ℕ → ℕ
+counted_to seat gone end most p =
+    if is_orphan seat gone p then slice_index most p else min end (slice_index most p)
+
+-- how many words of each player may be taken of a packet of which so many count
+unfoldable pub up_to : Seat → (gone : List Bool) → (end : ℕ) → (has most : List ℕ) → List ℕ
+up_to seat gone end has most =
+    map (λ p. max (slice_index has p) (counted_to seat gone end most p)) (range_with_len 0 PLAYER_LIMIT)
 
 -- the new words of the player at a place
 abbrev pub news_at : Hearing → ℕ → List ℕ

@@ -1,13 +1,13 @@
 //! Words of a packet become remote words of the session.
 ghost use Rattle.std.specs.Prelude.{◌≡◌, ℕ, ◌+◌, ◌-◌, ◌*◌, ◌≤◌, ◌<◌, length, slice_index, drop, take, true, false};
 ghost use Rattle.roll_member.specs.Joined.{count_of, fewest, known, AreCounts};
-ghost use Rattle.roll_member.specs.Taking.{is_first, news, shares, up_to, words_heard, CanTake, HasRoom, Hearing, IsFair, IsLed, IsTaken, Leads, TakesAll, TakesFirst, TakesPlace, TakesWords};
+ghost use Rattle.roll_member.specs.Taking.{counted_to, is_first, news, shares, up_to, words_heard, CanTake, HasRoom, Hearing, IsFair, IsLed, IsTaken, Leads, TakesAll, TakesFirst, TakesPlace, TakesWords};
 ghost use Rattle.roll_mesh.specs.declared.limits.TheConstants.{INPUT_LIMIT, PLAYER_LIMIT};
 ghost use Rattle.roll_session.specs.Changes.{FitsLog};
 ghost use Rattle.roll_session.specs.Headline.{words_of};
 
 use roll_frame::Refusal;
-use roll_mesh::{Offer, PLAYER_LIMIT, Seat};
+use roll_mesh::{Mesh, Offer, PLAYER_LIMIT, Seat};
 use roll_session::Networked;
 use roll_wire::{WORD_LIMIT, count_of};
 
@@ -239,20 +239,34 @@ pub(crate) fn words_heard<'a>(
     }
 }
 
-/// How many words of each player may be taken of a packet of which so many count, if none of a frame from the end on is taken.
+/// How many words of each player may be taken of a packet of which so many count, if none of a frame from the end on is taken, but for
+/// players whose owner is gone: all who stay have to have as many of these before such a player leaves.
 #[tactic(auto, unfolding(crate::specs::Taking::up_to))]
 pub(crate) fn up_to(
+    mesh: &Mesh,
     end: u32,
     has: &[u32; PLAYER_LIMIT],
     most: &[u32; PLAYER_LIMIT],
 ) -> [u32; PLAYER_LIMIT]
-    ensures { result ≡ up_to end has.now most.now }
+    ensures { result ≡ up_to mesh.now.seat mesh.now.machine.gone end has.now most.now }
 {
     let mut counts = [0; PLAYER_LIMIT];
     for place in 0..PLAYER_LIMIT {
-        counts[place] = most[place].min(end).max(has[place]);
+        counts[place] = counted_to(mesh, end, most, place).max(has[place]);
     }
     counts
+}
+
+/// How many words of the player at a place count, if none of a frame from the end on does, unless its owner is gone.
+fn counted_to(mesh: &Mesh, end: u32, most: &[u32; PLAYER_LIMIT], place: usize) -> u32
+    requires { place < PLAYER_LIMIT }
+    ensures { result ≡ counted_to mesh.now.seat mesh.now.machine.gone end most.now place }
+{
+    if mesh.is_gone(mesh.seat().owners[place]) {
+        most[place]
+    } else {
+        most[place].min(end)
+    }
 }
 
 /// How many words of the player at a place a session has.

@@ -19,7 +19,7 @@ each_player f = map f (range_with_len 0 PLAYER_LIMIT)
 
 -- ---- which words are taken
 
--- no words are taken from the frame after that of a mark on, unless it is void
+-- of who isn't gone no words are taken from the frame after that of a mark on, unless it is void
 abbrev pub end_by : Bool → Option Marked → ℕ
 end_by is_void None = NO_END
 end_by is_void (Some m) = if is_void then NO_END else min NO_END (m.frame + 1)

@@ -208,7 +208,8 @@ after_turn old member frame sender t taken =
     let known = knowing t sender contact (record old { member = member; marks = marks_after old member t }) in
     record known { waiting = told known.waiting (dropped taken.heard) }
 
--- a turn is heard: its words become remote words of the session, as far as it takes them, and none after one with a mark that isn't void;
+-- a turn is heard: its words become remote words of the session, as far as it takes them, and of who isn't gone none after one with a
+-- mark that isn't void;
 -- and what its sender tells is known, of marks those of words that are there.
 -- If the sender regards this machine as gone, that is told
 pub record HearsTurn (step : Step) (before after : Seen) (old new : Peered) (sender : ℕ) (t : Turn)

@@ -1,5 +1,5 @@
 -- What a relay makes of what comes and goes.
-use Rattle.std.specs.Prelude.{◌≡◌, ◌⊎◌, ℕ, List, [], ◌∷◌, replicate, take, Bool, true, false, not, ◌&&◌, ◌==◌, Option, Some, None, Result, Ok, Err, if◌then◌else◌}
+use Rattle.std.specs.Prelude.{◌≡◌, ◌⊎◌, ℕ, List, [], ◌∷◌, replicate, take, Bool, true, false, not, ◌&&◌, ◌||◌, ◌==◌, Option, Some, None, Result, Ok, Err, if◌then◌else◌}
 use Rattle.roll_carry.specs.Carrying.{after_carried, after_handed, after_sent, after_taken, after_told, first_owed, first_waited_for, goes_at_once, Carrying}
 use Rattle.roll_carry.specs.Mapping.{after_map, heard_straight}
 use Rattle.roll_carry.specs.Reading.{map_of, parcels_of, tail_of}
@@ -51,6 +51,10 @@ shut_of peer = at_places (is_shut peer) nobody
 
 abbrev pub kind_of : List ℕ → ℕ
 kind_of bytes = byte_at bytes KIND_AT
+
+-- whether it is a map, or has what is carried
+abbrev pub is_of_lines : (kind : ℕ) → Bool
+is_of_lines kind = (kind == MAP) || (kind == CARRIED)
 
 -- whether it shows that its sender is heard straight: a hello may be an old one, which somebody has kept
 abbrev pub is_play_or_bye : Received → Bool
@@ -105,12 +109,16 @@ abbrev pub handing : Peered → ParcelValue → Carrying → Carrying
 handing peer parcel here =
     if are_here peer parcel then after_handed here (shut_of peer) parcel else here
 
--- its own parcel is heard here by the call that hears what comes straight, and any other handed on
+-- what is inside is heard by the call that hears what comes straight; but a map, or what is carried, goes straight alone: it is dropped
+abbrev pub HearsInside : Step → (now : ℕ) → (is_of_lines : Bool) → (old new : Beside) → List ℕ → Type 0
+HearsInside step now true old new bytes = new ≡ old
+HearsInside step now false old new bytes = (said : Result Received Ignored) × HearsBytes step old new now bytes said
+
+-- its own parcel is heard here, and any other handed on
 abbrev pub HearsParcel : Step → (now : ℕ) → (old new : Relayed) → ParcelValue → Type 0
 HearsParcel step now old new parcel =
     ((parcel.to ≡ old.beside.peer.settings.me)
-    × ((said : Result Received Ignored)
-    × HearsBytes step old.beside new.beside now (datagram_of parcel) said)
+    × HearsInside step now (is_of_lines (kind_of (datagram_of parcel))) old.beside new.beside (datagram_of parcel)
     × (new.carrying ≡ old.carrying))
     ⊎ ((parcel.to ≡ old.beside.peer.settings.me → ⊥) × (new.beside ≡ old.beside)
     × (new.carrying ≡ handing old.beside.peer parcel old.carrying))

@@ -10,7 +10,7 @@ ghost use Rattle.roll_mesh.specs.Machines.{is_in};
 ghost use Rattle.roll_peer.specs.Sending.{can_carry};
 ghost use Rattle.roll_peer.specs.Receiving.{byte_at, moment_of, sender_of};
 ghost use Rattle.roll_peer.specs.Requests.{HearsBytes};
-ghost use Rattle.roll_relay.specs.Relaying.{are_here, handing, hearing, is_play_or_bye, is_said, kind_of, map_in, parcels_in, ready_of, shut_of, text_in, Hears, HearsParcel, HearsParcels, HoldsParcels, IsUnheard};
+ghost use Rattle.roll_relay.specs.Relaying.{are_here, handing, hearing, is_of_lines, is_play_or_bye, is_said, kind_of, map_in, parcels_in, ready_of, shut_of, text_in, Hears, HearsInside, HearsParcel, HearsParcels, HoldsParcels, IsUnheard};
 
 use crate::heard::Heard;
 use arrayvec::ArrayVec;
@@ -235,7 +235,7 @@ impl Relay {
         ensures keeps { S.keeps session.old session.new }
     {
         if parcel.to == peer.settings().me {
-            let _ = peer.receive(session, &parcel.datagram(), now);
+            hear_inside(peer, session, &parcel.datagram(), now);
         } else {
             self.hand_on(peer, parcel);
         }
@@ -248,6 +248,22 @@ impl Relay {
     {
         if are_here(peer, parcel) {
             self.carrier.hand_on(&shut_of(peer), parcel);
+        }
+    }
+}
+
+/// What was inside a parcel for this machine is heard, as if it had come straight. A map, or what is carried, isn't: its maker has none of
+/// these carried, so whoever gave it would only have its maker look like a liar.
+fn hear_inside<S: Networked>(peer: &mut Peer, session: &mut S, bytes: &[u8], now: u32)
+    ensures heard { HearsInside S.step now (is_of_lines (kind_of bytes.now))
+        (record { session = S.seen session.old; peer = peer.old })
+        (record { session = S.seen session.new; peer = peer.new }) bytes.now }
+    ensures keeps { S.keeps session.old session.new }
+{
+    match byte_of(bytes, KIND_AT) {
+        MAP | CARRIED => {}
+        _ => {
+            let _ = peer.receive(session, bytes, now);
         }
     }
 }

@@ -20,7 +20,7 @@ use Rattle.roll_member.proofs.member.Member.hear.Goals as goal
 pub take_all-refusal-requires-clause-up : goal.take_all-refusal-requires-clause-up
 take_all-refusal-requires-clause-up g c = λ p lt.
     rw c.up_to-most.ensures
-    (omega (arith, up_to_at c.args.end c.has.result.now c.counts_after.result p lt))
+    (omega (arith, up_to_at c.self.inside.mesh.seat c.self.inside.mesh.machine.gone c.args.end c.has.result.now c.counts_after.result p lt))
 
 pub take_all-refusal-requires-clause-fair : goal.take_all-refusal-requires-clause-fair
 take_all-refusal-requires-clause-fair g c =
