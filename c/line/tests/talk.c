@@ -10,6 +10,7 @@
  *     --size N           bytes of a datagram (45)
  *     --stun ADDRESS PORT
  *     --relay ADDRESS PORT USER PASSWORD      --tcp-relay: the same, by TCP
+ *     --relay-later SECONDS ADDRESS PORT USER PASSWORD      from so many seconds on there is this relay alone
  *     --relay-only
  *     --lies             sends packets of this library in the name of another machine too
  *     --forges           and changes one bit of each tenth signal on its way, and brings each twice */
@@ -39,6 +40,8 @@ typedef struct talk {
     long seconds, within, carried, lost, size;
     bool lies, forges;
     faz_line_settings settings;
+    faz_line_relay later;
+    uint64_t later_at;
     faz_line *line;
     FILE *out, *in;
     carried waiting[WAITING];
@@ -223,6 +226,11 @@ static void play(talk *self) {
         uint8_t bytes[FAZGROND_DATAGRAM];
         size_t length;
         carry_in(self);
+        if (self->later_at != 0 && now - self->begun > self->later_at) {
+            self->later_at = 0;
+            if (!faz_line_relays(self->line, &self->later, 1))
+                fail("the later relay");
+        }
         uint64_t before = micros_of(CLOCK_THREAD_CPUTIME_ID);
         faz_line_turn(self->line, (uint32_t)(now / 1000));
         uint64_t used = micros_of(CLOCK_THREAD_CPUTIME_ID) - before;
@@ -264,6 +272,10 @@ static void read_options(talk *self, int argc, char **argv) {
             self->settings.relays[self->settings.relay_count++] = (faz_line_relay){argv[at + 1], (uint16_t)atoi(argv[at + 2]), argv[at + 3],
                                                                                     argv[at + 4], argv[at][2] == 't'};
             at += 4;
+        } else if (strcmp(argv[at], "--relay-later") == 0 && at + 5 < argc) {
+            self->later_at = (uint64_t)atol(argv[at + 1]) * 1000000;
+            self->later = (faz_line_relay){argv[at + 2], (uint16_t)atoi(argv[at + 3]), argv[at + 4], argv[at + 5], false};
+            at += 5;
         } else if (strcmp(argv[at], "--relay-only") == 0) {
             self->settings.relay_only = true;
         } else if (strcmp(argv[at], "--lies") == 0) {
