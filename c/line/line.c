@@ -128,7 +128,8 @@ static bool has_room(const faz_line *self, const way *by, size_t length) {
 /* By the newest way; until that is heard also by the one before: the other machine takes it once. */
 bool faz_line_send(faz_line *self, const uint8_t *bytes, size_t length) {
     uint8_t sealed[SEALED];
-    bool by_newest = has_room(self, &self->newest, length), by_before = !self->newest.is_heard && has_room(self, &self->before, length);
+    bool by_newest = has_room(self, &self->newest, length);
+    bool by_before = !self->newest.is_heard && has_room(self, &self->before, length);
     if (length == 0 || length > FAZGROND_DATAGRAM || !(by_newest || by_before))
         return false;
     size_t size = seal_put(&self->seal, sealed, bytes, length);
@@ -380,7 +381,8 @@ static const char *keyed(faz_line *self, const faz_line_settings *settings) {
         return "the system gives no random numbers";
     if (sodium_is_zero(settings->keys->secret, FAZ_LINE_KEY))
         return "the keys were not drawn, or are another line's";
-    bool is_open = seal_open(&self->seal, settings->me < settings->other, settings->keys->open, settings->keys->secret, settings->their);
+    bool leads = settings->me < settings->other;
+    bool is_open = seal_open(&self->seal, leads, settings->keys->open, settings->keys->secret, settings->their);
     sodium_memzero(settings->keys, sizeof *settings->keys);
     return is_open ? NULL : "the other machine's key is none";
 }

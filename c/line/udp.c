@@ -81,7 +81,8 @@ ice *ice_open(const ice_settings *settings) {
         return NULL;
     self->settings = *settings;
     self->socket = socket(AF_INET, SOCK_DGRAM, 0);
-    if (self->socket < 0 || fcntl(self->socket, F_SETFL, O_NONBLOCK) != 0 || bind(self->socket, (struct sockaddr *)&any, sizeof any) != 0) {
+    if (self->socket < 0 || fcntl(self->socket, F_SETFL, O_NONBLOCK) != 0
+        || bind(self->socket, (struct sockaddr *)&any, sizeof any) != 0) {
         ice_drop(self);
         return NULL;
     }

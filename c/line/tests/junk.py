@@ -1,5 +1,8 @@
 #!/usr/bin/env python3
-"""Sends junk to a port, a third of it random, a third like sealed datagrams, a third like requests of STUN: junk.py ADDRESS PORT RATE SECONDS"""
+"""Sends junk to a port, a third of it random, a third like sealed datagrams, a third like requests of STUN:
+
+    junk.py ADDRESS PORT RATE SECONDS
+"""
 import os
 import random
 import socket

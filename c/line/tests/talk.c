@@ -1,7 +1,7 @@
 /* One machine of a line: talk ME OTHER FOLDER [OPTION..]
  *
- * Two of them give each other their open keys and their signals by files in FOLDER, each of them late, and then send datagrams with the
- * time in them, 60 a second. What was seen is told at the end.
+ * Two of them give each other their open keys and their signals by files in FOLDER, each of them late, and then send datagrams with
+ * the time in them, 60 a second. What was seen is told at the end.
  *
  *     --seconds N        how long, from the first datagram on (3)
  *     --within N         give up if none comes in so many seconds (20)
@@ -197,7 +197,8 @@ static void say_changes(talk *self, uint64_t now) {
     faz_line_state state;
     faz_line_look(self->line, &state);
     if (state.stage != self->seen.stage || state.way != self->seen.way || state.generation != self->seen.generation)
-        printf("at %.0f %s, way %s, generation %u\n", (double)(now - self->begun) / 1000, STAGES[state.stage], WAYS[state.way], state.generation);
+        printf("at %.0f %s, way %s, generation %u\n", (double)(now - self->begun) / 1000, STAGES[state.stage], WAYS[state.way],
+               state.generation);
     fflush(stdout);
     self->seen = state;
 }
@@ -211,11 +212,14 @@ static void say_result(talk *self) {
     faz_line_state *state = &self->seen;
     size_t count = self->count < MOST ? self->count : MOST;
     qsort(self->late, count, sizeof self->late[0], by_size);
-    printf("way %s stage %s generation %u sent %" PRIu64 " came %" PRIu64 " half %.1f most99 %.1f gap %.0f at %.0f forged %" PRIu64
-           " again %" PRIu64 " misnamed %" PRIu64 " dropped %" PRIu64 " broken %" PRIu64 " signals_refused %" PRIu64 " number %016" PRIx64 "\n",
-           WAYS[state->way], STAGES[state->stage], state->generation, self->sent, self->count, count ? self->late[count / 2] / 1000.0 : 0,
-           count ? self->late[count * 99 / 100] / 1000.0 : 0, (double)self->gap / 1000, (double)self->gap_at / 1000, state->forged,
-           state->again, state->misnamed, state->dropped, self->broken, self->refused, faz_line_number(self->line));
+    printf("way %s stage %s generation %u sent %" PRIu64 " came %" PRIu64, WAYS[state->way], STAGES[state->stage], state->generation,
+           self->sent, self->count);
+    if (count > 0)
+        printf(" half %.1f most99 %.1f", self->late[count / 2] / 1000.0, self->late[count * 99 / 100] / 1000.0);
+    printf(" gap %.0f at %.0f forged %" PRIu64 " again %" PRIu64 " misnamed %" PRIu64, (double)self->gap / 1000,
+           (double)self->gap_at / 1000, state->forged, state->again, state->misnamed);
+    printf(" dropped %" PRIu64 " broken %" PRIu64 " signals_refused %" PRIu64 " number %016" PRIx64 "\n", state->dropped, self->broken,
+           self->refused, faz_line_number(self->line));
 }
 
 static void play(talk *self) {
@@ -253,7 +257,8 @@ static void play(talk *self) {
 
 static void read_options(talk *self, int argc, char **argv) {
     const struct { const char *name; long *to; } numbers[] = {
-        {"--seconds", &self->seconds}, {"--within", &self->within}, {"--carried", &self->carried}, {"--lost", &self->lost}, {"--size", &self->size}};
+        {"--seconds", &self->seconds}, {"--within", &self->within}, {"--carried", &self->carried}, {"--lost", &self->lost},
+        {"--size", &self->size}};
     for (int at = 4; at < argc; at++) {
         bool is_number = false;
         for (size_t n = 0; n < sizeof numbers / sizeof *numbers && at + 1 < argc; n++)
@@ -269,8 +274,8 @@ static void read_options(talk *self, int argc, char **argv) {
             at += 2;
         } else if ((strcmp(argv[at], "--relay") == 0 || strcmp(argv[at], "--tcp-relay") == 0) && at + 4 < argc
                    && self->settings.relay_count < FAZ_LINE_RELAYS) {
-            self->settings.relays[self->settings.relay_count++] = (faz_line_relay){argv[at + 1], (uint16_t)atoi(argv[at + 2]), argv[at + 3],
-                                                                                    argv[at + 4], argv[at][2] == 't'};
+            faz_line_relay *relay = &self->settings.relays[self->settings.relay_count++];
+            *relay = (faz_line_relay){argv[at + 1], (uint16_t)atoi(argv[at + 2]), argv[at + 3], argv[at + 4], argv[at][2] == 't'};
             at += 4;
         } else if (strcmp(argv[at], "--relay-later") == 0 && at + 5 < argc) {
             self->later_at = (uint64_t)atol(argv[at + 1]) * 1000000;

@@ -1,7 +1,7 @@
 /* An internet between network namespaces: wan NAMESPACE:DEVICE:ADDRESS:MILLISECONDS..
  *
- * It makes a TUN device in each namespace, and carries IPv4 packets from one to the other by their addresses, each so many milliseconds
- * late at either end. On its standard input it takes lines:
+ * It makes a TUN device in each namespace, and carries IPv4 packets from one to the other by their addresses, each so many
+ * milliseconds late at either end. On its standard input it takes lines:
  *
  *     loss DEVICE PERCENT     so many of the packets of a device are lost
  *     longest                 writes how many bytes the longest packet had since this was asked last
