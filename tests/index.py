@@ -35,7 +35,7 @@ def clauses(lines):
     """What a function ensures and requires: its lines, from the second on."""
     told = {"ensures": [], "requires": []}
     for line in lines:
-        clause = re.match(r"\s*(ensures|requires) (\w*) ?\{ ?((?:.*?\b([A-Z]\w+))?.*)", line)
+        clause = re.match(r"\s*(ensures|requires) (\w*) ?\{ ?((?:.*?\b(?!List\b)([A-Z]\w+))?.*)", line)
         if clause:
             told[clause[1]].append(clause[2] or clause[4] or f"`{clause[3].rstrip(' }')}`")
         elif re.search(r"\{$|^\s*///|\bfn \w", line) or line == "}":

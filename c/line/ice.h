@@ -39,8 +39,14 @@ bool ice_send(ice *self, const uint8_t *bytes, size_t length);
 /* The way is good as it is: lets go of what was held for others, as places on relays. */
 void ice_settle(ice *self);
 
-/* Closes it, and whatever servers hold for it. It is called again until it is true, which it is at once if `now`. */
-bool ice_close(ice *self, bool now);
+/* Closes it, and whatever servers hold for it. It is called again, each turn, until it is true: then the way is gone. */
+bool ice_close(ice *self);
+
+/* Lets go of it at once, whatever servers still hold. */
+void ice_drop(ice *self);
+
+/* Waits for a millisecond. */
+void ice_wait(void);
 
 /* A sum of this machine's addresses: another one if they change. */
 uint64_t ice_addresses(void);

@@ -8,9 +8,8 @@
 #include <stdlib.h>
 #include <string.h>
 
-/* Of the other machine's candidates so many are taken; so often the context runs in a turn; and so many milliseconds servers have to
- * let go of a way that is closed at once. */
-enum { CANDIDATES = 40, STEPS = 256, LAST = 200 };
+/* Of the other machine's candidates so many are taken, and so often the context runs in a turn. */
+enum { CANDIDATES = 40, STEPS = 256 };
 
 struct ice {
     GMainContext *context;
@@ -20,7 +19,7 @@ struct ice {
     ice_state state;
     char text[ICE_TEXTS][ICE_TEXT];
     size_t texts, candidates;
-    bool has_relays, is_closing, is_closed;
+    bool is_closing, is_closed;
 };
 
 static void tell(ice *self, const char *kind, const char *first, const char *second) {
@@ -70,7 +69,6 @@ static void set_servers(ice *self) {
         nice_agent_set_relay_info(self->agent, self->stream, 1, relay->address, relay->port, relay->user, relay->password,
                                   relay->by_tcp ? NICE_RELAY_TYPE_TURN_TCP : NICE_RELAY_TYPE_TURN_UDP);
     }
-    self->has_relays = line->relay_count > 0;
 }
 
 static void tell_credentials(ice *self) {
@@ -170,21 +168,28 @@ static void begin_to_close(ice *self) {
     g_main_context_pop_thread_default(self->context);
 }
 
-bool ice_close(ice *self, bool now) {
+void ice_drop(ice *self) {
     if (!self->is_closing)
         begin_to_close(self);
     run(self);
-    for (int waited = 0; now && !self->is_closed && self->has_relays && waited < LAST; waited++) {
-        g_usleep(1000);
-        run(self);
-    }
-    if (!self->is_closed && !now)
-        return false;
     g_object_unref(self->agent);
     run(self);
     g_main_context_unref(self->context);
     free(self);
+}
+
+bool ice_close(ice *self) {
+    if (!self->is_closing)
+        begin_to_close(self);
+    run(self);
+    if (!self->is_closed)
+        return false;
+    ice_drop(self);
     return true;
+}
+
+void ice_wait(void) {
+    g_usleep(1000);
 }
 
 uint64_t ice_addresses(void) {

@@ -11,18 +11,26 @@ enum {
     HANDED_OVER = 100, /* the same while a way isn't heard yet */
     SILENT = 1000,     /* another way is looked for */
     TOLD_AGAIN = 600,  /* what carries signals may lose some */
-    TRIED = 4000,      /* a way that isn't there by then is given up for another one */
+    TRIED = 2000,      /* a way that isn't there by then is given up for another one, the next one after twice that.. */
     APART = 300,       /* between two ways that the other machine wants */
     LATE = 1000,       /* what is on its way on the way before may still come */
     SETTLED = 2000,    /* a way that has lasted so long stays */
-    LOOKED = 250       /* whether own addresses have changed */
+    LOOKED = 250,      /* whether own addresses have changed */
+    WRAPPED = 1000,    /* a relay may not have a channel yet for a way that is so new */
+    LAST = 200         /* so long servers have to let go of what they hold for a line that is closed */
 };
+
+/* .. and none after more than four times that. */
+enum { DOUBLED = 2 };
+
+/* Bytes of a datagram: without a channel a relay wraps it in 68 bytes, by IPv6 in 80, and networks carry 1,280. */
+enum { SHORT = 1100 };
 
 enum { INBOX = 128, CLOSING = 4, HEAD = 4, SEALED = FAZGROND_DATAGRAM + SEAL_OVERHEAD, ADDRESS = 64, WORD = 256 };
 
 typedef struct way {
     ice *ice; /* null: there is none */
-    uint32_t generation, begun, heard_at, kept_at;
+    uint32_t generation, begun, up_at, heard_at, kept_at;
     bool is_up, is_heard, is_settled;
     size_t told; /* how many of its texts are on their way */
 } way;
@@ -39,7 +47,8 @@ struct faz_line {
     way newest, before; /* `before` was heard; it carries on until the newest is */
     ice *closing[CLOSING];
     bool has_turned, was_up, was_blocked;
-    uint32_t now, heard_at, sent_at, told_at, looked_at, moved_at;
+    unsigned tries; /* how many ways were given up since something came */
+    uint32_t now, heard_at, sent_at, told_at, looked_at;
     uint64_t addresses;
     faz_line_state counts;
     datagram inbox[INBOX];
@@ -88,6 +97,7 @@ static void came(void *of, ice *from, const uint8_t *bytes, size_t length) {
     }
     self->heard_at = self->now;
     self->was_up = true;
+    self->tries = 0;
     if (from == self->newest.ice && !self->newest.is_heard) {
         self->newest.is_heard = true;
         self->newest.heard_at = self->now;
@@ -111,14 +121,20 @@ static bool send_by(way *by, const uint8_t *bytes, size_t length) {
     return by->ice != NULL && by->is_up && ice_send(by->ice, bytes, length);
 }
 
+static bool has_room(const faz_line *self, const way *by, size_t length) {
+    return by->is_up && (length <= SHORT || since(self, by->up_at) >= WRAPPED || ice_way(by->ice) != FAZ_LINE_RELAYED);
+}
+
 /* By the newest way; until that is heard also by the one before: the other machine takes it once. */
 bool faz_line_send(faz_line *self, const uint8_t *bytes, size_t length) {
     uint8_t sealed[SEALED];
-    if (length == 0 || length > FAZGROND_DATAGRAM || !(self->newest.is_up || self->before.is_up))
+    bool by_newest = has_room(self, &self->newest, length);
+    bool by_before = !self->newest.is_heard && has_room(self, &self->before, length);
+    if (length == 0 || length > FAZGROND_DATAGRAM || !(by_newest || by_before))
         return false;
     size_t size = seal_put(&self->seal, sealed, bytes, length);
-    bool is_sent = send_by(&self->newest, sealed, size);
-    if (!self->newest.is_heard && send_by(&self->before, sealed, size))
+    bool is_sent = by_newest && send_by(&self->newest, sealed, size);
+    if (by_before && send_by(&self->before, sealed, size))
         is_sent = true;
     if (is_sent) {
         self->sent_at = self->now;
@@ -142,15 +158,26 @@ static void keep_alive(faz_line *self, way *by) {
 
 /* Closes a way, by and by. */
 static void retire(faz_line *self, way *old) {
-    if (old->ice != NULL && !ice_close(old->ice, false)) {
+    if (old->ice != NULL && !ice_close(old->ice)) {
         size_t at = 0;
         while (at + 1 < CLOSING && self->closing[at] != NULL)
             at++;
         if (self->closing[at] != NULL)
-            ice_close(self->closing[at], true);
+            ice_drop(self->closing[at]);
         self->closing[at] = old->ice;
     }
     memset(old, 0, sizeof *old);
+}
+
+/* Goes on closing; true once all are gone. */
+static bool close_more(faz_line *self) {
+    bool is_over = true;
+    for (size_t at = 0; at < CLOSING; at++) {
+        if (self->closing[at] != NULL && ice_close(self->closing[at]))
+            self->closing[at] = NULL;
+        is_over = is_over && self->closing[at] == NULL;
+    }
+    return is_over;
 }
 
 /* Begins to look for the way of a generation, beside the one that was heard. */
@@ -167,15 +194,16 @@ static bool begin(faz_line *self, uint32_t generation) {
     return self->newest.ice != NULL;
 }
 
-static void look_at(way *of) {
-    if (of->ice != NULL)
-        of->is_up = ice_look(of->ice) == ICE_THERE;
+static void look_at(const faz_line *self, way *of) {
+    bool was_up = of->is_up;
+    of->is_up = of->ice != NULL && ice_look(of->ice) == ICE_THERE;
+    if (of->is_up && !was_up)
+        of->up_at = self->now;
 }
 
-/* Whether the newest way is being looked for: it isn't heard, hasn't failed, and has time. */
-static bool is_looking(const faz_line *self) {
-    const way *newest = &self->newest;
-    return newest->ice != NULL && !newest->is_heard && ice_look(newest->ice) != ICE_NONE && since(self, newest->begun) < TRIED;
+/* Whether there was time enough for the newest way. */
+static bool is_tried(const faz_line *self) {
+    return since(self, self->newest.begun) >= (uint32_t)TRIED << (self->tries < DOUBLED ? self->tries : DOUBLED);
 }
 
 static bool has_moved(faz_line *self) {
@@ -188,16 +216,18 @@ static bool has_moved(faz_line *self) {
     return has;
 }
 
-/* Another way is wanted if this machine has other addresses, or if nothing comes. */
+/* Another way is wanted if this machine has other addresses, or if nothing comes: for a second by one that was heard, and by another
+ * one for as long as it is tried. */
 static void look_for_another(faz_line *self) {
-    bool moved = has_moved(self);
     const way *newest = &self->newest;
-    if (moved && since(self, newest->begun) >= APART) {
+    bool is_silent = since(self, self->heard_at) >= SILENT;
+    if (has_moved(self) && since(self, newest->begun) >= APART) {
         begin(self, newest->generation + 1);
-    } else if (!is_looking(self) && since(self, newest->begun) >= TRIED && since(self, self->heard_at) >= SILENT) {
-        self->was_blocked = !self->was_up;
+    } else if (newest->is_heard && is_silent && since(self, newest->heard_at) >= SILENT) {
         begin(self, newest->generation + 1);
-    } else if (newest->is_heard && since(self, self->heard_at) >= SILENT && since(self, newest->heard_at) >= SILENT) {
+    } else if (!newest->is_heard && is_silent && is_tried(self)) {
+        self->tries++;
+        self->was_blocked = self->tries >= DOUBLED;
         begin(self, newest->generation + 1);
     }
 }
@@ -211,9 +241,7 @@ static void tidy(faz_line *self) {
         ice_settle(newest->ice);
         newest->is_settled = true;
     }
-    for (size_t at = 0; at < CLOSING; at++)
-        if (self->closing[at] != NULL && ice_close(self->closing[at], false))
-            self->closing[at] = NULL;
+    close_more(self);
 }
 
 void faz_line_turn(faz_line *self, uint32_t now) {
@@ -225,8 +253,8 @@ void faz_line_turn(faz_line *self, uint32_t now) {
     for (way *each = &self->newest; each != NULL; each = each == &self->newest ? &self->before : NULL)
         if (each->ice != NULL)
             ice_turn(each->ice);
-    look_at(&self->newest);
-    look_at(&self->before);
+    look_at(self, &self->newest);
+    look_at(self, &self->before);
     keep_alive(self, &self->newest);
     keep_alive(self, &self->before);
     look_for_another(self);
@@ -305,33 +333,45 @@ uint64_t faz_line_number(const faz_line *self) {
     return self->seal.number;
 }
 
-static bool copy(char *to, size_t room, const char **text) {
-    if (*text == NULL || strlen(*text) >= room)
+static bool fits(const char *text, size_t room) {
+    return text != NULL && strlen(text) < room;
+}
+
+static const char *copy(char *to, const char *text) {
+    return strcpy(to, text);
+}
+
+bool faz_line_relays(faz_line *self, const faz_line_relay *relays, uint32_t count) {
+    if (count > FAZ_LINE_RELAYS)
         return false;
-    strcpy(to, *text);
-    *text = to;
+    for (uint32_t at = 0; at < count; at++)
+        if (!fits(relays[at].address, ADDRESS) || !fits(relays[at].user, WORD) || !fits(relays[at].password, WORD))
+            return false;
+    for (uint32_t at = 0; at < count; at++)
+        self->settings.relays[at] = (faz_line_relay){.address = copy(self->address[at], relays[at].address),
+                                                     .port = relays[at].port,
+                                                     .user = copy(self->user[at], relays[at].user),
+                                                     .password = copy(self->password[at], relays[at].password),
+                                                     .by_tcp = relays[at].by_tcp};
+    self->settings.relay_count = count;
     return true;
 }
 
 /* What is wrong with settings; null if they were copied. */
 static const char *copied(faz_line *self, const faz_line_settings *settings) {
-    self->settings = *settings;
-    self->settings.keys = NULL;
-    self->settings.their = NULL;
     if (settings->keys == NULL || settings->their == NULL)
         return "no keys are given";
     if (settings->me >= FAZGROND_MACHINES || settings->other >= FAZGROND_MACHINES || settings->me == settings->other)
         return "the two are not two machines of a match";
-    if (settings->relay_count > FAZ_LINE_RELAYS)
-        return "there are too many relays";
-    if (settings->stun != NULL && !copy(self->stun, ADDRESS, &self->settings.stun))
+    if (settings->stun != NULL && !fits(settings->stun, ADDRESS))
         return "the STUN server's address is too long";
-    for (uint32_t at = 0; at < settings->relay_count; at++) {
-        faz_line_relay *relay = &self->settings.relays[at];
-        if (!copy(self->address[at], ADDRESS, &relay->address) || !copy(self->user[at], WORD, &relay->user)
-            || !copy(self->password[at], WORD, &relay->password))
-            return "a relay has no address, user or password, or one that is too long";
-    }
+    if (!faz_line_relays(self, settings->relays, settings->relay_count))
+        return "there are too many relays, or one has no address, user or password, or one that is too long";
+    self->settings.me = settings->me;
+    self->settings.other = settings->other;
+    self->settings.relay_only = settings->relay_only;
+    self->settings.stun = settings->stun != NULL ? copy(self->stun, settings->stun) : NULL;
+    self->settings.stun_port = settings->stun_port;
     return NULL;
 }
 
@@ -341,7 +381,8 @@ static const char *keyed(faz_line *self, const faz_line_settings *settings) {
         return "the system gives no random numbers";
     if (sodium_is_zero(settings->keys->secret, FAZ_LINE_KEY))
         return "the keys were not drawn, or are another line's";
-    bool is_open = seal_open(&self->seal, settings->me < settings->other, settings->keys->open, settings->keys->secret, settings->their);
+    bool leads = settings->me < settings->other;
+    bool is_open = seal_open(&self->seal, leads, settings->keys->open, settings->keys->secret, settings->their);
     sodium_memzero(settings->keys, sizeof *settings->keys);
     return is_open ? NULL : "the other machine's key is none";
 }
@@ -368,13 +409,13 @@ faz_line *faz_line_open(const faz_line_settings *settings, const char **why) {
 void faz_line_close(faz_line *self) {
     if (self == NULL)
         return;
-    if (self->newest.ice != NULL)
-        ice_close(self->newest.ice, true);
-    if (self->before.ice != NULL)
-        ice_close(self->before.ice, true);
+    retire(self, &self->newest);
+    retire(self, &self->before);
+    for (int waited = 0; !close_more(self) && waited < LAST; waited++)
+        ice_wait();
     for (size_t at = 0; at < CLOSING; at++)
         if (self->closing[at] != NULL)
-            ice_close(self->closing[at], true);
+            ice_drop(self->closing[at]);
     seal_close(&self->seal);
     free(self);
 }

@@ -87,13 +87,18 @@ void faz_line_close(faz_line *line);
 /* Once a turn. `now` is the time in milliseconds, which begins anew after 2^32. */
 void faz_line_turn(faz_line *line, uint32_t now);
 
+/* Relays for the ways that are looked for from now on: call it before the passwords of those before end. False: they are no good, and
+ * those before stay. */
+bool faz_line_relays(faz_line *line, const faz_line_relay *relays, uint32_t count);
+
 /* The next signal to carry to the other machine, in `out`, which has room for FAZ_LINE_SIGNAL bytes. False: there is none now. */
 bool faz_line_signal(faz_line *line, uint8_t *out, size_t room, size_t *length);
 
 /* Takes a signal of the other machine's. False: it made no such signal. */
 bool faz_line_signalled(faz_line *line, const uint8_t *bytes, size_t length);
 
-/* Sends a datagram of FAZGROND_DATAGRAM bytes at most. False: there is no way now, or it is full; the datagram is lost. */
+/* Sends a datagram of FAZGROND_DATAGRAM bytes at most. False: there is no way now, or it is full, or it leads by a relay for less
+ * than a second and takes no more than 1,100 bytes; the datagram is lost. */
 bool faz_line_send(faz_line *line, const uint8_t *bytes, size_t length);
 
 /* The next datagram that came, in `out`, which has room for FAZGROND_DATAGRAM bytes. False: there is none. A packet of this

@@ -1,0 +1,111 @@
+#!/usr/bin/env python3
+"""Asks a TURN server for what it has to refuse, and for what it has to give: turn.py ADDRESS PORT SECRET PEER
+
+It is written from RFC 8489 and RFC 8656. PEER is an address that the server may relay to. Each line of what it writes is a check that
+failed; its status is 1 if there is any.
+"""
+import base64
+import hashlib
+import hmac
+import os
+import socket
+import struct
+import sys
+import time
+
+ALLOCATE, REFRESH, PERMIT = 0x003, 0x004, 0x008
+ERROR = 0x0110
+COOKIE = 0x2112A442
+USERNAME, INTEGRITY, CODE, LIFETIME, PEER, REALM, NONCE, TRANSPORT = 0x06, 0x08, 0x09, 0x0D, 0x12, 0x14, 0x15, 0x19
+
+
+def attribute(kind, value):
+    return struct.pack(">HH", kind, len(value)) + value + bytes(-len(value) % 4)
+
+
+def attributes(body):
+    found = {}
+    while body:
+        kind, length = struct.unpack(">HH", body[:4])
+        found.setdefault(kind, body[4 : 4 + length])
+        body = body[4 + length + -length % 4 :]
+    return found
+
+
+class Client:
+    """One client address, with what the server has told it."""
+
+    def __init__(self, server):
+        self.socket = socket.socket(socket.AF_INET, socket.SOCK_DGRAM)
+        self.socket.settimeout(1)
+        self.server = server
+        self.told = {}
+
+    def asked(self, kind, body, user=None, password=None):
+        """The code of the error that it answers, and 0 if it gives what it is asked for; None if it doesn't answer."""
+        name = os.urandom(12)
+        if user is not None:
+            realm, nonce = self.told.get(REALM, b"realm"), self.told.get(NONCE, b"nonce")
+            body += attribute(USERNAME, user.encode()) + attribute(REALM, realm) + attribute(NONCE, nonce)
+            key = hashlib.md5(user.encode() + b":" + realm + b":" + password.encode()).digest()
+            head = struct.pack(">HHI", kind, len(body) + 24, COOKIE) + name
+            body += attribute(INTEGRITY, hmac.new(key, head + body, hashlib.sha1).digest())
+        request = struct.pack(">HHI", kind, len(body), COOKIE) + name + body
+        for _ in range(3):
+            self.socket.sendto(request, self.server)
+            try:
+                answer = self.socket.recv(1500)
+            except TimeoutError:
+                continue
+            if answer[8:20] != name:
+                continue
+            self.told.update(attributes(answer[20:]))
+            if struct.unpack(">H", answer[:2])[0] & ERROR != ERROR:
+                return 0
+            code = attributes(answer[20:])[CODE]
+            return code[2] * 100 + code[3]
+        return None
+
+    def allocated(self, user=None, password=None):
+        """What comes of asking for a relayed address; the first answer to who has a password gives the nonce."""
+        body = attribute(TRANSPORT, b"\x11\0\0\0")
+        if user is None:
+            return self.asked(ALLOCATE, body)
+        self.asked(ALLOCATE, body)
+        return self.asked(ALLOCATE, body, user, password)
+
+    def permitted(self, peer, user, password):
+        port, address = struct.pack(">H", 9 ^ COOKIE >> 16), struct.unpack(">I", socket.inet_aton(peer))[0] ^ COOKIE
+        return self.asked(PERMIT, attribute(PEER, b"\0\1" + port + struct.pack(">I", address)), user, password)
+
+
+def main():
+    server, secret, peer = (sys.argv[1], int(sys.argv[2])), sys.argv[3], sys.argv[4]
+    failed = 0
+
+    def ticket(seconds, key=secret):
+        user = f"{int(time.time()) + seconds}:match"
+        return user, base64.b64encode(hmac.new(key.encode(), user.encode(), hashlib.sha1).digest()).decode()
+
+    def check(what, found, *due):
+        nonlocal failed
+        if found not in due:
+            print(f"{what}: {found}, not {' or '.join(str(it) for it in due)}")
+            failed = 1
+
+    check("an allocation without a password", Client(server).allocated(), 401)
+    check("one with a password of another secret", Client(server).allocated(*ticket(600, "other")), 401)
+    check("one with a password that has expired", Client(server).allocated(*ticket(-5)), 401)
+    user, password = ticket(600)
+    check("one with a later time than the password's", Client(server).allocated("9" + user, password), 401)
+    check("one in nobody's name", Client(server).allocated("", ""), 400, 401)
+    client = Client(server)
+    check("one with a good password", client.allocated(user, password), 0)
+    check("a peer elsewhere", client.permitted(peer, user, password), 0)
+    for private in ["10.1.2.3", "172.16.0.1", "192.168.1.2", "127.0.0.1", "169.254.169.254", "100.64.0.1", "0.0.0.0", "224.0.0.1"]:
+        check(f"a peer {private}", client.permitted(private, user, password), 403)
+    check("giving it back", client.asked(REFRESH, attribute(LIFETIME, bytes(4)), user, password), 0)
+    sys.exit(failed)
+
+
+main()
