@@ -7,9 +7,10 @@
 #include <stdio.h>
 #include <stdlib.h>
 #include <string.h>
+#include <sys/socket.h>
 
-/* Of the other machine's candidates so many are taken, and so often the context runs in a turn. */
-enum { CANDIDATES = 40, STEPS = 256 };
+/* Of the other machine's candidates so many are taken, so often the context runs in a turn, and so many bytes may wait in a socket. */
+enum { CANDIDATES = 40, STEPS = 256, ROOM = 1 << 20 };
 
 struct ice {
     GMainContext *context;
@@ -71,6 +72,15 @@ static void set_servers(ice *self) {
     }
 }
 
+/* Sockets get all the room that the system gives them, so that junk in one leaves room for what is genuine. */
+static void make_room(ice *self) {
+    GPtrArray *sockets = nice_agent_get_sockets(self->agent, self->stream, 1);
+    for (guint at = 0; sockets != NULL && at < sockets->len; at++)
+        g_socket_set_option(g_ptr_array_index(sockets, at), SOL_SOCKET, SO_RCVBUF, ROOM, NULL);
+    if (sockets != NULL)
+        g_ptr_array_unref(sockets);
+}
+
 static void tell_credentials(ice *self) {
     gchar *user = NULL, *password = NULL;
     if (nice_agent_get_local_credentials(self->agent, self->stream, &user, &password))
@@ -99,6 +109,7 @@ ice *ice_open(const ice_settings *settings) {
     tell_credentials(self);
     if (!nice_agent_gather_candidates(self->agent, self->stream))
         self->state = ICE_NONE;
+    make_room(self);
     return self;
 }
 

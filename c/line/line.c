@@ -216,6 +216,20 @@ static bool has_moved(faz_line *self) {
     return has;
 }
 
+/* The newest way wasn't heard in time. There is another try; or none, if the way before is heard after all. */
+static void give_up(faz_line *self, bool is_silent) {
+    if (is_silent) {
+        self->tries++;
+        self->was_blocked = self->tries >= DOUBLED;
+        begin(self, self->newest.generation + 1);
+    } else if (self->before.ice != NULL && self->newest.ice != NULL) {
+        uint32_t generation = self->newest.generation;
+        retire(self, &self->newest);
+        self->newest.generation = generation;
+        self->newest.begun = self->now;
+    }
+}
+
 /* Another way is wanted if this machine has other addresses, or if nothing comes: for a second by one that was heard, and by another
  * one for as long as it is tried. */
 static void look_for_another(faz_line *self) {
@@ -225,10 +239,8 @@ static void look_for_another(faz_line *self) {
         begin(self, newest->generation + 1);
     } else if (newest->is_heard && is_silent && since(self, newest->heard_at) >= SILENT) {
         begin(self, newest->generation + 1);
-    } else if (!newest->is_heard && is_silent && is_tried(self)) {
-        self->tries++;
-        self->was_blocked = self->tries >= DOUBLED;
-        begin(self, newest->generation + 1);
+    } else if (!newest->is_heard && is_tried(self)) {
+        give_up(self, is_silent);
     }
 }
 

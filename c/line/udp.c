@@ -16,7 +16,7 @@
 #include <time.h>
 #include <unistd.h>
 
-enum { WORD = 8, PROBE = 2 + WORD, FIRST = 0xf2, ASKS = 1, ANSWERS = 2, ADDRESSES = 16, DATAGRAMS = 256, MOST = 1500, PAUSE = 100 };
+enum { WORD = 8, PROBE = 2 + WORD, FIRST = 0xf2, ASKS = 1, ANSWERS = 2, ADDRESSES = 16, DATAGRAMS = 256, MOST = 1500, PAUSE = 100, ROOM = 1 << 20 };
 
 struct ice {
     ice_settings settings;
@@ -86,6 +86,7 @@ ice *ice_open(const ice_settings *settings) {
         ice_drop(self);
         return NULL;
     }
+    setsockopt(self->socket, SOL_SOCKET, SO_RCVBUF, &(int){ROOM}, sizeof(int));
     randombytes_buf(self->ours, WORD);
     snprintf(self->text[self->texts++], ICE_TEXT, "w %s", sodium_bin2hex(word, sizeof word, self->ours, WORD));
     of_addresses(tell_address, self);
