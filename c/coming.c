@@ -716,7 +716,6 @@ static void tries(const char *what, void (*try)(uint32_t, uint32_t), uint32_t on
         failed++;
 }
 
-/* How long it takes from the second beginning of a program to its first frame, with a state of 64 KB, on a line of 50 ms each way. */
 /* A world that was drawn: programs stop and come back, one or two at a time, on a line that may lose and repeat datagrams. */
 static void is_drawn(uint32_t number, uint32_t none) {
     uint32_t machines = 2 + number % 3;
@@ -746,6 +745,7 @@ static void is_drawn(uint32_t number, uint32_t none) {
     }
 }
 
+/* How long it takes from the second beginning of a program to its first frame, with a state of 64 KB, on a line of 50 ms each way. */
 static void say_time(uint32_t machines, uint32_t after) {
     for (uint32_t before = 200; before <= 1500; before += 1300) {
         uint32_t turns = come_back(terms_for(machines), before, after);
