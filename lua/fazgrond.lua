@@ -1180,4 +1180,25 @@ function fazgrond.state_told(match_number, bytes)
     return name_answered(lib.fazgrond_state_told(match_number, bytes, #bytes, name_out))
 end
 
+-- ---- Which numbers of datagrams were taken, for whoever encrypts them.
+
+local Window = {}
+Window.__index = Window
+
+-- None was taken yet.
+function fazgrond.window()
+    need_library()
+    return setmetatable({ inside = ffi.new "fazgrond_window" }, Window)
+end
+
+-- Whether a number is new: it wasn't taken, and none was taken that is over 1,024 above it. Ask before you open the datagram.
+function Window:is_new(number)
+    return lib.fazgrond_window_is_new(self.inside, number) ~= 0
+end
+
+-- Takes a number, if it is new, and says whether it was. Call it once the datagram is known to be genuine.
+function Window:note(number)
+    return lib.fazgrond_window_note(self.inside, number) ~= 0
+end
+
 return fazgrond
