@@ -2,6 +2,7 @@
 import copy
 import gc
 import pickle
+import random
 import re
 import sys
 import threading
@@ -10,8 +11,9 @@ from pathlib import Path
 
 import recorder
 from fazgrond import (
-    Answer, Ask, Call, Closed, Epoch, Giver, Habits, Handle, Happened, Kind, Line, LineSettings, Mark, Match, Peer, Piece, Refused,
-    RemoteWord, Row, Session, Settings, StateName, Taker, Viewer, state_ask, state_sender, state_told, text, version,
+    WINDOW_REACH, Answer, Ask, Call, Closed, Epoch, Giver, Habits, Handle, Happened, Kind, Line, LineSettings, Mark, Match, Peer,
+    Piece, Refused, RemoteWord, Row, Session, Settings, StateName, Taker, Viewer, Window, state_ask, state_sender, state_told, text,
+    version,
 )
 from fazgrond.numbers import VERSION
 
@@ -837,6 +839,25 @@ def who_gives_a_wrong_state_is_named():
             assert taker.takes_of(0) and taker.takes_of(1)
         assert StateName(1, 0, 5, bytes([7] * 32)).digest_with(1) != name.digest_with(1)
         assert liar.name.digest != name.digest
+
+
+# ---- windows
+
+@test
+def a_window_answers_as_a_set_of_all_that_was_taken():
+    draw = random.Random(1)
+    window, taken = Window(), set()
+    for _ in range(20000):  # mostly near the highest, at times at the edge of reach or far ahead
+        highest = max(taken, default=0)
+        near, edge, far = highest + draw.randint(-200, 3), highest - WINDOW_REACH + draw.randint(-2, 2), highest + draw.randint(1, 3000)
+        number = max(0, draw.choice([near] * 6 + [edge, far]))
+        wanted = number not in taken and highest <= number + WINDOW_REACH
+        assert (window.is_new(number), window.note(number)) == (wanted, wanted)
+        if wanted:
+            taken.add(number)
+            taken = {it for it in taken if it + 2 * WINDOW_REACH >= number}
+    raises(OverflowError, window.note, 1 << 64)
+    raises(OverflowError, window.is_new, -1)
 
 
 # ---- all of the header
