@@ -16,6 +16,8 @@ MAGIC = b"FZG3"
 HELLO, PLAY, BYE, MAP, CARRIED, PIECE, ASK = 0, 1, 2, 3, 4, 5, 6
 VIEWER = 255
 BLOCK = 64  # of SHA-256, in bytes
+# How long the table is that who comes into a match asks for.
+TABLE_BYTES = int(re.search(r"FAZ_TABLE_BYTES = (\d+)", (Path(__file__).parent.parent / "c/rejoin/rejoin.h").read_text())[1])
 PIECE_LIMIT, ASK_LIMIT = 1024, 16
 DATAGRAM_LIMIT, PLACES = 1200, 8
 
@@ -298,7 +300,7 @@ def compare_fields(tally, rows, end):
 def compare_tables(tally, lines, made, seal):
     """Compares each table of bytes. The seal's has its steps in their order."""
     named = {sealed: name for name, (_, sealed) in made.items()}
-    ends = iter([14, len(made["hello"][1]), 14 + len(name(0, 0, None))])
+    ends = iter([14, len(made["hello"][1]), 14 + len(name(0, 0, None)), TABLE_BYTES])
     found = tables(lines)
     heads = [", ".join(head) for _, head, _ in found]
     for head in ["Place, Bytes, Field", "Short number, Bytes", "Words, Bytes, Say", "Step, Bytes", "Place, Bytes, Say"]:
