@@ -46,6 +46,10 @@ pub const BREAK: &str = "break";
 
 pub const HEAL: &str = "heal";
 
+pub const DELAY_AT: &str = "delay-at";
+
+pub const COME: &str = "come";
+
 pub const HOSTILE: &str = "hostile";
 
 pub const HELD: &str = "held";
@@ -172,6 +176,8 @@ fn match_command<'a>(
         Argument::Several(STOP, "M:FRAME", help::STOP),
         Argument::Several(BREAK, "A-B:FRAME", help::BREAK),
         Argument::Several(HEAL, "A-B:FRAME", help::HEAL),
+        Argument::Several(DELAY_AT, "M:D:FRAME", help::DELAY_AT),
+        Argument::Several(COME, "M:FRAME", help::COME),
         Argument::FreeNumber(HOSTILE, "SEED", 0, u64::MAX, help::HOSTILE),
         Argument::FreeNumber(HELD, "TURNS", 1, 8, help::HELD),
     ];

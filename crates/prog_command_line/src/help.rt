@@ -195,6 +195,11 @@ player leave, and play on.
 other straight doesn't come. Other machines carry it then, so nobody is put out, and the match goes on.
 `--heal A-B:FRAME` mends it again. Each is given once for each line and frame, 8 times at most.
 
+`--delay-at M:D:FRAME` gives machine M's player an input delay of D frames at about that frame: the match goes on
+in another epoch, a few frames later. A line more says at which frames epochs began. It is given 8 times at most.
+With `--come M:FRAME` machine M comes at about that frame: anew if it went silent by `--stop`, and else for the first
+time. Both aren't played with `--guesses`, `--held` or `--hostile`, nor `--come` with `--break`.
+
 With `--hostile SEED` 50 hostile datagrams come before each real one: noise, real ones with a bit
 changed, sealed for another match, or of machines that are gone, and old real ones again. The first two tables
 and the line on who agrees are the same as without. Old ones of machines that stay are heard again, so what was
@@ -224,6 +229,12 @@ pub const BREAK: &str =
     "From this frame on nothing of A's comes to B straight, nor of B's to A; for several lines it is given several times";
 
 pub const HEAL: &str = "From this frame on the line between A and B works again";
+
+pub const DELAY_AT: &str =
+    "From about this frame on machine M's player has an input delay of D frames; it is given up to 8 times";
+
+pub const COME: &str =
+    "Machine M comes at about this frame: anew after its --stop, or else for the first time";
 
 pub const HOSTILE: &str = "Hostile datagrams come too, drawn from this seed";
 

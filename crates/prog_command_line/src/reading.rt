@@ -9,8 +9,8 @@ ghost use Rattle.prog_command_line.specs.Commands.{rollduel_app};
 ghost use Rattle.prog_command_line.specs.Requests.{AreAsked, HasOptions, HasWorkers, asked_by, asked_in, asked_named, asked_of, frames_named, game_named, guesses_named, is_named, live_named, number_in, number_named, options_named, path_named, path_of, picture_by, picture_in, picture_of, rows_by, rows_in, task_named, texts_named, work_named, workers_named};
 
 use crate::commands::{
-    BREAK, DELAY, EXPLAIN, FILE, FRAMES, GAME, GUESSES, HEAL, HELD, HOLD, HOSTILE, JOBS, LATE,
-    LOST, PEERS, SEED, STOP, THRESHOLD, WORKERS, games, guesses, program_command,
+    BREAK, COME, DELAY, DELAY_AT, EXPLAIN, FILE, FRAMES, GAME, GUESSES, HEAL, HELD, HOLD, HOSTILE,
+    JOBS, LATE, LOST, PEERS, SEED, STOP, THRESHOLD, WORKERS, games, guesses, program_command,
 };
 use crate::picture::{frame_of, option_fault, picture_of};
 use crate::request::{
@@ -137,12 +137,16 @@ fn peers_of<'a>(alloc: Global, found: &ArgMatches<'a>) -> Result<PeersRequest<'a
     let stops = texts_of(alloc, found, STOP)?;
     let breaks = texts_of(alloc, found, BREAK)?;
     let heals = texts_of(alloc, found, HEAL)?;
+    let delays = texts_of(alloc, found, DELAY_AT)?;
+    let comes = texts_of(alloc, found, COME)?;
     Ok(PeersRequest {
         machines: byte_of(found, PEERS),
         common: options_of(found),
         stops,
         breaks,
         heals,
+        delays,
+        comes,
         hostile: hostile_of(found),
         held: held_of(found),
     })

@@ -100,6 +100,10 @@ pub struct PeersRequest<'a> {
     pub breaks: Vec<&'a str>,
     /// Each text of `--heal`, in their order.
     pub heals: Vec<&'a str>,
+    /// Each text of `--delay-at`, in their order.
+    pub delays: Vec<&'a str>,
+    /// Each text of `--come`, in their order.
+    pub comes: Vec<&'a str>,
     /// The seed of the hostile datagrams, if there are any.
     pub hostile: Option<u64>,
     /// For how many turns words are held back at most, if they are.

@@ -1,4 +1,5 @@
 pub mod Digests
+pub mod Epochs
 pub mod Guessing
 pub mod Options
 pub mod Over

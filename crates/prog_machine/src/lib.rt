@@ -4,7 +4,9 @@
 mod claims;
 mod digest;
 mod enemy;
+mod epochs;
 mod guessing;
+mod guest;
 mod lines;
 mod machine;
 mod options;
@@ -13,7 +15,9 @@ mod settings;
 mod stops;
 
 pub use claims::Claims;
+pub use epochs::{Bases, base_of, frame_in};
+pub use guest::Guest;
 pub use lines::{LINE_LIMIT, LineAt, Lines, read_lines};
 pub use machine::{Counts, Machine};
 pub use options::{PeersFault, PeersOptions};
-pub use stops::read_stops;
+pub use stops::{read_comes, read_stops};

@@ -4,7 +4,9 @@ ghost use Rattle.std.specs.Int.{is_in_range};
 ghost use Rattle.prog_sides.specs.Options.{IsPlayable};
 ghost use Rattle.prog_machine.specs.Over.{IsOver};
 ghost use Rattle.prog_holding.specs.Branches.{HasMore};
-ghost use Rattle.prog_machine.specs.Options.{makes_guesses};
+ghost use Rattle.prog_machine.specs.Epochs.{base_of, frame_in};
+ghost use Rattle.prog_machine.specs.Options.{goes_on, makes_guesses};
+ghost use Rattle.roll_frame.specs.Core.{settled};
 ghost use Rattle.prog_machine.specs.Pressing.{pressed};
 ghost use Rattle.prog_machine.specs.Waiting.{after_holding, waited_once};
 ghost use Rattle.prog_observer.specs.Observing.{after_watch, has_rolled, observed};
@@ -14,7 +16,12 @@ ghost use Rattle.roll_session.specs.Changes.{after_local, local_refusal};
 use crate::claims::Claims;
 use crate::digest::digest_of;
 use crate::enemy::{Enemy, Trick};
+use crate::epochs::{
+    Bases, base_of, comer_in, comer_to_come, delay_to_come, first_bases, first_chain, frame_in,
+    go_on, is_lowest, keep_rows, later_chain, mark_for, welcome,
+};
 use crate::guessing::guess_best;
+use crate::guest::Guest;
 use crate::options::PeersOptions;
 use crate::other::Other;
 use crate::settings::match_settings;
@@ -22,11 +29,14 @@ use arrayvec::ArrayVec;
 use prog_holding::{Holding, hand_over, hear, note_settled, send, take_turn};
 use prog_observer::{Observer, has_rolled};
 use prog_sides::{Engines, drawn, word_at};
-use roll_frame::{Refusal, Settings, SettingsFault};
-use roll_game::Shown;
+use roll_chain::Chain;
+use roll_epoch::{FREE, Terms};
+use roll_frame::{Refusal, Row, Settings, SettingsFault};
+use roll_game::{Game, Shown};
 use roll_mesh::MACHINE_LIMIT;
 use roll_peer::{Ignored, MatchSettings, OpenRefusal, OtherSession, Peer, PeerEvent};
 use roll_relay::Relay;
+use roll_seam::Epochs;
 use roll_session::Session;
 use roll_simnet::{Draws, Letter, Network, Route};
 use roll_wire::DATAGRAM_LIMIT;
@@ -86,6 +96,22 @@ pub struct Machine<G: Shown> {
     pub holding: Option<Holding>,
     /// What it carries for others, and has carried, if lines break.
     relay: Option<Relay>,
+    /// How the match goes on, if it does in epochs: session and network are those of this epoch.
+    pub epochs: Option<Epochs<Session<G>>>,
+    /// The frames of the match at which its epochs began.
+    pub bases: Bases,
+    /// The rows of the epochs before.
+    pub before: Vec<Row>,
+    /// The frame of the match at which each machine's player left, for one that did in an epoch before.
+    pub left: [Option<u32>; MACHINE_LIMIT],
+    /// The frame of the match at which a machine came, for one that did.
+    pub came: [Option<u32>; MACHINE_LIMIT],
+    /// Which machine came as this epoch began, until the match has asked for it.
+    brought: Option<u8>,
+    /// Whether it has come itself.
+    has_come: bool,
+    /// Engines for the sessions of later epochs.
+    spares: Vec<G>,
     /// What it saw of the other players, if it guesses their words.
     others: Vec<Other>,
     /// What was seen of its session.
@@ -129,16 +155,26 @@ impl<G: Shown + Drop> Machine<G> {
             game,
             opening,
             helper,
+            spares,
         } = engines;
-        match start(alloc, options, me, settings, game, opening) {
+        let (chain, network) = opened_with(options, me);
+        match start(alloc, chain, network, settings, game, opening) {
             Ok((session, Line { peer, relay })) => Ok(Machine {
                 session,
                 peer,
                 relay,
+                epochs: epochs_of(options, me),
+                bases: first_bases(),
+                before: Vec::new(alloc),
+                left: [None; MACHINE_LIMIT],
+                came: [None; MACHINE_LIMIT],
+                brought: None,
+                has_come: false,
+                spares,
                 helper,
                 me,
                 words,
-                is_silent: false,
+                is_silent: options.is_late(me),
                 wait: 0,
                 counts: Counts::default(),
                 noted: 0,
@@ -150,6 +186,7 @@ impl<G: Shown + Drop> Machine<G> {
             }),
             Err(why) => {
                 drop(helper);
+                drop(spares);
                 drop(observer);
                 Err(why)
             }
@@ -158,15 +195,17 @@ impl<G: Shown + Drop> Machine<G> {
 
     /// Whether it has played the last frame of a match with these options, and all words up to it are known.
     pub fn is_over(&self, options: &PeersOptions) -> bool
-        ensures { IsTrue result ↔ IsOver options.now self.now.session }
+        ensures { IsTrue result ↔ IsOver options.now self.now.epochs self.now.session }
     {
         let settings = self.session.settings();
         let last = options.common.frames;
+        let (frame, settled) = self.reached();
         settings.limit == last
             && settings.threshold == options.common.threshold
             && settings.players == options.machines
-            && last <= self.session.frame()
-            && last <= self.session.settled()
+            && self.epochs.is_some() == options.goes_on()
+            && last <= frame
+            && last <= settled
     }
 
     /// A tick: it hears what has come, plays on, and sends to each other machine. From the frame at which it stops it does
@@ -181,14 +220,16 @@ impl<G: Shown + Drop> Machine<G> {
         ensures { self.new.me ≡ self.old.me }
     {
         if let Some(frame) = options.stop(self.me) {
-            self.is_silent |= frame <= self.session.frame();
+            self.is_silent |= !self.has_come && frame <= self.reached().0;
         }
         if self.is_silent {
             return Ok(());
         }
         let now = clock(tick);
-        let before = self.session.log().len();
         self.hear_all(alloc, options, network, tick)?;
+        self.go_on(alloc, options)?;
+        self.mark(options);
+        let before = self.session.log().len();
         self.play(now)?;
         self.note_turn(tick)?;
         self.watch(alloc, before)?;
@@ -252,7 +293,200 @@ impl<G: Shown + Drop> Machine<G> {
         match ignored {
             None => Ok(true),
             Some(Ignored::OtherSession) => Err(Refusal::InvalidRequest),
+            Some(Ignored::NotSealed) => Ok(self.receive_before(bytes, now)),
             Some(_) => Ok(false),
+        }
+    }
+
+    /// Receives bytes that aren't of this epoch, and says whether they were heard in the one before.
+    fn receive_before(&mut self, bytes: &[u8], now: u32) -> bool
+        ensures me { self.new.me ≡ self.old.me }
+        ensures none { self.old.epochs ≡ None → result ≡ false }
+    {
+        match &mut self.epochs {
+            Some(epochs) => epochs.receive(bytes, now).is_ok(),
+            None => false,
+        }
+    }
+
+    /// Goes on in the next epoch, if this one is over. What was seen of this one's session stays counted.
+    fn go_on(&mut self, alloc: Global, options: &PeersOptions) -> Result<(), Refusal>
+        ensures { self.new.me ≡ self.old.me }
+    {
+        let left = self.lefts();
+        let Some(epochs) = &mut self.epochs else {
+            return Ok(());
+        };
+        welcome(epochs, &self.peer);
+        if !go_on(
+            alloc,
+            epochs,
+            &mut self.spares,
+            &mut self.peer,
+            &mut self.relay,
+            &mut self.session,
+        )? {
+            return Ok(());
+        }
+        self.left = left;
+        self.noted = 0;
+        self.note_base()?;
+        self.keep_before()?;
+        self.note_comer(options);
+        self.observer.begin(alloc, &self.session)
+    }
+
+    /// Notes who came as this epoch began.
+    fn note_comer(&mut self, options: &PeersOptions)
+        ensures { self.new.me ≡ self.old.me }
+    {
+        let Some(epochs) = &self.epochs else {
+            return;
+        };
+        self.brought = comer_in(&epochs.chain, options.machines);
+        if let Some(machine) = self.brought {
+            let base = frame_in(epochs.chain.terms().base, 0);
+            if usize::from(machine) < MACHINE_LIMIT {
+                self.came[usize::from(machine)] = Some(base);
+            }
+        }
+    }
+
+    /// Which machine came as this epoch began; it is told once.
+    pub fn take_comer(&mut self) -> Option<u8>
+        ensures { self.new.me ≡ self.old.me }
+    {
+        self.brought.take()
+    }
+
+    /// What this machine has for the one that came as its epoch began: nothing of it is settled yet.
+    pub fn guest(&mut self, alloc: Global) -> Result<Option<Guest<G>>, Refusal>
+        ensures { self.new.me ≡ self.old.me }
+    {
+        let Some(epochs) = &self.epochs else {
+            return Ok(None);
+        };
+        let terms = *epochs.chain.terms();
+        let before = Vec::from_slice(alloc, self.before.as_slice())?;
+        let bases = self.bases.clone()?;
+        let state = self.helper.load(self.session.settled_state())?;
+        let state = self.helper.save(&state)?;
+        Ok(Some(Guest {
+            terms,
+            state,
+            before,
+            bases,
+            left: self.left,
+            came: self.came,
+        }))
+    }
+
+    /// Whether it is in the epoch of this number.
+    pub fn is_in(&self, id: u64) -> bool {
+        match &self.epochs {
+            Some(epochs) => !self.is_silent && epochs.chain.terms().id == id,
+            None => false,
+        }
+    }
+
+    /// Comes into the match with what another machine has for it.
+    pub fn come_in(
+        &mut self,
+        alloc: Global,
+        options: &PeersOptions,
+        guest: Guest<G>,
+    ) -> Result<(), Refusal>
+        ensures { self.new.me ≡ self.old.me }
+    {
+        let Some(game) = self.spares.pop() else {
+            return Err(Refusal::InvalidRequest);
+        };
+        let Guest {
+            terms,
+            state,
+            before,
+            bases,
+            left,
+            came,
+        } = guest;
+        let settings = guest_settings(options, self.me, &terms)?;
+        let chain = later_chain(options, self.me, terms);
+        let (session, Line { peer, relay }) = start(
+            alloc,
+            Some(chain),
+            chain.settings(),
+            settings,
+            game,
+            state,
+        )?;
+        self.session = session;
+        self.peer = peer;
+        self.relay = relay;
+        self.epochs = Some(Epochs::new(chain));
+        self.before = before;
+        self.bases = bases;
+        self.left = left;
+        self.came = came;
+        self.has_come = true;
+        self.is_silent = false;
+        self.wait = 0;
+        self.noted = 0;
+        self.observer.begin(alloc, &self.session)
+    }
+
+    /// Notes where this epoch begins.
+    fn note_base(&mut self) -> Result<(), Refusal>
+        ensures { self.new.me ≡ self.old.me }
+    {
+        match self.bases.try_push(frame_in(base_of(&self.epochs), 0)) {
+            Ok(()) => Ok(()),
+            Err(_) => Err(Refusal::InvalidRequest),
+        }
+    }
+
+    /// Keeps the rows of the epoch before, up to where this one begins.
+    fn keep_before(&mut self) -> Result<(), Refusal>
+        ensures { self.new.me ≡ self.old.me }
+    {
+        let Some(epochs) = &self.epochs else {
+            return Ok(());
+        };
+        let Some(past) = &epochs.past else {
+            return Ok(());
+        };
+        let base = epochs.chain.terms().base;
+        let end = base.saturating_sub(self.before.len() as u64);
+        keep_rows(
+            &mut self.before,
+            &past.session,
+            end.min(u64::from(u32::MAX)) as u32,
+        )
+    }
+
+    /// Puts a mark on the next word of its player, if that is to have another input delay by this frame of the match. A mark of its own
+    /// that waits already is refused a second time; if another one ends the epoch, it is put again in the next.
+    fn mark(&mut self, options: &PeersOptions)
+        ensures me { self.new.me ≡ self.old.me }
+        ensures session { self.new.session ≡ self.old.session }
+        ensures words { self.new.words ≡ self.old.words }
+    {
+        let Some(epochs) = &self.epochs else {
+            return;
+        };
+        let frame = self.reached().0;
+        if !self.peer.is_running() {
+            return;
+        }
+        let delay = delay_to_come(options, epochs.chain.terms(), self.me, frame);
+        let comer = if is_lowest(&self.peer, self.me) {
+            comer_to_come(options, &self.peer, frame)
+        } else {
+            None
+        };
+        if delay.is_some() || comer.is_some() {
+            let player = self.me.saturating_add(1);
+            let mark = mark_for(self.me, delay, comer);
+            let _ = self.peer.mark(&self.session, player, mark);
         }
     }
 
@@ -358,14 +592,19 @@ impl<G: Shown + Drop> Machine<G> {
     fn press(&mut self) -> Result<(), Refusal>
         ensures me { self.new.me ≡ self.old.me }
         ensures given { OnOk result ((self.new.session ≡ self.old.session)
-            ⊎ (self.new.session ≡ pressed self.old.session self.old.me self.old.words.items)) }
+            ⊎ (self.new.session ≡ pressed (base_of self.old.epochs) self.old.session self.old.me self.old.words.items)) }
     {
+        let base = base_of(&self.epochs);
         let last = self.session.settings().limit;
-        if !self.peer.is_running() || last <= self.session.frame() || self.is_to_wait() {
+        if !self.peer.is_running()
+            || last <= frame_in(base, self.session.frame())
+            || self.is_to_wait()
+        {
             return Ok(());
         }
         let player = self.me.saturating_add(1);
-        let word = word_at(&self.words, self.session.confirmed(player).unwrap_or(0));
+        let frame = frame_in(base, self.session.confirmed(player).unwrap_or(0));
+        let word = word_at(&self.words, frame);
         self.give(player, word)
     }
 
@@ -470,6 +709,9 @@ impl<G: Shown + Drop> Machine<G> {
             if let Some(bytes) = self.made_for(to, clock(tick))? {
                 self.post(options, network, to, tick, &bytes)?;
             }
+            if let Some(bytes) = self.made_before(to, clock(tick))? {
+                self.post(options, network, to, tick, &bytes)?;
+            }
         }
         self.send_carried(options, network, tick)
     }
@@ -490,6 +732,19 @@ impl<G: Shown + Drop> Machine<G> {
                 to,
                 now,
             ),
+        }
+    }
+
+    /// What it sends to a machine that may still be in the epoch before.
+    fn made_before(&mut self, to: u8, now: u32) -> Result<Option<Bytes>, Refusal>
+        ensures { self.new.me ≡ self.old.me }
+    {
+        let Some(epochs) = &mut self.epochs else {
+            return Ok(None);
+        };
+        match epochs.send(&self.peer, to, now) {
+            Ok(sent) => Ok(sent),
+            Err(OtherSession) => Err(Refusal::InvalidRequest),
         }
     }
 
@@ -515,9 +770,13 @@ impl<G: Shown + Drop> Machine<G> {
     fn next_carried(&mut self) -> Option<(u8, Bytes)>
         ensures { self.new.me ≡ self.old.me }
     {
-        match &mut self.relay {
+        let next = match &mut self.relay {
             Some(relay) => relay.next(&self.peer),
             None => None,
+        };
+        match (next, &mut self.epochs) {
+            (None, Some(epochs)) => epochs.next(),
+            (next, _) => next,
         }
     }
 
@@ -533,12 +792,65 @@ impl<G: Shown + Drop> Machine<G> {
         ensures { self.new.me ≡ self.old.me }
     {
         self.counts.note_sent(bytes.len() as u64);
-        if options.is_broken(self.me, to, self.session.frame()) {
+        if options.is_broken(self.me, to, self.reached().0) {
             return Ok(());
         }
         let route = Route { from: self.me, to };
         network.send(route, tick, bytes)?;
         Ok(())
+    }
+}
+
+impl<G: Shown> Machine<G> {
+    /// The frame of the match that it is at, and how many of the match's frames are settled.
+    pub fn reached(&self) -> (u32, u32)
+        ensures { result ≡ (
+          frame_in (base_of self.now.epochs) self.now.session.core.frame,
+          frame_in (base_of self.now.epochs) (settled self.now.session.core),
+        ) }
+    {
+        let base = base_of(&self.epochs);
+        (
+            frame_in(base, self.session.frame()),
+            frame_in(base, self.session.settled()),
+        )
+    }
+
+    /// The frame of the match at which a machine came, if it did.
+    pub fn came_at(&self, machine: u8) -> Option<u32> {
+        match self.came.get(usize::from(machine)) {
+            Some(came) => *came,
+            None => None,
+        }
+    }
+
+    /// Whether nobody owns a machine's player in this epoch.
+    fn is_free(&self, machine: u8) -> bool {
+        match &self.epochs {
+            Some(epochs) => { epochs.chain.terms().owners.get(usize::from(machine)) == Some(&FREE) }
+            None => false,
+        }
+    }
+
+    /// The frame of the match at which a machine's player left.
+    pub fn left_at(&self, machine: u8) -> Option<u32> {
+        match self.left.get(usize::from(machine)) {
+            Some(Some(frame)) => Some(*frame),
+            _ if self.is_free(machine) => None,
+            _ => {
+                let frame = self.peer.mesh().left(machine)?;
+                Some(frame_in(base_of(&self.epochs), frame))
+            }
+        }
+    }
+
+    /// The frame of the match at which each machine's player left, up to now.
+    fn lefts(&self) -> [Option<u32>; MACHINE_LIMIT] {
+        let mut all = [None; MACHINE_LIMIT];
+        for machine in 0..MACHINE_LIMIT {
+            all[machine] = self.left_at(machine as u8);
+        }
+        all
     }
 }
 
@@ -668,17 +980,56 @@ struct Line {
     relay: Option<Relay>,
 }
 
+/// How the match goes on in epochs, if it does, and with which settings its network is opened. What a machine that comes later is opened
+/// with at first isn't used.
+fn opened_with(options: &PeersOptions, me: u8) -> (Option<Chain>, MatchSettings) {
+    if options.goes_on() && !options.is_late(me) {
+        let chain = first_chain(options, me);
+        (Some(chain), chain.settings())
+    } else {
+        (None, match_settings(options, me))
+    }
+}
+
+/// What the session of a machine that comes is opened with.
+fn guest_settings(
+    options: &PeersOptions,
+    me: u8,
+    terms: &Terms,
+) -> Result<Settings, SettingsFault> {
+    let player = me.saturating_add(1);
+    let delay = match terms.delays.get(usize::from(me)) {
+        Some(delay) => *delay,
+        None => 0,
+    };
+    Settings::new(options.machines, &[player])?
+        .with_delay(player, u32::from(delay))?
+        .with_threshold(u32::from(terms.threshold))?
+        .with_frame_limit(options.common.frames)
+}
+
+/// How the match goes on in epochs, if it does.
+fn epochs_of<G: Game + Drop>(options: &PeersOptions, me: u8) -> Option<Epochs<Session<G>>>
+    ensures { is_some result ≡ goes_on options.now }
+{
+    if options.goes_on() {
+        Some(Epochs::new(first_chain(options, me)))
+    } else {
+        None
+    }
+}
+
 /// A session, and beside it the network of the match.
 fn start<G: Shown + Drop>(
     alloc: Global,
-    options: &PeersOptions,
-    me: u8,
+    chain: Option<Chain>,
+    network: MatchSettings,
     settings: Settings,
     game: G,
     opening: G::Snapshot,
 ) -> Result<(Session<G>, Line), Refusal> {
     match Session::start(alloc, game, opening, settings) {
-        Ok(session) => open(alloc, session, match_settings(options, me)),
+        Ok(session) => open(alloc, session, chain, network),
         Err(fault) => Err(fault.why),
     }
 }
@@ -687,9 +1038,10 @@ fn start<G: Shown + Drop>(
 fn open<G: Shown + Drop>(
     alloc: Global,
     session: Session<G>,
+    chain: Option<Chain>,
     settings: MatchSettings,
 ) -> Result<(Session<G>, Line), Refusal> {
-    match line_of(alloc, &session, settings) {
+    match line_of(alloc, &session, chain, settings) {
         Ok(line) => Ok((session, line)),
         Err(why) => {
             drop(session);
@@ -702,12 +1054,16 @@ fn open<G: Shown + Drop>(
 fn line_of<G: Shown>(
     alloc: Global,
     session: &Session<G>,
+    chain: Option<Chain>,
     settings: MatchSettings,
 ) -> Result<Line, Refusal> {
-    let peer = match Peer::open(alloc, session, settings) {
+    let mut peer = match Peer::open(alloc, session, settings) {
         Ok(peer) => peer,
         Err(why) => return Err(refusal_of(why)),
     };
+    if let Some(chain) = chain {
+        chain.leave_out(&mut peer);
+    }
     let relay = relay_of(alloc, &peer)?;
     Ok(Line { peer, relay })
 }

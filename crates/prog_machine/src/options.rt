@@ -3,9 +3,11 @@ ghost use Rattle.std.specs.Prelude.{◌≡◌, count_by, slice_index_or, None};
 ghost use Rattle.prog_machine.specs.declared.lines.TheConstants.{LINE_LIMIT};
 ghost use Rattle.std.specs.List.{find, range_with_len};
 ghost use Rattle.prog_machine.specs.Lines.{is_broken};
-ghost use Rattle.prog_machine.specs.Options.{breaks_lines, fault_of, first_staying, has_odd_threshold, has_odd_turns, has_staying, is_odd_stop, lacks_ships, makes_guesses, is_odd_at, odd_line_in, odd_line_of, odd_stop_of, stays, stop_fault_at, stop_of, threshold_for};
+ghost use Rattle.prog_changes.specs.Delays.{wanted};
+ghost use Rattle.prog_machine.specs.Options.{breaks_lines, change_fault_of, come_fault_at, come_of, comes_fault_of, fault_of, has_comers, is_away, is_late, lower_away, odd_comer_of, first_staying, goes_on, has_odd_threshold, has_odd_turns, has_staying, is_odd_stop, is_special, lacks_ships, makes_guesses, is_odd_at, odd_line_in, odd_line_of, odd_stop_of, stays, stop_fault_at, stop_of, threshold_for};
 
 use crate::lines::{LINE_LIMIT, LineAt, Lines, is_broken};
+use prog_changes::{ChangeFault, Delays, delays_fault, wanted};
 use prog_holding::is_turn_count;
 use prog_parts::GameName;
 use prog_sides::{Guesses, MatchOptions};
@@ -29,6 +31,10 @@ pub struct PeersOptions {
     pub breaks: Lines,
     /// The lines that work again, each from a frame on.
     pub heals: Lines,
+    /// The input delays that players are to have from a frame on.
+    pub delays: Delays,
+    /// The frame at which a machine comes, machine 0 first: anew, if it has gone silent, and else for the first time.
+    pub comes: [Option<u32>; MACHINE_LIMIT],
     /// The seed of the hostile datagrams; none where there are no such datagrams.
     pub hostile: Option<u64>,
     /// For how many turns at most each machine holds back words of others, 1 to 8; none where it holds none back.
@@ -90,6 +96,15 @@ pub enum PeersFault {
         /// The other.
         other: u8,
     },
+    /// What is to be otherwise from some frame on can't be.
+    #[error("{0}")]
+    Change(ChangeFault),
+    /// A match that goes on in epochs isn't played so.
+    #[error("--delay-at and --come aren't played with --guesses, --held or --hostile")]
+    Plain,
+    /// Who comes has a line of its own to each machine.
+    #[error("--come isn't played with --break")]
+    BrokenLines,
     /// Words aren't held back where others carry them.
     #[error("--break isn't played with --held")]
     HeldLines,
@@ -109,14 +124,93 @@ impl PeersOptions {
         }
     }
 
-    /// Whether a machine never goes silent.
+    /// The frame at which a machine comes, if it does.
+    pub fn come(&self, machine: u8) -> Option<u32>
+        ensures { result ≡ come_of self.now machine }
+    {
+        match self.comes.get(usize::from(machine)) {
+            Some(come) => *come,
+            None => None,
+        }
+    }
+
+    /// Whether a machine is there to the end: it never goes silent, or comes back.
     pub fn stays(&self, machine: u8) -> bool
         ensures { result ≡ stays self.now machine }
     {
         match self.stops.get(usize::from(machine)) {
-            Some(stop) => stop.is_none(),
+            Some(stop) => stop.is_none() || self.come(machine).is_some(),
             None => false,
         }
+    }
+
+    /// Whether a machine isn't there as the match is opened.
+    pub fn is_late(&self, machine: u8) -> bool
+        ensures { result ≡ is_late self.now machine }
+    {
+        self.stop(machine).is_none() && self.come(machine).is_some()
+    }
+
+    /// Whether a machine isn't there at a frame.
+    fn is_away(&self, machine: u8, frame: u32) -> bool
+        ensures { result ≡ is_away self.now frame machine }
+    {
+        match (self.stop(machine), self.come(machine)) {
+            (None, None) => false,
+            (None, Some(come)) => frame <= come,
+            (Some(stop), None) => stop <= frame,
+            (Some(stop), Some(come)) => stop <= frame && frame <= come,
+        }
+    }
+
+    /// The first machine below another that isn't there at a frame.
+    fn lower_away(&self, machine: u8, frame: u32) -> Option<u8>
+        ensures { result ≡ lower_away self.now machine frame }
+    {
+        (0..machine).find(|lower| self.is_away(*lower, frame))
+    }
+
+    /// Why a machine can't come when it is to, if it is to and can't.
+    fn come_fault(&self, machine: u8) -> Option<ChangeFault>
+        ensures { result ≡ come_fault_at self.now machine }
+    {
+        let frame = self.come(machine)?;
+        if self.machines <= machine {
+            Some(ChangeFault::NoComer {
+                machine: u32::from(machine),
+            })
+        } else if frame < 1 || self.common.frames <= frame {
+            Some(ChangeFault::ComeFrame { machine })
+        } else if frame <= self.stop(machine).unwrap_or(0) {
+            Some(ChangeFault::ComesEarly { machine })
+        } else {
+            let lower = self.lower_away(machine, frame)?;
+            Some(ChangeFault::ComesBefore { machine, lower })
+        }
+    }
+
+    /// Why a machine that is to come can't, if there is one: the first of them.
+    fn comes_fault(&self) -> Option<ChangeFault>
+        ensures { result ≡ comes_fault_of self.now }
+    {
+        match self.odd_comer() {
+            Some(machine) => self.come_fault(machine),
+            None => None,
+        }
+    }
+
+    /// The first machine that is to come and can't.
+    fn odd_comer(&self) -> Option<u8>
+        ensures { result ≡ odd_comer_of self.now }
+    {
+        (0..MACHINE_LIMIT as u8).find(|machine| self.come_fault(*machine).is_some())
+    }
+
+    /// Whether any machine comes.
+    pub fn has_comers(&self) -> bool
+        ensures { result ≡ has_comers self.now }
+    {
+        (0..MACHINE_LIMIT as u8).any(|machine| self.come(machine).is_some())
     }
 
     /// The first machine that never goes silent.
@@ -161,12 +255,55 @@ impl PeersOptions {
             Some(PeersFault::NobodyStays)
         } else if self.breaks_lines() && self.held.is_some() {
             Some(PeersFault::HeldLines)
+        } else if self.goes_on() && self.is_special() {
+            Some(PeersFault::Plain)
+        } else if self.has_comers() && self.breaks_lines() {
+            Some(PeersFault::BrokenLines)
         } else if let Some(LineAt { one, other, .. }) = self.odd_line() {
             Some(PeersFault::NoLine { one, other })
-        } else {
-            let machine = self.odd_stop()?;
+        } else if let Some(machine) = self.odd_stop() {
             Some(self.stop_fault(machine))
+        } else {
+            Some(PeersFault::Change(self.change_fault()?))
         }
+    }
+
+    /// Why what is to be otherwise from some frame on isn't played.
+    fn change_fault(&self) -> Option<ChangeFault>
+        ensures { result ≡ change_fault_of self.now }
+    {
+        match self.comes_fault() {
+            Some(fault) => Some(fault),
+            None => delays_fault(&self.delays, self.machines, self.common.frames),
+        }
+    }
+
+    /// Whether the match goes on in epochs: something is to be otherwise from some frame on.
+    pub fn goes_on(&self) -> bool
+        ensures { result ≡ goes_on self.now }
+    {
+        self.delays[0].is_some() || self.has_comers()
+    }
+
+    /// How many epochs more than one the match has at most: each delay that is named may begin another.
+    pub fn count_spares(&self) -> u32 {
+        let delays = self.delays.iter().filter(|named| named.is_some()).count();
+        let comes = self.comes.iter().filter(|come| come.is_some()).count();
+        (delays + 2 * comes) as u32
+    }
+
+    /// Whether guesses are made, words held back, or hostile datagrams sent.
+    fn is_special(&self) -> bool
+        ensures { result ≡ is_special self.now }
+    {
+        self.makes_guesses() || self.held.is_some() || self.hostile.is_some()
+    }
+
+    /// The input delay that a machine's player is to have by a frame of the match, if one is named.
+    pub(crate) fn wanted_delay(&self, machine: u8, frame: u32) -> Option<u8>
+        ensures { result ≡ wanted self.now.delays machine frame }
+    {
+        wanted(&self.delays, machine, frame)
     }
 
     /// Whether no session of so many players has this threshold.

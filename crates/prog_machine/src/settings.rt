@@ -12,6 +12,8 @@ const SILENT_AFTER: u32 = 5_000;
 const NOTIFY_AFTER: u32 = 750;
 /// The number of the stream that the draw of machine 0 is drawn from; the others follow.
 const FIRST_STREAM: u64 = 64;
+/// The same of a machine's second opening.
+const SECOND_STREAM: u64 = 80;
 
 /// The number of the match.
 pub fn match_number(options: &PeersOptions) -> u64 {
@@ -22,7 +24,21 @@ pub fn match_number(options: &PeersOptions) -> u64 {
 pub fn draw_of(options: &PeersOptions, machine: u8) -> u64
     ensures { result ≢ 0 }
 {
-    let mut draws = Draws::new(options.common.seed, FIRST_STREAM + u64::from(machine));
+    drawn_in(options, FIRST_STREAM + u64::from(machine))
+}
+
+/// The draw of its second opening, if it comes.
+pub fn later_draw(options: &PeersOptions, machine: u8) -> u64
+    ensures { result ≢ 0 }
+{
+    drawn_in(options, SECOND_STREAM + u64::from(machine))
+}
+
+/// What is drawn of a stream.
+fn drawn_in(options: &PeersOptions, stream: u64) -> u64
+    ensures { result ≢ 0 }
+{
+    let mut draws = Draws::new(options.common.seed, stream);
     let high = u64::from(draws.below(u32::MAX));
     let low = u64::from(draws.below(u32::MAX));
     high * (1 << 32) + low + 1

@@ -3,6 +3,7 @@ ghost use Rattle.std.specs.Prelude.{◌≡◌, ◌<◌, ◌^◌, IfOk, IfSome, O
 ghost use Rattle.prog_machine.specs.Stops.{no_stops, stop_text, NamesStops};
 
 use crate::options::PeersFault;
+use prog_changes::ChangeFault;
 use roll_mesh::MACHINE_LIMIT;
 use roll_text::{leading_number, number};
 
@@ -51,4 +52,24 @@ pub fn read_stops(texts: &[&str]) -> Result<[Option<u32>; MACHINE_LIMIT], PeersF
         stops[place] = Some(frame);
     }
     Ok(stops)
+}
+
+/// The frames at which machines come, machine 0 first, of texts `MACHINE:FRAME`.
+///
+/// # Errors
+///
+/// As of those at which they go silent.
+pub fn read_comes(texts: &[&str]) -> Result<[Option<u32>; MACHINE_LIMIT], PeersFault>
+    ensures { IfOk result (λ comes. NamesStops no_stops (map (λ text. text.now) texts.now) comes) }
+{
+    match read_stops(texts) {
+        Ok(comes) => Ok(comes),
+        Err(PeersFault::NoMachine { machine }) => {
+            Err(PeersFault::Change(ChangeFault::NoComer { machine }))
+        }
+        Err(PeersFault::Twice { machine }) => {
+            Err(PeersFault::Change(ChangeFault::ComesTwice { machine }))
+        }
+        Err(_) => Err(PeersFault::Change(ChangeFault::UnreadableCome)),
+    }
 }

@@ -1,5 +1,5 @@
 -- What is drawn of a session that was watched.
-use Rattle.std.specs.Prelude.{◌≡◌, ℕ, List, map, min, option_map}
+use Rattle.std.specs.Prelude.{◌≡◌, ℕ, List, drop, map, min, option_map}
 use Rattle.prog_picture.specs.Pictures.{HasRolls}
 use Rattle.prog_picture.specs.declared.scene.Scene.{Scene}
 use Rattle.roll_session.specs.Seen.{Seen}
@@ -13,6 +13,6 @@ pub record IsDrawn (s : Seen) (seen : Observed) (picture : List ℕ) : Type 0 wh
   pub from : scene.from ≡ seen.window.from
   pub to : scene.to ≡ min seen.window.to seen.frame
   pub lanes : map lane_shown scene.lanes.items ≡ map (lane_in s seen.firsts) seen.heard
-  pub rolls : scene.rolls.items ≡ seen.rolls
+  pub rolls : scene.rolls.items ≡ drop seen.earlier seen.rolls
   pub tree : scene.tree ≡ option_map (λ (sample : Sample). sample.claim) seen.sample
   pub drawn : HasRolls scene picture

@@ -34,6 +34,10 @@ heard_words hearing = record {
 abbrev pub nothing_heard : ℕ → HeardWords
 nothing_heard player = record { player = player; words = []; came = []; told = [] }
 
+-- what was heard of a player is forgotten
+abbrev pub forgotten : HeardWords → HeardWords
+forgotten heard = nothing_heard heard.player
+
 -- a word that comes in a frame
 abbrev pub heard_in : ℕ → ℕ → Heard
 heard_in at word = record { word = word; at = at }

@@ -15,7 +15,7 @@ use Rattle.roll_frame.specs.declared.row.Cell.{Cell}
 use Rattle.roll_session.specs.Headline.{last_claim}
 use Rattle.roll_session.specs.Seen.{Seen}
 use Rattle.prog_observer.specs.Changes.{roll_of, rows_from}
-use Rattle.prog_observer.specs.Hearing.{HeardWords, after_hearing, heard_words, nothing_heard}
+use Rattle.prog_observer.specs.Hearing.{HeardWords, after_hearing, forgotten, heard_words, nothing_heard}
 use Rattle.prog_observer.specs.declared.observer.Observer.{Observer}
 use Rattle.prog_observer.specs.declared.observer.Sample.{Sample}
 
@@ -32,7 +32,9 @@ pub record Observed : Type 0 where
   pub firsts : Rows
   -- the words of each player
   pub heard : List HeardWords
+  -- the rolls, and how many of them are of sessions before this one
   pub rolls : List Roll
+  pub earlier : ℕ
   -- the roll whose saved states are to be shown
   pub sample : Option Sample
 
@@ -45,6 +47,7 @@ observed observer = record {
   firsts = observer.firsts.items;
   heard = map heard_words observer.hearings.items;
   rolls = observer.rolls.items;
+  earlier = observer.earlier;
   sample = observer.sample;
 }
 
@@ -58,6 +61,7 @@ nothing_seen players window = record {
   firsts = [];
   heard = map nothing_heard (range_with_len 1 players);
   rolls = [];
+  earlier = 0;
   sample = None;
 }
 
@@ -99,6 +103,7 @@ with_roll seen s rows roll claim = record {
   firsts = seen.firsts ++ (if nat_lt seen.frame s.core.frame then option_to_list (last_row rows) else []);
   heard = seen.heard;
   rolls = seen.rolls ++ (if is_rollback roll then roll ∷ [] else []);
+  earlier = seen.earlier;
   sample = with_sample seen.window seen.sample (record { roll = roll; claim = claim });
 }
 
@@ -107,6 +112,32 @@ abbrev pub after_roll : Observed → Seen → Claim → Observed
 after_roll seen s claim =
     let rows = rows_from s.core claim seen.settled in
     with_roll seen s rows (roll_of seen.frame claim.from seen.settled seen.rows rows) claim
+
+-- another session comes in the place of the one that was watched: nothing was seen of it
+abbrev pub cleared : Observed → Observed
+cleared seen = record {
+  window = seen.window;
+  frame = 0;
+  settled = 0;
+  rows = [];
+  firsts = [];
+  heard = map forgotten seen.heard;
+  rolls = seen.rolls;
+  earlier = length seen.rolls;
+  sample = None;
+}
+
+-- and the frames that it has run, by the claim of its last roll, were run for the first time
+abbrev pub started_by : Observed → Seen → Claim → Observed
+started_by seen s claim = record seen {
+  frame = s.core.frame;
+  settled = settled s.core;
+  rows = drop (settled s.core - seen.settled) (rows_from s.core claim seen.settled);
+  firsts = seen.firsts ++ rows_from s.core claim seen.settled;
+}
+
+abbrev pub begun : Observed → Seen → Option Claim → Observed
+begun seen s claim = option_map_or (started_by (cleared seen) s) claim (cleared seen)
 
 -- what was seen, and the words that have come since
 abbrev pub after_words : Observed → Seen → Observed

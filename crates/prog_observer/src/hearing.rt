@@ -1,6 +1,6 @@
 //! When the words of a player came.
 ghost use Rattle.std.specs.Prelude.{◌≡◌, ◌-◌, ◌++◌, ◌==◌, IfOk, OnOk, count_by, length, replicate};
-ghost use Rattle.prog_observer.specs.Hearing.{after_hearing, cell_at, cells_of, heard_words, lane_of, lane_shown, shown_at, turns_at};
+ghost use Rattle.prog_observer.specs.Hearing.{after_hearing, cell_at, cells_of, heard_words, forgotten, lane_of, lane_shown, shown_at, turns_at};
 ghost use Rattle.prog_observer.specs.Holding.{after_turn, held_words_of, soon_words_of, turns_of};
 
 use prog_picture::{Cell, Lane};
@@ -31,6 +31,15 @@ pub struct Hearing {
 }
 
 impl Hearing {
+    /// Nothing was heard.
+    pub fn clear(&mut self)
+        ensures { heard_words self.new ≡ forgotten (heard_words self.old) }
+    {
+        self.words.clear();
+        self.came.clear();
+        self.told.clear();
+    }
+
     /// Notes the words that have come since. If memory runs out, the first of them may have been noted.
     pub fn hear<G: Game>(&mut self, session: &Session<G>, at: u32) -> Result<(), AllocError>
         ensures { OnOk result

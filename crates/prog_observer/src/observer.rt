@@ -1,7 +1,8 @@
 //! A session that is watched while it is played.
-ghost use Rattle.std.specs.Prelude.{◌≡◌, ◌++◌, ◌+◌, ◌-◌, ◌∷◌, [], IfOk, IfErr, OnOk, drop, false, map, min, nat_lt, true, is_none, if◌then◌else◌};
+ghost use Rattle.roll_session.specs.Headline.{last_claim};
+ghost use Rattle.std.specs.Prelude.{◌≡◌, ◌==◌, ◌++◌, ◌+◌, ◌-◌, ◌∷◌, [], IfOk, IfErr, OnOk, drop, false, map, min, nat_lt, true, is_none, if◌then◌else◌};
 ghost use Rattle.std.specs.Option.{option_map, option_to_list};
-ghost use Rattle.prog_observer.specs.Hearing.{after_hearing, heard_words, lane_in, lane_shown};
+ghost use Rattle.prog_observer.specs.Hearing.{after_hearing, forgotten, heard_words, lane_in, lane_shown};
 ghost use Rattle.prog_observer.specs.Holding.{after_turn, capped, held_totals, held_words_of, soon_words_of, turns_of};
 ghost use Rattle.roll_frame.specs.Core.{settled as settled_frame};
 ghost use Rattle.prog_observer.specs.Observing.{has_rolled, is_better, is_deeper, is_rollback, is_wanted};
@@ -29,8 +30,10 @@ pub struct Observer {
     /// What was shown of each frame as it was first run.
     firsts: Vec<Row>,
     hearings: Vec<Hearing>,
-    /// Its rollbacks in their order.
+    /// Its rollbacks in their order, and before them those of sessions in whose place it came.
     pub rolls: Vec<Roll>,
+    /// How many those are.
+    earlier: usize,
     /// The roll whose saved states are to be shown.
     sample: Option<Sample>,
 }
@@ -54,7 +57,7 @@ struct Sample {
 }
 
 impl Observer {
-    ghost use Rattle.prog_observer.specs.Observing.{after_roll, after_watch, after_words, last_row, nothing_seen, observed, watch_refusal, with_sample};
+    ghost use Rattle.prog_observer.specs.Observing.{after_roll, after_watch, after_words, begun, cleared, last_row, nothing_seen, started_by, observed, watch_refusal, with_sample};
 
     /// Nothing was seen yet of a session of so many players.
     ///
@@ -81,8 +84,64 @@ impl Observer {
             firsts: Vec::new(alloc),
             hearings,
             rolls: Vec::new(alloc),
+            earlier: 0,
             sample: None,
         })
+    }
+
+    /// Another session has come in the place of the one that was watched, and has run some frames already: they count as run for the
+    /// first time. Of the one before, the rollbacks alone stay counted.
+    ///
+    /// # Errors
+    ///
+    /// `NoPlan` if it has run a frame by another call than its last one; `NoMemory` if the allocator has no room. Then the session can't be
+    /// watched.
+    pub fn begin<G: Game>(&mut self, alloc: Global, session: &Session<G>) -> Result<(), Refusal>
+        ensures { OnOk result (observed self.new
+            ≡ begun (observed self.old) session.now (if session.now.core.frame == 0 then None else last_claim session.now)) }
+    {
+        self.clear();
+        if session.frame() == 0 {
+            return Ok(());
+        }
+        let claim = session.claim(alloc)?;
+        Ok(self.note_start(alloc, session, claim)?)
+    }
+
+    /// Nothing is seen but the rollbacks of earlier sessions.
+    fn clear(&mut self)
+        ensures { observed self.new ≡ cleared (observed self.old) }
+    {
+        let Observer {
+            rows,
+            firsts,
+            hearings,
+            ..
+        } = self;
+        rows.clear();
+        firsts.clear();
+        clear_all(hearings);
+        self.frame = 0;
+        self.settled = 0;
+        self.earlier = self.rolls.len();
+        self.sample = None;
+    }
+
+    /// Notes the frames that a session has run, by the claim of its last roll.
+    fn note_start<G: Game>(
+        &mut self,
+        alloc: Global,
+        session: &Session<G>,
+        claim: Claim,
+    ) -> Result<(), AllocError>
+        ensures { OnOk result (observed self.new ≡ started_by (observed self.old) session.now claim) }
+    {
+        let rows = rows_from(alloc, session, &claim, self.settled)?;
+        self.firsts.extend_from_slice(&rows)?;
+        self.note_rows(session, &rows)?;
+        self.settled = session.settled();
+        self.frame = session.frame();
+        Ok(())
     }
 
     /// Notes what has come since, and if the last call was a sync or an advance that the session took, what it rolled back.
@@ -231,7 +290,7 @@ impl Observer {
             (λ scene. scene.to ≡ min (observed self).window.to (observed self).frame) }
         ensures lanes { IfOk result (λ scene. map lane_shown scene.lanes.items
             ≡ map (lane_in session.now (observed self).firsts) (observed self).heard) }
-        ensures rolls { IfOk result (λ scene. scene.rolls.items ≡ (observed self).rolls) }
+        ensures rolls { IfOk result (λ scene. scene.rolls.items ≡ drop (observed self).earlier (observed self).rolls) }
         ensures tree { IfOk result (λ scene. scene.tree
             ≡ option_map (λ (sample : Sample). sample.claim) (observed self).sample) }
     {
@@ -241,7 +300,7 @@ impl Observer {
             from: self.window.from,
             to: self.window.to.min(self.frame),
             lanes,
-            rolls: self.rolls,
+            rolls: without_first(self.rolls, self.earlier),
             tree: claim_of(self.sample),
         })
     }
@@ -289,6 +348,15 @@ fn note_turn_of_all<G: Game>(
     Ok(())
 }
 
+/// Nothing was heard of all players.
+fn clear_all(hearings: &mut [Hearing])
+    ensures { map heard_words hearings.new ≡ map forgotten (map heard_words hearings.old) }
+{
+    for hearing in hearings.iter_mut() {
+        hearing.clear();
+    }
+}
+
 /// Notes the words of all players that have come since, in this frame.
 fn hear_all<G: Game>(
     hearings: &mut [Hearing],
@@ -320,6 +388,15 @@ fn lanes_of<G: Game>(
         lanes.push(hearing.lane(alloc, is_local, firsts)?)?;
     }
     Ok(lanes)
+}
+
+/// The rolls after the first ones.
+fn without_first(rolls: Vec<Roll>, count: usize) -> Vec<Roll>
+    ensures { result.items ≡ drop count rolls.items }
+{
+    let mut rolls = rolls;
+    rolls.drain(..count.min(rolls.len()));
+    rolls
 }
 
 /// The claim of the roll whose saved states are to be shown, if there is one.

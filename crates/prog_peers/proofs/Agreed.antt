@@ -9,10 +9,9 @@ use Rattle.prog_observer.specs.Drawing.{IsDrawn}
 use Rattle.prog_observer.specs.Observing.{Observed}
 use Rattle.std.proofs.lemmas.List.Elements.{All-map}
 use Rattle.std.specs.List.{All, range_with_len}
-use Rattle.roll_member.specs.Joined.{Joined}
 use Rattle.roll_session.specs.Seen.{Step}
 use Rattle.prog_machine.specs.Over.{IsOver}
-use Rattle.prog_peers.specs.Agreement.{AreAlike, HasAgreed, HaveAgreed, IfStays, Seated, step_of}
+use Rattle.prog_peers.specs.Agreement.{AreAlike, HasAgreed, HaveAgreed, IfStays, Played, Seated, step_of}
 use Rattle.prog_machine.specs.Options.{first_staying}
 use Rattle.prog_peers.specs.Sights.{Cost, IsOfFirst, IsPictured, IsPlayed, Watched, asked_picture, cost_by, cost_of, seats, told_cost}
 use Rattle.prog_machine.specs.declared.options.PeersOptions.{PeersOptions}
@@ -27,7 +26,7 @@ map_set f [] k y d e = refl
 map_set f (x ∷ xs) zero y d e = ap (λ (n : ℕ). n ∷ map f xs) e
 map_set f (x ∷ xs) (suc k) y d e = ap (λ (ns : List ℕ). f x ∷ ns) (map_set f xs k y d e)
 
-module _ {M : Type 0} (me : M → ℕ) (member : M → Joined) (seen : M → Observed) where
+module _ {M : Type 0} (me : M → ℕ) (member : M → Played) (seen : M → Observed) where
   abbrev seated : M → Seated
   seated machine = record { me = me machine; member = member machine }
 
@@ -47,11 +46,11 @@ module _ {M : Type 0} (me : M → ℕ) (member : M → Joined) (seen : M → Obs
   numbers_of (machine ∷ machines) = ap (λ (ns : List ℕ). me machine ∷ ns) (numbers_of machines)
 
   abbrev pub AreOver : PeersOptions → List M → Type 0
-  AreOver options machines = All (λ machine. IfStays options (λ member. IsOver options member.session) (seated machine)) machines
+  AreOver options machines = All (λ machine. IfStays options (λ member. IsOver options member.epochs member.here.session) (seated machine)) machines
 
   abbrev pub HaveAlike : PeersOptions → Step → List M → Type 0
   HaveAlike options step machines =
-      (first : Joined) × All (λ machine. IfStays options (AreAlike step first) (seated machine)) machines
+      (first : Played) × All (λ machine. IfStays options (AreAlike step first) (seated machine)) machines
 
   have_agreed : (options : PeersOptions) (step : Step) (machines : List M)
       → map me machines ≡ range_with_len 0 options.machines → AreOver options machines
@@ -59,7 +58,7 @@ module _ {M : Type 0} (me : M → ℕ) (member : M → Joined) (seen : M → Obs
   have_agreed options step machines numbers over alike = record {
     numbers = numbers_of machines ∙ numbers;
     first = alike.0;
-    over = All-map (IfStays options (λ member. IsOver options member.session)) seated machines over;
+    over = All-map (IfStays options (λ member. IsOver options member.epochs member.here.session)) seated machines over;
     alike = All-map (IfStays options (AreAlike step alike.0)) seated machines alike.1;
   }
 
@@ -82,7 +81,7 @@ module _ {M : Type 0} (me : M → ℕ) (member : M → Joined) (seen : M → Obs
   -- a picture of what was seen of the first machine that stays
   pub of_first : (options : PeersOptions) (machines : List M) (place : ℕ) (machine : M) (picture : List ℕ)
       → first_staying options ≡ Some place → place < length machines → machine ≡ get_or machines place machine
-      → IsDrawn (member machine).session (seen machine) picture
+      → IsDrawn (member machine).here.session (seen machine) picture
       → IsOfFirst options (map watched machines) picture
   of_first options machines place machine picture first there is drawn = record {
     place = place;

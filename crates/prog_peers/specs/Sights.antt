@@ -33,7 +33,7 @@ pub record IsOfFirst (options : PeersOptions) (machines : List Watched) (picture
   pub first : first_staying options ≡ Some place
   pub machine : Watched
   pub there : slice_get machines place ≡ Some machine
-  pub drawn : IsDrawn machine.seated.member.session machine.seen picture
+  pub drawn : IsDrawn machine.seated.member.here.session machine.seen picture
 
 -- a machine, what its rollbacks cost, and how long words were held back from it
 pub record Cost : Type 0 where

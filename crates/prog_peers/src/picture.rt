@@ -4,11 +4,11 @@ ghost use Rattle.std.specs.String.{string_bytes};
 ghost use Rattle.prog_observer.specs.Observing.{nothing_seen, observed};
 ghost use Rattle.prog_observer.specs.Drawing.{IsDrawn};
 ghost use Rattle.prog_peers.specs.Sights.{IsOfFirst};
-ghost use Rattle.roll_peer.specs.Peered.{beside};
+ghost use Rattle.prog_peers.specs.Agreement.{played};
 
 use crate::report::first_that_stays;
 use crate::table::push_turns;
-use prog_machine::{Machine, PeersOptions};
+use prog_machine::{Machine, PeersOptions, base_of};
 use prog_observer::Observer;
 use prog_picture::{Window, draw};
 use prog_sides::{MatchOptions, game_name};
@@ -48,7 +48,7 @@ pub fn picture_of<G: Shown + Drop>(
     ensures made { IfOk result (λ picture. IsSome window → IsSome picture) }
     ensures drawn { IfOk result (λ picture. IfSome picture (λ text. IsOfFirst options.now
         (map (λ machine. record {
-          seated = record { me = machine.me; member = beside machine.session machine.peer };
+          seated = record { me = machine.me; member = played machine.session machine.peer machine.epochs machine.before.items };
           seen = observed machine.observer;
         }) machines.old) (string_bytes text))) }
 {
@@ -66,7 +66,7 @@ fn view_of<G: Shown + Drop>(
 ) -> Result<String, Refusal>
     ensures { IfOk result (λ picture. IsOfFirst options.now
         (map (λ machine. record {
-          seated = record { me = machine.me; member = beside machine.session machine.peer };
+          seated = record { me = machine.me; member = played machine.session machine.peer machine.epochs machine.before.items };
           seen = observed machine.observer;
         }) machines.old) (string_bytes picture)) }
 {
@@ -88,7 +88,8 @@ fn draw_seen<G: Shown>(
 ) -> Result<String, AllocError>
     ensures { IfOk result (λ picture. IsDrawn machine.now.session (observed observer) (string_bytes picture)) }
 {
-    let scene = match title_of(alloc, options, machine.me) {
+    let base = base_of(&machine.epochs);
+    let scene = match title_of(alloc, options, machine.me, base) {
         Ok(title) => observer.into_scene(alloc, &machine.session, title)?,
         Err(why) => {
             drop(observer);
@@ -101,7 +102,12 @@ fn draw_seen<G: Shown>(
 }
 
 /// What was played, in words, and which machine saw it.
-fn title_of(alloc: Global, options: &PeersOptions, me: u8) -> Result<String, AllocError> {
+fn title_of(
+    alloc: Global,
+    options: &PeersOptions,
+    me: u8,
+    base: u64,
+) -> Result<String, AllocError> {
     let common = &options.common;
     let (machines, frames, seed) = (options.machines, common.frames, common.seed);
     let game = game_name(common.game);
@@ -114,8 +120,17 @@ fn title_of(alloc: Global, options: &PeersOptions, me: u8) -> Result<String, All
     push_turns(&mut title, options)?;
     let player = me.saturating_add(1);
     write!(title, "; seen by player {player}")?;
+    push_base(&mut title, base)?;
     push_stops(&mut title, options)?;
     Ok(title)
+}
+
+/// That the frames are those of the last epoch, if the match has several.
+fn push_base(out: &mut String, base: u64) -> Result<(), AllocError> {
+    match base {
+        0 => Ok(()),
+        base => write!(out, "; its last epoch, from frame {base} of the match on"),
+    }
 }
 
 /// How late datagrams were, and how many were lost.

@@ -1,11 +1,12 @@
 //! A match, from its first tick to its last.
-ghost use Rattle.std.specs.Prelude.{◌≡◌, [], IfOk, IsTrue, OnOk, map};
+ghost use Rattle.std.specs.Prelude.{◌≡◌, ◌<◌, [], IfOk, IsTrue, OnOk, length, map};
 ghost use Rattle.std.specs.List.{All};
 ghost use Rattle.prog_machine.specs.Over.{IsOver};
 ghost use Rattle.prog_peers.specs.Agreement.{IfStays};
 ghost use Rattle.prog_peers.specs.declared.playing.End.TheVariants.{Over as IsEnded};
-ghost use Rattle.roll_peer.specs.Peered.{beside};
+ghost use Rattle.prog_peers.specs.Agreement.{played};
 
+use crate::agreement::is_one_epoch;
 use prog_machine::{Machine, PeersOptions};
 use roll_frame::Refusal;
 use roll_game::Shown;
@@ -55,8 +56,8 @@ impl<G: Shown + Drop> Table<G> {
         ensures kept { OnOk result (map (λ m. m.me) self.new.machines.items
             ≡ map (λ m. m.me) self.old.machines.items) }
         ensures over { IfOk result (λ end. end ≡ IsEnded → All (λ machine. IfStays options.now
-            (λ member. IsOver options.now member.session)
-            (record { me = machine.me; member = beside machine.session machine.peer })) self.new.machines.items) }
+            (λ member. IsOver options.now member.epochs member.here.session)
+            (record { me = machine.me; member = played machine.session machine.peer machine.epochs machine.before.items })) self.new.machines.items) }
     {
         for tick in 0..most_ticks(options.common.frames) {
             if self.is_over(options) {
@@ -67,14 +68,30 @@ impl<G: Shown + Drop> Table<G> {
         Ok(End::Late)
     }
 
-    /// Whether each machine that stays has played its last frame, and knows all words up to it.
+    /// Whether each machine that stays has played its last frame, and knows all words up to it; and all are in one epoch.
     fn is_over(&self, options: &PeersOptions) -> bool
         ensures { IsTrue result → All (λ machine. IfStays options.now
-            (λ member. IsOver options.now member.session)
-            (record { me = machine.me; member = beside machine.session machine.peer })) self.now.machines.items }
+            (λ member. IsOver options.now member.epochs member.here.session)
+            (record { me = machine.me; member = played machine.session machine.peer machine.epochs machine.before.items })) self.now.machines.items }
     {
         for machine in &self.machines {
             if !is_over_if_it_stays(options, machine) {
+                return false;
+            }
+        }
+        self.are_together(options)
+    }
+
+    /// Whether all machines that stay are in one epoch.
+    fn are_together(&self, options: &PeersOptions) -> bool {
+        let Some(first) = options.first_staying() else {
+            return false;
+        };
+        let Some(first) = self.machines.get(usize::from(first)) else {
+            return false;
+        };
+        for machine in &self.machines {
+            if options.stays(machine.me) && !is_one_epoch(&first.epochs, &machine.epochs) {
                 return false;
             }
         }
@@ -88,15 +105,38 @@ impl<G: Shown + Drop> Table<G> {
     {
         for place in 0..self.machines.len() {
             self.machines[place].tick(alloc, options, &mut self.network, tick)?;
+            self.bring(alloc, options, place)?;
         }
         Ok(())
+    }
+
+    /// If an epoch began for the machine at a place, and another one comes in it that isn't there yet, it comes.
+    fn bring(&mut self, alloc: Global, options: &PeersOptions, place: usize) -> Result<(), Refusal>
+        requires { place < length self.old.machines.items }
+        ensures { OnOk result (map (λ m. m.me) self.new.machines.items
+            ≡ map (λ m. m.me) self.old.machines.items) }
+    {
+        let Some(comer) = self.machines[place].take_comer() else {
+            return Ok(());
+        };
+        let comer = usize::from(comer);
+        if comer >= self.machines.len() || comer == place {
+            return Ok(());
+        }
+        let Some(guest) = self.machines[place].guest(alloc)? else {
+            return Ok(());
+        };
+        if self.machines[comer].is_in(guest.terms.id) {
+            return Ok(());
+        }
+        self.machines[comer].come_in(alloc, options, guest)
     }
 }
 
 /// Whether a machine has played its last frame and knows all words up to it, or doesn't stay.
 fn is_over_if_it_stays<G: Shown + Drop>(options: &PeersOptions, machine: &Machine<G>) -> bool
-    ensures { IsTrue result → IfStays options.now (λ member. IsOver options.now member.session)
-        (record { me = machine.now.me; member = beside machine.now.session machine.now.peer }) }
+    ensures { IsTrue result → IfStays options.now (λ member. IsOver options.now member.epochs member.here.session)
+        (record { me = machine.now.me; member = played machine.now.session machine.now.peer machine.now.epochs machine.now.before.items }) }
 {
     !options.stays(machine.me) || machine.is_over(options)
 }

@@ -154,7 +154,8 @@ fn play_tally(
 {
     let mut table: Table<Tally> = Table::new(alloc, options);
     for me in 0..options.machines {
-        seat(alloc, options, window, &mut table, me, tally())?;
+        let engines = tally(alloc, options.count_spares())?;
+        seat(alloc, options, window, &mut table, me, engines)?;
     }
     play_and_show(alloc, options, window, &mut table)
 }
@@ -170,7 +171,7 @@ fn play_duel(
 {
     let mut table: Table<Duel> = Table::new(alloc, options);
     for me in 0..options.machines {
-        let engines = duel(alloc, options.machines)?;
+        let engines = duel(alloc, options.machines, options.count_spares())?;
         seat(alloc, options, window, &mut table, me, engines)?;
     }
     play_and_show(alloc, options, window, &mut table)

@@ -1,7 +1,7 @@
 //! How a match came out.
 ghost use Rattle.std.specs.Prelude.{◌≡◌, ◌<◌, ◌-◌, length, map, IfOk, IfSome, IsTrue, Some};
 ghost use Rattle.std.specs.List.{All};
-ghost use Rattle.prog_peers.specs.Agreement.{AreAlike, IfStays};
+ghost use Rattle.prog_peers.specs.Agreement.{AreAlike, IfStays, Played, played};
 ghost use Rattle.prog_observer.specs.Holding.{held_totals};
 ghost use Rattle.prog_observer.specs.Observing.{observed};
 ghost use Rattle.prog_machine.specs.Guessing.{grafts_in, is_graft_at};
@@ -9,15 +9,13 @@ ghost use Rattle.prog_machine.specs.Options.{first_staying};
 ghost use Rattle.prog_peers.specs.Sights.{cost_by, jobs_of, told_cost};
 ghost use Rattle.prog_peers.specs.Totals.{totals_of};
 ghost use Rattle.prog_peers.specs.declared.playing.End.TheVariants.{Over as IsEnded};
-ghost use Rattle.roll_member.specs.Joined.{Joined};
-ghost use Rattle.roll_peer.specs.Peered.{beside};
 
 use crate::agreement::all_agree;
 use crate::playing::End;
 use crate::totals::{self, Totals};
 use arrayvec::ArrayVec;
 use prog_holding::Holding;
-use prog_machine::{Claims, Counts, Machine, PeersOptions};
+use prog_machine::{Bases, Claims, Counts, Machine, PeersOptions};
 use prog_observer::HeldTotals;
 use roll_frame::Refusal;
 use roll_game::Shown;
@@ -52,6 +50,8 @@ pub struct Outcome {
     pub held_jobs: u64,
     /// The frame at which its player left, for the machines that stay.
     pub left: Option<u32>,
+    /// The frame at which it came.
+    pub came: Option<u32>,
     pub counts: Counts,
     /// What its rollbacks cost.
     pub totals: Totals,
@@ -70,6 +70,8 @@ pub struct Report {
     pub agree: bool,
     /// How many rows are settled at the first machine that stays.
     pub settled: u32,
+    /// The frame of the match at which each epoch began, where it goes on in epochs.
+    pub bases: Bases,
 }
 
 impl Report {
@@ -100,9 +102,9 @@ pub fn sum_up<G: Shown>(
     ensures end { IfOk result (λ report. report.end ≡ end) }
     ensures told { IfOk result (λ report. map told_cost report.outcomes.items
         ≡ map (λ machine. cost_by machine.me (observed machine.observer)) machines.now) }
-    ensures alike { IfOk result (λ report. IsTrue report.agree → (first : Joined) × All
+    ensures alike { IfOk result (λ report. IsTrue report.agree → (first : Played) × All
         (λ machine. IfStays options.now (AreAlike G.step first)
-        (record { me = machine.me; member = beside machine.session machine.peer })) machines.now) }
+        (record { me = machine.me; member = played machine.session machine.peer machine.epochs machine.before.items })) machines.now) }
 {
     let Some(place) = first_that_stays(options, machines) else {
         return Err(Refusal::InvalidRequest);
@@ -113,7 +115,8 @@ pub fn sum_up<G: Shown>(
         end,
         staying: options.count_staying(),
         agree: all_agree(options, machines, first),
-        settled: first.session.settled(),
+        settled: first.reached().1,
+        bases: first.bases.clone()?,
     })
 }
 
@@ -176,17 +179,18 @@ fn outcome_of<G: Shown>(machine: &Machine<G>, first: &Machine<G>) -> Result<Outc
         return Err(Refusal::NoMemory);
     }
     let session = &machine.session;
-    let frames = session.frame();
+    let (frames, settled) = machine.reached();
     Ok(Outcome {
         machine: machine.me,
         frames,
-        settled: session.settled(),
+        settled,
         jobs: session.game().counts().copies.saturating_sub(1),
         taken: count_grafts(session.log()) as u64,
         ahead: machine.helper.counts().turns,
         held: machine.observer.held(),
         held_jobs: jobs_of(&machine.holding),
-        left: first.peer.mesh().left(machine.me),
+        left: first.left_at(machine.me),
+        came: first.came_at(machine.me),
         counts: machine.counts,
         totals: totals::sum_up(rolls),
         claims: machine.claims,

@@ -3,6 +3,7 @@
 use crate::playing::End;
 use crate::report::{Outcome, Report};
 use crate::totals::Totals;
+use prog_changes::DelayAt;
 use prog_machine::PeersOptions;
 use prog_observer::HeldTotals;
 use prog_sides::{Guesses, game_name};
@@ -29,6 +30,9 @@ pub fn push_report(
     if options.hostile.is_some() {
         push_hostile(out, report)?;
     }
+    if options.goes_on() {
+        push_bases(out, report)?;
+    }
     push_end(out, report, state)?;
     push_line(out, options, report, state)
 }
@@ -54,6 +58,7 @@ fn push_heading(out: &mut String, options: &PeersOptions) -> Result<(), AllocErr
         write!(out, ", guesses best, {} jobs a tick", common.jobs)?;
     }
     push_turns(out, options)?;
+    push_delays(out, options)?;
     out.push_str("\n\n")
 }
 
@@ -64,6 +69,26 @@ pub fn push_turns(out: &mut String, options: &PeersOptions) -> Result<(), AllocE
         Some(turns) => write!(out, ", words held back for at most {turns} turns"),
         None => Ok(()),
     }
+}
+
+/// The input delays that players are to have from a frame on.
+fn push_delays(out: &mut String, options: &PeersOptions) -> Result<(), AllocError> {
+    for named in &options.delays {
+        if let Some(
+            DelayAt {
+                machine,
+                delay,
+                frame,
+            },
+        ) = *named
+        {
+            write!(
+                out,
+                ", delay {delay} of machine {machine} from frame {frame}"
+            )?;
+        }
+    }
+    Ok(())
 }
 
 /// What was played, a line for each machine.
@@ -224,6 +249,15 @@ fn push_hostile(out: &mut String, report: &Report) -> Result<(), AllocError> {
     )
 }
 
+/// The frames at which epochs began, at the first machine that stays.
+fn push_bases(out: &mut String, report: &Report) -> Result<(), AllocError> {
+    out.push_str("epochs begin at frames")?;
+    for base in &report.bases {
+        write!(out, " {base}")?;
+    }
+    out.push_str("\n\n")
+}
+
 /// Whether the machines that stay agree.
 fn push_end(out: &mut String, report: &Report, state: &[u8]) -> Result<(), AllocError> {
     let (count, settled) = (report.staying, report.settled);
@@ -248,6 +282,10 @@ fn push_lefts(out: &mut String, report: &Report) -> Result<(), AllocError> {
         if let Some(frame) = outcome.left {
             let machine = outcome.machine;
             write!(out, ", machine {machine} left at {frame}")?;
+        }
+        if let Some(frame) = outcome.came {
+            let machine = outcome.machine;
+            write!(out, ", machine {machine} came at {frame}")?;
         }
     }
     Ok(())
@@ -287,9 +325,23 @@ fn push_line(
         push_each(out, "held_soon", report, |outcome| outcome.held.soon)?;
         push_each(out, "held_jobs", report, |outcome| outcome.held_jobs)?;
     }
+    if options.goes_on() {
+        push_epochs(out, report)?;
+    }
     let agree = if report.is_well() { "yes" } else { "no" };
     write!(out, " settled={} agree={agree} state=", report.settled)?;
     push_text(out, state)
+}
+
+/// The frames at which epochs began, with commas between them.
+fn push_epochs(out: &mut String, report: &Report) -> Result<(), AllocError> {
+    out.push_str(" epochs")?;
+    let mut before = '=';
+    for base in &report.bases {
+        write!(out, "{before}{base}")?;
+        before = ',';
+    }
+    Ok(())
 }
 
 fn push_options(out: &mut String, options: &PeersOptions) -> Result<(), AllocError> {
@@ -306,7 +358,27 @@ fn push_options(out: &mut String, options: &PeersOptions) -> Result<(), AllocErr
     if let Some(turns) = options.held {
         write!(out, " held={turns}")?;
     }
+    push_changes(out, options)?;
     write!(out, " game={}", game_name(common.game))
+}
+
+/// The input delays that players are to have from a frame on, with commas between them.
+fn push_changes(out: &mut String, options: &PeersOptions) -> Result<(), AllocError> {
+    let mut before = " delay_at=";
+    for named in &options.delays {
+        if let Some(
+            DelayAt {
+                machine,
+                delay,
+                frame,
+            },
+        ) = *named
+        {
+            write!(out, "{before}{machine}:{delay}:{frame}")?;
+            before = ",";
+        }
+    }
+    Ok(())
 }
 
 /// A count of each machine under a name.

@@ -23,6 +23,7 @@ use Rattle.roll_live.specs.declared.program.Live.{Live}
 use Rattle.prog_sides.specs.declared.options.Guesses.{Guesses}
 use Rattle.prog_sides.specs.declared.options.Guesses.TheVariants.{Best, Off}
 use Rattle.prog_sides.specs.declared.options.MatchOptions.{MatchOptions}
+use Rattle.prog_changes.specs.Delays.{NamesDelays}
 use Rattle.prog_machine.specs.Options.{fault_of}
 use Rattle.prog_machine.specs.Lines.{NamesLines}
 use Rattle.prog_machine.specs.Stops.{no_stops, NamesStops}
@@ -78,6 +79,8 @@ pub record IsOf (asked : PeersRequest) (options : PeersOptions) : Type 0 where
   pub stops : NamesStops no_stops (map (λ text. text.now) asked.stops.items) options.stops
   pub breaks : NamesLines (map (λ text. text.now) asked.breaks.items) options.breaks
   pub heals : NamesLines (map (λ text. text.now) asked.heals.items) options.heals
+  pub delays : NamesDelays (map (λ text. text.now) asked.delays.items) options.delays
+  pub comes : NamesStops no_stops (map (λ text. text.now) asked.comes.items) options.comes
   pub hostile : options.hostile ≡ asked.hostile
   pub held : options.held ≡ asked.held
   pub fine : fault_of options ≡ None
@@ -136,6 +139,8 @@ pub record AreNamed (rows : List Row) (options : PeersOptions) : Type 0 where
   pub stops : NamesStops no_stops (texts_named (codes "stop") rows) options.stops
   pub breaks : NamesLines (texts_named (codes "break") rows) options.breaks
   pub heals : NamesLines (texts_named (codes "heal") rows) options.heals
+  pub delays : NamesDelays (texts_named (codes "delay-at") rows) options.delays
+  pub comes : NamesStops no_stops (texts_named (codes "come") rows) options.comes
   pub hostile : options.hostile ≡ option_map (number_in 64) (first_of (codes "hostile") rows)
   pub held : options.held ≡ option_map (number_in 8) (first_of (codes "held") rows)
   pub fine : fault_of options ≡ None

@@ -6,16 +6,18 @@ ghost use Rattle.clap.specs.Words.{Row, kind_of, takes};
 ghost use Rattle.clap.specs.declared.error.kind.ErrorKind.TheVariants.{OutOfMemory};
 ghost use Rattle.prog_command_line.specs.Commands.{rollduel_app};
 ghost use Rattle.prog_command_line.specs.Requests.{HasOptions as WasAskedFor, HasWorkers as NamesWorkers, asked_of as line_of, picture_of as picture_in_line, rows_by};
+ghost use Rattle.prog_changes.specs.Delays.{NamesDelays};
 ghost use Rattle.rollduel.specs.Requests.{HasOptions, HasWorkers, IsOf, asked_as, asked_by, asked_of, game_as, guesses_as, live_as, options_as, picture_as, picture_by, picture_of, task_as, text_as, window_as};
 
 use crate::picture::PictureRequest;
 use clap::Error;
+use prog_changes::{Delays, read_delays};
 use prog_command_line::{
     Game, GuessOption, Input, LiveOptions, MatchRequest, OptionFault, PeersRequest,
     PictureRequest as AskedPicture, PictureWindow, Request as Asked, TextRequest as AskedText,
     TextTask,
 };
-use prog_machine::{PeersFault, PeersOptions, read_lines, read_stops};
+use prog_machine::{PeersFault, PeersOptions, read_comes, read_lines, read_stops};
 use prog_parts::{GameName, Task};
 use prog_picture::Window;
 use prog_sides::{Guesses, MatchOptions};
@@ -160,18 +162,32 @@ fn peers_of(asked: &PeersRequest<'_>) -> Result<PeersOptions, PeersFault>
     let stops = read_stops(&asked.stops)?;
     let breaks = read_lines(&asked.breaks)?;
     let heals = read_lines(&asked.heals)?;
+    let delays = delays_of(&asked.delays)?;
+    let comes = read_comes(&asked.comes)?;
     let options = PeersOptions {
         machines: asked.machines,
         common: options_of(&asked.common),
         stops,
         breaks,
         heals,
+        delays,
+        comes,
         hostile: asked.hostile,
         held: asked.held,
     };
     match options.fault() {
         None => Ok(options),
         Some(fault) => Err(fault),
+    }
+}
+
+/// The input delays that texts name.
+fn delays_of(texts: &[&str]) -> Result<Delays, PeersFault>
+    ensures { IfOk result (NamesDelays (map (λ text. text.now) texts.now)) }
+{
+    match read_delays(texts) {
+        Ok(delays) => Ok(delays),
+        Err(why) => Err(PeersFault::Change(why)),
     }
 }
 

@@ -14,6 +14,8 @@ returns c =
       stops = c.in_ok-stops.ensures;
       breaks = c.in_ok-breaks.ensures;
       heals = c.in_ok-heals.ensures;
+      delays = c.in_ok-delays.ensures;
+      comes = c.in_ok-comes.ensures;
       hostile = c.hostile_of.ensures ∙ ap (option_map (number_in 64)) (first_value-rows found (codes "hostile"));
       held = c.held_of.ensures ∙ ap (option_map (number_in 8)) (first_value-rows found (codes "held"));
     }
