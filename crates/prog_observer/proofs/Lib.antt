@@ -1,5 +1,4 @@
 pub mod Adding
 pub mod Differing
 pub mod Heeding
-pub mod Laning
 pub mod Mapping

@@ -1,7 +1,7 @@
 -- When the words of a player came, and what had been shown of it.
-use Rattle.std.specs.Prelude.{◌-◌, ℕ, List, [], ◌++◌, drop, length, map, max, Bool, Option, None, Some, slice_get, unwrap_or}
+use Rattle.std.specs.Prelude.{◌-◌, ℕ, List, [], ◌++◌, drop, length, map, max, Bool, false, Option, None, Some, slice_get, unwrap_or}
 use Rattle.std.specs.List.{range_with_len}
-use Rattle.std.specs.Option.{option_map, some_prefix}
+use Rattle.std.specs.Option.{option_map}
 use Rattle.prog_picture.specs.declared.scene.Cell.{Cell}
 use Rattle.prog_picture.specs.declared.scene.Lane.{Lane}
 use Rattle.roll_frame.specs.Cells.{Rows}
@@ -11,12 +11,14 @@ use Rattle.roll_frame.specs.declared.row.Cell.{Cell as Shown}
 use Rattle.roll_frame.specs.declared.row.Cell.TheVariants.{Word, Gone}
 use Rattle.roll_session.specs.Headline.{words_of}
 use Rattle.roll_session.specs.Seen.{Seen}
+use Rattle.prog_observer.specs.declared.hearing.Coming.{Coming}
 use Rattle.prog_observer.specs.declared.hearing.Heard.{Heard}
 use Rattle.prog_observer.specs.declared.hearing.Hearing.{Hearing}
 
--- the words of a player that have come, from frame 0 on
+-- the cells of a player of all frames before the session that is watched, and its words that have come, from its frame 0 on
 pub record HeardWords : Type 0 where
   pub player : ℕ
+  pub past : List (Option Cell)
   pub words : List Heard
   -- the turn in which each came, and in which the session was told it, as far as turns were noted
   pub came : List ℕ
@@ -25,6 +27,7 @@ pub record HeardWords : Type 0 where
 abbrev pub heard_words : Hearing → HeardWords
 heard_words hearing = record {
   player = hearing.player;
+  past = hearing.past.items;
   words = hearing.words.items;
   came = hearing.came.items;
   told = hearing.told.items;
@@ -32,20 +35,16 @@ heard_words hearing = record {
 
 -- of a player nothing was heard
 abbrev pub nothing_heard : ℕ → HeardWords
-nothing_heard player = record { player = player; words = []; came = []; told = [] }
+nothing_heard player = record { player = player; past = []; words = []; came = []; told = [] }
 
--- what was heard of a player is forgotten
-abbrev pub forgotten : HeardWords → HeardWords
-forgotten heard = nothing_heard heard.player
+-- a word that comes so
+abbrev pub heard_in : Coming → ℕ → Heard
+heard_in how word = record { word = word; at = how.at; carried = how.carried }
 
--- a word that comes in a frame
-abbrev pub heard_in : ℕ → ℕ → Heard
-heard_in at word = record { word = word; at = at }
-
--- what was heard of a player, and then, in this frame, the confirmed words that it lacks
-abbrev pub after_hearing : Seen → ℕ → HeardWords → HeardWords
-after_hearing s at heard =
-    record heard { words = heard.words ++ map (heard_in at) (drop (length heard.words) (words_of s heard.player)) }
+-- what was heard of a player, and then, coming so, the confirmed words that it lacks
+abbrev pub after_hearing : Seen → Coming → HeardWords → HeardWords
+after_hearing s how heard =
+    record heard { words = heard.words ++ map (heard_in how) (drop (length heard.words) (words_of s heard.player)) }
 
 -- the word of a cell, unless the player is gone
 abbrev pub word_shown : Option Shown → Option ℕ
@@ -70,22 +69,43 @@ turns_at heard frame = turns_between (slice_get heard.came frame) (slice_get hea
 -- where nothing was heard, what was shown
 abbrev pub cell_by : Option Heard → ℕ → Option ℕ → Option Cell
 cell_by (Some heard) held shown =
-    Some (record { word = heard.word; shown = unwrap_or shown heard.word; heard = Some heard.at; held = held })
-cell_by None held shown = option_map (λ word. record { word = word; shown = word; heard = None; held = 0 }) shown
+    Some (record {
+      word = heard.word;
+      shown = unwrap_or shown heard.word;
+      heard = Some heard.at;
+      held = held;
+      carried = heard.carried;
+    })
+cell_by None held shown =
+    option_map (λ word. record { word = word; shown = word; heard = None; held = 0; carried = false }) shown
 
 abbrev pub cell_at : HeardWords → Rows → ℕ → Option Cell
 cell_at heard firsts frame =
     cell_by (slice_get heard.words frame) (turns_at heard frame) (shown_at firsts frame heard.player)
 
--- the cells from frame 0 on, up to the first frame that has none
-abbrev pub cells_of : HeardWords → Rows → List Cell
-cells_of heard firsts = some_prefix (map (cell_at heard firsts) (range_with_len 0 (max (length heard.words) (length firsts))))
+-- the cells of so many frames of the session
+abbrev pub cells_to : HeardWords → Rows → ℕ → List (Option Cell)
+cells_to heard firsts count = map (cell_at heard firsts) (range_with_len 0 count)
+
+-- all cells, up to the last frame of which a word has come, or that was run
+abbrev pub cells_of : HeardWords → Rows → List (Option Cell)
+cells_of heard firsts = heard.past ++ cells_to heard firsts (max (length heard.words) (length firsts))
+
+-- another session comes in the place of the one that was watched, of which so many frames count
+abbrev pub closed_words : Rows → ℕ → HeardWords → HeardWords
+closed_words firsts count heard = record {
+  player = heard.player;
+  past = heard.past ++ cells_to heard firsts count;
+  words = [];
+  came = [];
+  told = [];
+}
 
 -- a lane as a picture shows it
 pub record LaneShown : Type 0 where
   pub player : ℕ
   pub is_local : Bool
-  pub cells : List Cell
+  pub cells : List (Option Cell)
 
 abbrev pub lane_shown : Lane → LaneShown
 lane_shown lane = record { player = lane.player; is_local = lane.is_local; cells = lane.cells.items }

@@ -3,6 +3,7 @@ use Rattle.std.specs.Prelude.{◌-◌, ◌&&◌, ◌||◌, ◌==◌, ℕ, List, 
 use Rattle.std.specs.List.{range_with_len}
 use Rattle.std.specs.Option.{option_map_or, option_to_list}
 use Rattle.prog_picture.specs.declared.scene.Roll.{Roll}
+use Rattle.prog_picture.specs.declared.scene.Tree.{Tree}
 use Rattle.prog_picture.specs.declared.scene.Window.{Window}
 use Rattle.roll_frame.specs.Cells.{Rows}
 use Rattle.roll_frame.specs.Core.{settled}
@@ -14,8 +15,9 @@ use Rattle.roll_frame.specs.declared.refusal.Refusal.TheVariants.{NoMemory, NoPl
 use Rattle.roll_frame.specs.declared.row.Cell.{Cell}
 use Rattle.roll_session.specs.Headline.{last_claim}
 use Rattle.roll_session.specs.Seen.{Seen}
-use Rattle.prog_observer.specs.Changes.{roll_of, rows_from}
-use Rattle.prog_observer.specs.Hearing.{HeardWords, after_hearing, forgotten, heard_words, nothing_heard}
+use Rattle.prog_observer.specs.Changes.{frame_from, roll_from, roll_of, rows_from}
+use Rattle.prog_observer.specs.Hearing.{HeardWords, after_hearing, closed_words, heard_words, nothing_heard}
+use Rattle.prog_observer.specs.declared.hearing.Coming.{Coming}
 use Rattle.prog_observer.specs.declared.observer.Observer.{Observer}
 use Rattle.prog_observer.specs.declared.observer.Sample.{Sample}
 
@@ -23,6 +25,8 @@ use Rattle.prog_observer.specs.declared.observer.Sample.{Sample}
 pub record Observed : Type 0 where
   -- what is to be shown of it
   pub window : Window
+  -- how many frames were played before it, by sessions in whose place it came
+  pub base : ℕ
   -- its frame, and how many rows were settled after its last roll
   pub frame : ℕ
   pub settled : ℕ
@@ -32,22 +36,23 @@ pub record Observed : Type 0 where
   pub firsts : Rows
   -- the words of each player
   pub heard : List HeardWords
-  -- the rolls, and how many of them are of sessions before this one
+  -- the rolls, and the frames at which a session came in another one's place, by all frames
   pub rolls : List Roll
-  pub earlier : ℕ
+  pub seams : List ℕ
   -- the roll whose saved states are to be shown
   pub sample : Option Sample
 
 abbrev pub observed : Observer → Observed
 observed observer = record {
   window = observer.window;
+  base = observer.base;
   frame = observer.frame;
   settled = observer.settled;
   rows = observer.rows.items;
   firsts = observer.firsts.items;
   heard = map heard_words observer.hearings.items;
   rolls = observer.rolls.items;
-  earlier = observer.earlier;
+  seams = observer.seams.items;
   sample = observer.sample;
 }
 
@@ -55,13 +60,14 @@ observed observer = record {
 abbrev pub nothing_seen : ℕ → Window → Observed
 nothing_seen players window = record {
   window = window;
+  base = 0;
   frame = 0;
   settled = 0;
   rows = [];
   firsts = [];
   heard = map nothing_heard (range_with_len 1 players);
   rolls = [];
-  earlier = 0;
+  seams = [];
   sample = None;
 }
 
@@ -88,6 +94,10 @@ is_better roll sample = option_map_or (λ (kept : Sample). is_deeper roll kept.r
 abbrev pub with_sample : Window → Option Sample → Sample → Option Sample
 with_sample window kept sample = if is_better sample.roll kept && is_wanted window sample.roll then Some sample else kept
 
+-- the saved states of a roll
+abbrev pub tree_of : Sample → Tree
+tree_of sample = record { claim = sample.claim; base = sample.base }
+
 -- the last of the rows, if there is one
 abbrev pub last_row : Rows → Option (List Cell)
 last_row rows = slice_get rows (length rows - 1)
@@ -97,34 +107,37 @@ last_row rows = slice_get rows (length rows - 1)
 abbrev pub with_roll : Observed → Seen → Rows → Roll → Claim → Observed
 with_roll seen s rows roll claim = record {
   window = seen.window;
+  base = seen.base;
   frame = s.core.frame;
   settled = settled s.core;
   rows = drop (settled s.core - seen.settled) rows;
   firsts = seen.firsts ++ (if nat_lt seen.frame s.core.frame then option_to_list (last_row rows) else []);
   heard = seen.heard;
   rolls = seen.rolls ++ (if is_rollback roll then roll ∷ [] else []);
-  earlier = seen.earlier;
-  sample = with_sample seen.window seen.sample (record { roll = roll; claim = claim });
+  seams = seen.seams;
+  sample = with_sample seen.window seen.sample (record { roll = roll; claim = claim; base = seen.base });
 }
 
 -- what was seen, and the roll of a session that has this claim
 abbrev pub after_roll : Observed → Seen → Claim → Observed
 after_roll seen s claim =
     let rows = rows_from s.core claim seen.settled in
-    with_roll seen s rows (roll_of seen.frame claim.from seen.settled seen.rows rows) claim
+    let roll = roll_from seen.base (roll_of seen.frame claim.from seen.settled seen.rows rows) in
+    with_roll seen s rows roll claim
 
--- another session comes in the place of the one that was watched: nothing was seen of it
-abbrev pub cleared : Observed → Observed
-cleared seen = record {
+-- another session comes in the place of the one that was watched, from this frame on: nothing was seen of it
+abbrev pub closed : Observed → ℕ → Observed
+closed seen base = record {
   window = seen.window;
+  base = base;
   frame = 0;
   settled = 0;
   rows = [];
   firsts = [];
-  heard = map forgotten seen.heard;
+  heard = map (closed_words seen.firsts (base - seen.base)) seen.heard;
   rolls = seen.rolls;
-  earlier = length seen.rolls;
-  sample = None;
+  seams = seen.seams ++ base ∷ [];
+  sample = seen.sample;
 }
 
 -- and the frames that it has run, by the claim of its last roll, were run for the first time
@@ -136,12 +149,15 @@ started_by seen s claim = record seen {
   firsts = seen.firsts ++ rows_from s.core claim seen.settled;
 }
 
-abbrev pub begun : Observed → Seen → Option Claim → Observed
-begun seen s claim = option_map_or (started_by (cleared seen) s) claim (cleared seen)
+abbrev pub begun : Observed → ℕ → Seen → Option Claim → Observed
+begun seen base s claim = option_map_or (started_by (closed seen base) s) claim (closed seen base)
 
--- what was seen, and the words that have come since
-abbrev pub after_words : Observed → Seen → Observed
-after_words seen s = record seen { heard = map (after_hearing s seen.frame) seen.heard }
+-- what was seen, and the words that have come since, which another machine has carried or not
+abbrev pub coming_to : Bool → Observed → Coming
+coming_to carried seen = record { at = frame_from seen.base seen.frame; carried = carried }
+
+abbrev pub after_words : Bool → Observed → Seen → Observed
+after_words carried seen s = record seen { heard = map (after_hearing s (coming_to carried seen)) seen.heard }
 
 -- the claim of the roll that is to be noted, if there was one
 abbrev pub claim_to_note : Seen → Bool → Option Claim
@@ -150,7 +166,7 @@ claim_to_note s has_rolled = if has_rolled then last_claim s else None
 -- what was seen of a session, after it was watched again: the words that have come since, and its last roll if that is new
 abbrev pub after_watch : Observed → Seen → Bool → Observed
 after_watch seen s has_rolled =
-    option_map_or (after_roll (after_words seen s) s) (claim_to_note s has_rolled) (after_words seen s)
+    option_map_or (after_roll (after_words false seen s) s) (claim_to_note s has_rolled) (after_words false seen s)
 
 -- why it can't be watched: there is no roll to be noted, or no memory is left
 abbrev pub watch_refusal : Seen → Bool → Refusal

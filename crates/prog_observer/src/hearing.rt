@@ -1,6 +1,6 @@
 //! When the words of a player came.
 ghost use Rattle.std.specs.Prelude.{◌≡◌, ◌-◌, ◌++◌, ◌==◌, IfOk, OnOk, count_by, length, replicate};
-ghost use Rattle.prog_observer.specs.Hearing.{after_hearing, cell_at, cells_of, heard_words, forgotten, lane_of, lane_shown, shown_at, turns_at};
+ghost use Rattle.prog_observer.specs.Hearing.{after_hearing, cell_at, cells_of, cells_to, closed_words, heard_words, lane_of, lane_shown, shown_at, turns_at};
 ghost use Rattle.prog_observer.specs.Holding.{after_turn, held_words_of, soon_words_of, turns_of};
 
 use prog_picture::{Cell, Lane};
@@ -16,14 +16,28 @@ pub const SOON: u32 = 2;
 #[derive(Clone, Copy, Debug, PartialEq, Eq)]
 pub struct Heard {
     pub word: u32,
-    /// The session's frame in which it came.
+    /// The frame in which it came.
     pub at: u32,
+    /// Whether another machine carried it here.
+    pub carried: bool,
 }
 
-/// The words of a player that have come, from frame 0 on.
+/// How the words of a player came.
+#[derive(Clone, Copy)]
+pub struct Coming {
+    /// The frame in which they did.
+    pub at: u32,
+    /// Whether another machine carried them here.
+    pub carried: bool,
+}
+
+/// The words of a player that have come.
 #[derive(Drop)]
 pub struct Hearing {
     pub player: u8,
+    /// The cells of all frames before the session that is watched.
+    pub past: Vec<Option<Cell>>,
+    /// Its words, from its frame 0 on.
     pub words: Vec<Heard>,
     /// The turn in which each of the words came, and in which the session was told it, as far as turns were noted.
     pub came: Vec<u32>,
@@ -31,25 +45,31 @@ pub struct Hearing {
 }
 
 impl Hearing {
-    /// Nothing was heard.
-    pub fn clear(&mut self)
-        ensures { heard_words self.new ≡ forgotten (heard_words self.old) }
+    /// Another session comes in the place of the one that was watched, of which so many frames count, where these rows were shown as
+    /// its frames were first run. If memory runs out, their cells may have been kept or not.
+    pub fn close(&mut self, alloc: Global, firsts: &[Row], count: u32) -> Result<(), AllocError>
+        ensures { OnOk result (heard_words self.new
+            ≡ closed_words firsts.now count (heard_words self.old)) }
     {
+        let cells = self.cells_to(alloc, firsts, count as usize)?;
+        self.past.extend_from_slice(&cells)?;
         self.words.clear();
         self.came.clear();
         self.told.clear();
+        Ok(())
     }
 
     /// Notes the words that have come since. If memory runs out, the first of them may have been noted.
-    pub fn hear<G: Game>(&mut self, session: &Session<G>, at: u32) -> Result<(), AllocError>
+    pub fn hear<G: Game>(&mut self, session: &Session<G>, how: Coming) -> Result<(), AllocError>
         ensures { OnOk result
-            (heard_words self.new ≡ after_hearing session.now at (heard_words self.old)) }
+            (heard_words self.new ≡ after_hearing session.now how (heard_words self.old)) }
     {
+        let Coming { at, carried } = how;
         let known = session.confirmed(self.player).unwrap_or(0);
         let first = self.words.len().min(known as usize) as u32;
         for frame in first..known {
             let word = session.confirmed_word(self.player, frame).unwrap_or(0);
-            self.words.push(Heard { word, at })?;
+            self.words.push(Heard { word, at, carried })?;
         }
         Ok(())
     }
@@ -122,18 +142,28 @@ impl Hearing {
         })
     }
 
-    /// The player's cells, up to the frame at which it left, or the last that is known or was shown.
-    fn cells(&self, alloc: Global, firsts: &[Row]) -> Result<Vec<Cell>, AllocError>
+    /// The player's cells, up to the last that is known or was shown.
+    fn cells(&self, alloc: Global, firsts: &[Row]) -> Result<Vec<Option<Cell>>, AllocError>
         ensures { IfOk result (λ cells. cells.items ≡ cells_of (heard_words self.now) firsts.now) }
     {
-        let mut cells = Vec::new(alloc);
-        for frame in 0..self.words.len().max(firsts.len()) {
-            match self.cell(frame, firsts) {
-                Some(cell) => cells.push(cell)?,
-                None => return Ok(cells),
-            }
-        }
+        let mut cells = Vec::from_slice(alloc, &self.past)?;
+        let here = self.cells_to(alloc, firsts, self.words.len().max(firsts.len()))?;
+        cells.extend_from_slice(&here)?;
         Ok(cells)
+    }
+
+    /// The cells of so many frames of the session.
+    fn cells_to(
+        &self,
+        alloc: Global,
+        firsts: &[Row],
+        count: usize,
+    ) -> Result<Vec<Option<Cell>>, AllocError>
+        ensures { IfOk result (λ cells. cells.items ≡ cells_to (heard_words self.now) firsts.now count) }
+    {
+        (0..count)
+            .map(|frame| self.cell(frame, firsts))
+            .collect(alloc)
     }
 
     /// The cell of a frame. None if the player had left by then.
@@ -147,6 +177,7 @@ impl Hearing {
                 shown: shown.unwrap_or(heard.word),
                 heard: Some(heard.at),
                 held: self.turns(frame),
+                carried: heard.carried,
             }),
             None => {
                 let word = shown?;
@@ -155,6 +186,7 @@ impl Hearing {
                     shown: word,
                     heard: None,
                     held: 0,
+                    carried: false,
                 })
             }
         }

@@ -2,14 +2,15 @@
 ghost use Rattle.roll_session.specs.Headline.{last_claim};
 ghost use Rattle.std.specs.Prelude.{◌≡◌, ◌==◌, ◌++◌, ◌+◌, ◌-◌, ◌∷◌, [], IfOk, IfErr, OnOk, drop, false, map, min, nat_lt, true, is_none, if◌then◌else◌};
 ghost use Rattle.std.specs.Option.{option_map, option_to_list};
-ghost use Rattle.prog_observer.specs.Hearing.{after_hearing, forgotten, heard_words, lane_in, lane_shown};
+ghost use Rattle.prog_observer.specs.Changes.{frame_from};
+ghost use Rattle.prog_observer.specs.Hearing.{after_hearing, closed_words, heard_words, lane_in, lane_shown};
 ghost use Rattle.prog_observer.specs.Holding.{after_turn, capped, held_totals, held_words_of, soon_words_of, turns_of};
 ghost use Rattle.roll_frame.specs.Core.{settled as settled_frame};
-ghost use Rattle.prog_observer.specs.Observing.{has_rolled, is_better, is_deeper, is_rollback, is_wanted};
+ghost use Rattle.prog_observer.specs.Observing.{has_rolled, is_better, is_deeper, is_rollback, is_wanted, tree_of};
 
-use crate::change::{roll_of, rows_from};
-use crate::hearing::Hearing;
-use prog_picture::{Lane, Roll, Scene, Window};
+use crate::change::{frame_from, roll_from, roll_of, rows_from};
+use crate::hearing::{Coming, Hearing};
+use prog_picture::{Lane, Roll, Scene, Tree, Window};
 use roll_frame::{Claim, Refusal, Row};
 use roll_game::Game;
 use roll_session::{Call, Log, Logged, RemoteWord, Session};
@@ -21,6 +22,9 @@ use std::alloc::{AllocError, Global};
 pub struct Observer {
     /// What is to be shown of it.
     window: Window,
+    /// How many frames were played before it, by sessions in whose place it came. All frames are counted from the first of these on but
+    /// its own, those of its rows and its claims.
+    base: u32,
     /// Its frame.
     pub frame: u32,
     /// How many rows were settled after its last roll.
@@ -32,8 +36,8 @@ pub struct Observer {
     hearings: Vec<Hearing>,
     /// Its rollbacks in their order, and before them those of sessions in whose place it came.
     pub rolls: Vec<Roll>,
-    /// How many those are.
-    earlier: usize,
+    /// The frames at which a session came in another one's place.
+    seams: Vec<u32>,
     /// The roll whose saved states are to be shown.
     sample: Option<Sample>,
 }
@@ -49,15 +53,16 @@ pub struct HeldTotals {
     pub soon: u64,
 }
 
-/// A roll and its claim.
+/// A roll and its claim, and how many frames were played before its session.
 #[derive(Drop)]
 struct Sample {
     roll: Roll,
     claim: Claim,
+    base: u32,
 }
 
 impl Observer {
-    ghost use Rattle.prog_observer.specs.Observing.{after_roll, after_watch, after_words, begun, cleared, last_row, nothing_seen, started_by, observed, watch_refusal, with_sample};
+    ghost use Rattle.prog_observer.specs.Observing.{after_roll, after_watch, after_words, begun, closed, last_row, nothing_seen, started_by, observed, watch_refusal, with_sample};
 
     /// Nothing was seen yet of a session of so many players.
     ///
@@ -71,6 +76,7 @@ impl Observer {
         for place in 0..players {
             hearings.push(Hearing {
                 player: place + 1,
+                past: Vec::new(alloc),
                 words: Vec::new(alloc),
                 came: Vec::new(alloc),
                 told: Vec::new(alloc),
@@ -78,29 +84,35 @@ impl Observer {
         }
         Ok(Observer {
             window,
+            base: 0,
             frame: 0,
             settled: 0,
             rows: Vec::new(alloc),
             firsts: Vec::new(alloc),
             hearings,
             rolls: Vec::new(alloc),
-            earlier: 0,
+            seams: Vec::new(alloc),
             sample: None,
         })
     }
 
-    /// Another session has come in the place of the one that was watched, and has run some frames already: they count as run for the
-    /// first time. Of the one before, the rollbacks alone stay counted.
+    /// Another session has come in the place of the one that was watched, from this frame on, and has run some frames already: they
+    /// count as run for the first time. What the one before had of these frames is forgotten.
     ///
     /// # Errors
     ///
     /// `NoPlan` if it has run a frame by another call than its last one; `NoMemory` if the allocator has no room. Then the session can't be
     /// watched.
-    pub fn begin<G: Game>(&mut self, alloc: Global, session: &Session<G>) -> Result<(), Refusal>
+    pub fn begin<G: Game>(
+        &mut self,
+        alloc: Global,
+        session: &Session<G>,
+        base: u32,
+    ) -> Result<(), Refusal>
         ensures { OnOk result (observed self.new
-            ≡ begun (observed self.old) session.now (if session.now.core.frame == 0 then None else last_claim session.now)) }
+            ≡ begun (observed self.old) base session.now (if session.now.core.frame == 0 then None else last_claim session.now)) }
     {
-        self.clear();
+        self.close(alloc, base)?;
         if session.frame() == 0 {
             return Ok(());
         }
@@ -108,23 +120,26 @@ impl Observer {
         Ok(self.note_start(alloc, session, claim)?)
     }
 
-    /// Nothing is seen but the rollbacks of earlier sessions.
-    fn clear(&mut self)
-        ensures { observed self.new ≡ cleared (observed self.old) }
+    /// What was seen of the session up to this frame is kept, and nothing is seen of the one in its place.
+    fn close(&mut self, alloc: Global, base: u32) -> Result<(), AllocError>
+        ensures { OnOk result (observed self.new ≡ closed (observed self.old) base) }
     {
+        let count = base.saturating_sub(self.base);
         let Observer {
             rows,
             firsts,
             hearings,
+            seams,
             ..
         } = self;
+        close_all(alloc, hearings, firsts, count)?;
+        seams.push(base)?;
         rows.clear();
         firsts.clear();
-        clear_all(hearings);
+        self.base = base;
         self.frame = 0;
         self.settled = 0;
-        self.earlier = self.rolls.len();
-        self.sample = None;
+        Ok(())
     }
 
     /// Notes the frames that a session has run, by the claim of its last roll.
@@ -163,18 +178,26 @@ impl Observer {
         ensures unchanged { result ≡ Err Refusal.NoPlan → self.new ≡ self.old }
     {
         if !has_rolled {
-            return Ok(self.note_words(session)?);
+            return Ok(self.hear(session, false)?);
         }
         let claim = session.claim(alloc)?;
-        self.note_words(session)?;
+        self.hear(session, false)?;
         Ok(self.note_roll(alloc, session, claim)?)
     }
 
-    /// Notes the words that have come since.
-    fn note_words<G: Game>(&mut self, session: &Session<G>) -> Result<(), AllocError>
-        ensures { OnOk result (observed self.new ≡ after_words (observed self.old) session.now) }
+    /// Notes the words that have come since, and whether another machine carried them. `watch` takes them not to be.
+    ///
+    /// # Errors
+    ///
+    /// `AllocError` if the allocator has no room. Then a part may have been noted.
+    pub fn hear<G: Game>(&mut self, session: &Session<G>, carried: bool) -> Result<(), AllocError>
+        ensures { OnOk result (observed self.new ≡ after_words carried (observed self.old) session.now) }
     {
-        hear_all(&mut self.hearings, session, self.frame)
+        let how = Coming {
+            at: frame_from(self.base, self.frame),
+            carried,
+        };
+        hear_all(&mut self.hearings, session, how)
     }
 
     /// Notes the last roll, whose claim this is, and the timeline as it is now.
@@ -189,10 +212,11 @@ impl Observer {
     {
         let rows = rows_from(alloc, session, &claim, self.settled)?;
         let roll = roll_of(self.frame, claim.from, self.settled, &self.rows, &rows);
+        let (base, roll) = (self.base, roll_from(self.base, roll));
         self.note_rollback(roll)?;
         self.note_first(session, &rows)?;
         self.note_rows(session, &rows)?;
-        self.note_sample(Sample { roll, claim });
+        self.note_sample(Sample { roll, claim, base });
         self.settled = session.settled();
         self.frame = session.frame();
         Ok(())
@@ -287,21 +311,23 @@ impl Observer {
         ensures title { IfOk result (λ scene. scene.title ≡ title) }
         ensures from { IfOk result (λ scene. scene.from ≡ (observed self).window.from) }
         ensures to { IfOk result
-            (λ scene. scene.to ≡ min (observed self).window.to (observed self).frame) }
+            (λ scene. scene.to ≡ min (observed self).window.to (frame_from (observed self).base (observed self).frame)) }
         ensures lanes { IfOk result (λ scene. map lane_shown scene.lanes.items
             ≡ map (lane_in session.now (observed self).firsts) (observed self).heard) }
-        ensures rolls { IfOk result (λ scene. scene.rolls.items ≡ drop (observed self).earlier (observed self).rolls) }
+        ensures rolls { IfOk result (λ scene. scene.rolls.items ≡ (observed self).rolls) }
+        ensures seams { IfOk result (λ scene. scene.seams.items ≡ (observed self).seams) }
         ensures tree { IfOk result (λ scene. scene.tree
-            ≡ option_map (λ (sample : Sample). sample.claim) (observed self).sample) }
+            ≡ option_map tree_of (observed self).sample) }
     {
         let lanes = lanes_of(alloc, session, &self.hearings, &self.firsts)?;
         Ok(Scene {
             title,
             from: self.window.from,
-            to: self.window.to.min(self.frame),
+            to: self.window.to.min(frame_from(self.base, self.frame)),
             lanes,
-            rolls: without_first(self.rolls, self.earlier),
-            tree: claim_of(self.sample),
+            rolls: self.rolls,
+            tree: tree_of(self.sample),
+            seams: self.seams,
         })
     }
 }
@@ -348,26 +374,33 @@ fn note_turn_of_all<G: Game>(
     Ok(())
 }
 
-/// Nothing was heard of all players.
-fn clear_all(hearings: &mut [Hearing])
-    ensures { map heard_words hearings.new ≡ map forgotten (map heard_words hearings.old) }
+/// Another session comes in the place of the one that was watched, of which so many frames count.
+fn close_all(
+    alloc: Global,
+    hearings: &mut [Hearing],
+    firsts: &[Row],
+    count: u32,
+) -> Result<(), AllocError>
+    ensures { OnOk result (map heard_words hearings.new
+        ≡ map (closed_words firsts.now count) (map heard_words hearings.old)) }
 {
     for hearing in hearings.iter_mut() {
-        hearing.clear();
+        hearing.close(alloc, firsts, count)?;
     }
+    Ok(())
 }
 
-/// Notes the words of all players that have come since, in this frame.
+/// Notes the words of all players that have come since, in this way.
 fn hear_all<G: Game>(
     hearings: &mut [Hearing],
     session: &Session<G>,
-    at: u32,
+    how: Coming,
 ) -> Result<(), AllocError>
     ensures { OnOk result (map heard_words hearings.new
-        ≡ map (after_hearing session.now at) (map heard_words hearings.old)) }
+        ≡ map (after_hearing session.now how) (map heard_words hearings.old)) }
 {
     for hearing in hearings.iter_mut() {
-        hearing.hear(session, at)?;
+        hearing.hear(session, how)?;
     }
     Ok(())
 }
@@ -390,21 +423,12 @@ fn lanes_of<G: Game>(
     Ok(lanes)
 }
 
-/// The rolls after the first ones.
-fn without_first(rolls: Vec<Roll>, count: usize) -> Vec<Roll>
-    ensures { result.items ≡ drop count rolls.items }
-{
-    let mut rolls = rolls;
-    rolls.drain(..count.min(rolls.len()));
-    rolls
-}
-
-/// The claim of the roll whose saved states are to be shown, if there is one.
-fn claim_of(sample: Option<Sample>) -> Option<Claim>
-    ensures { result ≡ option_map (λ (sample : Sample). sample.claim) sample }
+/// The saved states that are to be shown, if there is a roll with such.
+fn tree_of(sample: Option<Sample>) -> Option<Tree>
+    ensures { result ≡ option_map tree_of sample }
 {
     match sample {
-        Some(sample) => Some(sample.claim),
+        Some(Sample { claim, base, .. }) => Some(Tree { claim, base }),
         None => None,
     }
 }

@@ -55,16 +55,16 @@ impl CellMark {
         }
     }
 
-    /// Whether the word was known in time and wasn't held back.
+    /// Whether the word was known in time, and neither held back nor carried.
     fn is_plain(&self) -> bool
         ensures { result ≡ is_plain self.now }
     {
-        self.look() == Look::Known && self.cell.held == 0
+        self.look() == Look::Known && self.cell.held == 0 && !self.cell.carried
     }
 }
 
 impl Run {
-    /// Whether a word goes on with a run: both were known and not held back, and are the same.
+    /// Whether a word goes on with a run: both are plain, and the same.
     fn goes_on(&self, mark: &CellMark) -> bool
         ensures { result ≡ goes_on self.now mark.now }
     {
@@ -73,7 +73,11 @@ impl Run {
 }
 
 /// The words that are shown of a lane, in the order of their frames.
-pub fn cell_marks(alloc: Global, cells: &[Cell], view: &View) -> Result<Vec<CellMark>, AllocError>
+pub fn cell_marks(
+    alloc: Global,
+    cells: &[Option<Cell>],
+    view: &View,
+) -> Result<Vec<CellMark>, AllocError>
     ensures { IfOk result (λ marks. marks.items ≡ cell_marks view.now cells.now) }
 {
     (view.from..view.to)
@@ -82,12 +86,12 @@ pub fn cell_marks(alloc: Global, cells: &[Cell], view: &View) -> Result<Vec<Cell
 }
 
 /// The word of a frame, unless none is known.
-fn mark_at(cells: &[Cell], frame: u32) -> Option<CellMark>
+fn mark_at(cells: &[Option<Cell>], frame: u32) -> Option<CellMark>
     ensures { result ≡ mark_at cells.now frame }
 {
     match cells.get(frame as usize) {
-        Some(cell) => Some(CellMark { frame, cell: *cell }),
-        None => None,
+        Some(Some(cell)) => Some(CellMark { frame, cell: *cell }),
+        _ => None,
     }
 }
 
@@ -123,6 +127,7 @@ pub fn push_run(out: &mut String, run: &Run, view: &View, colour: usize) -> Resu
     push_word(out, "class=\"n\" y=\"15\"", first.cell.word, x, wide)?;
     push_wrong(out, &first, x, wide)?;
     push_held(out, first.cell.held, x, wide)?;
+    push_carried(out, first.cell.carried, x, wide)?;
     out.push_str("</g>\n")
 }
 
@@ -156,6 +161,7 @@ fn push_told(out: &mut String, run: &Run) -> Result<(), AllocError>
     }
     write!(out, "frame {frame}: word {word}")?;
     push_heard(out, &run.first)?;
+    push_way(out, cell.carried)?;
     push_turns(out, cell.held)
 }
 
@@ -168,6 +174,17 @@ fn push_heard(out: &mut String, mark: &CellMark) -> Result<(), AllocError>
         None => out.push_str(", predicted: the true one hasn't come"),
         Some(heard) if frame < heard => write!(out, ", shown {shown}, heard in frame {heard}"),
         Some(_) => Ok(()),
+    }
+}
+
+/// Writes that a word was carried, if it was.
+fn push_way(out: &mut String, carried: bool) -> Result<(), AllocError>
+    ensures { OnOk result (AddsNoBar out.old out.new) }
+{
+    if carried {
+        out.push_str(", carried by another machine")
+    } else {
+        Ok(())
     }
 }
 
@@ -247,6 +264,20 @@ fn push_held(out: &mut String, held: u32, x: u32, wide: u32) -> Result<(), Alloc
     write!(
         out,
         "<path class=\"j\" d=\"M{x} 0h{corner}l-{corner} {corner}z\"/>"
+    )
+}
+
+/// Marks a word that was carried: a bar along its upper side, up to the last unit of it.
+fn push_carried(out: &mut String, carried: bool, x: u32, wide: u32) -> Result<(), AllocError>
+    ensures { OnOk result (AddsNoBar out.old out.new) }
+{
+    if !carried {
+        return Ok(());
+    }
+    let length = wide.saturating_sub(1);
+    write!(
+        out,
+        "<path class=\"i\" d=\"M{x} 0h{length}v3h-{length}z\"/>"
     )
 }
 

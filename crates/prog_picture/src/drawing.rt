@@ -7,8 +7,8 @@ ghost use Rattle.prog_picture.specs.Views.{IsView};
 
 use crate::cells::{CELL_HEIGHT, HEARD_DEPTH, cell_marks, push_run, runs};
 use crate::heading::{height_of, push_title, push_view, title_lines};
-use crate::legend::{LEGEND_HEIGHT, push_held_meaning, push_legend};
-use crate::page::{COLOURS, push_axis, push_colours, push_head};
+use crate::legend::{LEGEND_HEIGHT, push_carried_meaning, push_held_meaning, push_legend};
+use crate::page::{COLOURS, push_axis, push_colours, push_head, push_seams};
 use crate::rolls::{ROW_HEIGHT, ROWS, RollMark, push_rolls, roll_marks, worst};
 use crate::scene::{Lane, Scene};
 use crate::tree::{Node, nodes, push_tree, tree_height, tree_width};
@@ -81,6 +81,7 @@ fn front(
     push_view(&mut out, view)?;
     push_worst(&mut out, worst(marks), TOP - 4, bottom)?;
     push_axis(&mut out, view, TOP - 10, bottom)?;
+    push_seams(&mut out, &scene.seams, view, TOP - 30, bottom)?;
     push_lanes(alloc, &mut out, scene, view, palette)?;
     push_rolls_head(&mut out, rolls)?;
     Ok(out)
@@ -209,7 +210,19 @@ fn tree_top(bottom: u32) -> u32
 fn has_held(scene: &Scene) -> bool {
     for lane in &scene.lanes {
         for cell in &lane.cells {
-            if cell.held > 0 {
+            if matches!(cell, Some(cell) if cell.held > 0) {
+                return true;
+            }
+        }
+    }
+    false
+}
+
+/// Whether a word was carried.
+fn has_carried(scene: &Scene) -> bool {
+    for lane in &scene.lanes {
+        for cell in &lane.cells {
+            if matches!(cell, Some(cell) if cell.carried) {
                 return true;
             }
         }
@@ -228,9 +241,12 @@ fn end(alloc: Global, scene: &Scene, palette: &[u32], nodes: &[Node]) -> Result<
     if has_held(scene) {
         push_held_meaning(&mut out, bottom + 22)?;
     }
+    if has_carried(scene) {
+        push_carried_meaning(&mut out, bottom + 22)?;
+    }
     push_colours(&mut out, palette, bottom + LEGEND_HEIGHT + 22)?;
-    if let Some(claim) = &scene.tree {
-        push_tree(&mut out, claim, nodes, tree_top(bottom))?;
+    if let Some(tree) = &scene.tree {
+        push_tree(&mut out, tree, nodes, tree_top(bottom))?;
     }
     out.push_str("</g>\n</svg>\n")?;
     Ok(out)

@@ -15,5 +15,5 @@ mod worst;
 
 pub use drawing::draw;
 pub use heading::TITLE_LIMIT;
-pub use scene::{Cause, Cell, Lane, Roll, Scene, Sight, Window};
+pub use scene::{Cause, Cell, Lane, Roll, Scene, Sight, Tree, Window};
 pub use view::FRAME_LIMIT;

@@ -12,6 +12,8 @@ pub struct Cell {
     pub heard: Option<u32>,
     /// For how many turns it was held back from the session; 0 if the session heard it as it came.
     pub held: u32,
+    /// Whether another machine than the player's own carried it here.
+    pub carried: bool,
 }
 
 /// The words of a player.
@@ -21,8 +23,8 @@ pub struct Lane {
     pub player: u8,
     /// Whether the player is at the session's own machine.
     pub is_local: bool,
-    /// One for each frame, from frame 0 on, up to the last that is known or was shown, or at which the player left.
-    pub cells: Vec<Cell>,
+    /// One for each frame, from frame 0 on, up to the last that is known or was shown; none where the player wasn't there.
+    pub cells: Vec<Option<Cell>>,
 }
 
 /// What came that differs from what was shown.
@@ -49,6 +51,14 @@ pub struct Roll {
     pub cause: Cause,
 }
 
+/// The saved states at a rollback, and what it passed over.
+#[derive(Drop)]
+pub struct Tree {
+    pub claim: Claim,
+    /// The frame from which the claim counts its frames.
+    pub base: u32,
+}
+
 /// What a picture shows.
 #[derive(Drop)]
 pub struct Scene {
@@ -62,8 +72,10 @@ pub struct Scene {
     pub lanes: Vec<Lane>,
     /// The rollbacks in their order.
     pub rolls: Vec<Roll>,
-    /// The saved states at one of the rollbacks, and what it passed over.
-    pub tree: Option<Claim>,
+    /// The saved states at one of the rollbacks.
+    pub tree: Option<Tree>,
+    /// The frames at which epochs began, but the first.
+    pub seams: Vec<u32>,
 }
 
 /// Which part of a play a picture is to show.

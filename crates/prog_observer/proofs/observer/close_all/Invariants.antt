@@ -1,10 +1,10 @@
 use Rattle.std.proofs.Common.{◌≡◌, ◌++◌, drop, map, take}
-use Rattle.prog_observer.specs.Hearing.{forgotten, heard_words}
-use Rattle.prog_observer.proofs.observer.clear_all.Given as goal
+use Rattle.prog_observer.specs.Hearing.{closed_words, heard_words}
+use Rattle.prog_observer.proofs.observer.close_all.Given as goal
 
 abbrev pub invariant-loop-hearing : goal.invariant-loop-hearing
 invariant-loop-hearing l = record {
   heard : map heard_words l.hearings
-      ≡ map forgotten (map heard_words (take l.hearing-index l.initial.hearings))
+      ≡ map (closed_words l.firsts l.count) (map heard_words (take l.hearing-index l.initial.hearings))
       ++ map heard_words (drop l.hearing-index l.initial.hearings);
 }
