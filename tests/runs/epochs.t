@@ -117,7 +117,7 @@ What can't be played is refused before anything is, and standard error says why.
   error: --delay-at is given 8 times at most
   [2]
   $ for option in '--guesses best' '--held 2' '--hostile 1'; do rollduel match --delay-at 0:1:20 $option; done
-  error: --delay-at isn't played with --guesses, --held or --hostile
-  error: --delay-at isn't played with --guesses, --held or --hostile
-  error: --delay-at isn't played with --guesses, --held or --hostile
+  error: --delay-at and --come aren't played with --guesses, --held or --hostile
+  error: --delay-at and --come aren't played with --guesses, --held or --hostile
+  error: --delay-at and --come aren't played with --guesses, --held or --hostile
   [2]

@@ -181,7 +181,7 @@ What can't be.
   error: --break and --heal are given 8 times each at most
   [2]
   $ rollduel match --peers 3 --break 0-1:30 --held 4
-  error: --break isn't played with --held
+  error: --break and --split aren't played with --held
   [2]
   $ rollduel match --peers 2 --stop 0:30 --stop 1:30
   error: --stop: at least one machine has to stay

@@ -63,4 +63,34 @@ pub enum ChangeFault {
         /// The one below it.
         lower: u8,
     },
+    /// Who is parted from the others has another form.
+    #[error("--split takes MACHINE:FRAME, as 2:300")]
+    UnreadableSplit,
+    /// A machine is parted once.
+    #[error("--split {machine}: this machine is named twice")]
+    SplitsTwice {
+        /// The machine.
+        machine: u8,
+    },
+    /// There is no such machine.
+    #[error("--split {machine}: there is no such machine, for they are counted from 0")]
+    NoSplit {
+        /// The machine.
+        machine: u32,
+    },
+    /// It can't be parted before the first frame, or after the last.
+    #[error("--split {machine}: the frame has to be from 1 to the match's last")]
+    SplitFrame {
+        /// The machine.
+        machine: u8,
+    },
+    /// Of two machines each would put the other out.
+    #[error("--split takes a match of 3 machines or more")]
+    SplitsTwo,
+    /// Nobody is left from whom they are parted.
+    #[error("--split names all machines: some have to be on each side")]
+    SplitsAll,
+    /// Which part plays on is known only if all machines are there.
+    #[error("--split isn't played with --stop or --come")]
+    SplitsMore,
 }

@@ -130,7 +130,7 @@ abbrev pub match_app : Choices → Choices → App
 match_app games guesses = with_rules (with_rules (sessions_app games guesses) (
     number_rule (codes "peers") (codes "2") 2 8 ∷
     several_rule (codes "stop") ∷ several_rule (codes "break") ∷ several_rule (codes "heal") ∷
-    several_rule (codes "delay-at") ∷ several_rule (codes "come") ∷
+    several_rule (codes "delay-at") ∷ several_rule (codes "come") ∷ several_rule (codes "split") ∷
     free_number_rule (codes "hostile") 0 (2 ^ 64 - 1) ∷ free_number_rule (codes "held") 1 8 ∷ [])) picture_rules
 
 abbrev pub synctest_app : Choices → App

@@ -199,6 +199,7 @@ pub record AreAsked (rows : List Row) (options : PeersRequest) : Type 0 where
   pub heals : map (λ text. text.now) options.heals.items ≡ texts_named (codes "heal") rows
   pub delays : map (λ text. text.now) options.delays.items ≡ texts_named (codes "delay-at") rows
   pub comes : map (λ text. text.now) options.comes.items ≡ texts_named (codes "come") rows
+  pub splits : map (λ text. text.now) options.splits.items ≡ texts_named (codes "split") rows
   pub hostile : options.hostile ≡ option_map (number_in 64) (first_of (codes "hostile") rows)
   pub held : options.held ≡ option_map (number_in 8) (first_of (codes "held") rows)
 

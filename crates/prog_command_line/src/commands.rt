@@ -50,6 +50,8 @@ pub const DELAY_AT: &str = "delay-at";
 
 pub const COME: &str = "come";
 
+pub const SPLIT: &str = "split";
+
 pub const HOSTILE: &str = "hostile";
 
 pub const HELD: &str = "held";
@@ -178,6 +180,7 @@ fn match_command<'a>(
         Argument::Several(HEAL, "A-B:FRAME", help::HEAL),
         Argument::Several(DELAY_AT, "M:D:FRAME", help::DELAY_AT),
         Argument::Several(COME, "M:FRAME", help::COME),
+        Argument::Several(SPLIT, "M:FRAME", help::SPLIT),
         Argument::FreeNumber(HOSTILE, "SEED", 0, u64::MAX, help::HOSTILE),
         Argument::FreeNumber(HELD, "TURNS", 1, 8, help::HELD),
     ];

@@ -230,6 +230,9 @@ pub const BREAK: &str =
 
 pub const HEAL: &str = "From this frame on the line between A and B works again";
 
+pub const SPLIT: &str =
+    "From this frame on machine M and others that are named so hear nothing of the rest, nor the rest of them";
+
 pub const DELAY_AT: &str =
     "From about this frame on machine M's player has an input delay of D frames; it is given up to 8 times";
 

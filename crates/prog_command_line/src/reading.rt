@@ -10,7 +10,8 @@ ghost use Rattle.prog_command_line.specs.Requests.{AreAsked, HasOptions, HasWork
 
 use crate::commands::{
     BREAK, COME, DELAY, DELAY_AT, EXPLAIN, FILE, FRAMES, GAME, GUESSES, HEAL, HELD, HOLD, HOSTILE,
-    JOBS, LATE, LOST, PEERS, SEED, STOP, THRESHOLD, WORKERS, games, guesses, program_command,
+    JOBS, LATE, LOST, PEERS, SEED, SPLIT, STOP, THRESHOLD, WORKERS, games, guesses,
+    program_command,
 };
 use crate::picture::{frame_of, option_fault, picture_of};
 use crate::request::{
@@ -139,6 +140,7 @@ fn peers_of<'a>(alloc: Global, found: &ArgMatches<'a>) -> Result<PeersRequest<'a
     let heals = texts_of(alloc, found, HEAL)?;
     let delays = texts_of(alloc, found, DELAY_AT)?;
     let comes = texts_of(alloc, found, COME)?;
+    let splits = texts_of(alloc, found, SPLIT)?;
     Ok(PeersRequest {
         machines: byte_of(found, PEERS),
         common: options_of(found),
@@ -147,6 +149,7 @@ fn peers_of<'a>(alloc: Global, found: &ArgMatches<'a>) -> Result<PeersRequest<'a
         heals,
         delays,
         comes,
+        splits,
         hostile: hostile_of(found),
         held: held_of(found),
     })

@@ -104,6 +104,8 @@ pub struct PeersRequest<'a> {
     pub delays: Vec<&'a str>,
     /// Each text of `--come`, in their order.
     pub comes: Vec<&'a str>,
+    /// Each text of `--split`, in their order.
+    pub splits: Vec<&'a str>,
     /// The seed of the hostile datagrams, if there are any.
     pub hostile: Option<u64>,
     /// For how many turns words are held back at most, if they are.

@@ -1,5 +1,5 @@
 -- A match that goes on in epochs, at one of its machines.
-use Rattle.std.specs.Prelude.{◌≡◌, ◌+◌, ◌-◌, ◌^◌, ◌==◌, ℕ, List, map, min, Option, None, Some, if◌then◌else◌, replicate, slice_get, slice_set, nat_lt}
+use Rattle.std.specs.Prelude.{◌≡◌, ◌+◌, ◌-◌, ◌^◌, ◌==◌, ℕ, List, map, min, Option, None, Some, if◌then◌else◌, replicate, slice_get, slice_set, nat_lt, false, true}
 use Rattle.std.specs.List.{range_with_len}
 use Rattle.std.specs.Option.{option_and_then, option_map_or}
 use Rattle.roll_epoch.specs.declared.terms.Terms.{Terms}
@@ -8,6 +8,7 @@ use Rattle.roll_frame.specs.Timeline.{Player, row_at}
 use Rattle.roll_mesh.specs.declared.limits.TheConstants.{PLAYER_LIMIT}
 use Rattle.roll_seam.specs.declared.epochs.Epochs.{Epochs}
 use Rattle.roll_wire.specs.declared.datagram.Mark.{Mark}
+use Rattle.roll_wire.specs.declared.datagram.Newcomer.{Newcomer}
 use Rattle.prog_changes.specs.Delays.{wanted}
 use Rattle.prog_machine.specs.declared.options.PeersOptions.{PeersOptions}
 
@@ -29,11 +30,21 @@ abbrev pub delay_to_come : PeersOptions → Terms → (me frame : ℕ) → Optio
 delay_to_come options terms me frame =
     option_and_then (λ delay. delay_unless delay (slice_get terms.delays me)) (wanted options.delays me frame)
 
--- the mark that asks for it
-abbrev pub delay_mark : (me delay : ℕ) → Mark
-delay_mark me delay = record {
-  newcomer = None;
-  delays = if nat_lt me PLAYER_LIMIT then slice_set (replicate PLAYER_LIMIT None) me (Some delay) else replicate PLAYER_LIMIT None;
+-- a machine that comes with its player: its ticket is its number and one
+abbrev pub coming : ℕ → Newcomer
+coming machine = record {
+  ticket = machine + 1;
+  players = slice_set (replicate PLAYER_LIMIT false) machine true;
+}
+
+abbrev pub newcomer_of : Option ℕ → Option Newcomer
+newcomer_of comer = option_and_then (λ machine. if nat_lt machine PLAYER_LIMIT then Some (coming machine) else None) comer
+
+-- the mark by which a machine's player has another input delay in the next epoch, or a machine comes with its player, or both
+abbrev pub mark_for : ℕ → (delay comer : Option ℕ) → Mark
+mark_for me delay comer = record {
+  newcomer = newcomer_of comer;
+  delays = if nat_lt me PLAYER_LIMIT then slice_set (replicate PLAYER_LIMIT None) me delay else replicate PLAYER_LIMIT None;
   threshold = 0;
 }
 

@@ -4,6 +4,7 @@ pub mod Guessing
 pub mod Options
 pub mod Over
 pub mod Pressing
+pub mod Splits
 pub mod Stops
 pub mod Waiting
 pub mod Lines

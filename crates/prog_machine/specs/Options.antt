@@ -11,11 +11,12 @@ use Rattle.roll_frame.specs.Settings.{most_players, most_threshold}
 use Rattle.roll_frame.specs.declared.profile.Profile.TheVariants.{Ggpo, Wide}
 use Rattle.roll_mesh.specs.declared.limits.TheConstants.{MACHINE_LIMIT}
 use Rattle.prog_machine.specs.declared.options.PeersFault.{PeersFault}
-use Rattle.prog_machine.specs.declared.options.PeersFault.TheVariants.{Machines, Ships, Threshold, Held, NobodyStays, NoMachine, Frame, HeldLines, NoLine, Plain, Change, BrokenLines}
+use Rattle.prog_machine.specs.declared.options.PeersFault.TheVariants.{Machines, Ships, Threshold, Held, NobodyStays, NoMachine, Frame, HeldLines, NoLine, Plain, Change}
 use Rattle.prog_changes.specs.Delays.{delays_fault}
 use Rattle.prog_changes.specs.declared.fault.ChangeFault.{ChangeFault}
-use Rattle.prog_changes.specs.declared.fault.ChangeFault.TheVariants.{ComeFrame, ComesBefore, ComesEarly, NoComer}
+use Rattle.prog_changes.specs.declared.fault.ChangeFault.TheVariants.{ComeFrame, ComesBefore, ComesEarly, NoComer, SplitsMore}
 use Rattle.prog_machine.specs.Lines.{is_odd_line, Lines}
+use Rattle.prog_machine.specs.Splits.{has_splits, plays_on, splits_fault}
 use Rattle.prog_machine.specs.declared.lines.LineAt.{LineAt}
 use Rattle.prog_machine.specs.declared.lines.TheConstants.{LINE_LIMIT}
 use Rattle.prog_machine.specs.declared.options.PeersOptions.{PeersOptions}
@@ -25,10 +26,15 @@ use Rattle.prog_machine.specs.declared.options.TheConstants.{SHIP_LIMIT}
 abbrev pub come_of : PeersOptions → ℕ → Option ℕ
 come_of options machine = option_map_or (λ come. come) (slice_get options.comes machine) None
 
--- whether a machine is there to the end: it never goes silent, or comes back
+-- whether a machine is in the part of a split that doesn't play on
+abbrev pub is_cut : PeersOptions → ℕ → Bool
+is_cut options machine = has_splits options.splits && not (plays_on options.splits options.machines machine)
+
+-- whether a machine is there to the end: it never goes silent, or comes back, and isn't cut off
 abbrev pub stays : PeersOptions → ℕ → Bool
 stays options machine =
-    option_map_or (λ stop. is_none stop || is_some (come_of options machine)) (slice_get options.stops machine) false
+    option_map_or (λ stop. (is_none stop || is_some (come_of options machine)) && not (is_cut options machine))
+    (slice_get options.stops machine) false
 
 -- the frame at which a machine goes silent
 abbrev pub stop_of : PeersOptions → ℕ → Option ℕ
@@ -74,6 +80,10 @@ odd_stop_of options = find (is_odd_stop options) (range_with_len 0 MACHINE_LIMIT
 abbrev pub stop_fault_at : PeersOptions → ℕ → PeersFault
 stop_fault_at options machine =
     if nat_le options.machines machine then NoMachine machine else Frame machine
+
+-- whether any machine goes silent
+abbrev pub has_stops : PeersOptions → Bool
+has_stops options = list_any (λ machine. is_some (stop_of options machine)) (range_with_len 0 MACHINE_LIMIT)
 
 -- whether any machine comes
 abbrev pub has_comers : PeersOptions → Bool
@@ -121,10 +131,18 @@ goes_on options = is_some (slice_index_or options.delays 0 None) || has_comers o
 abbrev pub is_special : PeersOptions → Bool
 is_special options = makes_guesses options.common.guesses || (is_some options.held || is_some options.hostile)
 
+-- why the match isn't split so: which part plays on is known only where all machines are there
+abbrev pub split_fault_of : PeersOptions → Option ChangeFault
+split_fault_of options =
+    if not (has_splits options.splits) then None
+    else (if has_stops options || has_comers options then Some SplitsMore
+    else splits_fault options.splits options.machines options.common.frames)
+
 -- why what is to be otherwise from some frame on isn't played
 abbrev pub change_fault_of : PeersOptions → Option ChangeFault
 change_fault_of options =
-    option_or (comes_fault_of options) (delays_fault options.delays options.machines options.common.frames)
+    option_or (split_fault_of options)
+    (option_or (comes_fault_of options) (delays_fault options.delays options.machines options.common.frames))
 
 abbrev pub stop_fault_of : PeersOptions → Option ℕ → Option PeersFault
 stop_fault_of options None = option_map {T = ChangeFault} (λ fault. Change fault) (change_fault_of options)
@@ -132,7 +150,7 @@ stop_fault_of options (Some machine) = Some (stop_fault_at options machine)
 
 -- whether any line breaks
 abbrev pub breaks_lines : PeersOptions → Bool
-breaks_lines options = is_some (slice_index_or options.breaks 0 None)
+breaks_lines options = is_some (slice_index_or options.breaks 0 None) || has_splits options.splits
 
 -- whether a line is named in a place, and isn't there
 abbrev pub is_odd_at : Lines → (machines place : ℕ) → Bool
@@ -161,5 +179,4 @@ fault_of options =
     else (if not (has_staying options) then Some NobodyStays
     else (if breaks_lines options && is_some options.held then Some HeldLines
     else (if goes_on options && is_special options then Some Plain
-    else (if has_comers options && breaks_lines options then Some BrokenLines
-    else line_fault_of (odd_line_of options) (stop_fault_of options (odd_stop_of options)))))))))
+    else line_fault_of (odd_line_of options) (stop_fault_of options (odd_stop_of options))))))))

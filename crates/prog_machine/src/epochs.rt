@@ -1,6 +1,6 @@
 //! A match that goes on in epochs, at one of its machines.
 ghost use Rattle.std.specs.Prelude.{◌≡◌, ◌+◌, ◌-◌, ◌^◌, ◌++◌, IfOk, IsTrue, OnOk, false, min, length};
-ghost use Rattle.prog_machine.specs.Epochs.{base_of, delay_mark, delay_to_come, first_terms, frame_in, rows_to};
+ghost use Rattle.prog_machine.specs.Epochs.{base_of, delay_to_come, frame_in, mark_for, newcomer_of, rows_to};
 ghost use Rattle.roll_onward.specs.GoingOn.{HasGoneOn};
 ghost use Rattle.roll_seam.specs.Epochs.{judged_in, shared_peer, turned_in};
 

@@ -12,6 +12,7 @@ mod machine;
 mod options;
 mod other;
 mod settings;
+mod splits;
 mod stops;
 
 pub use claims::Claims;
@@ -20,4 +21,5 @@ pub use guest::Guest;
 pub use lines::{LINE_LIMIT, LineAt, Lines, read_lines};
 pub use machine::{Counts, Machine};
 pub use options::{PeersFault, PeersOptions};
+pub use splits::read_splits;
 pub use stops::{read_comes, read_stops};

@@ -35,11 +35,11 @@ use roll_frame::{Refusal, Row, Settings, SettingsFault};
 use roll_game::{Game, Shown};
 use roll_mesh::MACHINE_LIMIT;
 use roll_peer::{Ignored, MatchSettings, OpenRefusal, OtherSession, Peer, PeerEvent};
-use roll_relay::Relay;
+use roll_relay::{Heard, Relay};
 use roll_seam::Epochs;
 use roll_session::Session;
 use roll_simnet::{Draws, Letter, Network, Route};
-use roll_wire::DATAGRAM_LIMIT;
+use roll_wire::{DATAGRAM_LIMIT, Mark};
 use std::alloc::{AllocError, Global};
 
 /// The bytes of a datagram.
@@ -86,6 +86,8 @@ pub struct Machine<G: Shown> {
     pub words: Vec<u32>,
     /// Whether it has gone silent.
     pub is_silent: bool,
+    /// The frame of the match at which it was told that the match is over for it, since it was cut off or put out.
+    pub dropped: Option<u32>,
     /// How many ticks more it waits for the others, as its peer advised.
     wait: u32,
     pub counts: Counts,
@@ -175,6 +177,7 @@ impl<G: Shown + Drop> Machine<G> {
                 me,
                 words,
                 is_silent: options.is_late(me),
+                dropped: None,
                 wait: 0,
                 counts: Counts::default(),
                 noted: 0,
@@ -236,7 +239,7 @@ impl<G: Shown + Drop> Machine<G> {
         self.note_settled(alloc)?;
         self.run_held(alloc)?;
         self.guess(alloc, options)?;
-        self.note_events();
+        self.note_events(options);
         self.send_all(options, network, tick)
     }
 
@@ -284,11 +287,10 @@ impl<G: Shown + Drop> Machine<G> {
     fn receive(&mut self, bytes: &[u8], now: u32) -> Result<bool, Refusal>
         ensures { self.new.me ≡ self.old.me }
     {
-        let ignored = match &mut self.relay {
-            Some(relay) => relay
-                .receive(&mut self.peer, &mut self.session, bytes, now)
-                .err(),
-            None => self.take(bytes, now)?,
+        let ignored = if self.relay.is_some() {
+            self.take_by_lines(bytes, now)?
+        } else {
+            self.take(bytes, now)?
         };
         match ignored {
             None => Ok(true),
@@ -333,7 +335,8 @@ impl<G: Shown + Drop> Machine<G> {
         self.note_base()?;
         self.keep_before()?;
         self.note_comer(options);
-        self.observer.begin(alloc, &self.session)
+        let base = frame_in(base_of(&self.epochs), 0);
+        self.observer.begin(alloc, &self.session, base)
     }
 
     /// Notes who came as this epoch began.
@@ -431,7 +434,8 @@ impl<G: Shown + Drop> Machine<G> {
         self.is_silent = false;
         self.wait = 0;
         self.noted = 0;
-        self.observer.begin(alloc, &self.session)
+        let base = frame_in(base_of(&self.epochs), 0);
+        self.observer.begin(alloc, &self.session, base)
     }
 
     /// Notes where this epoch begins.
@@ -463,30 +467,38 @@ impl<G: Shown + Drop> Machine<G> {
         )
     }
 
-    /// Puts a mark on the next word of its player, if that is to have another input delay by this frame of the match. A mark of its own
-    /// that waits already is refused a second time; if another one ends the epoch, it is put again in the next.
+    /// Puts a mark on the next word of its player, if that is to have one. A mark of its own that waits already is refused a second time; if
+    /// another one ends the epoch, it is put again in the next.
     fn mark(&mut self, options: &PeersOptions)
         ensures me { self.new.me ≡ self.old.me }
         ensures session { self.new.session ≡ self.old.session }
         ensures words { self.new.words ≡ self.old.words }
     {
-        let Some(epochs) = &self.epochs else {
-            return;
-        };
-        let frame = self.reached().0;
-        if !self.peer.is_running() {
-            return;
+        if let Some(mark) = self.wanted_mark(options) {
+            let player = self.me.saturating_add(1);
+            let _ = self.peer.mark(&self.session, player, mark);
         }
+    }
+
+    /// The mark that the next word of its player is to have: by this frame of the match the player is to have another input delay, or it is
+    /// the lowest machine that is there, and another one is to come.
+    fn wanted_mark(&self, options: &PeersOptions) -> Option<Mark> {
+        let epochs = self.epochs.as_ref()?;
+        let frame = self.reached().0;
         let delay = delay_to_come(options, epochs.chain.terms(), self.me, frame);
-        let comer = if is_lowest(&self.peer, self.me) {
+        let comer = self.wanted_comer(options, frame);
+        if !self.peer.is_running() || delay.is_none() && comer.is_none() {
+            return None;
+        }
+        Some(mark_for(self.me, delay, comer))
+    }
+
+    /// Which machine it is to let in by this frame of the match.
+    fn wanted_comer(&self, options: &PeersOptions, frame: u32) -> Option<u8> {
+        if is_lowest(&self.peer, self.me) {
             comer_to_come(options, &self.peer, frame)
         } else {
             None
-        };
-        if delay.is_some() || comer.is_some() {
-            let player = self.me.saturating_add(1);
-            let mark = mark_for(self.me, delay, comer);
-            let _ = self.peer.mark(&self.session, player, mark);
         }
     }
 
@@ -502,6 +514,27 @@ impl<G: Shown + Drop> Machine<G> {
             now,
         )?;
         Ok(heard.err())
+    }
+
+    /// Hears bytes where lines break, notes whether their words were carried, and says why they weren't heard, if so.
+    fn take_by_lines(&mut self, bytes: &[u8], now: u32) -> Result<Option<Ignored>, Refusal>
+        ensures { self.new.me ≡ self.old.me }
+    {
+        let Some(relay) = &mut self.relay else {
+            return Ok(None);
+        };
+        let (carried, ignored) = match relay.receive(
+            &mut self.peer,
+            &mut self.session,
+            bytes,
+            now,
+        ) {
+            Ok(Heard::Carried { .. }) => (true, None),
+            Ok(_) => (false, None),
+            Err(why) => (false, Some(why)),
+        };
+        self.observer.hear(&self.session, carried)?;
+        Ok(ignored)
     }
 
     /// Hears what its enemy makes, if it has one.
@@ -680,19 +713,28 @@ impl<G: Shown + Drop> Machine<G> {
         Ok(text)
     }
 
-    /// Takes what its peer tells.
-    fn note_events(&mut self)
+    /// Takes what its peer tells. A machine that isn't to be there to the end ends once it is told that the match is over for it.
+    fn note_events(&mut self, options: &PeersOptions)
         ensures { self.new.me ≡ self.old.me }
     {
         for _ in 0..EVENT_LIMIT {
-            match self.peer.next_event() {
-                None => return,
-                Some(PeerEvent::TimeSync { frames_ahead }) => self.wait = frames_ahead,
-                Some(PeerEvent::Desync { .. }) => {
-                    self.counts.desyncs = self.counts.desyncs.saturating_add(1);
-                }
-                Some(_) => {}
+            if let Some(event) = self.peer.next_event() {
+                self.note_event(event);
             }
+        }
+        self.is_silent |= self.dropped.is_some() && !options.stays(self.me);
+    }
+
+    fn note_event(&mut self, event: PeerEvent)
+        ensures { self.new.me ≡ self.old.me }
+    {
+        match event {
+            PeerEvent::TimeSync { frames_ahead } => self.wait = frames_ahead,
+            PeerEvent::Desync { .. } => {
+                self.counts.desyncs = self.counts.desyncs.saturating_add(1);
+            }
+            PeerEvent::Dropped => self.dropped = Some(self.reached().0),
+            _ => {}
         }
     }
 

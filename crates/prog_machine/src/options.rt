@@ -1,12 +1,14 @@
 //! What a match of several machines is played with, and why one isn't played.
-ghost use Rattle.std.specs.Prelude.{◌≡◌, count_by, slice_index_or, None};
+ghost use Rattle.std.specs.Prelude.{◌≡◌, ◌||◌, count_by, slice_index_or, None};
 ghost use Rattle.prog_machine.specs.declared.lines.TheConstants.{LINE_LIMIT};
 ghost use Rattle.std.specs.List.{find, range_with_len};
 ghost use Rattle.prog_machine.specs.Lines.{is_broken};
+ghost use Rattle.prog_machine.specs.Splits.{is_parted, split_of};
 ghost use Rattle.prog_changes.specs.Delays.{wanted};
-ghost use Rattle.prog_machine.specs.Options.{breaks_lines, change_fault_of, come_fault_at, come_of, comes_fault_of, fault_of, has_comers, is_away, is_late, lower_away, odd_comer_of, first_staying, goes_on, has_odd_threshold, has_odd_turns, has_staying, is_odd_stop, is_special, lacks_ships, makes_guesses, is_odd_at, odd_line_in, odd_line_of, odd_stop_of, stays, stop_fault_at, stop_of, threshold_for};
+ghost use Rattle.prog_machine.specs.Options.{breaks_lines, change_fault_of, come_fault_at, come_of, comes_fault_of, fault_of, has_comers, is_away, is_late, lower_away, odd_comer_of, first_staying, goes_on, has_odd_threshold, has_odd_turns, has_staying, has_stops, is_cut, is_odd_stop, is_special, lacks_ships, makes_guesses, is_odd_at, odd_line_in, odd_line_of, odd_stop_of, split_fault_of, stays, stop_fault_at, stop_of, threshold_for};
 
 use crate::lines::{LINE_LIMIT, LineAt, Lines, is_broken};
+use crate::splits::{Splits, has_splits, is_parted, plays_on, split_of, splits_fault};
 use prog_changes::{ChangeFault, Delays, delays_fault, wanted};
 use prog_holding::is_turn_count;
 use prog_parts::GameName;
@@ -31,6 +33,8 @@ pub struct PeersOptions {
     pub breaks: Lines,
     /// The lines that work again, each from a frame on.
     pub heals: Lines,
+    /// The machines that are parted from the others, each from a frame on.
+    pub splits: Splits,
     /// The input delays that players are to have from a frame on.
     pub delays: Delays,
     /// The frame at which a machine comes, machine 0 first: anew, if it has gone silent, and else for the first time.
@@ -102,11 +106,8 @@ pub enum PeersFault {
     /// A match that goes on in epochs isn't played so.
     #[error("--delay-at and --come aren't played with --guesses, --held or --hostile")]
     Plain,
-    /// Who comes has a line of its own to each machine.
-    #[error("--come isn't played with --break")]
-    BrokenLines,
     /// Words aren't held back where others carry them.
-    #[error("--break isn't played with --held")]
+    #[error("--break and --split aren't played with --held")]
     HeldLines,
     /// Some machine has to stay.
     #[error("--stop: at least one machine has to stay")]
@@ -134,14 +135,30 @@ impl PeersOptions {
         }
     }
 
-    /// Whether a machine is there to the end: it never goes silent, or comes back.
+    /// The frame at which a machine is parted from those that aren't named so, if it is named.
+    pub fn split(&self, machine: u8) -> Option<u32>
+        ensures { result ≡ split_of self.now.splits machine }
+    {
+        split_of(&self.splits, machine)
+    }
+
+    /// Whether a machine is there to the end: it never goes silent, or comes back, and isn't cut off.
     pub fn stays(&self, machine: u8) -> bool
         ensures { result ≡ stays self.now machine }
     {
         match self.stops.get(usize::from(machine)) {
-            Some(stop) => stop.is_none() || self.come(machine).is_some(),
+            Some(stop) => {
+                (stop.is_none() || self.come(machine).is_some()) && !self.is_cut(machine)
+            }
             None => false,
         }
+    }
+
+    /// Whether a machine is in the part of a split that doesn't play on.
+    fn is_cut(&self, machine: u8) -> bool
+        ensures { result ≡ is_cut self.now machine }
+    {
+        has_splits(&self.splits) && !plays_on(&self.splits, self.machines, machine)
     }
 
     /// Whether a machine isn't there as the match is opened.
@@ -213,14 +230,21 @@ impl PeersOptions {
         (0..MACHINE_LIMIT as u8).any(|machine| self.come(machine).is_some())
     }
 
-    /// The first machine that never goes silent.
+    /// Whether any machine goes silent.
+    fn has_stops(&self) -> bool
+        ensures { result ≡ has_stops self.now }
+    {
+        (0..MACHINE_LIMIT as u8).any(|machine| self.stop(machine).is_some())
+    }
+
+    /// The first machine that is there to the end.
     pub fn first_staying(&self) -> Option<u8>
         ensures { result ≡ first_staying self.now }
     {
         (0..self.machines).find(|machine| self.stays(*machine))
     }
 
-    /// How many machines never go silent.
+    /// How many machines are there to the end.
     pub fn count_staying(&self) -> usize
         ensures { result ≡ count_by (stays self.now) (range_with_len 0 self.now.machines) }
     {
@@ -229,7 +253,7 @@ impl PeersOptions {
             .count()
     }
 
-    /// Whether some machine never goes silent.
+    /// Whether some machine is there to the end.
     fn has_staying(&self) -> bool
         ensures { result ≡ has_staying self.now }
     {
@@ -257,8 +281,6 @@ impl PeersOptions {
             Some(PeersFault::HeldLines)
         } else if self.goes_on() && self.is_special() {
             Some(PeersFault::Plain)
-        } else if self.has_comers() && self.breaks_lines() {
-            Some(PeersFault::BrokenLines)
         } else if let Some(LineAt { one, other, .. }) = self.odd_line() {
             Some(PeersFault::NoLine { one, other })
         } else if let Some(machine) = self.odd_stop() {
@@ -272,9 +294,25 @@ impl PeersOptions {
     fn change_fault(&self) -> Option<ChangeFault>
         ensures { result ≡ change_fault_of self.now }
     {
-        match self.comes_fault() {
-            Some(fault) => Some(fault),
-            None => delays_fault(&self.delays, self.machines, self.common.frames),
+        if let Some(fault) = self.split_fault() {
+            Some(fault)
+        } else if let Some(fault) = self.comes_fault() {
+            Some(fault)
+        } else {
+            delays_fault(&self.delays, self.machines, self.common.frames)
+        }
+    }
+
+    /// Why the match isn't split so, if it is to be and isn't.
+    fn split_fault(&self) -> Option<ChangeFault>
+        ensures { result ≡ split_fault_of self.now }
+    {
+        if !has_splits(&self.splits) {
+            None
+        } else if self.has_stops() || self.has_comers() {
+            Some(ChangeFault::SplitsMore)
+        } else {
+            splits_fault(&self.splits, self.machines, self.common.frames)
         }
     }
 
@@ -318,14 +356,15 @@ impl PeersOptions {
     pub fn breaks_lines(&self) -> bool
         ensures { result ≡ breaks_lines self.now }
     {
-        self.breaks[0].is_some()
+        self.breaks[0].is_some() || has_splits(&self.splits)
     }
 
     /// Whether the line from one machine to another doesn't work once the one is at a frame.
     pub fn is_broken(&self, one: u8, other: u8, frame: u32) -> bool
-        ensures { result ≡ is_broken self.now.breaks self.now.heals one other frame }
+        ensures { result ≡ (is_broken self.now.breaks self.now.heals one other frame || is_parted self.now.splits one other frame) }
     {
         is_broken(&self.breaks, &self.heals, one, other, frame)
+            || is_parted(&self.splits, one, other, frame)
     }
 
     /// The first line that is named and isn't there.

@@ -149,9 +149,6 @@ started_by seen s claim = record seen {
   firsts = seen.firsts ++ rows_from s.core claim seen.settled;
 }
 
-abbrev pub begun : Observed → ℕ → Seen → Option Claim → Observed
-begun seen base s claim = option_map_or (started_by (closed seen base) s) claim (closed seen base)
-
 -- what was seen, and the words that have come since, which another machine has carried or not
 abbrev pub coming_to : Bool → Observed → Coming
 coming_to carried seen = record { at = frame_from seen.base seen.frame; carried = carried }
@@ -162,6 +159,13 @@ after_words carried seen s = record seen { heard = map (after_hearing s (coming_
 -- the claim of the roll that is to be noted, if there was one
 abbrev pub claim_to_note : Seen → Bool → Option Claim
 claim_to_note s has_rolled = if has_rolled then last_claim s else None
+
+-- a session comes in the place of the one that was watched, from this frame on: the words that it has been told are known from there on
+abbrev pub known_from : Observed → ℕ → Seen → Observed
+known_from seen base s = after_words false (closed seen base) s
+
+abbrev pub begun : Observed → ℕ → Seen → Option Claim → Observed
+begun seen base s claim = option_map_or (started_by (known_from seen base s) s) claim (known_from seen base s)
 
 -- what was seen of a session, after it was watched again: the words that have come since, and its last roll if that is new
 abbrev pub after_watch : Observed → Seen → Bool → Observed

@@ -96,8 +96,8 @@ impl Observer {
         })
     }
 
-    /// Another session has come in the place of the one that was watched, from this frame on, and has run some frames already: they
-    /// count as run for the first time. What the one before had of these frames is forgotten.
+    /// Another session has come in the place of the one that was watched, from this frame on. Words that it has been told by now count as
+    /// known from there on, and frames that it has run as run for the first time. What the one before had of these frames is forgotten.
     ///
     /// # Errors
     ///
@@ -113,6 +113,7 @@ impl Observer {
             ≡ begun (observed self.old) base session.now (if session.now.core.frame == 0 then None else last_claim session.now)) }
     {
         self.close(alloc, base)?;
+        self.hear(session, false)?;
         if session.frame() == 0 {
             return Ok(());
         }

@@ -8,7 +8,8 @@ ghost use Rattle.prog_peers.specs.Agreement.{played};
 
 use crate::report::first_that_stays;
 use crate::table::push_turns;
-use prog_machine::{Machine, PeersOptions, base_of};
+use prog_changes::DelayAt;
+use prog_machine::{LineAt, Machine, PeersOptions};
 use prog_observer::Observer;
 use prog_picture::{Window, draw};
 use prog_sides::{MatchOptions, game_name};
@@ -88,8 +89,7 @@ fn draw_seen<G: Shown>(
 ) -> Result<String, AllocError>
     ensures { IfOk result (λ picture. IsDrawn machine.now.session (observed observer) (string_bytes picture)) }
 {
-    let base = base_of(&machine.epochs);
-    let scene = match title_of(alloc, options, machine.me, base) {
+    let scene = match title_of(alloc, options, machine.me) {
         Ok(title) => observer.into_scene(alloc, &machine.session, title)?,
         Err(why) => {
             drop(observer);
@@ -102,12 +102,7 @@ fn draw_seen<G: Shown>(
 }
 
 /// What was played, in words, and which machine saw it.
-fn title_of(
-    alloc: Global,
-    options: &PeersOptions,
-    me: u8,
-    base: u64,
-) -> Result<String, AllocError> {
+fn title_of(alloc: Global, options: &PeersOptions, me: u8) -> Result<String, AllocError> {
     let common = &options.common;
     let (machines, frames, seed) = (options.machines, common.frames, common.seed);
     let game = game_name(common.game);
@@ -120,17 +115,10 @@ fn title_of(
     push_turns(&mut title, options)?;
     let player = me.saturating_add(1);
     write!(title, "; seen by player {player}")?;
-    push_base(&mut title, base)?;
-    push_stops(&mut title, options)?;
+    push_machines(&mut title, options)?;
+    push_lines(&mut title, options)?;
+    push_delays(&mut title, options)?;
     Ok(title)
-}
-
-/// That the frames are those of the last epoch, if the match has several.
-fn push_base(out: &mut String, base: u64) -> Result<(), AllocError> {
-    match base {
-        0 => Ok(()),
-        base => write!(out, "; its last epoch, from frame {base} of the match on"),
-    }
 }
 
 /// How late datagrams were, and how many were lost.
@@ -145,11 +133,42 @@ fn push_network(out: &mut String, common: &MatchOptions) -> Result<(), AllocErro
     }
 }
 
-/// Which machines went silent, and when.
-fn push_stops(out: &mut String, options: &PeersOptions) -> Result<(), AllocError> {
+/// Which machines went silent, came and were parted from others, and when.
+fn push_machines(out: &mut String, options: &PeersOptions) -> Result<(), AllocError> {
     for machine in 0..options.machines {
         if let Some(frame) = options.stop(machine) {
             write!(out, "; machine {machine} stops at frame {frame}")?;
+        }
+        if let Some(frame) = options.come(machine) {
+            write!(out, "; machine {machine} comes at frame {frame}")?;
+        }
+        if let Some(frame) = options.split(machine) {
+            write!(out, "; machine {machine} is parted at frame {frame}")?;
+        }
+    }
+    Ok(())
+}
+
+/// Which lines broke, and when.
+fn push_lines(out: &mut String, options: &PeersOptions) -> Result<(), AllocError> {
+    for line in &options.breaks {
+        if let Some(LineAt { one, other, frame }) = *line {
+            write!(out, "; line {one}-{other} breaks at frame {frame}")?;
+        }
+    }
+    for line in &options.heals {
+        if let Some(LineAt { one, other, frame }) = *line {
+            write!(out, "; line {one}-{other} works again at frame {frame}")?;
+        }
+    }
+    Ok(())
+}
+
+/// Which delays changed, and when.
+fn push_delays(out: &mut String, options: &PeersOptions) -> Result<(), AllocError> {
+    for named in &options.delays {
+        if let Some(DelayAt { machine, delay, frame }) = *named {
+            write!(out, "; machine {machine} has delay {delay} from frame {frame}")?;
         }
     }
     Ok(())

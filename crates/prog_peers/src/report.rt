@@ -52,6 +52,8 @@ pub struct Outcome {
     pub left: Option<u32>,
     /// The frame at which it came.
     pub came: Option<u32>,
+    /// The frame at which it was told that the match is over for it.
+    pub dropped: Option<u32>,
     pub counts: Counts,
     /// What its rollbacks cost.
     pub totals: Totals,
@@ -191,6 +193,7 @@ fn outcome_of<G: Shown>(machine: &Machine<G>, first: &Machine<G>) -> Result<Outc
         held_jobs: jobs_of(&machine.holding),
         left: first.left_at(machine.me),
         came: first.came_at(machine.me),
+        dropped: machine.dropped,
         counts: machine.counts,
         totals: totals::sum_up(rolls),
         claims: machine.claims,

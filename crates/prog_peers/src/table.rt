@@ -276,7 +276,7 @@ fn push_end(out: &mut String, report: &Report, state: &[u8]) -> Result<(), Alloc
     push_text(out, state)
 }
 
-/// At which frame each player left.
+/// At which frame each player left, a machine came, and one was cut off.
 fn push_lefts(out: &mut String, report: &Report) -> Result<(), AllocError> {
     for outcome in &report.outcomes {
         if let Some(frame) = outcome.left {
@@ -286,6 +286,10 @@ fn push_lefts(out: &mut String, report: &Report) -> Result<(), AllocError> {
         if let Some(frame) = outcome.came {
             let machine = outcome.machine;
             write!(out, ", machine {machine} came at {frame}")?;
+        }
+        if let Some(frame) = outcome.dropped {
+            let machine = outcome.machine;
+            write!(out, ", machine {machine} was cut off at {frame}")?;
         }
     }
     Ok(())

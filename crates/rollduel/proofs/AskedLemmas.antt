@@ -19,6 +19,7 @@ named_by rows asked options are is = record {
   heals = subst (λ (texts : List Text). NamesLines texts options.heals) are.heals is.heals;
   delays = subst (λ (texts : List Text). NamesDelays texts options.delays) are.delays is.delays;
   comes = subst (λ (texts : List Text). NamesStops no_stops texts options.comes) are.comes is.comes;
+  splits = subst (λ (texts : List Text). NamesStops no_stops texts options.splits) are.splits is.splits;
   hostile = is.hostile ∙ are.hostile;
   held = is.held ∙ are.held;
   fine = is.fine;

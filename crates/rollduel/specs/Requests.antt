@@ -81,6 +81,7 @@ pub record IsOf (asked : PeersRequest) (options : PeersOptions) : Type 0 where
   pub heals : NamesLines (map (λ text. text.now) asked.heals.items) options.heals
   pub delays : NamesDelays (map (λ text. text.now) asked.delays.items) options.delays
   pub comes : NamesStops no_stops (map (λ text. text.now) asked.comes.items) options.comes
+  pub splits : NamesStops no_stops (map (λ text. text.now) asked.splits.items) options.splits
   pub hostile : options.hostile ≡ asked.hostile
   pub held : options.held ≡ asked.held
   pub fine : fault_of options ≡ None
@@ -141,6 +142,7 @@ pub record AreNamed (rows : List Row) (options : PeersOptions) : Type 0 where
   pub heals : NamesLines (texts_named (codes "heal") rows) options.heals
   pub delays : NamesDelays (texts_named (codes "delay-at") rows) options.delays
   pub comes : NamesStops no_stops (texts_named (codes "come") rows) options.comes
+  pub splits : NamesStops no_stops (texts_named (codes "split") rows) options.splits
   pub hostile : options.hostile ≡ option_map (number_in 64) (first_of (codes "hostile") rows)
   pub held : options.held ≡ option_map (number_in 8) (first_of (codes "held") rows)
   pub fine : fault_of options ≡ None

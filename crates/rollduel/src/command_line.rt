@@ -17,7 +17,7 @@ use prog_command_line::{
     PictureRequest as AskedPicture, PictureWindow, Request as Asked, TextRequest as AskedText,
     TextTask,
 };
-use prog_machine::{PeersFault, PeersOptions, read_comes, read_lines, read_stops};
+use prog_machine::{PeersFault, PeersOptions, read_comes, read_lines, read_splits, read_stops};
 use prog_parts::{GameName, Task};
 use prog_picture::Window;
 use prog_sides::{Guesses, MatchOptions};
@@ -164,6 +164,7 @@ fn peers_of(asked: &PeersRequest<'_>) -> Result<PeersOptions, PeersFault>
     let heals = read_lines(&asked.heals)?;
     let delays = delays_of(&asked.delays)?;
     let comes = read_comes(&asked.comes)?;
+    let splits = read_splits(&asked.splits)?;
     let options = PeersOptions {
         machines: asked.machines,
         common: options_of(&asked.common),
@@ -172,6 +173,7 @@ fn peers_of(asked: &PeersRequest<'_>) -> Result<PeersOptions, PeersFault>
         heals,
         delays,
         comes,
+        splits,
         hostile: asked.hostile,
         held: asked.held,
     };

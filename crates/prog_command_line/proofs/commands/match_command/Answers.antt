@@ -8,7 +8,8 @@ use Rattle.prog_command_line.proofs.commands.match_command.Goals as goal
 pub returns-clause-app : goal.returns-clause-app
 returns-clause-app c =
     let rules : List Rule = number_rule (codes "peers") (codes "2") 2 8 ∷ several_rule (codes "stop")
-    ∷ several_rule (codes "break") ∷ several_rule (codes "heal") ∷ several_rule (codes "delay-at") ∷ several_rule (codes "come") ∷ free_number_rule (codes "hostile") 0 (2 ^ 64 - 1)
+    ∷ several_rule (codes "break") ∷ several_rule (codes "heal") ∷ several_rule (codes "delay-at")
+    ∷ several_rule (codes "come") ∷ several_rule (codes "split") ∷ free_number_rule (codes "hostile") 0 (2 ^ 64 - 1)
     ∷ free_number_rule (codes "held") 1 8 ∷ [] in
     has_rules c.with_picture.result _ _ picture_rules c.with_picture.ensures.app
     (c.in_ok-command-2.ensures.app ∙ ap (λ (a : App). with_rules a rules) c.in_ok-command.ensures.app)

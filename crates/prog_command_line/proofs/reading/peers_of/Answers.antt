@@ -16,6 +16,7 @@ returns c =
       heals = c.in_ok-heals.ensures;
       delays = c.in_ok-delays.ensures;
       comes = c.in_ok-comes.ensures;
+      splits = c.in_ok-splits.ensures;
       hostile = c.hostile_of.ensures ∙ ap (option_map (number_in 64)) (first_value-rows found (codes "hostile"));
       held = c.held_of.ensures ∙ ap (option_map (number_in 8)) (first_value-rows found (codes "held"));
     }

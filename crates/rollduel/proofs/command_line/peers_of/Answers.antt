@@ -13,6 +13,7 @@ returns-in-None c = record {
   heals = subst (λ texts. NamesLines (map (λ text. text.now) texts) c.in_ok-heals.heals) c.deref-3.ensures.value c.in_ok-heals.ensures.named;
   delays = subst (λ texts. NamesDelays (map (λ text. text.now) texts) c.in_ok-delays.delays) c.deref-4.ensures.value c.in_ok-delays.ensures;
   comes = subst (λ texts. NamesStops no_stops (map (λ text. text.now) texts) c.in_ok-comes.comes) c.deref-5.ensures.value c.in_ok-comes.ensures;
+  splits = subst (λ texts. NamesStops no_stops (map (λ text. text.now) texts) c.in_ok-splits.splits) c.deref-6.ensures.value c.in_ok-splits.ensures;
   hostile = refl;
   held = refl;
   fine = sym c.fault.ensures ∙ c.in-None.is;
