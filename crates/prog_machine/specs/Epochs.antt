@@ -1,7 +1,7 @@
 -- A match that goes on in epochs, at one of its machines.
-use Rattle.std.specs.Prelude.{◌≡◌, ◌+◌, ◌-◌, ◌^◌, ◌==◌, ℕ, List, map, min, Option, None, Some, if◌then◌else◌, replicate, slice_get, slice_set, nat_lt, false, true}
+use Rattle.std.specs.Prelude.{◌+◌, ◌-◌, ◌^◌, ◌==◌, ℕ, List, map, min, Option, None, Some, if◌then◌else◌, replicate, slice_get, slice_set, nat_lt, false, true}
 use Rattle.std.specs.List.{range_with_len}
-use Rattle.std.specs.Option.{option_and_then, option_map_or}
+use Rattle.std.specs.Option.{option_and_then}
 use Rattle.roll_epoch.specs.declared.terms.Terms.{Terms}
 use Rattle.roll_frame.specs.Cells.{Rows}
 use Rattle.roll_frame.specs.Timeline.{Player, row_at}

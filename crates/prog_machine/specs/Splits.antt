@@ -1,5 +1,5 @@
 -- The machines that are parted from the others, as the values of `--split` name them.
-use Rattle.std.specs.Prelude.{◌-◌, ℕ, Bool, false, not, ◌&&◌, ◌||◌, ◌==◌, nat_le, nat_lt, Option, Some, None, count_by, is_some, if◌then◌else◌, slice_index_or}
+use Rattle.std.specs.Prelude.{◌-◌, ℕ, Bool, false, ◌&&◌, ◌||◌, ◌==◌, nat_le, nat_lt, Option, Some, None, count_by, is_some, if◌then◌else◌, slice_index_or}
 use Rattle.std.specs.Bool.{beq}
 use Rattle.std.specs.List.{find, list_any, range_with_len}
 use Rattle.std.specs.Option.{option_map_or}

@@ -167,8 +167,18 @@ fn push_lines(out: &mut String, options: &PeersOptions) -> Result<(), AllocError
 /// Which delays changed, and when.
 fn push_delays(out: &mut String, options: &PeersOptions) -> Result<(), AllocError> {
     for named in &options.delays {
-        if let Some(DelayAt { machine, delay, frame }) = *named {
-            write!(out, "; machine {machine} has delay {delay} from frame {frame}")?;
+        if let Some(
+            DelayAt {
+                machine,
+                delay,
+                frame,
+            },
+        ) = *named
+        {
+            write!(
+                out,
+                "; machine {machine} has delay {delay} from frame {frame}"
+            )?;
         }
     }
     Ok(())

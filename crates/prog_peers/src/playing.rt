@@ -7,7 +7,7 @@ ghost use Rattle.prog_peers.specs.declared.playing.End.TheVariants.{Over as IsEn
 ghost use Rattle.prog_peers.specs.Agreement.{played};
 
 use crate::agreement::is_one_epoch;
-use prog_machine::{Machine, PeersOptions};
+use prog_machine::{Guest, Machine, PeersOptions};
 use roll_frame::Refusal;
 use roll_game::Shown;
 use roll_simnet::{Conditions, Draws, Network};
@@ -116,17 +116,60 @@ impl<G: Shown + Drop> Table<G> {
         ensures { OnOk result (map (λ m. m.me) self.new.machines.items
             ≡ map (λ m. m.me) self.old.machines.items) }
     {
-        let Some(comer) = self.machines[place].take_comer() else {
-            return Ok(());
-        };
-        let comer = usize::from(comer);
-        if comer >= self.machines.len() || comer == place {
-            return Ok(());
+        match self.take_comer(place) {
+            Some(comer) => self.bring_in(alloc, options, place, usize::from(comer)),
+            None => Ok(()),
         }
-        let Some(guest) = self.machines[place].guest(alloc)? else {
-            return Ok(());
-        };
-        if self.machines[comer].is_in(guest.terms.id) {
+    }
+
+    /// Which machine came as an epoch began for the one at a place; it is told once.
+    fn take_comer(&mut self, place: usize) -> Option<u8>
+        requires { place < length self.old.machines.items }
+        ensures { map (λ m. m.me) self.new.machines.items
+            ≡ map (λ m. m.me) self.old.machines.items }
+    {
+        self.machines[place].take_comer()
+    }
+
+    /// A machine comes with what the one at a place has for it, unless it is there already.
+    fn bring_in(
+        &mut self,
+        alloc: Global,
+        options: &PeersOptions,
+        place: usize,
+        comer: usize,
+    ) -> Result<(), Refusal>
+        requires { place < length self.old.machines.items }
+        ensures { OnOk result (map (λ m. m.me) self.new.machines.items
+            ≡ map (λ m. m.me) self.old.machines.items) }
+    {
+        match self.guest_of(alloc, place)? {
+            Some(guest) => self.seat_guest(alloc, options, comer, guest),
+            None => Ok(()),
+        }
+    }
+
+    /// What the machine at a place has for one that comes.
+    fn guest_of(&mut self, alloc: Global, place: usize) -> Result<Option<Guest<G>>, Refusal>
+        requires { place < length self.old.machines.items }
+        ensures { map (λ m. m.me) self.new.machines.items
+            ≡ map (λ m. m.me) self.old.machines.items }
+    {
+        self.machines[place].guest(alloc)
+    }
+
+    /// A machine comes with what another one has for it, unless it is in that epoch already.
+    fn seat_guest(
+        &mut self,
+        alloc: Global,
+        options: &PeersOptions,
+        comer: usize,
+        guest: Guest<G>,
+    ) -> Result<(), Refusal>
+        ensures { map (λ m. m.me) self.new.machines.items
+            ≡ map (λ m. m.me) self.old.machines.items }
+    {
+        if comer >= self.machines.len() || self.machines[comer].is_in(guest.terms.id) {
             return Ok(());
         }
         self.machines[comer].come_in(alloc, options, guest)
