@@ -58,10 +58,10 @@ typedef enum faz_lobby_stage {
 
 typedef enum faz_lobby_what {
     FAZ_LOBBY_CODE,    /* the host's code, in `text`: friends join by it */
-    FAZ_LOBBY_AWAY,    /* the broker isn't there: `text` says why. It is tried again and again */
-    FAZ_LOBBY_ASKS,    /* `name` wants to join, and `who` is for faz_lobby_let_in; the friend sees the same `text` if nobody stands
-                        * between the two */
-    FAZ_LOBBY_JOINED,  /* `name` is in the lobby as a machine. At who joins: this machine is, and `name` hosts; `text` as above */
+    FAZ_LOBBY_AWAY,    /* the broker isn't there, and is tried again and again, or a server's name isn't known: `text` says which */
+    FAZ_LOBBY_ASKS,    /* `name` wants to join, and `who` is for faz_lobby_let_in. At who joins: the player of `name`, who hosts, is
+                        * asked. Both see the same `text`, unless somebody stands between the two */
+    FAZ_LOBBY_JOINED,  /* `name` is in the lobby. At who joins: this machine is in that of `name`. `text` as above */
     FAZ_LOBBY_LEFT,    /* `name` has left the lobby before the match began */
     FAZ_LOBBY_FULL,    /* all are there: the match is known */
     FAZ_LOBBY_UP,      /* the line to a machine is up, or has come back. `text` says by which way */

@@ -1,0 +1,148 @@
+/* What the files of this folder share. A game includes lobby.h alone. */
+#ifndef FAZ_LOBBY_INSIDE_H
+#define FAZ_LOBBY_INSIDE_H
+
+#include "aside.h"
+#include "broker.h"
+#include "keys.h"
+#include "lobby.h"
+#include "messages.h"
+
+enum { EVENTS = 64, GUESTS = 16, EARLY = 24, EARLY_BYTES = FAZ_LINE_SIGNAL + SIGNAL_HEAD + SEAL, ADDRESS_TEXT = 64, WORD_TEXT = 256 };
+
+/* ---- The host's: who has asked to join. */
+
+typedef enum guest_stage {
+    GUEST_NONE,
+    GUEST_ASKS,   /* the host's player is asked */
+    GUEST_SEATED,
+    GUEST_REFUSED /* for `why` */
+} guest_stage;
+
+typedef struct guest {
+    guest_stage stage;
+    faz_lobby_why why;
+    uint32_t who, machine; /* `machine` once the match is known */
+    pair pair;
+    uint8_t inbox[INBOX];
+    char name[FAZ_LOBBY_NAME_ROOM];
+    uint32_t here;             /* players */
+    uint32_t counter, answers; /* of the last message of each */
+    uint32_t heard_at;
+} guest;
+
+typedef struct hosting {
+    uint8_t open[KEY], secret[SECRET];
+    uint32_t players;
+    bool asks;
+    uint32_t named; /* the last number of a guest */
+    guest guest[GUESTS];
+    uint8_t gone[GUESTS][KEY]; /* keys of those who were there, of whom old messages may come again */
+    uint32_t gones;
+} hosting;
+
+/* ---- Of who joins. */
+
+typedef enum joining_stage { SAYS_HELLO, ASKS_TO_JOIN, HAS_TABLE } joining_stage;
+
+typedef struct joining {
+    joining_stage stage;
+    uint8_t code[CODE_BYTES];
+    pair host;
+    bool is_seated, is_asked; /* it has a seat; the host's player is asked */
+    uint32_t counter, answers;
+    bool has_said;
+    uint32_t said_at, heard_at;
+} joining;
+
+/* ---- Lines with the others. */
+
+typedef struct other {
+    pair pair;
+    char subject[BROKER_SUBJECT]; /* of its inbox */
+    faz_line *line;
+    faz_line_stage seen;
+    bool was_up;
+} other;
+
+typedef struct early {
+    size_t length;
+    uint8_t bytes[EARLY_BYTES];
+} early;
+
+/* Names of servers, which are looked up beside the game. */
+typedef struct servers {
+    char stun[WORD_TEXT], relay[FAZ_LINE_RELAYS][WORD_TEXT];
+    char stun_address[ADDRESS_TEXT], relay_address[FAZ_LINE_RELAYS][ADDRESS_TEXT];
+} servers;
+
+struct faz_lobby {
+    /* Settings. */
+    faz_line_settings line; /* of each line, but for whose it is */
+    servers servers;
+    char user[FAZ_LINE_RELAYS][WORD_TEXT], password[FAZ_LINE_RELAYS][WORD_TEXT];
+    char name[FAZ_LOBBY_NAME_ROOM];
+    uint64_t digest;
+    uint32_t here;
+
+    bool is_host, is_over, is_known, is_ready, has_turned, has_addresses, has_been_there,
+        has_lines;
+    bool is_away_told; /* that the broker is away */
+    uint32_t now, looked_at;
+    uint64_t addresses;
+    broker *broker;
+    aside *looking; /* up names of servers, into */
+    servers *looked_up;
+    room room;
+    uint8_t inbox[INBOX];
+    char inbox_name[BROKER_SUBJECT], room_name[BROKER_SUBJECT];
+    faz_line_keys keys; /* those of all its lines: each has another machine's at its other end */
+    hosting hosting;
+    joining joining;
+    table table;
+    other other[FAZGROND_MACHINES];
+    uint32_t heard; /* the machine whose line was asked last for what came */
+    early early[EARLY];
+    uint32_t earlies;
+    faz_lobby_event events[EVENTS];
+    uint32_t first_event, last_event;
+};
+
+/* ---- lobby.c */
+
+/* For how many milliseconds a moment is past. */
+uint32_t lobby_since(const faz_lobby *self, uint32_t moment);
+/* As much of a text as there is room for. */
+void lobby_copy(char *out, size_t room, const char *text);
+/* An event, whose text is filled in by who asks for it. */
+faz_lobby_event *lobby_tell(faz_lobby *self, faz_lobby_what what, uint32_t machine, const char *name);
+/* It is over. */
+void lobby_end(faz_lobby *self, faz_lobby_why why, const char *text);
+
+/* ---- servers.c */
+
+/* Takes servers over. What is wrong with them; null if nothing is. */
+const char *lobby_copy_servers(faz_lobby *self, const faz_lobby_settings *settings);
+/* Looks their names up beside the game, if some are no addresses. True once all are addresses. */
+bool lobby_has_addresses(faz_lobby *self);
+
+/* ---- hosting.c */
+
+void host_hear(faz_lobby *self, const broker_message *message);
+void host_turn(faz_lobby *self);
+void host_close(faz_lobby *self);
+
+/* ---- joining.c */
+
+void join_hear(faz_lobby *self, const broker_message *message);
+void join_turn(faz_lobby *self);
+void join_close(faz_lobby *self);
+
+/* ---- mesh.c */
+
+/* The table is there: lines are opened with all others, as soon as all servers have addresses. */
+void mesh_open(faz_lobby *self);
+void mesh_hear(faz_lobby *self, const broker_message *message);
+void mesh_turn(faz_lobby *self);
+void mesh_close(faz_lobby *self);
+#endif

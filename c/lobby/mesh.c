@@ -1,0 +1,151 @@
+/* A line with each other machine. */
+#include "inside.h"
+
+#include <sodium.h>
+#include <string.h>
+
+static bool is_other(const faz_lobby *self, uint32_t machine) {
+    return self->is_known && machine < self->table.machines && machine != self->table.me;
+}
+
+static bool has_line(const faz_lobby *self, uint32_t machine) {
+    return is_other(self, machine) && self->other[machine].line != NULL;
+}
+
+/* ---- opening */
+
+/* Each line has this machine's keys, which no other line has with the same machine at its other end. */
+static bool open_line(faz_lobby *self, uint32_t machine) {
+    const char *why;
+    faz_line_keys keys = self->keys;
+    faz_line_settings settings = self->line;
+    other *to = &self->other[machine];
+    const member *of = &self->table.member[machine];
+    settings.me = self->table.me;
+    settings.other = machine;
+    settings.keys = &keys;
+    settings.their = of->open;
+    inbox_subject(of->inbox, to->subject);
+    if (pair_of(&to->pair, &self->room, self->keys.open, self->keys.secret, of->open))
+        to->line = faz_line_open(&settings, &why);
+    sodium_memzero(&keys, sizeof keys);
+    return to->line != NULL;
+}
+
+/* Signals may have come before the table: a broker keeps the order of one sender alone. */
+static void hear_early(faz_lobby *self) {
+    broker_message message = {0};
+    for (uint32_t at = 0; at < self->earlies; at++) {
+        message.length = self->early[at].length;
+        memcpy(message.bytes, self->early[at].bytes, message.length);
+        mesh_hear(self, &message);
+    }
+    self->earlies = 0;
+}
+
+void mesh_open(faz_lobby *self) {
+    self->is_known = true;
+    self->heard = self->table.me;
+    lobby_tell(self, FAZ_LOBBY_FULL, self->table.me, "");
+}
+
+static void open_lines(faz_lobby *self) {
+    for (uint32_t machine = 0; machine < self->table.machines; machine++)
+        if (is_other(self, machine) && !open_line(self, machine)) {
+            lobby_end(self, FAZ_LOBBY_SYSTEM, "a line can't be opened: there is no memory, or no socket, or a machine has no key");
+            return;
+        }
+    self->has_lines = true;
+    hear_early(self);
+}
+
+void mesh_close(faz_lobby *self) {
+    for (uint32_t machine = 0; machine < FAZGROND_MACHINES; machine++)
+        faz_line_close(self->other[machine].line);
+}
+
+/* ---- signals */
+
+static void keep_early(faz_lobby *self, const broker_message *message) {
+    if (self->has_lines || self->earlies == EARLY || message->length > EARLY_BYTES)
+        return;
+    early *to = &self->early[self->earlies++];
+    to->length = message->length;
+    memcpy(to->bytes, message->bytes, message->length);
+}
+
+void mesh_hear(faz_lobby *self, const broker_message *message) {
+    uint8_t inside[BROKER_MESSAGE];
+    size_t length;
+    uint32_t from = message->length > 1 ? message->bytes[1] : FAZGROND_NO_MACHINE;
+    if (!self->has_lines)
+        keep_early(self, message);
+    else if (has_line(self, from) && signal_read(inside, &length, &self->other[from].pair, message->bytes, message->length))
+        faz_line_signalled(self->other[from].line, inside, length);
+}
+
+static void tell_signals(faz_lobby *self, other *to) {
+    uint8_t bytes[FAZ_LINE_SIGNAL], message[BROKER_MESSAGE];
+    size_t length;
+    while (broker_is_there(self->broker) && faz_line_signal(to->line, bytes, sizeof bytes, &length))
+        broker_say(self->broker, to->subject, NULL, message, signal_write(self->table.me, bytes, length, &to->pair, message));
+}
+
+/* ---- a turn */
+
+static const char *const WAYS[] = {"no way", "a LAN", "the internet, directly", "a relay"};
+
+static void note_stage(faz_lobby *self, uint32_t machine) {
+    other *of = &self->other[machine];
+    faz_line_state state;
+    faz_line_look(of->line, &state);
+    if (state.stage == of->seen)
+        return;
+    of->seen = state.stage;
+    of->was_up = of->was_up || state.stage == FAZ_LINE_UP;
+    faz_lobby_what what = state.stage == FAZ_LINE_UP ? FAZ_LOBBY_UP : state.stage == FAZ_LINE_SILENT ? FAZ_LOBBY_SILENT
+                        : FAZ_LOBBY_BLOCKED;
+    strcpy(lobby_tell(self, what, machine, self->table.member[machine].name)->text, WAYS[state.way]);
+}
+
+void mesh_turn(faz_lobby *self) {
+    bool are_up = true;
+    if (!self->is_known || !lobby_has_addresses(self))
+        return;
+    if (!self->has_lines)
+        open_lines(self);
+    for (uint32_t machine = 0; machine < self->table.machines; machine++) {
+        if (!has_line(self, machine))
+            continue;
+        faz_line_turn(self->other[machine].line, self->now);
+        tell_signals(self, &self->other[machine]);
+        note_stage(self, machine);
+        are_up = are_up && self->other[machine].was_up;
+    }
+    self->is_ready = self->is_ready || (self->has_lines && are_up);
+}
+
+/* ---- what the game sends and receives */
+
+bool faz_lobby_send(faz_lobby *self, uint32_t machine, const uint8_t *bytes, size_t length) {
+    return has_line(self, machine) && faz_line_send(self->other[machine].line, bytes, length);
+}
+
+/* Of all lines in turn, so that none is behind another. */
+bool faz_lobby_receive(faz_lobby *self, uint32_t *machine, uint8_t *out, size_t room, size_t *length) {
+    for (uint32_t tried = 0; tried < self->table.machines; tried++) {
+        self->heard = (self->heard + 1) % self->table.machines;
+        if (has_line(self, self->heard) && faz_line_receive(self->other[self->heard].line, out, room, length)) {
+            *machine = self->heard;
+            return true;
+        }
+    }
+    return false;
+}
+
+bool faz_lobby_look(const faz_lobby *self, uint32_t machine, faz_line_state *state) {
+    if (!has_line(self, machine))
+        return false;
+    faz_line_look(self->other[machine].line, state);
+    return true;
+}
