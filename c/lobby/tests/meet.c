@@ -3,20 +3,17 @@
  * It tells each event, meets the others, and then sends each of them datagrams with their number, 60 a second. What was agreed on and what
  * came is told at the end.
  *
- *     --broker URL       (nats://127.0.0.1:4222)      --trusted FILE
+ *     --broker URL --trusted FILE --stun ADDRESS:PORT --relay USER:PASSWORD@ADDRESS:PORT --tcp-relay the same --relay-only, as words.h
  *     --name NAME        --digest N      --here N      --common TEXT
  *     --asks yes|no      the host's player lets all in, or nobody
  *     --begin SECONDS    the host begins with those who are there after so many seconds
  *     --leave SECONDS    it leaves so many seconds after it was opened
  *     --count N          so many datagrams from each of the others are waited for (60)
  *     --stay SECONDS     and it stays at least so long after that (0)
- *     --within N         give up after so many seconds (20)
- *     --stun ADDRESS PORT
- *     --relay ADDRESS PORT USER PASSWORD      --tcp-relay: the same, by TCP
- *     --relay-only */
+ *     --within N         give up after so many seconds (20) */
 #define _POSIX_C_SOURCE 200809L
 
-#include "../lobby.h"
+#include "../words.h"
 
 #include <inttypes.h>
 #include <stdio.h>
@@ -33,6 +30,7 @@ typedef struct machine {
 
 static struct {
     faz_lobby_settings settings;
+    lobby_words words;
     faz_lobby *lobby;
     faz_lobby_match match;
     const char *asks;
@@ -40,7 +38,7 @@ static struct {
     machine machine[FAZGROND_MACHINES];
     uint64_t begun, ready, due, wrong, most, turns, busy;
     bool has_match, has_all, is_over;
-} self = {.settings = {.broker = "nats://127.0.0.1:4222"}, .begin = -1, .leave = -1, .count = 60, .within = 20};
+} self = {.words = {.broker = "nats://127.0.0.1:4222"}, .begin = -1, .leave = -1, .count = 60, .within = 20};
 
 static uint64_t micros_of(clockid_t clock) {
     struct timespec now;
@@ -180,9 +178,11 @@ static bool read_number(char **at, const char *name, long *to) {
 /* How many words an option has. */
 static int read_option(char **at) {
     faz_lobby_settings *to = &self.settings;
+    lobby_words *words = &self.words;
     const char *text;
     long number;
-    if (read_text(at, "--broker", &to->broker) || read_text(at, "--trusted", &to->trusted) || read_text(at, "--name", &to->name)
+    if (read_text(at, "--broker", &words->broker) || read_text(at, "--trusted", &words->trusted) || read_text(at, "--name", &words->name)
+        || read_text(at, "--stun", &words->stun) || read_text(at, "--relay", &words->relay) || read_text(at, "--tcp-relay", &words->tcp_relay)
         || read_number(at, "--begin", &self.begin) || read_number(at, "--leave", &self.leave) || read_number(at, "--count", &self.count)
         || read_number(at, "--stay", &self.stay) || read_number(at, "--within", &self.within))
         return 2;
@@ -194,18 +194,10 @@ static int read_option(char **at) {
         to->common = text;
         to->common_length = strlen(text);
     } else if (read_text(at, "--asks", &self.asks)) {
-        to->asks = true;
+        words->asks = true;
     } else if (strcmp(at[0], "--relay-only") == 0) {
-        to->relay_only = true;
+        words->relay_only = true;
         return 1;
-    } else if (strcmp(at[0], "--stun") == 0 && at[1] != NULL && at[2] != NULL) {
-        to->stun = at[1];
-        to->stun_port = (uint16_t)atoi(at[2]);
-        return 3;
-    } else if (strstr(at[0], "relay") != NULL && at[1] != NULL && at[2] != NULL && at[3] != NULL && at[4] != NULL) {
-        to->relays[to->relay_count++] =
-            (faz_line_relay){at[1], (uint16_t)atoi(at[2]), at[3], at[4], strcmp(at[0], "--tcp-relay") == 0};
-        return 5;
     } else {
         printf("no such option: %s\n", at[0]);
         exit(2);
@@ -221,6 +213,11 @@ int main(int count, char **words) {
     self.settings.players = is_host ? (uint32_t)atoi(words[2]) : 0;
     for (char **at = words + 3; *at != NULL;)
         at += read_option(at);
+    why = lobby_words_read(&self.words, &self.settings);
+    if (why != NULL) {
+        printf("refused: %s\n", why);
+        return 2;
+    }
     self.begun = micros();
     self.lobby = is_host ? faz_lobby_host(&self.settings, &why) : faz_lobby_join(&self.settings, words[2], &why);
     if (self.lobby == NULL) {
