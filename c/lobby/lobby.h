@@ -38,6 +38,7 @@ typedef struct faz_lobby_settings {
     faz_line_relay relays[FAZ_LINE_RELAYS]; /* TURN servers, by addresses or names */
     uint32_t relay_count;
     bool relay_only;       /* the others aren't to see this machine's address */
+    bool any_sender;       /* as in faz_line_settings: for a match into which players come back, and for other programs' datagrams */
     const char *name;      /* of who plays here, as the others see it; null: "a player" */
     uint64_t digest;       /* of all that has to be alike at all machines: another one is refused before any line is made */
     uint32_t here;         /* how many players sit at this machine; 0 is 1 */

@@ -41,6 +41,7 @@ const char *lobby_copy_servers(faz_lobby *self, const faz_lobby_settings *settin
         strcpy(self->servers.stun, settings->stun);
     self->line.stun_port = settings->stun_port;
     self->line.relay_only = settings->relay_only;
+    self->line.any_sender = settings->any_sender;
     if (!copy_relays(self, settings->relays, settings->relay_count))
         return "there are too many relays, or one has no address, user or password, or one that is too long";
     return NULL;
