@@ -53,7 +53,7 @@ static void turn(void) {
 }
 
 static bool open(const online *wish) {
-    faz_lobby_settings settings = { .digest = DIGEST, .players = (uint32_t)wish->host };
+    faz_lobby_settings settings = { .digest = DIGEST, .players = (uint32_t)wish->host, .any_sender = true };
     self.words = (lobby_words){ .broker = wish->broker, .trusted = wish->trusted, .stun = wish->stun, .relay = wish->relay,
                                 .tcp_relay = wish->tcp_relay, .name = wish->name, .relay_only = wish->relay_only, .asks = wish->asks };
     const char *why = lobby_words_read(&self.words, &settings);
