@@ -66,7 +66,7 @@ void faz_cast_end(faz_cast *cast, const char *reason);
 
 void faz_cast_look(faz_cast *cast, faz_cast_state *state);
 
-/* Waits so many milliseconds at most until the broker has all, and gives all back. Whether it has all, and how far it came. */
+/* Waits so many milliseconds at most until the broker has all, or up to two seconds more if it was never there, and gives all back. Whether it has all, and how far it came. */
 bool faz_cast_close(faz_cast *cast, uint32_t milliseconds, faz_cast_state *state);
 
 #ifdef __cplusplus
